@@ -1,0 +1,9 @@
+pub mod DomainName
+pub mod Cut
+pub mod Reading
+pub mod Writing
+pub mod Comparison
+pub mod ComparisonEquivalence
+pub mod Text
+pub mod BegunText
+pub mod Decimal

@@ -1,0 +1,93 @@
+//! Reading names from the wire (RFC 1035 section 4.1.4).
+
+ghost use Rattle.std.specs.Prelude.{◌≡◌, ◌≢◌, ℕ, List, true, length, ◌≤◌, MatchResult, IfOk, IfErr, OnErr};
+ghost use Rattle.dns_wire.specs.Decoder.{rest, Advances};
+ghost use Rattle.dns_wire.specs.Element.{element};
+ghost use Rattle.dns_wire.specs.Reading.{ReadsName, RefusesName};
+ghost use Rattle.dns_names.specs.Reading.{Shows, part_len};
+
+use crate::name::Name;
+use dns_wire::{BinDecoder, DecodeError};
+use std::alloc::Global;
+
+/// A part of a written name.
+#[derive(Clone, Copy)]
+pub enum Part<'a> {
+    /// The zero byte at the end.
+    Closing,
+    /// A label, lent and not copied.
+    Label(&'a [u8]),
+    /// A pointer, with the place that it leads to.
+    Pointer(usize),
+}
+
+/// The next part of a name.
+fn read_part<'a>(reader: &mut BinDecoder<'a>) -> Result<Part<'a>, DecodeError>
+    ensures shows { Shows result (element (rest reader.old)) }
+    ensures moved { IfOk result (λ part. Advances reader.old reader.new (part_len part)) }
+{
+    let code = reader.read_u8()?;
+    match code {
+        0 => Ok(Part::Closing),
+        1..64 => Ok(Part::Label(reader.read_slice(code as usize)?)),
+        64..192 => Err(DecodeError::UnrecognizedLabelCode),
+        192.. => {
+            let low = reader.read_u8()?;
+            Ok(Part::Pointer((code as usize - 192) * 256 + low as usize))
+        }
+    }
+}
+
+impl Name {
+    /// Reads a name, and goes on behind it. A refusal leaves the decoder as it was (RFC 1035 section 4.1.4).
+    pub fn read(alloc: Global, decoder: &mut BinDecoder<'_>) -> Result<Name, DecodeError>
+        // What is read stands there, and the decoder goes to its end.
+        ensures read { IfOk result (λ name. ReadsName decoder.old.bytes decoder.old.index name.labels decoder.new.index) }
+        ensures fqdn { IfOk result (λ name. name.is_fqdn ≡ true) }
+        // What stands there is read, unless memory runs out.
+        ensures only { (labels : List (List ℕ)) (end : ℕ) → ReadsName decoder.old.bytes decoder.old.index labels end
+            → MatchResult result (λ name. (name.labels ≡ labels) × (decoder.new.index ≡ end)) (λ error. error ≡ DecodeError.Memory) }
+        // Which refusal it is.
+        ensures refused { IfErr result (λ error. error ≢ DecodeError.Memory → RefusesName decoder.old.bytes decoder.old.index error) }
+        ensures bytes { decoder.new.bytes ≡ decoder.old.bytes }
+        ensures err { OnErr result (decoder.new ≡ decoder.old) }
+    {
+        let (name, end) = read_at(alloc, decoder.clone(decoder.index()))?;
+        *decoder = decoder.clone(end);
+        Ok(name)
+    }
+}
+
+/// The name at the decoder's place, and where it ends.
+fn read_at(alloc: Global, decoder: BinDecoder<'_>) -> Result<(Name, usize), DecodeError>
+    ensures read { IfOk result (λ found. ReadsName decoder.entry.bytes decoder.entry.index found.0.labels found.1) }
+    ensures fqdn { IfOk result (λ found. found.0.is_fqdn ≡ true) }
+    ensures end { IfOk result (λ found. found.1 ≤ length decoder.entry.bytes) }
+    ensures refused { IfErr result (λ error. error ≢ DecodeError.Memory → RefusesName decoder.entry.bytes decoder.entry.index error) }
+{
+    let mut name = Name::root(alloc);
+    let mut segment = decoder.index();
+    let mut reader = decoder;
+    // Where the name ends, once a pointer was followed.
+    let mut end = None;
+    loop {
+        match read_part(&mut reader)? {
+            Part::Closing => break,
+            Part::Label(label) => {
+                if name.encoded_len() + label.len() + 1 > Name::MAX_LENGTH {
+                    return Err(DecodeError::DomainNameTooLong);
+                }
+                name.push(label)?;
+            }
+            Part::Pointer(target) => {
+                if target >= segment {
+                    return Err(DecodeError::PointerNotPriorToLabel);
+                }
+                end = Some(end.unwrap_or(reader.index()));
+                reader = reader.clone(target);
+                segment = target;
+            }
+        }
+    }
+    Ok((name, end.unwrap_or(reader.index())))
+}

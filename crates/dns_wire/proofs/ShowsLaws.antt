@@ -1,0 +1,40 @@
+-- Bytes that stand at a place, as a reader sees them.
+use Rattle.std.proofs.Common.{◌≡◌, ℕ, ◌+◌, ◌≤◌, List, ◌++◌, length, take, drop, refl, sym, ap, subst, ◌∙◌, append_assoc, arith, length-append, length-drop}
+use Rattle.std.proofs.lemmas.List.{take-append-drop, take_at, drop_at, drop-drop}
+use Rattle.dns_wire.specs.Pieces.{Shows}
+
+-- they are in front of what is unread
+pub shows-rest : (buffer : List ℕ) (place : ℕ) (bytes : List ℕ) (end : ℕ) → Shows buffer place bytes end → drop place buffer ≡ bytes ++ drop end buffer
+shows-rest buffer place bytes end s =
+    sym (take-append-drop (length bytes) (drop place buffer)) ∙ ap (λ (xs : List ℕ). xs ++ drop (length bytes) (drop place buffer)) s.there
+    ∙ ap (λ (xs : List ℕ). bytes ++ xs) (drop-drop (length bytes) place buffer ∙ ap (λ (n : ℕ). drop n buffer) s.ends)
+
+-- what is in front of the unread bytes stands there
+pub rest-shows : (buffer : List ℕ) (place : ℕ) (bytes rest : List ℕ) → place ≤ length buffer → drop place buffer ≡ bytes ++ rest → Shows buffer place bytes (place + length bytes)
+rest-shows buffer place bytes rest within h = record {
+  ends = refl;
+  within = omega (arith, ap (λ (xs : List ℕ). length xs) h, length-drop place buffer, length-append bytes rest);
+  there = ap (take (length bytes)) h ∙ take_at bytes rest (length bytes) refl;
+}
+
+-- they are determined by their place and end
+pub shows_same : (buffer : List ℕ) (place : ℕ) (a b : List ℕ) (end : ℕ) → Shows buffer place a end → Shows buffer place b end → a ≡ b
+shows_same buffer place a b end s t =
+    let len : length a ≡ length b = omega (arith, s.ends, t.ends) in
+    sym s.there ∙ ap (λ (n : ℕ). take n (drop place buffer)) len ∙ t.there
+
+-- two runs of bytes after one another are one
+pub shows-join : (buffer : List ℕ) (place middle end : ℕ) (a b : List ℕ) → Shows buffer place a middle → Shows buffer middle b end → Shows buffer place (a ++ b) end
+shows-join buffer place middle end a b s t =
+    let unread : drop place buffer ≡ (a ++ b) ++ drop end buffer = shows-rest buffer place a middle s ∙ ap (λ (xs : List ℕ). a ++ xs) (shows-rest buffer middle b end t) ∙ sym (append_assoc a b (drop end buffer)) in
+    let ends : place + length (a ++ b) ≡ end = omega (arith, s.ends, t.ends, length-append a b) in
+    subst (λ (n : ℕ). Shows buffer place (a ++ b) n) ends (rest-shows buffer place (a ++ b) (drop end buffer) (omega (arith, s.ends, s.within)) unread)
+
+pub shows-split : (buffer : List ℕ) (place end : ℕ) (a b : List ℕ) → Shows buffer place (a ++ b) end → Shows buffer place a (place + length a) × Shows buffer (place + length a) b end
+shows-split buffer place end a b s =
+    let unread : drop place buffer ≡ a ++ (b ++ drop end buffer) = shows-rest buffer place (a ++ b) end s ∙ append_assoc a b (drop end buffer) in
+    let later : drop (place + length a) buffer ≡ b ++ drop end buffer = sym (drop-drop (length a) place buffer) ∙ ap (drop (length a)) unread ∙ drop_at a (b ++ drop end buffer) (length a) refl in
+    let ends : place + length a + length b ≡ end = omega (arith, s.ends, length-append a b) in (
+      rest-shows buffer place a (b ++ drop end buffer) (omega (arith, s.ends, s.within)) unread,
+      subst (λ (n : ℕ). Shows buffer (place + length a) b n) ends (rest-shows buffer (place + length a) b (drop end buffer) (omega (arith, s.ends, s.within, length-append a b)) later),
+    )

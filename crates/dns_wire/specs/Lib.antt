@@ -1,0 +1,9 @@
+pub mod Decoder
+pub mod Element
+pub mod Name
+pub mod Reading
+pub mod Encoder
+pub mod Pieces
+pub mod RecordType
+pub mod DNSClass
+pub mod SerialNumber

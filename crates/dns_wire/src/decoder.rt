@@ -1,0 +1,128 @@
+//! Reading bytes, one after another.
+
+ghost use Rattle.std.specs.Prelude.{◌≡◌, ◌+◌, ◌<◌, ◌≤◌, ◌↔◌, [], ◌∷◌, ◌++◌, length, IsTrue, IfOk, IfErr, OnErr, slice_get};
+ghost use Rattle.std.specs.Int.{w16, w32, to_be_bytes};
+ghost use Rattle.dns_wire.specs.Decoder.{rest, Advances};
+
+use crate::error::DecodeError;
+use std::marker::Model;
+
+/// A reader of lent bytes. A read that is refused leaves it as it was.
+#[derive(Drop)]
+pub struct BinDecoder<'a> {
+    buffer: &'a [u8],
+    index: usize,
+}
+
+impl<'a> Model for BinDecoder<'a> {
+    ghost use Rattle.std.specs.Prelude.{◌≤◌, length};
+    ghost use Rattle.dns_wire.specs.Decoder.{Decoder};
+
+    ghost Value = { Decoder };
+
+    ghost view = { λ d. record { bytes = d.buffer.now; index = d.index } };
+
+    ghost invariant = { λ d. d.index ≤ length d.buffer.now };
+}
+
+impl<'a> BinDecoder<'a> {
+    /// A decoder at the front of the bytes.
+    pub fn new(buffer: &'a [u8]) -> Self
+        ensures { result ≡ record { bytes = buffer.now; index = 0 } }
+    {
+        BinDecoder { buffer, index: 0 }
+    }
+
+    /// A decoder over the same bytes, at another place.
+    pub fn clone(&self, index_at: usize) -> BinDecoder<'a>
+        requires { index_at ≤ length self.now.bytes }
+        ensures { result ≡ record self.now { index = index_at } }
+    {
+        BinDecoder {
+            buffer: self.buffer,
+            index: index_at,
+        }
+    }
+
+    /// The place of the next read.
+    pub fn index(&self) -> usize
+        ensures value { result ≡ self.now.index }
+        ensures within { result ≤ length self.now.bytes }
+    {
+        self.index
+    }
+
+    /// How many bytes are left.
+    pub fn len(&self) -> usize
+        ensures { result ≡ length (rest self.now) }
+    {
+        self.buffer.len() - self.index
+    }
+
+    /// Whether no byte is left.
+    pub fn is_empty(&self) -> bool
+        ensures { IsTrue result ↔ (rest self.now ≡ []) }
+    {
+        self.len() == 0
+    }
+
+    /// The next byte, which stays unread.
+    pub fn peek(&self) -> Option<u8>
+        ensures { result ≡ slice_get (rest self.now) 0 }
+    {
+        if self.index < self.buffer.len() {
+            Some(self.buffer[self.index])
+        } else {
+            None
+        }
+    }
+
+    /// The next bytes, lent and not copied.
+    pub fn read_slice(&mut self, len: usize) -> Result<&'a [u8], DecodeError>
+        ensures ok { IfOk result (λ bytes. rest self.old ≡ bytes.now ++ rest self.new) }
+        ensures len { IfOk result (λ bytes. length bytes.now ≡ len) }
+        ensures moved { IfOk result (λ _. Advances self.old self.new len) }
+        ensures short { IfErr result (λ error. (error ≡ DecodeError.InsufficientBytes) × (length (rest self.old) < len)) }
+        ensures err { OnErr result (self.new ≡ self.old) }
+    {
+        if self.buffer.len() - self.index < len {
+            return Err(DecodeError::InsufficientBytes);
+        }
+        let start = self.index;
+        self.index = start + len;
+        Ok(&self.buffer[start..start + len])
+    }
+
+    /// The next byte.
+    pub fn read_u8(&mut self) -> Result<u8, DecodeError>
+        ensures ok { IfOk result (λ byte. rest self.old ≡ byte ∷ rest self.new) }
+        ensures moved { IfOk result (λ _. Advances self.old self.new 1) }
+        ensures short { IfErr result (λ error. (error ≡ DecodeError.InsufficientBytes) × (rest self.old ≡ [])) }
+        ensures err { OnErr result (self.new ≡ self.old) }
+    {
+        let bytes = self.read_slice(1)?;
+        Ok(bytes[0])
+    }
+
+    /// A number of two bytes, the high one first.
+    pub fn read_u16(&mut self) -> Result<u16, DecodeError>
+        ensures ok { IfOk result (λ number. rest self.old ≡ to_be_bytes w16 number ++ rest self.new) }
+        ensures moved { IfOk result (λ _. Advances self.old self.new 2) }
+        ensures short { IfErr result (λ error. (error ≡ DecodeError.InsufficientBytes) × (length (rest self.old) < 2)) }
+        ensures err { OnErr result (self.new ≡ self.old) }
+    {
+        let bytes = self.read_slice(2)?;
+        Ok(u16::from_be_bytes([bytes[0], bytes[1]]))
+    }
+
+    /// A number of four bytes, the highest one first.
+    pub fn read_u32(&mut self) -> Result<u32, DecodeError>
+        ensures ok { IfOk result (λ number. rest self.old ≡ to_be_bytes w32 number ++ rest self.new) }
+        ensures moved { IfOk result (λ _. Advances self.old self.new 4) }
+        ensures short { IfErr result (λ error. (error ≡ DecodeError.InsufficientBytes) × (length (rest self.old) < 4)) }
+        ensures err { OnErr result (self.new ≡ self.old) }
+    {
+        let bytes = self.read_slice(4)?;
+        Ok(u32::from_be_bytes([bytes[0], bytes[1], bytes[2], bytes[3]]))
+    }
+}

@@ -1,0 +1,13 @@
+pub mod AddressLaws
+pub mod AnswerLaws
+pub mod DataLaws
+pub mod ListLaws
+pub mod MessageAgain
+pub mod MessageLaws
+pub mod MessageWriting
+pub mod NumberLaws
+pub mod OneWay
+pub mod RowLaws
+pub mod ServingLaws
+pub mod Steps
+pub mod TextLaws

@@ -1,0 +1,8 @@
+use Rattle.std.proofs.Common.{◌≡◌, ◌++◌, drop, map, true}
+use Rattle.dns_zone.specs.declared.rows.Row.{Row}
+use Rattle.dns_zone.specs.Answer.{record_of, authority_row, AreSoundRecords}
+use Rattle.dns_zone.specs.Rows.{AreSoundRows}
+use Rattle.dns_zone.proofs.answer.authority_records.Given as goal
+
+abbrev pub invariant-loop-row : goal.invariant-loop-row
+invariant-loop-row l = map (λ (row : Row). record_of l.origin (authority_row row)) l.rows ≡ l.records ++ map (λ (row : Row). record_of l.origin (authority_row row)) (drop l.row-index l.rows)

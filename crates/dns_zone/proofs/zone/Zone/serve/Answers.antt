@@ -1,0 +1,24 @@
+use Rattle.std.proofs.Common.{◌≡◌, ◌<◌, ◌≤◌, sym, ap, ◌∙◌, subst, refl, length, arith, Err}
+use Rattle.dns_zone.specs.Message.{message_form, cut_off}
+use Rattle.dns_zone.specs.Serving.{IsServed, reply_to}
+use Rattle.dns_zone.proofs.ServingLaws.{not_read, serves, question_fits}
+use Rattle.dns_zone.proofs.zone.Zone.serve.Goals as goal
+
+pub returns-in_default : goal.returns-in_default
+returns-in_default c = record { reply = not_read c.args.bytes.now c.in-Err.error c.in-Err.ensures.only c.in_default.not-Memory; same = refl }
+
+pub returns-in_default-served_question-clause-reply : goal.returns-in_default-served_question-clause-reply
+returns-in_default-served_question-clause-reply c = λ m q request. c.in_default-served_question.ensures q (subst (λ x. IsServed x q) (sym (c.in-Ok.ensures.only m request.reads)) request.served)
+
+pub returns-in-Ok-to_vec-clause-reply : goal.returns-in-Ok-to_vec-clause-reply
+returns-in-Ok-to_vec-clause-reply c =
+    serves c.args.self.now c.args.road c.args.bytes.now c.in-Ok.message c.in-Some.query c.in_ok-reply.reply c.limit_of.result c.in-Ok-to_vec.out.items c.in-Ok.ensures.read c.in-Some.ensures.0 c.in_ok-reply.ensures.sound
+      (c.in_ok-reply.ensures.reply ∙ ap (λ request. reply_to c.args.self.now request c.in-Some.query) c.in-Some.ensures.1)
+      c.limit_of.ensures.value c.in-Ok-to_vec.ensures.bytes c.in-Ok-to_vec.ensures.reads
+
+pub unreachable-requires : goal.unreachable-requires
+unreachable-requires c =
+    let over : c.limit_of.result < length (message_form (cut_off c.in_ok-reply.reply)) = c.in-Err-MaxBufferSizeExceeded.ensures.full (ap Err c.in-Err-MaxBufferSizeExceeded.field-0-is) in
+    let fits = question_fits c.args.self.now c.in-Some.request c.in-Some.query (c.encoded_len.ensures.labels.fits) in
+    let same : length (message_form (cut_off c.in_ok-reply.reply)) ≡ length (message_form (cut_off (reply_to c.args.self.now c.in-Some.request c.in-Some.query))) = ap (λ m. length (message_form (cut_off m))) c.in_ok-reply.ensures.reply in
+    omega (arith, c.limit_of.ensures.least)

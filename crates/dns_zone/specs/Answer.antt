@@ -1,0 +1,74 @@
+-- The answer of a zone to a question (RFC 1034 section 4.3.2, RFC 2308 sections 2 and 3).
+use Rattle.std.specs.Prelude.{◌≡◌, ◌<◌, ◌==◌, ◌&&◌, ◌||◌, nat_le, not, map, min, if◌then◌else◌, Bool, true, false, List, [], ◌∷◌, ℕ}
+use Rattle.dns_wire.specs.RecordType.{type_number}
+use Rattle.dns_wire.specs.DNSClass.{class_number}
+use Rattle.dns_wire.specs.declared.dns_class.DNSClass.TheVariants.{IN}
+use Rattle.dns_wire.specs.declared.record_type.RecordType.TheVariants as types
+use Rattle.dns_names.specs.DomainName.{DomainName}
+use Rattle.dns_names.specs.Comparison.{at_or_below}
+use Rattle.dns_zone.specs.declared.header.ResponseCode.{ResponseCode}
+use Rattle.dns_zone.specs.declared.header.ResponseCode.TheVariants.{NoError, NXDomain, NotImp, Refused}
+use Rattle.dns_zone.specs.declared.answer.Answer.{Answer}
+use Rattle.dns_zone.specs.declared.query.Query.{Query}
+use Rattle.dns_zone.specs.declared.record.Record.{Record}
+use Rattle.dns_zone.specs.declared.rdata.RData.{RData}
+use Rattle.dns_zone.specs.declared.rdata.RData.TheVariants as of
+use Rattle.dns_zone.specs.declared.rows.Row.{Row}
+use Rattle.std.specs.List.{AllByRecursion}
+use Rattle.dns_zone.specs.Header.{code_number, code_of}
+use Rattle.dns_zone.specs.Sound.{IsSoundRecord}
+use Rattle.dns_zone.specs.Rows.{Rows, ZoneContent, rows_at, some_row_below}
+
+-- types that no row has: 0, SIG, OPT, and 128 to 255 (RFC 6895 section 3.1)
+abbrev pub is_no_row_type : ℕ → Bool
+is_no_row_type number = (number == 0) || ((number == 24) || ((number == 41) || (nat_le 128 number && nat_le number 255)))
+
+-- a row as a record with this owner
+abbrev pub record_of : DomainName → Row → Record
+record_of owner row = record { name = owner; dns_class = IN; ttl = row.ttl; rdata = row.rdata }
+
+-- how long it may be kept that something isn't there: the lesser of the row's TTL and the minimum (RFC 2308 section 3)
+abbrev pub negative_ttl : ℕ → RData → ℕ
+negative_ttl ttl (of.SOA soa) = min ttl soa.minimum
+negative_ttl ttl (of.A address) = ttl
+
+abbrev pub authority_row : Row → Row
+authority_row row = record row { ttl = negative_ttl row.ttl row.rdata }
+
+-- the start of authority, with the origin as the zone spells it
+abbrev pub authority : ZoneContent → List Record
+authority zone = map (λ row. record_of zone.origin (authority_row row)) (rows_at zone.rows zone.origin.labels types.SOA)
+
+-- nothing of the type: whether the name is there, and the start of authority
+abbrev pub negative : ZoneContent → List (List ℕ) → Answer
+negative zone name = record {
+  code = if some_row_below zone.rows name then NoError else NXDomain;
+  answers = [];
+  authorities = authority zone;
+}
+
+-- what the zone has at the name, of the type: these rows are the answers, with the question's spelling of the owner
+abbrev pub found : ZoneContent → Query → List Row → Answer
+found zone q [] = negative zone q.name.labels
+found zone q (row ∷ rows) = record { code = NoError; answers = map (record_of q.name) (row ∷ rows); authorities = [] }
+
+abbrev pub refusal : ResponseCode → Answer
+refusal code = record { code = code; answers = []; authorities = [] }
+
+-- The first case that applies.
+abbrev pub answer : ZoneContent → Query → Answer
+answer zone q =
+    if is_no_row_type (type_number q.query_type) then refusal NotImp
+    else if not (class_number q.query_class == 1) || not (at_or_below zone.origin.labels q.name.labels) then refusal Refused
+    else found zone q (rows_at zone.rows q.name.labels q.query_type)
+
+-- ---- what is answered can be sent
+
+abbrev pub AreSoundRecords : List Record → Type 0
+AreSoundRecords records = AllByRecursion IsSoundRecord records
+
+pub record IsSoundAnswer (a : Answer) : Type 0 where
+  pub code_fits : code_number a.code < 16
+  pub code_named : code_of (code_number a.code) ≡ a.code
+  pub answers : AreSoundRecords a.answers
+  pub authorities : AreSoundRecords a.authorities

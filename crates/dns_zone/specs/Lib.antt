@@ -1,0 +1,12 @@
+pub mod Data
+pub mod Question
+pub mod Record
+pub mod Header
+pub mod Message
+pub mod Sound
+pub mod Grammar
+pub mod Address
+pub mod Rows
+pub mod Answer
+pub mod ZoneText
+pub mod Serving

@@ -1,0 +1,96 @@
+-- The rows of a zone: a finite map from an owner, up to ASCII case, and a type to data with TTLs, in their order.
+use Rattle.std.specs.Prelude.{◌<◌, ◌^◌, ◌++◌, map, Bool, true, false, List, [], ◌∷◌, ℕ, if◌then◌else◌, unwrap_or}
+use Rattle.std.specs.List.{list_any, AllByRecursion}
+use Rattle.std.specs.declared.cmp.Ordering.{Ordering}
+use Rattle.std.specs.Ordering.{nat_cmp, ordering_then}
+use Rattle.std.specs.Cmp.Lexicographic.{slice_cmp}
+use Rattle.std.specs.FinMap as rows_map
+use Rattle.dns_wire.specs.SerialNumber.{serial_order}
+use Rattle.dns_wire.specs.declared.serial_number.SerialOrder.TheVariants.{Greater}
+use Rattle.dns_wire.specs.declared.serial_number.SerialOrder.{SerialOrder}
+use Rattle.dns_wire.specs.declared.record_type.RecordType.{RecordType}
+use Rattle.dns_wire.specs.RecordType.{type_number}
+use Rattle.dns_names.specs.DomainName.{DomainName}
+use Rattle.dns_names.specs.Comparison.{lower, at_or_below}
+use Rattle.dns_zone.specs.declared.rdata.RData.{RData}
+use Rattle.dns_zone.specs.declared.rdata.RData.TheVariants as of
+use Rattle.dns_zone.specs.declared.rows.Row.{Row}
+use Rattle.dns_zone.specs.declared.rows.RecordSet.{RecordSet}
+use Rattle.dns_zone.specs.Sound.{IsSoundData}
+use Rattle.dns_zone.specs.Data.{same_data, data_type}
+
+-- the place of a record set: its owner's labels in lower case, and its type's number
+abbrev pub Key : Type 0
+Key = List (List ℕ) × ℕ
+
+abbrev pub key_cmp : Key → Key → Ordering
+key_cmp a b = ordering_then (slice_cmp (slice_cmp nat_cmp) a.0 b.0) (nat_cmp a.1 b.1)
+
+abbrev pub Rows : Type 0
+Rows = rows_map.FinMap key_cmp (List Row)
+
+abbrev pub key : List (List ℕ) → RecordType → Key
+key owner rtype = (lower owner, type_number rtype)
+
+-- the rows of a type at a name, in their order
+abbrev pub rows_at : Rows → List (List ℕ) → RecordType → List Row
+rows_at rows owner rtype = unwrap_or (rows_map.get rows (key owner rtype)) []
+
+-- whether some row's owner is the name, or lies below it
+abbrev pub some_row_below : Rows → List (List ℕ) → Bool
+some_row_below rows name = list_any (λ k. at_or_below name k.0) (rows_map.keys rows)
+
+-- whether data is a start of authority
+abbrev pub is_soa : RData → Bool
+is_soa (of.SOA soa) = true
+is_soa (of.A address) = false
+
+abbrev pub is_greater : SerialOrder → Bool
+is_greater Greater = true
+is_greater order = false
+
+-- whether new data may take the place of old: a start of authority of a plainly greater serial number (RFC 1982)
+abbrev pub supersedes : RData → RData → Bool
+supersedes (of.SOA new) (of.SOA old) = is_greater (serial_order new.serial old.serial)
+supersedes new old = false
+
+-- a start of authority stands alone
+abbrev pub replaced : List Row → Row → List Row
+replaced [] row = row ∷ []
+replaced (old ∷ more) row = if supersedes row.rdata old.rdata then row ∷ [] else old ∷ more
+
+-- A row joins those of its place. Data that is there already goes, and the old TTL stays; other data is added last.
+abbrev pub joined : List Row → Row → List Row
+joined rows row =
+    if is_soa row.rdata then replaced rows row
+    else if list_any (λ r. same_data r.rdata row.rdata) rows then rows
+    else rows ++ row ∷ []
+
+-- the rows, and one more at an owner
+abbrev pub with_row : Rows → List (List ℕ) → Row → Rows
+with_row rows owner row = rows_map.insert rows (key owner (data_type row.rdata)) (joined (rows_at rows owner (data_type row.rdata)) row)
+
+-- what contracts see of a zone: its origin, and its rows
+pub record ZoneContent : Type 0 where
+  pub origin : DomainName
+  pub rows : Rows
+
+-- ---- sets of rows
+
+abbrev pub set_key : RecordSet → Key
+set_key s = key s.name.labels s.record_type
+
+-- the rows that sets have
+abbrev pub rows_of_sets : List RecordSet → Rows
+rows_of_sets sets = rows_map.from_entries (map (λ s. (set_key s, s.rows.items)) sets)
+
+-- what rows must be to be sent, and read again
+pub record IsSoundRow (row : Row) : Type 0 where
+  pub ttl_fits : row.ttl < 2 ^ 32
+  pub rdata : IsSoundData row.rdata
+
+abbrev pub AreSoundRows : List Row → Type 0
+AreSoundRows rows = AllByRecursion IsSoundRow rows
+
+abbrev pub AreSoundSets : List RecordSet → Type 0
+AreSoundSets sets = AllByRecursion (λ s. AreSoundRows s.rows.items) sets

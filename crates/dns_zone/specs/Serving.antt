@@ -1,0 +1,77 @@
+-- What a zone's server replies (RFC 1035 sections 4.1 and 4.2).
+use Rattle.std.specs.Prelude.{◌≡◌, ◌==◌, min, true, false, Bool, List, [], ◌∷◌, ℕ, Option, Some, None}
+use Rattle.dns_zone.specs.declared.header.MessageType.TheVariants as kinds
+use Rattle.dns_zone.specs.declared.header.OpCode.TheVariants as ops
+use Rattle.dns_zone.specs.declared.header.ResponseCode.{ResponseCode}
+use Rattle.dns_zone.specs.declared.header.ResponseCode.TheVariants.{NoError, NXDomain}
+use Rattle.dns_zone.specs.declared.header.Metadata.{Metadata}
+use Rattle.dns_zone.specs.declared.query.Query.{Query}
+use Rattle.dns_zone.specs.declared.message.Message.{Message}
+use Rattle.dns_zone.specs.declared.road.DatagramLimit.{DatagramLimit}
+use Rattle.dns_zone.specs.declared.road.Road.{Road}
+use Rattle.dns_zone.specs.declared.road.Road.TheVariants.{Datagram, Stream}
+use Rattle.dns_zone.specs.Rows.{ZoneContent}
+use Rattle.dns_zone.specs.declared.answer.Answer.{Answer}
+use Rattle.dns_zone.specs.Answer.{answer}
+use Rattle.dns_zone.specs.Message.{cut, message_form}
+use Rattle.dns_zone.specs.Grammar.{ReadsMessage}
+
+-- which requests are served: a question, one, and no record
+pub record IsServed (m : Message) (q : Query) : Type 0 where
+  pub asks : m.metadata.message_type ≡ kinds.Query
+  pub of_code : m.metadata.op_code ≡ ops.Query
+  pub one_question : m.queries ≡ q ∷ []
+  pub no_answer : m.answers ≡ []
+  pub no_authority : m.authorities ≡ []
+  pub no_additional : m.additionals ≡ []
+
+-- the bytes are such a request
+pub record IsRequest (bytes : List ℕ) (m : Message) (q : Query) : Type 0 where
+  pub reads : ReadsMessage bytes m
+  pub served : IsServed m q
+
+-- the server has authority where it found out whether something is there
+abbrev pub has_authority : ResponseCode → Bool
+has_authority NoError = true
+has_authority NXDomain = true
+has_authority code = false
+
+-- id, opcode, RD and CD are the request's
+abbrev pub reply_metadata : Metadata → ResponseCode → Metadata
+reply_metadata m code = record {
+  id = m.id;
+  message_type = kinds.Response;
+  op_code = m.op_code;
+  authoritative = has_authority code;
+  truncation = false;
+  recursion_desired = m.recursion_desired;
+  recursion_available = false;
+  authentic_data = false;
+  checking_disabled = m.checking_disabled;
+  response_code = code;
+}
+
+-- the whole reply to a question of a request with this header: the question again, and the zone's answer to it
+abbrev pub reply_to : ZoneContent → Metadata → Query → Message
+reply_to zone m q =
+    let a : Answer = answer zone q in
+    record { metadata = reply_metadata m a.code; queries = q ∷ []; answers = a.answers; authorities = a.authorities; additionals = [] }
+
+abbrev pub reply : ZoneContent → Message → Query → Message
+reply zone m q = reply_to zone m.metadata q
+
+-- how many bytes a reply may have: a datagram 512, where the request announces no more, and no more than the
+-- server's own limit; a stream's message 65,535 (RFC 1035 sections 4.2.1 and 4.2.2)
+abbrev pub reply_limit : Road → ℕ
+reply_limit (Datagram limit) = min limit.value 512
+reply_limit Stream = 65535
+
+-- what is left of the reply under the road's limit
+abbrev pub sent_reply : ZoneContent → Road → Message → Query → Message
+sent_reply zone road m q = cut (reply_limit road) (reply zone m q)
+
+-- No reply, unless the bytes are a request that is served; then what is left of the zone's answer, and nothing else.
+abbrev pub Serves : ZoneContent → Road → List ℕ → Option (List ℕ) → Type 0
+Serves zone road bytes None = (m : Message) (q : Query) → ¬ IsRequest bytes m q
+Serves zone road bytes (Some out) =
+    (m : Message) × (q : Query) × IsRequest bytes m q × (out ≡ message_form (sent_reply zone road m q)) × ReadsMessage out (sent_reply zone road m q)

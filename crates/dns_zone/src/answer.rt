@@ -1,0 +1,140 @@
+//! The answer of a zone to a question (RFC 1034 section 4.3.2, RFC 2308 sections 2 and 3).
+
+ghost use Rattle.std.specs.Prelude.{◌≡◌, true, map, IfOk};
+ghost use Rattle.dns_wire.specs.RecordType.{type_number};
+ghost use Rattle.dns_zone.specs.Rows.{rows_of_sets, AreSoundRows, AreSoundSets};
+ghost use Rattle.dns_zone.specs.Answer.{answer, authority, authority_row, found, is_no_row_type, negative, negative_ttl, record_of, refusal, AreSoundRecords, IsSoundAnswer};
+
+use crate::header::ResponseCode;
+use crate::query::Query;
+use crate::rdata::RData;
+use crate::record::Record;
+use crate::rows::{has_row_below, rows_of, RecordSet, Row};
+use crate::section::Section;
+use dns_names::Name;
+use dns_wire::{DNSClass, RecordType};
+use std::alloc::{AllocError, Global};
+
+/// An answer: a code, the records that answer, and those that say who has authority.
+#[derive(Drop)]
+pub struct Answer {
+    pub code: ResponseCode,
+    pub answers: Section<Record>,
+    pub authorities: Section<Record>,
+}
+
+/// Whether no row has this type: it is 0, SIG, OPT, or one of 128 to 255 (RFC 6895 section 3.1).
+fn is_without_rows(record_type: RecordType) -> bool
+    ensures { result ≡ is_no_row_type (type_number record_type) }
+{
+    matches!(u16::from(record_type), 0 | 24 | 41 | 128..=255)
+}
+
+/// How long it may be kept that something isn't there (RFC 2308 section 3).
+fn lowered_ttl(row: &Row) -> u32
+    ensures { result ≡ negative_ttl row.now.ttl row.now.rdata }
+{
+    match &row.rdata {
+        RData::SOA(soa) => row.ttl.min(soa.minimum),
+        RData::A(_) => row.ttl,
+    }
+}
+
+/// Rows as records with this owner.
+fn records_at(alloc: Global, owner: &Name, rows: &[Row]) -> Result<Section<Record>, AllocError>
+    ensures records { IfOk result (λ records. records ≡ map (record_of owner.now) rows.now) }
+    ensures sound { IfOk result (λ records. owner.now.is_fqdn ≡ true → AreSoundRows rows.now → AreSoundRecords records) }
+{
+    let mut records = Section::new(alloc);
+    for row in rows {
+        records.push(Record {
+            name: owner.clone()?,
+            dns_class: DNSClass::IN,
+            ttl: row.ttl,
+            rdata: row.rdata.clone()?,
+        })?;
+    }
+    Ok(records)
+}
+
+/// The start of authority, with the TTL of what isn't there.
+fn authority_records(
+    alloc: Global,
+    origin: &Name,
+    rows: &[Row],
+) -> Result<Section<Record>, AllocError>
+    ensures records { IfOk result (λ records. records ≡ map (λ row. record_of origin.now (authority_row row)) rows.now) }
+    ensures sound { IfOk result (λ records. origin.now.is_fqdn ≡ true → AreSoundRows rows.now → AreSoundRecords records) }
+{
+    let mut records = Section::new(alloc);
+    for row in rows {
+        records.push(Record {
+            name: origin.clone()?,
+            dns_class: DNSClass::IN,
+            ttl: lowered_ttl(row),
+            rdata: row.rdata.clone()?,
+        })?;
+    }
+    Ok(records)
+}
+
+/// The answer where nothing of the type stands at the name.
+fn negative_answer(
+    alloc: Global,
+    origin: &Name,
+    sets: &[RecordSet],
+    name: &Name,
+) -> Result<Answer, AllocError>
+    ensures answer { IfOk result (λ a. a ≡ negative (record { origin = origin.now; rows = rows_of_sets sets.now }) name.now.labels) }
+    ensures sound { IfOk result (λ a. origin.now.is_fqdn ≡ true → AreSoundSets sets.now → IsSoundAnswer a) }
+{
+    let code = if has_row_below(sets, name) {
+        ResponseCode::NoError
+    } else {
+        ResponseCode::NXDomain
+    };
+    let rows = rows_of(sets, origin, RecordType::SOA);
+    Ok(Answer {
+        code,
+        answers: Section::new(alloc),
+        authorities: authority_records(alloc, origin, rows)?,
+    })
+}
+
+/// An answer without records.
+fn bare_answer(alloc: Global, code: ResponseCode) -> Answer
+    ensures { result ≡ refusal code }
+{
+    Answer {
+        code,
+        answers: Section::new(alloc),
+        authorities: Section::new(alloc),
+    }
+}
+
+/// The answer of the zone with this origin and these sets.
+pub fn answer_from(
+    alloc: Global,
+    origin: &Name,
+    sets: &[RecordSet],
+    query: &Query,
+) -> Result<Answer, AllocError>
+    ensures answer { IfOk result (λ a. a ≡ answer (record { origin = origin.now; rows = rows_of_sets sets.now }) query.now) }
+    ensures sound { IfOk result (λ a. origin.now.is_fqdn ≡ true → AreSoundSets sets.now → query.now.name.is_fqdn ≡ true → IsSoundAnswer a) }
+{
+    if is_without_rows(query.query_type) {
+        return Ok(bare_answer(alloc, ResponseCode::NotImp));
+    }
+    if u16::from(query.query_class) != 1 || !origin.zone_of(&query.name) {
+        return Ok(bare_answer(alloc, ResponseCode::Refused));
+    }
+    let rows = rows_of(sets, &query.name, query.query_type);
+    if rows.is_empty() {
+        return negative_answer(alloc, origin, sets, &query.name);
+    }
+    Ok(Answer {
+        code: ResponseCode::NoError,
+        answers: records_at(alloc, &query.name, rows)?,
+        authorities: Section::new(alloc),
+    })
+}

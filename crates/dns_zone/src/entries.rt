@@ -1,0 +1,60 @@
+//! The entries of a zone's text, all together: its origin, what may not stand in it, and its rows.
+
+ghost use Rattle.std.specs.Prelude.{◌≡◌, IfOk, option_copied};
+ghost use Rattle.std.specs.FinMap as rows_map;
+ghost use Rattle.std.specs.List.{list_any};
+ghost use Rattle.dns_zone.specs.Rows.{rows_of_sets, AreSoundSets};
+ghost use Rattle.dns_zone.specs.ZoneText.{first_soa, rows_of, is_outside, is_soa_elsewhere, AreSoundEntries};
+
+use crate::rows::{add_row, is_start_of_authority, RecordSet};
+use crate::text::Entry;
+use dns_names::Name;
+use std::alloc::{AllocError, Global};
+
+/// The owner of the first start of authority.
+pub fn first_soa_owner(entries: &[Entry]) -> Option<&Name>
+    ensures { option_copied result ≡ first_soa entries.now }
+{
+    for entry in entries {
+        if is_start_of_authority(&entry.row.rdata) {
+            return Some(&entry.owner);
+        }
+    }
+    None
+}
+
+/// Whether some owner doesn't lie at or below the origin.
+pub fn has_owner_outside(origin: &Name, entries: &[Entry]) -> bool
+    ensures { result ≡ list_any (is_outside origin.now) entries.now }
+{
+    for entry in entries {
+        if !origin.zone_of(&entry.owner) {
+            return true;
+        }
+    }
+    false
+}
+
+/// Whether some start of authority stands elsewhere than at the origin.
+pub fn has_soa_elsewhere(origin: &Name, entries: &[Entry]) -> bool
+    ensures { result ≡ list_any (is_soa_elsewhere origin.now) entries.now }
+{
+    for entry in entries {
+        if is_start_of_authority(&entry.row.rdata) && !origin.eq_ignore_root(&entry.owner) {
+            return true;
+        }
+    }
+    false
+}
+
+/// The rows of the entries, in sets.
+pub fn sets_of(alloc: Global, entries: Vec<Entry>) -> Result<Vec<RecordSet>, AllocError>
+    ensures rows { IfOk result (λ sets. rows_of_sets sets.items ≡ rows_of rows_map.empty entries.items) }
+    ensures sound { IfOk result (λ sets. AreSoundEntries entries.items → AreSoundSets sets.items) }
+{
+    let mut sets = Vec::new(alloc);
+    for entry in entries {
+        add_row(alloc, &mut sets, entry.owner, entry.row)?;
+    }
+    Ok(sets)
+}
