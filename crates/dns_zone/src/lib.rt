@@ -38,4 +38,5 @@ pub use rdata::{A, RData, SOA};
 pub use record::Record;
 pub use road::{DatagramLimit, LimitTooSmall, Road};
 pub use section::Section;
+pub use text::{parse_name, split_words};
 pub use zone::{Zone, ZoneFault};

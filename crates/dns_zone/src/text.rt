@@ -60,8 +60,9 @@ fn end_word(alloc: Global, done: &mut Vec<Vec<u8>>, word: &mut Vec<u8>) -> Resul
     Ok(())
 }
 
-/// The words of a line.
-fn split_words(alloc: Global, line: &[u8]) -> Result<Vec<Vec<u8>>, AllocError>
+/// The words of a line, which spaces and tabs part. A backslash keeps the character behind it in its word
+/// (RFC 1035 section 5.1).
+pub fn split_words(alloc: Global, line: &[u8]) -> Result<Vec<Vec<u8>>, AllocError>
     ensures { IfOk result (λ found. map (λ v. v.items) found.items ≡ words line.now) }
 {
     let mut done = Vec::new(alloc);
@@ -80,9 +81,9 @@ fn split_words(alloc: Global, line: &[u8]) -> Result<Vec<Vec<u8>>, AllocError>
     Ok(done)
 }
 
-/// The name that a word spells, if it is fully qualified.
+/// The name that a word spells, if it is fully qualified (RFC 1035 section 5.1).
 #[tactic(auto, unfolding(crate::specs::ZoneText::fqdn_of))]
-fn parse_name(alloc: Global, word: &[u8]) -> Result<Option<Name>, AllocError>
+pub fn parse_name(alloc: Global, word: &[u8]) -> Result<Option<Name>, AllocError>
     ensures name { IfOk result (λ name. name ≡ fqdn_of word.now) }
     ensures fqdn { IfOk result (λ name. IfSome name (λ n. n.is_fqdn ≡ true)) }
 {

@@ -1,0 +1,9 @@
+pub mod Lookup
+pub mod Link
+pub mod Wire
+pub mod ScriptedLink
+pub mod World
+pub mod Run
+pub mod ScriptText
+pub mod Playing
+pub mod Words

@@ -1,0 +1,9 @@
+pub mod Asking
+pub mod OrderLaws
+pub mod PlayLaws
+pub mod Replies
+pub mod Requests
+pub mod Running
+pub mod ScriptLaws
+pub mod Waiting
+pub mod WordsLaws

@@ -1,0 +1,24 @@
+use Rattle.std.proofs.Common.{codes, map, string_bytes}
+use Rattle.clap.specs.Words.{app_of}
+use Rattle.stub_run.proofs.WordsLaws.{value_is, only_memory, fault_is}
+use Rattle.stub_run.proofs.words.read_words.Goals as goal
+
+pub returns-in_err-matches-clause-taken : goal.returns-in_err-matches-clause-taken
+returns-in_err-matches-clause-taken c =
+    only_memory (app_of c.in_ok-command.command) (map (λ word. word.now) c.args.words.now) c.from_residual-in_err-matches.result c.in_err-matches.field-0.0
+    c.in_ok-command.ensures.app c.in_err-matches.ensures.passes c.from_residual-in_err-matches.ensures.1
+
+pub returns-in_err-matches-clause-fault : goal.returns-in_err-matches-clause-fault
+returns-in_err-matches-clause-fault c =
+    fault_is (app_of c.in_ok-command.command) (map (λ word. word.now) c.args.words.now) c.from_residual-in_err-matches.result c.in_err-matches.field-0.0
+    c.in_ok-command.ensures.app c.in_err-matches.ensures.kinds c.from_residual-in_err-matches.ensures.1
+
+pub returns-clause-zone : goal.returns-clause-zone
+returns-clause-zone c =
+    value_is (app_of c.in_ok-command.command) (map (λ word. word.now) c.args.words.now) c.in_ok-matches.matches (codes "zone") (string_bytes c.in_ok-value_of.field-0)
+    c.in_ok-command.ensures.app c.in_ok-matches.ensures.matches c.in_ok-value_of.ensures
+
+pub returns-clause-script : goal.returns-clause-script
+returns-clause-script c =
+    value_is (app_of c.in_ok-command.command) (map (λ word. word.now) c.args.words.now) c.in_ok-matches.matches (codes "script") (string_bytes c.in_ok-value_of-2.field-0)
+    c.in_ok-command.ensures.app c.in_ok-matches.ensures.matches c.in_ok-value_of-2.ensures

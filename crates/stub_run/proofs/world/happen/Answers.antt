@@ -1,0 +1,34 @@
+use Rattle.std.proofs.Common.{sym, subst, ◌∙◌}
+use Rattle.stub_run.specs.declared.world.EventReport.{EventReport}
+use Rattle.stub_run.specs.World.{content}
+use Rattle.stub_run.specs.Run.{Step, at_memory_before}
+use Rattle.stub_run.proofs.Asking.{Happened, question-happened, goes-on, told-step}
+use Rattle.stub_run.proofs.world.happen.Goals as goal
+
+pub returns-then-is_out_of_memory-clause-front : goal.returns-then-is_out_of_memory-clause-front
+returns-then-is_out_of_memory-clause-front c =
+    let happened = question-happened c.a_message_is_read_one_way.ensures c.args.handle.now c.ask-asked.new.self c.args.event.now c.in-Ok.query c.ask-asked.result.outcome c.requires c.in-Ok.ensures.asks c.in-Ok.ensures.sound c.ask-asked.ensures.asks in
+    happened.front
+
+pub returns-then-is_out_of_memory-clause-dropped : goal.returns-then-is_out_of_memory-clause-dropped
+returns-then-is_out_of_memory-clause-dropped c =
+    let happened = question-happened c.a_message_is_read_one_way.ensures c.args.handle.now c.ask-asked.new.self c.args.event.now c.in-Ok.query c.ask-asked.result.outcome c.requires c.in-Ok.ensures.asks c.in-Ok.ensures.sound c.ask-asked.ensures.asks in
+    happened.dropped
+
+pub returns : goal.returns
+returns c =
+    let old = c.args.handle.now in
+    let new = c.ask-asked.new.self in
+    let happened : Happened old c.args.event.now c.ask-asked.result.outcome new = question-happened c.a_message_is_read_one_way.ensures old new c.args.event.now c.in-Ok.query c.ask-asked.result.outcome c.requires c.in-Ok.ensures.asks c.in-Ok.ensures.sound c.ask-asked.ensures.asks in
+    let goes = goes-on old new c.args.event.now c.ask-asked.result.outcome happened (sym c.is_out_of_memory.ensures ∙ c.if-is_out_of_memory.false) in
+    record {
+      step = told-step old new c.args.event.now c.in-Ok.query c.ask-asked.result.outcome c.found_by.result c.ask-asked.result.questions c.told-2.result goes c.in-Ok.ensures.asks c.found_by.ensures c.told-2.ensures c.ask-asked.ensures.questions c.ask-asked.ensures.drawn;
+      quiet = goes.quiet;
+      same = goes.same;
+      front = happened.front;
+      dropped = happened.dropped;
+    }
+
+pub returns-in-Err-clause-step : goal.returns-in-Err-clause-step
+returns-in-Err-clause-step c =
+    subst (λ (report : EventReport). Step (content c.args.handle.now) c.args.handle.now.sent.items c.args.event.now report c.args.handle.now.sent.items) (sym c.told.ensures) at_memory_before

@@ -1,0 +1,13 @@
+use Rattle.std.proofs.Common.{◌≡◌, [], take}
+use Rattle.stub_run.specs.Run.{Runs}
+use Rattle.stub_run.specs.World.{content, IsQuiet}
+use Rattle.stub_run.proofs.world.run.Given as goal
+
+-- the events so far lead to these reports and ids, and nothing else is different
+abbrev pub invariant-loop-event : goal.invariant-loop-event
+invariant-loop-event l = record {
+  quiet : IsQuiet l.handle.link;
+  same : content l.handle ≡ l.fn.world;
+  dropped : l.handle.dropped ≡ 0;
+  runs : Runs l.fn.world [] (take l.event-index l.events) l.reports.items l.handle.sent.items;
+}

@@ -1,0 +1,13 @@
+-- What a link brings.
+use Rattle.std.specs.Prelude.{◌≡◌, ◌<◌, ◌^◌, ◌-◌, ◌⊎◌, List, ℕ, Option, Result, Ok, Err, option_map}
+use Rattle.std.specs.Global.{Vec}
+use Rattle.stub_run.specs.declared.link.LinkError.{LinkError}
+
+-- the bytes that came
+abbrev pub datagram_of : Result (Option (Vec ℕ)) LinkError → Result (Option (List ℕ)) LinkError
+datagram_of (Ok came) = Ok (option_map (λ bytes. bytes.items) came)
+datagram_of (Err error) = Err error
+
+-- a count rose, or is at its greatest
+abbrev pub Rises : ℕ → ℕ → Type 0
+Rises old new = (old < new) ⊎ (new ≡ 2 ^ 64 - 1)

@@ -1,0 +1,37 @@
+-- What a reply gives to a lookup (RFC 2308 section 2).
+use Rattle.std.specs.Prelude.{List, [], ◌∷◌, ℕ, Result, Ok, Err}
+use Rattle.dns_zone.specs.declared.header.ResponseCode.{ResponseCode}
+use Rattle.dns_zone.specs.declared.header.ResponseCode.TheVariants.{NoError, NXDomain}
+use Rattle.dns_zone.specs.declared.query.Query.{Query}
+use Rattle.dns_zone.specs.declared.record.Record.{Record}
+use Rattle.dns_zone.specs.declared.message.Message.{Message}
+use Rattle.stub_run.specs.declared.lookup.Lookup.{Lookup}
+use Rattle.stub_run.specs.declared.lookup.LinkFault.{LinkFault}
+use Rattle.stub_run.specs.declared.lookup.LinkFault.TheVariants.{NotSent, NotReceived, Quiet, NoMatch, Truncated, NoId}
+use Rattle.stub_run.specs.declared.lookup.DnsError.{DnsError}
+use Rattle.stub_run.specs.declared.lookup.DnsError.TheVariants as dns
+use Rattle.stub_run.specs.declared.lookup.NetError.{NetError}
+use Rattle.stub_run.specs.declared.lookup.NetError.TheVariants as net
+
+abbrev pub fault_number : LinkFault → ℕ
+fault_number NotSent = 1
+fault_number NotReceived = 2
+fault_number Quiet = 3
+fault_number NoMatch = 4
+fault_number Truncated = 6
+fault_number NoId = 9
+
+-- without a record: there is none, where the code says whether the name is there; or the code
+abbrev pub without_record : Query → ResponseCode → DnsError
+without_record q NoError = dns.NoRecordsFound (record { query = q; response_code = NoError })
+without_record q NXDomain = dns.NoRecordsFound (record { query = q; response_code = NXDomain })
+without_record q code = dns.ResponseCode code
+
+-- the records that answer, if there are any
+abbrev pub lookup_of_answers : Query → ResponseCode → List Record → Result Lookup NetError
+lookup_of_answers q code [] = Err (net.Dns (without_record q code))
+lookup_of_answers q code (r ∷ rs) = Ok (record { query = q; answers = r ∷ rs })
+
+-- what a whole reply gives
+abbrev pub lookup_of : Query → Message → Result Lookup NetError
+lookup_of q reply = lookup_of_answers q reply.metadata.response_code reply.answers

@@ -1,0 +1,60 @@
+-- The text of a script: a line is blank, a comment, or `<at> lookup <name> A` with a name that is fully qualified and a
+-- moment in decimal digits.
+use Rattle.std.specs.Prelude.{◌==◌, ◌&&◌, ◌+◌, codes, if◌then◌else◌, Bool, List, [], ◌∷◌, ℕ, Option, Some, None, Result, Ok, Err}
+use Rattle.std.specs.List.{list_any}
+use Rattle.std.specs.Str.{bytes_eq}
+use Rattle.std.specs.Str.Lines.{lines}
+use Rattle.dns_wire.specs.declared.record_type.RecordType.TheVariants.{A}
+use Rattle.dns_names.specs.DomainName.{DomainName}
+use Rattle.dns_names.specs.Decimal.{decimal_up_to}
+use Rattle.dns_zone.specs.ZoneText.{words, fqdn_of}
+use Rattle.stub_run.specs.declared.event.Script.TheVariants.{Honest}
+use Rattle.stub_run.specs.declared.event.Event.{Event}
+use Rattle.stub_run.specs.declared.event.Event.TheVariants.{Lookup}
+use Rattle.stub_run.specs.declared.script.LineContent.{LineContent}
+use Rattle.stub_run.specs.declared.script.LineContent.TheVariants.{Nothing, Holds, Unreadable}
+use Rattle.stub_run.specs.declared.script.ScriptFault.{ScriptFault}
+use Rattle.stub_run.specs.declared.script.ScriptFault.TheVariants.{Line}
+
+-- a moment, in seconds: a number of 64 bits
+abbrev pub moment : List ℕ → Option ℕ
+moment text = decimal_up_to 18446744073709551615 text
+
+abbrev pub lookup_at : Option ℕ → Option DomainName → LineContent
+lookup_at (Some at) (Some name) = Holds (Lookup at name A Honest)
+lookup_at at name = Unreadable
+
+-- a line's words: none, or those of a lookup
+abbrev pub content_of_words : List (List ℕ) → LineContent
+content_of_words [] = Nothing
+content_of_words (at ∷ kind ∷ name ∷ rtype ∷ []) =
+    if bytes_eq kind (codes "lookup") && bytes_eq rtype (codes "A") then lookup_at (moment at) (fqdn_of name) else Unreadable
+content_of_words line_words = Unreadable
+
+-- a comment begins with `#`; no other line may have a semicolon
+abbrev pub content_of_line : List ℕ → LineContent
+content_of_line [] = Nothing
+content_of_line (c ∷ cs) =
+    if c == 35 then Nothing
+    else if list_any (λ d. d == 59) (c ∷ cs) then Unreadable
+    else content_of_words (words (c ∷ cs))
+
+-- the events of the lines from this number on, each with its line, or the first line that can't be read
+abbrev pub then_events : LineContent → ℕ → Result (List (ℕ × Event)) ScriptFault → Result (List (ℕ × Event)) ScriptFault
+then_events Nothing number rest = rest
+then_events Unreadable number rest = Err (Line number)
+then_events (Holds e) number (Ok events) = Ok ((number, e) ∷ events)
+then_events (Holds e) number (Err fault) = Err fault
+
+abbrev pub events_from : ℕ → List (List ℕ) → Result (List (ℕ × Event)) ScriptFault
+events_from number [] = Ok []
+events_from number (line ∷ more) = then_events (content_of_line line) number (events_from (number + 1) more)
+
+-- The events of a text, each with its line, counted from 1, or the first line that can't be read.
+abbrev pub script_of_text : List ℕ → Result (List (ℕ × Event)) ScriptFault
+script_of_text text = events_from 1 (lines text)
+
+-- lines and events, side by side
+abbrev pub side_by_side : List ℕ → List Event → List (ℕ × Event)
+side_by_side (number ∷ numbers) (e ∷ events) = (number, e) ∷ side_by_side numbers events
+side_by_side numbers events = []

@@ -1,0 +1,42 @@
+//! What carries datagrams between the asker and the server.
+
+ghost use Rattle.std.specs.Prelude.{◌≡◌, Err};
+ghost use Rattle.stub_run.specs.Link.{Rises, datagram_of};
+
+/// Why a call of a link gave nothing.
+#[derive(Clone, Copy, Debug, PartialEq, Eq)]
+pub enum LinkError {
+    /// The link failed.
+    Failed,
+    /// Memory was refused.
+    Memory,
+}
+
+/// Carries datagrams.
+pub trait Link {
+    ghost use Rattle.std.specs.Prelude.{Option, Result, List, ℕ};
+    ghost use Rattle.stub_run.specs.declared.link.LinkError.{LinkError};
+
+    /// From a state, sending these bytes may answer this and leave that state.
+    ghost sends: { Self → List ℕ → Result (Unit {0}) LinkError → Self → Type 0 };
+
+    /// From a state, a receive may bring this and leave that state.
+    ghost receives: { Self → Result (Option (List ℕ)) LinkError → Self → Type 0 };
+
+    /// How many calls have failed.
+    ghost failure_count: { Self → ℕ };
+
+    /// Sends a datagram.
+    fn send_datagram(&mut self, bytes: &[u8]) -> Result<(), LinkError>
+        ensures sends { sends self.old bytes.now result self.new }
+        ensures fails { result ≡ Err LinkError.Failed → Rises (failure_count self.old) (failure_count self.new) };
+
+    /// The datagram that comes next, or none.
+    fn next_datagram(&mut self) -> Result<Option<Vec<u8>>, LinkError>
+        ensures receives { receives self.old (datagram_of result) self.new }
+        ensures fails { result ≡ Err LinkError.Failed → Rises (failure_count self.old) (failure_count self.new) };
+
+    /// How many calls have failed; it stays at the greatest number.
+    fn failures(&self) -> u64
+        ensures { result ≡ failure_count self.now };
+}

@@ -1,0 +1,131 @@
+//! A whole run: a zone's text and a script's text, and what is printed of them.
+
+ghost use Rattle.std.specs.Prelude.{◌≡◌, ◌↔◌, ◌<◌, ◌+◌, IfOk, IfErr, IfSome, OnOk, None, Ok, Err, length, string_bytes, slice_index, EachIndex};
+ghost use Rattle.stub_run.specs.Run.{InOrder};
+ghost use Rattle.stub_run.specs.ScriptText.{side_by_side};
+ghost use Rattle.stub_run.specs.Playing.{IsFirstOutOfOrder, IsZone, IsScript, IsLineOutOfOrder, Faults, IsBeforeRun};
+
+use crate::event::Event;
+use crate::report_text::write_report;
+use crate::script::{ScriptFault, ScriptText, read_script};
+use crate::world::{Report, Stopped, World, run};
+use dns_zone::{DatagramLimit, Zone, ZoneFault};
+use std::alloc::{AllocError, Global};
+use std::{fmt, io};
+
+/// The texts of a zone and of a script.
+#[derive(Drop)]
+pub struct PlayInput {
+    pub zone: String,
+    pub script: String,
+}
+
+/// Why a run came to no end.
+#[derive(Debug, Drop)]
+pub enum PlayFault {
+    /// The zone's text is no zone.
+    Zone(ZoneFault),
+    /// A line of the script, counted from 1, that can't be read, or whose moment is out of order.
+    Script(usize),
+    /// Memory was refused.
+    Memory,
+    /// The report could not be written.
+    Write,
+}
+
+impl fmt::Display for PlayFault {
+    /// The line that the program ends with, as `zone: Z1 line 3`.
+    fn fmt<W: fmt::Write>(&self, f: &mut fmt::Formatter<W>) -> fmt::Result {
+        match self {
+            PlayFault::Zone(ZoneFault::Line(line)) => write!(f, "zone: Z1 line {line}"),
+            PlayFault::Zone(ZoneFault::OutsideOrigin) => f.write_str("zone: Z3"),
+            PlayFault::Zone(ZoneFault::NoSoa) => f.write_str("zone: Z4"),
+            PlayFault::Zone(ZoneFault::SoaElsewhere) => f.write_str("zone: Z5"),
+            PlayFault::Zone(ZoneFault::Memory) => f.write_str("zone: Z7"),
+            PlayFault::Script(line) => write!(f, "script line {line}"),
+            PlayFault::Memory => f.write_str("no memory"),
+            PlayFault::Write => f.write_str("cannot write"),
+        }
+    }
+}
+
+/// Reads the zone and the script, lets the events happen in a world over the zone, and writes what each gave. Where
+/// memory is refused to the run, what it gave before is written first.
+pub fn play<W: io::Write>(alloc: Global, input: &PlayInput, writer: &mut W) -> Result<(), PlayFault>
+    ensures zone { OnOk result (IsZone (string_bytes input.now.zone)) }
+    ensures script { OnOk result (IsScript (string_bytes input.now.script)) }
+    ensures fault { IfErr result (Faults (string_bytes input.now.zone) (string_bytes input.now.script)) }
+    ensures silent { IfErr result (λ fault. IsBeforeRun fault → writer.new ≡ writer.old) }
+{
+    let zone = match Zone::from_text(alloc, input.zone.as_str(), &[], None) {
+        Ok(zone) => zone,
+        Err(fault) => return Err(PlayFault::Zone(fault)),
+    };
+    let script = match read_script(alloc, input.script.as_str(), zone.origin()) {
+        Ok(script) => script,
+        Err(ScriptFault::Line(line)) => return Err(PlayFault::Script(line)),
+        Err(ScriptFault::Memory) => return Err(PlayFault::Memory),
+    };
+    let Ok(world) = new_world(alloc, zone) else {
+        return Err(PlayFault::Memory);
+    };
+    match run(world, script.events.as_slice()) {
+        Ok(report) => print(&script, &report, writer),
+        Err(Stopped::Memory(report)) => {
+            print(&script, &report, writer)?;
+            Err(PlayFault::Memory)
+        }
+        Err(Stopped::Moments) => Err(PlayFault::Script(line_out_of_order(&script))),
+    }
+}
+
+/// Writes the report of a script's events.
+fn print<W: io::Write>(
+    script: &ScriptText,
+    report: &Report,
+    writer: &mut W,
+) -> Result<(), PlayFault>
+    ensures { IfErr result (λ fault. fault ≡ PlayFault.Write) }
+{
+    match write_report(script.events.as_slice(), report, writer) {
+        Ok(()) => Ok(()),
+        Err(_) => Err(PlayFault::Write),
+    }
+}
+
+/// A world over a zone: its datagrams have at most 1,232 bytes, and its ids count up from 1.
+fn new_world(alloc: Global, zone: Zone) -> Result<World, AllocError>
+    ensures zone { IfOk result (λ world. world.zone ≡ zone) }
+    ensures limit { IfOk result (λ world. world.limit.value ≡ 1232) }
+    ensures ids { IfOk result (λ world. EachIndex world.ids (λ k. slice_index world.ids k ≡ k + 1)) }
+    ensures all { IfOk result (λ world. length world.ids ≡ 65535) }
+{
+    let limit = DatagramLimit::new(1232).unwrap();
+    let ids: Vec<u16> = (1..=u16::MAX).collect(alloc)?;
+    Ok(World::new(alloc, zone, limit, ids))
+}
+
+/// The line of the first event whose moment is out of order.
+fn line_out_of_order(script: &ScriptText) -> usize
+    requires beside { length script.now.lines.items ≡ length script.now.events.items }
+    requires late { ¬ InOrder 0 script.now.events.items }
+    ensures { IsLineOutOfOrder (side_by_side script.now.lines.items script.now.events.items) result }
+{
+    script.lines[first_out_of_order(script.events.as_slice()).unwrap()]
+}
+
+/// The first event whose moment is less than an earlier one, or above 2^62.
+pub fn first_out_of_order(events: &[Event]) -> Option<usize>
+    ensures none { (result ≡ None) ↔ InOrder 0 events.now }
+    ensures first { IfSome result (IsFirstOutOfOrder events.now) }
+{
+    let mut last = 0;
+    for (i, event) in events.iter().enumerate() {
+        let now = event.at();
+        if now < last || now > 1 << 62 {
+            return Some(i);
+        }
+        last = now;
+    }
+    None
+}

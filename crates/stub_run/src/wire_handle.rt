@@ -1,0 +1,257 @@
+//! Asking a question over a link.
+
+ghost use Rattle.std.specs.Prelude.{◌≡◌, ◌+◌, ◌≤◌, ◌∷◌, ◌++◌, [], List, true, Err, Ok, IfOk, OnOk, OnErr, MatchOption, MatchResult, slice_get, length};
+ghost use Rattle.dns_zone.specs.Grammar.{ReadsMessage};
+ghost use Rattle.dns_zone.specs.Message.{message_form};
+ghost use Rattle.dns_zone.specs.Sound.{IsSoundQuery};
+ghost use Rattle.stub_run.specs.Wire.{request, matches, accepted, Waits, Exchanges, MaySend, FindsReply};
+
+use crate::link::{Link, LinkError};
+use crate::lookup::{LinkFault, NetError};
+use dns_wire::{DecodeError, EncodeError};
+use dns_zone::{Message, MessageType, Metadata, OpCode, Query, ResponseCode, Section};
+use std::alloc::{AllocError, Global};
+
+/// Asks questions over a link, each with the next id of a list.
+#[derive(Drop)]
+pub struct WireHandle<L> {
+    alloc: Global,
+    pub(crate) link: L,
+    ids: Vec<u16>,
+    /// Each id that was drawn, with its question.
+    pub(crate) sent: Vec<(u16, Query)>,
+    /// How many datagrams came that were no reply to the open question.
+    dropped: u64,
+}
+
+impl<L: Link> WireHandle<L> {
+    ghost use Rattle.stub_run.specs.Wire.{Asks, DrawsNone};
+
+    /// A handle over a link, which draws these ids in order.
+    pub fn new(alloc: Global, link: L, ids: Vec<u16>) -> Self
+        ensures link { result.link ≡ link }
+        ensures ids { result.ids ≡ ids }
+        ensures sent { result.sent.items ≡ [] }
+        ensures dropped { result.dropped ≡ 0 }
+    {
+        WireHandle {
+            alloc,
+            link,
+            ids,
+            sent: Vec::new(alloc),
+            dropped: 0,
+        }
+    }
+
+    /// Makes room for so many more drawn ids.
+    pub fn reserve(&mut self, additional: usize) -> Result<(), AllocError>
+        ensures ids { self.new.ids ≡ self.old.ids }
+        ensures none { DrawsNone self.old self.new }
+    {
+        self.sent.reserve(additional)
+    }
+
+    /// Asks a question: the message that replies to it, whatever its code.
+    pub fn send(&mut self, query: &Query) -> Result<Message, NetError>
+        ensures { Asks L.sends L.receives self.old query.now result self.new }
+    {
+        self.ask(query).outcome
+    }
+
+    /// Asks a question, and counts the datagrams with it that are sent.
+    pub(crate) fn ask(&mut self, query: &Query) -> Asked
+        ensures asks { Asks L.sends L.receives self.old query.now result.outcome self.new }
+        ensures questions { MaySend result.outcome result.questions }
+        // No more are sent than ids are drawn.
+        ensures drawn { length self.old.sent.items + result.questions ≤ length self.new.sent.items }
+    {
+        if !query.is_sound() {
+            return unsent(NetError::Unsupported);
+        }
+        let used = self.sent.len();
+        if used >= self.ids.len() {
+            return unsent(NetError::Link(LinkFault::NoId));
+        }
+        let id = self.ids[used];
+        match remember(&mut self.sent, id, query) {
+            Err(_) => unsent(NetError::Memory),
+            Ok(()) => exchange(self.alloc, &mut self.link, id, query, &mut self.dropped),
+        }
+    }
+
+    /// How many datagrams came that were no reply to the open question; it stays at the greatest number.
+    pub fn dropped(&self) -> u64
+        ensures { result ≡ self.now.dropped }
+    {
+        self.dropped
+    }
+}
+
+/// What asking gave, and how many datagrams with the question were sent.
+#[derive(Drop)]
+pub(crate) struct Asked {
+    pub(crate) outcome: Result<Message, NetError>,
+    pub(crate) questions: u64,
+}
+
+/// Nothing was sent.
+fn unsent(error: NetError) -> Asked
+    ensures outcome { result.outcome ≡ Err error }
+    ensures questions { result.questions ≡ 0 }
+{
+    Asked {
+        outcome: Err(error),
+        questions: 0,
+    }
+}
+
+/// Keeps an id that is drawn, with a copy of its question.
+fn remember(sent: &mut Vec<(u16, Query)>, id: u16, query: &Query) -> Result<(), AllocError>
+    ensures ok { OnOk result (sent.new.items ≡ sent.old.items ++ (id, query.now) ∷ []) }
+    ensures err { OnErr result (sent.new.items ≡ sent.old.items) }
+{
+    let question = query.clone()?;
+    sent.push((id, question))?;
+    Ok(())
+}
+
+/// Sends the question under an id, and waits for its reply.
+fn exchange<L: Link>(
+    alloc: Global,
+    link: &mut L,
+    id: u16,
+    query: &Query,
+    dropped: &mut u64,
+) -> Asked
+    requires { IsSoundQuery query.now }
+    ensures exchange { Exchanges L.sends L.receives id query.now link.old dropped.old result.outcome link.new dropped.new }
+    ensures questions { MaySend result.outcome result.questions }
+    ensures one { result.questions ≤ 1 }
+{
+    match request_bytes(alloc, id, query) {
+        Err(_) => unsent(NetError::Memory),
+        Ok(bytes) => match link.send_datagram(bytes.as_slice()) {
+            Err(LinkError::Failed) => unsent(NetError::Link(LinkFault::NotSent)),
+            Err(LinkError::Memory) => unsent(NetError::Memory),
+            Ok(()) => Asked {
+                outcome: wait(alloc, link, id, query, dropped),
+                questions: 1,
+            },
+        },
+    }
+}
+
+/// The question as a message under an id (RFC 1035 section 4.1.1), with RD.
+fn request_of(alloc: Global, id: u16, query: &Query) -> Result<Message, AllocError>
+    ensures { IfOk result (λ message. message ≡ request id query.now) }
+{
+    let mut queries = Section::new(alloc);
+    queries.push(query.clone()?)?;
+    Ok(Message {
+        metadata: Metadata {
+            id,
+            message_type: MessageType::Query,
+            op_code: OpCode::Query,
+            authoritative: false,
+            truncation: false,
+            recursion_desired: true,
+            recursion_available: false,
+            authentic_data: false,
+            checking_disabled: false,
+            response_code: ResponseCode::NoError,
+        },
+        queries,
+        answers: Section::new(alloc),
+        authorities: Section::new(alloc),
+        additionals: Section::new(alloc),
+    })
+}
+
+/// The bytes of the question as a message under an id.
+fn request_bytes(alloc: Global, id: u16, query: &Query) -> Result<Vec<u8>, AllocError>
+    requires { IsSoundQuery query.now }
+    ensures form { IfOk result (λ bytes. bytes.items ≡ message_form (request id query.now)) }
+    ensures reads { IfOk result (λ bytes. ReadsMessage bytes.items (request id query.now)) }
+{
+    let _named = query.name.is_fqdn();
+    let message = request_of(alloc, id, query)?;
+    match message.to_vec(alloc, 65535) {
+        Ok(bytes) => Ok(bytes),
+        Err(EncodeError::Memory) => Err(AllocError),
+        Err(EncodeError::MaxBufferSizeExceeded) => unreachable!(),
+    }
+}
+
+/// Takes at most 16 datagrams, up to the reply.
+fn wait<L: Link>(
+    alloc: Global,
+    link: &mut L,
+    id: u16,
+    query: &Query,
+    dropped: &mut u64,
+) -> Result<Message, NetError>
+    ensures waits { Waits L.receives 16 id query.now link.old dropped.old result link.new dropped.new }
+    ensures questions { MaySend result 1 }
+{
+    for _looked in 0..16u8 {
+        match link.next_datagram() {
+            Err(LinkError::Failed) => return Err(NetError::Link(LinkFault::NotReceived)),
+            Err(LinkError::Memory) => return Err(NetError::Memory),
+            Ok(None) => return Err(NetError::Link(LinkFault::Quiet)),
+            Ok(Some(bytes)) => match reply_in(alloc, id, query, bytes.as_slice()) {
+                Err(_) => return Err(NetError::Memory),
+                Ok(Some(message)) => return accept(message),
+                Ok(None) => *dropped = dropped.saturating_add(1),
+            },
+        }
+    }
+    Err(NetError::Link(LinkFault::NoMatch))
+}
+
+/// The reply that a datagram spells, if it is one.
+fn reply_in(
+    alloc: Global,
+    id: u16,
+    query: &Query,
+    bytes: &[u8],
+) -> Result<Option<Message>, AllocError>
+    ensures { IfOk result (λ found. FindsReply id query.now bytes.now found) }
+{
+    match Message::from_vec(alloc, bytes) {
+        Err(error) => match error {
+            DecodeError::Memory => Err(AllocError),
+            _ => Ok(None),
+        },
+        Ok(message) => {
+            if is_reply(id, query, &message) {
+                Ok(Some(message))
+            } else {
+                Ok(None)
+            }
+        }
+    }
+}
+
+/// Whether a message replies to this question under this id (RFC 5452 section 3).
+fn is_reply(id: u16, query: &Query, message: &Message) -> bool
+    ensures { result ≡ matches id query.now message.now }
+{
+    message.metadata.message_type == MessageType::Response
+        && message.metadata.op_code == OpCode::Query
+        && message.metadata.id == id
+        && match message.queries.as_slice() {
+            [asked] => query.asks_same(asked),
+            _ => false,
+        }
+}
+
+/// A whole reply is used, and one that was cut isn't (RFC 2181 section 9).
+fn accept(message: Message) -> Result<Message, NetError>
+    ensures { result ≡ accepted message }
+{
+    if message.metadata.truncation {
+        Err(NetError::Link(LinkFault::Truncated))
+    } else {
+        Ok(message)
+    }
+}
