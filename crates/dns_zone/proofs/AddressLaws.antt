@@ -1,10 +1,9 @@
 -- Addresses in text, part by part.
-use Rattle.std.proofs.Common.{◌≡◌, ◌==◌, ◌+◌, ◌-◌, ◌<◌, ◌≤◌, ℕ, Bool, true, false, cond, not, List, [], ◌∷◌, ◌++◌, refl, sym, ap, ◌∙◌, subst, length, take, drop, length-drop, arith, Option, Some, None}
-use Rattle.std.specs.List.{slice_split, onto_first, position_or_len, count_by}
+use Rattle.std.proofs.Common.{◌≡◌, ◌==◌, ◌+◌, ◌-◌, ◌<◌, ◌≤◌, ℕ, Bool, true, false, cond, not, List, [], ◌∷◌, refl, sym, ap, ◌∙◌, subst, length, take, drop, length-drop, arith, None}
+use Rattle.std.specs.List.{slice_split, onto_first, position_or_len}
 use Rattle.std.proofs.lemmas.List.{take_all}
 use Rattle.std.proofs.lemmas.List.Splits.{slice_split_first, length-slice_split}
-use Rattle.std.specs.declared.net.ipv4_addr.Ipv4Addr.{Ipv4Addr}
-use Rattle.dns_zone.specs.Address.{address_of, address_of_parts}
+use Rattle.dns_zone.specs.Address.{address_of_parts}
 
 abbrev is_dot : ℕ → Bool
 is_dot c = c == 46

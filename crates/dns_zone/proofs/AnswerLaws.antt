@@ -1,11 +1,10 @@
 -- Answers can be sent, and read again.
-use Rattle.std.proofs.Common.{◌≡◌, ◌<◌, ◌≤◌, ◌^◌, ℕ, Bool, true, false, List, [], ◌∷◌, map, min, refl, arith}
-use Rattle.std.specs.List.{AllByRecursion}
+use Rattle.std.proofs.Common.{◌≡◌, ◌<◌, ◌^◌, ℕ, true, List, [], ◌∷◌, map, refl, arith}
 use Rattle.dns_names.specs.DomainName.{DomainName}
 use Rattle.dns_zone.specs.declared.rows.Row.{Row}
 use Rattle.dns_zone.specs.declared.rdata.RData.{RData}
 use Rattle.dns_zone.specs.declared.rdata.RData.TheVariants as of
-use Rattle.dns_zone.specs.Rows.{AreSoundRows, IsSoundRow}
+use Rattle.dns_zone.specs.Rows.{AreSoundRows}
 use Rattle.dns_zone.specs.Answer.{record_of, authority_row, negative_ttl, AreSoundRecords}
 
 pub sound_records : (owner : DomainName) (rows : List Row) → owner.is_fqdn ≡ true → AreSoundRows rows → AreSoundRecords (map (record_of owner) rows)

@@ -1,5 +1,5 @@
 -- Record data: how long it is, and when its numbers are equal.
-use Rattle.std.proofs.Common.{◌≡◌, ℕ, ◌+◌, ◌*◌, ◌<◌, ◌^◌, Bool, true, false, cond, eqb, List, [], ◌∷◌, ◌++◌, length, refl, sym, ap, ◌∙◌, arith, length-append}
+use Rattle.std.proofs.Common.{◌≡◌, ℕ, ◌+◌, List, [], ◌++◌, length, ◌∙◌, arith, length-append}
 use Rattle.dns_wire.specs.Name.{name_len}
 use Rattle.dns_wire.specs.Pieces.{Sofar, form, spelled, whole_form}
 use Rattle.dns_wire.proofs.NameLaws.{length-whole_form, name_len-spelled}

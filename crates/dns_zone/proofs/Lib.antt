@@ -5,7 +5,6 @@ pub mod ListLaws
 pub mod MessageAgain
 pub mod MessageLaws
 pub mod MessageWriting
-pub mod NumberLaws
 pub mod OneWay
 pub mod RowLaws
 pub mod ServingLaws

@@ -1,7 +1,7 @@
 -- Lists, as loops walk over them.
-use Rattle.std.proofs.Common.{not, zero, set, ◌≡◌, ◌+◌, ◌<◌, ◌≤◌, ℕ, Bool, true, false, cond, ◌&&◌, ◌||◌, List, [], ◌∷◌, ◌++◌, map, refl, sym, ap, ◌∙◌, subst, length, drop, take, get_or, arith, suc, drop-cons, add-one}
+use Rattle.std.proofs.Common.{not, zero, set, ◌≡◌, ◌+◌, ◌<◌, ◌≤◌, ℕ, Bool, true, false, cond, ◌||◌, List, [], ◌∷◌, ◌++◌, refl, sym, ap, ◌∙◌, subst, length, drop, get_or, arith, suc, drop-cons, add-one}
 use Rattle.std.proofs.lemmas.List.{drop_all}
-use Rattle.std.specs.List.{prefix_len, list_any, list_all, position_or_len, AllByRecursion}
+use Rattle.std.specs.List.{list_any, position_or_len, AllByRecursion}
 
 -- the element at a place, and what follows it
 pub drop_at : {A : Type 0} (xs : List A) (i : ℕ) (x : A) → i < length xs → x ≡ get_or xs i x → drop i xs ≡ x ∷ drop (i + 1) xs

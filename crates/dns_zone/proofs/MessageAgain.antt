@@ -1,10 +1,10 @@
 -- A message that was written is read again.
-use Rattle.std.proofs.Common.{◌≡◌, ℕ, zero, suc, ◌+◌, ◌*◌, ◌/◌, ◌%◌, ◌<◌, ◌≤◌, ◌^◌, Bool, true, false, cond, eqb, max, List, [], ◌∷◌, ◌++◌, length, refl, sym, ap, subst, ◌∙◌, append_assoc, arith, length-append}
+use Rattle.std.proofs.Common.{◌≡◌, ℕ, ◌+◌, ◌*◌, ◌/◌, ◌%◌, ◌<◌, Bool, true, false, cond, eqb, List, [], ◌∷◌, ◌++◌, length, refl, sym, ap, subst, ◌∙◌, append_assoc, arith, length-append}
 use Rattle.std.specs.Int.{w16, to_be_bytes}
 use Rattle.std.specs.List.{AllByRecursion}
 use Rattle.dns_wire.specs.declared.name_encoding.NameEncoding.{NameEncoding}
 use Rattle.dns_wire.specs.declared.name_encoding.NameEncoding.TheVariants.{Uncompressed}
-use Rattle.dns_wire.specs.Pieces.{Piece, Plain, Domain, Sofar, sofar, form, after, reach, Shows, AreAt, AreWritable}
+use Rattle.dns_wire.specs.Pieces.{Piece, Plain, Sofar, form, after, Shows, AreAt, AreWritable}
 use Rattle.dns_wire.proofs.PieceLaws.{after-place, after-encoding, after-append, form-append, pieces_again, are_at-append}
 use Rattle.dns_zone.specs.declared.header.MessageType.TheVariants as kinds
 use Rattle.dns_zone.specs.declared.header.MessageType.{MessageType}
@@ -14,13 +14,13 @@ use Rattle.dns_zone.specs.declared.header.Metadata.{Metadata}
 use Rattle.dns_zone.specs.declared.query.Query.{Query}
 use Rattle.dns_zone.specs.declared.record.Record.{Record}
 use Rattle.dns_zone.specs.declared.message.Message.{Message}
-use Rattle.dns_zone.specs.Header.{bit, has_bit, kind_bit, op_number, op_of, code_number, code_of, third_byte, fourth_byte, metadata_of}
+use Rattle.dns_zone.specs.Header.{bit, kind_bit, op_number, op_of, code_number, code_of, third_byte, fourth_byte, metadata_of}
 use Rattle.dns_zone.specs.Data.{data_pieces}
 use Rattle.dns_zone.specs.Question.{question_pieces}
 use Rattle.dns_zone.specs.Record.{head_pieces, data_len, record_pieces}
-use Rattle.dns_zone.specs.Message.{beginning, queries_pieces, records_pieces, header_bytes, front_pieces, message_pieces, message_form}
+use Rattle.dns_zone.specs.Message.{beginning, queries_pieces, records_pieces, header_bytes, message_pieces, message_form}
 use Rattle.dns_zone.specs.Sound.{IsSoundMetadata, IsSoundQuery, IsSoundRecord, IsSound}
-use Rattle.dns_zone.specs.Grammar.{Follow, ReadsQuestion, ReadsRecord, ReadsHeader, ReadsMessage}
+use Rattle.dns_zone.specs.Grammar.{Follow, ReadsQuestion, ReadsRecord, ReadsMessage}
 
 -- ---- the header's bits
 

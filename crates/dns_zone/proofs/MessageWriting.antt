@@ -1,5 +1,5 @@
 -- Writing a message part by part.
-use Rattle.std.proofs.Common.{◌≡◌, ℕ, ◌+◌, ◌<◌, ◌≤◌, List, [], ◌∷◌, ◌++◌, length, Result, Ok, Err, refl, sym, ap, subst, ◌∙◌, append_assoc, arith, length-append}
+use Rattle.std.proofs.Common.{◌≡◌, ℕ, ◌+◌, ◌≤◌, List, [], ◌∷◌, ◌++◌, length, Result, Ok, Err, refl, sym, ap, subst, ◌∙◌, append_assoc, arith, length-append}
 use Rattle.dns_wire.specs.declared.error.EncodeError.{EncodeError}
 use Rattle.dns_wire.specs.Encoder.{Written, IsAtEnd}
 use Rattle.std.specs.Int.{w16, w32, to_be_bytes}
@@ -14,7 +14,7 @@ use Rattle.dns_zone.specs.declared.record.Record.{Record}
 use Rattle.dns_zone.specs.declared.message.Message.{Message}
 use Rattle.dns_zone.specs.Record.{data_len, record_pieces}
 use Rattle.dns_zone.specs.Message.{beginning, queries_pieces, records_pieces, header_bytes, front_pieces, message_pieces, message_form}
-use Rattle.dns_zone.proofs.Steps.{Underway, begins, goes_on, stops, ends, sofar-behind}
+use Rattle.dns_zone.proofs.Steps.{Underway, begins, goes_on, stops, sofar-behind}
 
 pub records_pieces-append : (s : Sofar) (xs ys : List Record) → records_pieces s (xs ++ ys) ≡ records_pieces s xs ++ records_pieces (after s (records_pieces s xs)) ys
 records_pieces-append s [] ys = refl

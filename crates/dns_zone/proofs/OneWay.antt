@@ -1,10 +1,10 @@
 -- What stands at a place is read in one way.
-use Rattle.std.proofs.Common.{◌≡◌, ℕ, zero, suc, ◌+◌, ◌<◌, ◌≤◌, ◌^◌, Bool, true, List, [], ◌∷◌, ◌++◌, length, take, drop, refl, sym, ap, subst, ◌∙◌, append_assoc, arith, length-append, length-drop}
+use Rattle.std.proofs.Common.{◌≡◌, ℕ, ◌+◌, ◌<◌, ◌≤◌, ◌^◌, Bool, true, List, [], ◌∷◌, ◌++◌, length, take, drop, refl, sym, ap, subst, ◌∙◌, append_assoc, arith, length-append, length-drop}
 use Rattle.std.specs.Net.Addr.{ipv4_octets}
 use Rattle.std.specs.declared.net.ipv4_addr.Ipv4Addr.{Ipv4Addr}
 use Rattle.std.specs.Int.{w16, w32, to_be_bytes, from_be_bytes}
 use Rattle.std.proofs.lemmas.Nat.{from_be_bytes-to_be_bytes_2, from_be_bytes-to_be_bytes_4}
-use Rattle.std.proofs.lemmas.List.{take_at, take_all}
+use Rattle.std.proofs.lemmas.List.{take_at}
 use Rattle.dns_wire.specs.declared.record_type.RecordType.{RecordType}
 use Rattle.dns_wire.specs.declared.record_type.RecordType.TheVariants as types
 use Rattle.dns_wire.specs.declared.dns_class.DNSClass.{DNSClass}
@@ -18,16 +18,15 @@ use Rattle.dns_zone.specs.declared.rdata.RData.TheVariants as of
 use Rattle.dns_zone.specs.declared.query.Query.{Query}
 use Rattle.dns_zone.specs.declared.record.RecordHead.{RecordHead}
 use Rattle.dns_zone.specs.declared.record.Record.{Record}
-use Rattle.dns_zone.specs.Data.{data_type, data_pieces, soa_pieces, soa_numbers}
+use Rattle.dns_zone.specs.Data.{data_type, data_pieces, soa_pieces}
 use Rattle.dns_zone.specs.Question.{question_pieces}
-use Rattle.dns_zone.specs.Record.{head_pieces}
-use Rattle.dns_zone.specs.Sound.{IsSoundQuery, IsSoundSoa, IsSoundData, IsSoundRecord}
+use Rattle.dns_zone.specs.Sound.{IsSoundSoa}
 use Rattle.dns_zone.specs.declared.header.Metadata.{Metadata}
 use Rattle.dns_zone.specs.declared.message.Message.{Message}
 use Rattle.dns_zone.specs.Header.{metadata_of}
-use Rattle.dns_zone.specs.Grammar.{Follow, ReadsQuestion, ReadsHead, ReadsData, ReadsRecord, ReadsHeader, ReadsMessage}
+use Rattle.dns_zone.specs.Grammar.{Follow, ReadsQuestion, ReadsHead, ReadsData, ReadsRecord, ReadsMessage}
 use Rattle.dns_wire.specs.Decoder.{Decoder, rest}
-use Rattle.dns_wire.specs.Reading.{Reads, ReadsName, at_closing, at_label, at_pointer}
+use Rattle.dns_wire.specs.Reading.{Reads, at_closing, at_label, at_pointer}
 use Rattle.dns_wire.specs.Pieces.{Piece, Plain, Domain, Shows, AreAt}
 use Rattle.dns_wire.specs.declared.name_encoding.NameEncoding.TheVariants.{Uncompressed}
 use Rattle.dns_wire.proofs.ReadingLaws.{reads_same}

@@ -1,11 +1,11 @@
 -- The rows of sets: where a set stands, and what one more row makes of them.
-use Rattle.std.proofs.Common.{◌≡◌, ◌==◌, ◌<◌, ◌≤◌, ℕ, Bool, true, false, cond, ◌&&◌, ◌||◌, List, [], ◌∷◌, ◌++◌, map, refl, sym, ap, ◌∙◌, subst, length, set, get_or, arith, suc, zero, Option, Some, None, unwrap_or}
-use Rattle.std.specs.List.{list_any, position_or_len, AllByRecursion}
-use Rattle.std.specs.Ordering.{eq_by_cmp, nat_cmp, ordering_then, is_eq, on, then_cmp}
+use Rattle.std.proofs.Common.{◌≡◌, ◌==◌, ◌<◌, ◌≤◌, ℕ, Bool, true, false, cond, ◌&&◌, ◌||◌, List, [], ◌∷◌, ◌++◌, map, refl, sym, ap, ◌∙◌, subst, length, set, get_or, arith, Option, Some, None, unwrap_or}
+use Rattle.std.specs.List.{list_any, position_or_len}
+use Rattle.std.specs.Ordering.{eq_by_cmp, nat_cmp, ordering_then}
 use Rattle.std.proofs.Common.{Ordering, Less, Equal, Greater}
-use Rattle.std.specs.Cmp.{IsTotalOrder, both_tied, then_total, on_total, nat_cmp_total, unsigned_ties, eq_by_cmp_equiv, Equal-is}
+use Rattle.std.specs.Cmp.{IsTotalOrder, both_tied, then_total, on_total, nat_cmp_total, unsigned_ties, eq_by_cmp_equiv}
 use Rattle.std.specs.Cmp.Lexicographic.{slice_cmp, lists_total, lists_ties, texts_ties, nat_list_cmp_total, pointwise}
-use Rattle.std.specs.Str.{bytes_eq, str_to_ascii_lowercase, str_eq_ignore_ascii_case}
+use Rattle.std.specs.Str.{bytes_eq, str_to_ascii_lowercase}
 use Rattle.std.specs.List as list
 use Rattle.std.specs.FinMap as rows_map
 use Rattle.std.proofs.lemmas.List.{map-append}
@@ -23,7 +23,7 @@ use Rattle.dns_wire.specs.declared.record_type.RecordType.{RecordType}
 use Rattle.dns_names.specs.Comparison.{lower, same_labels, at_or_below}
 use Rattle.dns_zone.specs.declared.rows.Row.{Row}
 use Rattle.dns_zone.specs.declared.rows.RecordSet.{RecordSet}
-use Rattle.dns_zone.specs.Rows.{Key, key, key_cmp, set_key, rows_of_sets, rows_at, with_row, joined, some_row_below, is_soa, supersedes, replaced, Rows, IsSoundRow, AreSoundRows, AreSoundSets}
+use Rattle.dns_zone.specs.Rows.{Key, key, key_cmp, set_key, rows_of_sets, rows_at, with_row, joined, some_row_below, is_soa, supersedes, replaced, IsSoundRow, AreSoundRows, AreSoundSets}
 
 -- ---- the order of keys
 
@@ -105,8 +105,8 @@ new_set sets s owner row i e h n t r =
     let none : find key_cmp k (entries_of sets) ≡ None = find_set k sets ∙ find_none sets k i e h in
     let entry : ◌≡◌ {A = Key × List Row} (set_key s, s.rows.items) (k, row ∷ []) = λ j. (key (n j) (t j), r j) in
     let pushed : rows_of_sets (sets ++ s ∷ []) ≡ rows_map.insert (rows_of_sets sets) k (row ∷ []) =
-        ap (rows_map.from_entries {R = key_cmp}) (map-append (λ (s : RecordSet). (set_key s, s.rows.items)) sets (s ∷ []) ∙ ap (λ x. entries_of sets ++ x ∷ []) entry)
-        ∙ rows_map.from_entries_push key_total key_antisymmetric (entries_of sets) k (row ∷ []) none in
+    ap (rows_map.from_entries {R = key_cmp}) (map-append (λ (s : RecordSet). (set_key s, s.rows.items)) sets (s ∷ []) ∙ ap (λ x. entries_of sets ++ x ∷ []) entry)
+    ∙ rows_map.from_entries_push key_total key_antisymmetric (entries_of sets) k (row ∷ []) none in
     pushed ∙ ap (rows_map.insert (rows_of_sets sets) k) (sym (ap (λ rows. joined rows row) (rows_nowhere sets owner (data_type row.rdata) i e h) ∙ joined_first row))
 
 first_place : (q k : Key) (sets : List RecordSet) → eq_by_cmp key_cmp q k ≡ true → position_or_len (tied q) sets ≡ position_or_len (tied k) sets
@@ -136,10 +136,10 @@ old_set sets x y owner row i e h is same r =
     let k : Key = key owner (data_type row.rdata) in
     let value : y.rows.items ≡ joined (rows_at (rows_of_sets sets) owner (data_type row.rdata)) row = r ∙ ap (λ rows. joined rows row) (sym (rows_there sets owner (data_type row.rdata) i x e h is)) in
     rows_map.same_map key_total key_antisymmetric _ _ (λ q.
-      get-sets (set sets i y) q
-      ∙ found_at q k sets i x y (eq_by_cmp key_cmp q k) refl e h is same
-      ∙ (λ j. cond (eq_by_cmp key_cmp q k) (Some (value j)) (sym (get-sets sets q) j))
-      ∙ sym (rows_map.get-insert key_total (rows_of_sets sets) k _ q))
+    get-sets (set sets i y) q
+    ∙ found_at q k sets i x y (eq_by_cmp key_cmp q k) refl e h is same
+    ∙ (λ j. cond (eq_by_cmp key_cmp q k) (Some (value j)) (sym (get-sets sets q) j))
+    ∙ sym (rows_map.get-insert key_total (rows_of_sets sets) k _ q))
 
 -- ---- soundness
 
@@ -149,6 +149,7 @@ sound_joined rows row all sound = joins (is_soa row.rdata) (list_any (λ r. same
     stands : (rs : List Row) → AreSoundRows rs → AreSoundRows (replaced rs row)
     stands [] a = (sound, tt)
     stands (old ∷ more) a = elim (supersedes row.rdata old.rdata) as (λ b. AreSoundRows (cond b (row ∷ []) (old ∷ more))) [ true ↦ (sound, tt) | false ↦ a ]
+
     joins : (s t : Bool) → AreSoundRows (cond s (replaced rows row) (cond t rows (rows ++ row ∷ [])))
     joins true t = stands rows all
     joins false true = all

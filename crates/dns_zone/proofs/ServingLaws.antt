@@ -1,11 +1,11 @@
 -- Requests and replies.
-use Rattle.std.proofs.Common.{◌≡◌, ◌==◌, ◌+◌, ◌<◌, ◌≤◌, ◌^◌, ℕ, Bool, true, false, cond, List, [], ◌∷◌, ◌++◌, map, refl, sym, ap, ◌∙◌, subst, length, arith, length-append, zero, suc, nat_le}
+use Rattle.std.proofs.Common.{◌≡◌, ◌==◌, ◌<◌, ◌≤◌, ◌^◌, ℕ, Bool, true, false, cond, List, [], ◌∷◌, ◌++◌, refl, sym, ap, ◌∙◌, subst, length, arith, length-append, nat_le}
 use Rattle.std.specs.Bool.{MatchBool}
 use Rattle.std.specs.List.{AllByRecursion}
 use borrow.Author.Tests.{eqb-true, eqb-false}
 use Rattle.std.proofs.Common.{leb-true}
-use Rattle.dns_wire.specs.Name.{AreLabels, name_len}
-use Rattle.dns_wire.specs.Pieces.{Piece, Plain, Domain, Sofar, form, after, piece_form, piece_next, labels_form, whole_form, spelled}
+use Rattle.dns_wire.specs.Name.{name_len}
+use Rattle.dns_wire.specs.Pieces.{Piece, Sofar, form, after, piece_form, piece_next, labels_form, whole_form, spelled}
 use Rattle.std.specs.Int.{w16, to_be_bytes}
 use Rattle.dns_wire.specs.RecordType.{type_number}
 use Rattle.dns_wire.specs.DNSClass.{class_number}
@@ -20,11 +20,10 @@ use Rattle.dns_zone.specs.declared.header.OpCode.TheVariants as ops
 use Rattle.dns_zone.specs.declared.road.Road.{Road}
 use Rattle.dns_zone.specs.declared.road.Road.TheVariants as roads
 use Rattle.dns_zone.specs.Header.{op_number, op_of}
-use Rattle.std.proofs.Common.{append_assoc, Some, None}
+use Rattle.std.proofs.Common.{append_assoc, Some}
 use Rattle.dns_zone.specs.Rows.{ZoneContent}
-use Rattle.dns_zone.specs.Record.{record_pieces, head_pieces}
-use Rattle.dns_zone.specs.Question.{question_pieces}
-use Rattle.dns_zone.specs.Message.{beginning, records_pieces, front_pieces, message_form, message_pieces, cut, cut_off}
+use Rattle.dns_zone.specs.Record.{record_pieces}
+use Rattle.dns_zone.specs.Message.{beginning, records_pieces, front_pieces, message_form, cut, cut_off}
 use Rattle.dns_zone.specs.Sound.{IsSound, IsSoundQuery, IsSoundMetadata}
 use Rattle.dns_zone.specs.Grammar.{ReadsMessage, ReadsQuestion, Follow}
 use Rattle.dns_zone.specs.Answer.{answer, IsSoundAnswer, AreSoundRecords}
@@ -143,6 +142,10 @@ reply_sound zone bytes m q limit h reads served sound =
 pub serves : (zone : ZoneContent) (road : Road) (bytes : List ℕ) (m : Message) (q : Query) (whole : Message) (limit : ℕ) (out : List ℕ) → ReadsMessage bytes m → IsServed m q → (q.name.is_fqdn ≡ true → IsSoundAnswer (answer zone q))
     → whole ≡ reply zone m q → limit ≡ reply_limit road → out ≡ message_form (cut limit whole) → (IsSound (cut limit whole) → ReadsMessage out (cut limit whole)) → Serves zone road bytes (Some out)
 serves zone road bytes m q whole limit out reads served sound w l form again =
-    let cuts : cut limit whole ≡ sent_reply zone road m q = λ i. cut (l i) (w i) in
-    (m, q, record { reads = reads; served = served }, form ∙ ap message_form cuts,
-      subst (ReadsMessage out) cuts (again (subst IsSound (sym cuts) (reply_sound zone bytes m q (reply_limit road) (limit_most road) reads served sound))))
+    let cuts : cut limit whole ≡ sent_reply zone road m q = λ i. cut (l i) (w i) in (
+      m,
+      q,
+      record { reads = reads; served = served },
+      form ∙ ap message_form cuts,
+      subst (ReadsMessage out) cuts (again (subst IsSound (sym cuts) (reply_sound zone bytes m q (reply_limit road) (limit_most road) reads served sound))),
+    )

@@ -1,5 +1,5 @@
 -- Writing step by step.
-use Rattle.std.proofs.Common.{◌≡◌, ℕ, ◌+◌, ◌≤◌, List, [], ◌∷◌, ◌++◌, length, drop, get_or, max, Result, Ok, Err, refl, sym, ap, subst, ◌∙◌, append_assoc, arith, length-append}
+use Rattle.std.proofs.Common.{◌≡◌, ℕ, ◌+◌, List, [], ◌∷◌, ◌++◌, drop, get_or, Result, Ok, Err, sym, ap, subst, ◌∙◌, append_assoc, arith, length-append}
 use Rattle.dns_wire.specs.declared.error.EncodeError.{EncodeError}
 use Rattle.dns_wire.specs.Encoder.{Written, IsAtEnd}
 use Rattle.dns_wire.specs.declared.name_encoding.NameEncoding.{NameEncoding}

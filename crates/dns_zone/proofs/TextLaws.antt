@@ -1,5 +1,5 @@
 -- The text of a zone, word by word and line by line.
-use Rattle.std.proofs.Common.{suc, map, ◌≡◌, ◌==◌, ◌+◌, ◌<◌, ◌≤◌, ℕ, Bool, true, false, cond, not, List, [], ◌∷◌, ◌++◌, refl, sym, ap, ◌∙◌, subst, length, take, drop, get_or, append_assoc, arith, Option, Some, None, Result, Ok, Err}
+use Rattle.std.proofs.Common.{suc, map, ◌≡◌, ◌+◌, ◌<◌, ◌≤◌, ℕ, true, cond, List, [], ◌∷◌, ◌++◌, refl, sym, ap, ◌∙◌, length, drop, get_or, append_assoc, arith, Some, None, Result, Ok, Err}
 use Rattle.std.specs.List.{list_all}
 use borrow.Author.Tests.{lt-ltb}
 use Rattle.std.specs.Str.{IsAscii}

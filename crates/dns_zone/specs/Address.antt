@@ -1,9 +1,8 @@
 -- Addresses in text (RFC 1035 section 3.4.1): four numbers from 0 to 255 without leading zeros, joined by dots.
-use Rattle.std.specs.Prelude.{◌==◌, ◌&&◌, ◌||◌, nat_lt, nat_le, slice_index, if◌then◌else◌, Bool, Option, Some, None, List, [], ◌∷◌, ℕ, length}
+use Rattle.std.specs.Prelude.{◌==◌, ◌&&◌, ◌||◌, nat_lt, slice_index, if◌then◌else◌, Bool, Option, Some, None, List, [], ◌∷◌, ℕ, length}
 use Rattle.std.specs.List.{slice_split}
 use Rattle.std.specs.declared.net.ipv4_addr.Ipv4Addr.{Ipv4Addr}
 use Rattle.dns_names.specs.Decimal.{decimal_up_to}
-use Rattle.dns_zone.specs.declared.rdata.A.{A}
 use Rattle.dns_zone.specs.declared.rdata.RData.{RData}
 use Rattle.dns_zone.specs.declared.rdata.RData.TheVariants as of
 

@@ -1,5 +1,5 @@
 -- The answer of a zone to a question (RFC 1034 section 4.3.2, RFC 2308 sections 2 and 3).
-use Rattle.std.specs.Prelude.{◌≡◌, ◌<◌, ◌==◌, ◌&&◌, ◌||◌, nat_le, not, map, min, if◌then◌else◌, Bool, true, false, List, [], ◌∷◌, ℕ}
+use Rattle.std.specs.Prelude.{◌≡◌, ◌<◌, ◌==◌, ◌&&◌, ◌||◌, nat_le, not, map, min, if◌then◌else◌, Bool, List, [], ◌∷◌, ℕ}
 use Rattle.dns_wire.specs.RecordType.{type_number}
 use Rattle.dns_wire.specs.DNSClass.{class_number}
 use Rattle.dns_wire.specs.declared.dns_class.DNSClass.TheVariants.{IN}
@@ -17,7 +17,7 @@ use Rattle.dns_zone.specs.declared.rows.Row.{Row}
 use Rattle.std.specs.List.{AllByRecursion}
 use Rattle.dns_zone.specs.Header.{code_number, code_of}
 use Rattle.dns_zone.specs.Sound.{IsSoundRecord}
-use Rattle.dns_zone.specs.Rows.{Rows, ZoneContent, rows_at, some_row_below}
+use Rattle.dns_zone.specs.Rows.{ZoneContent, rows_at, some_row_below}
 
 -- types that no row has: 0, SIG, OPT, and 128 to 255 (RFC 6895 section 3.1)
 abbrev pub is_no_row_type : ℕ → Bool

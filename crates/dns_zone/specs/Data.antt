@@ -1,5 +1,5 @@
 -- Record data: its type, what is written for it, and when two are equal (RFC 1035 sections 3.3.13 and 3.4.1).
-use Rattle.std.specs.Prelude.{◌==◌, ◌&&◌, ◌++◌, Bool, false, List, [], ◌∷◌, ℕ}
+use Rattle.std.specs.Prelude.{◌&&◌, ◌++◌, Bool, false, List, [], ◌∷◌, ℕ}
 use Rattle.std.specs.Int.{w32, to_be_bytes}
 use Rattle.std.specs.Str.{bytes_eq}
 use Rattle.std.specs.Net.Addr.{ipv4_octets}

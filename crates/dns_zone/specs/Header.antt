@@ -1,5 +1,5 @@
 -- The header's bits (RFC 1035 section 4.1.1).
-use Rattle.std.specs.Prelude.{◌==◌, ◌≡◌, ◌+◌, ◌*◌, ◌/◌, ◌%◌, ◌^◌, ◌<◌, ◌++◌, nat_lt, if◌then◌else◌, Bool, List, [], ◌∷◌, ℕ}
+use Rattle.std.specs.Prelude.{◌==◌, ◌+◌, ◌*◌, ◌/◌, ◌%◌, ◌++◌, if◌then◌else◌, Bool, List, ◌∷◌, ℕ}
 use Rattle.std.specs.Int.{w16, to_be_bytes}
 use Rattle.dns_zone.specs.declared.header.MessageType.{MessageType}
 use Rattle.dns_zone.specs.declared.header.MessageType.TheVariants as kinds

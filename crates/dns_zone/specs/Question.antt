@@ -1,5 +1,5 @@
 -- Questions: what is written for them, and when two ask the same (RFC 1035 section 4.1.2).
-use Rattle.std.specs.Prelude.{◌==◌, ◌&&◌, ◌++◌, Bool, List, [], ◌∷◌}
+use Rattle.std.specs.Prelude.{◌==◌, ◌&&◌, Bool, List, [], ◌∷◌}
 use Rattle.std.specs.Int.{w16, to_be_bytes}
 use Rattle.dns_wire.specs.Pieces.{Piece, Plain, Domain}
 use Rattle.dns_wire.specs.RecordType.{type_number}

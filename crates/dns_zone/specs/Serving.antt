@@ -1,5 +1,5 @@
 -- What a zone's server replies (RFC 1035 sections 4.1 and 4.2).
-use Rattle.std.specs.Prelude.{◌≡◌, ◌==◌, min, true, false, Bool, List, [], ◌∷◌, ℕ, Option, Some, None}
+use Rattle.std.specs.Prelude.{◌≡◌, min, true, false, Bool, List, [], ◌∷◌, ℕ, Option, Some, None}
 use Rattle.dns_zone.specs.declared.header.MessageType.TheVariants as kinds
 use Rattle.dns_zone.specs.declared.header.OpCode.TheVariants as ops
 use Rattle.dns_zone.specs.declared.header.ResponseCode.{ResponseCode}
@@ -7,7 +7,6 @@ use Rattle.dns_zone.specs.declared.header.ResponseCode.TheVariants.{NoError, NXD
 use Rattle.dns_zone.specs.declared.header.Metadata.{Metadata}
 use Rattle.dns_zone.specs.declared.query.Query.{Query}
 use Rattle.dns_zone.specs.declared.message.Message.{Message}
-use Rattle.dns_zone.specs.declared.road.DatagramLimit.{DatagramLimit}
 use Rattle.dns_zone.specs.declared.road.Road.{Road}
 use Rattle.dns_zone.specs.declared.road.Road.TheVariants.{Datagram, Stream}
 use Rattle.dns_zone.specs.Rows.{ZoneContent}

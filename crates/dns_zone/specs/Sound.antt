@@ -1,6 +1,6 @@
 -- What a message must be to be read again as itself: codes stand under the names that they are read as, names are
 -- fully qualified, and each number fits its place.
-use Rattle.std.specs.Prelude.{◌≡◌, ◌^◌, ◌<◌, true, List, ℕ, length}
+use Rattle.std.specs.Prelude.{◌≡◌, ◌^◌, ◌<◌, true, length}
 use Rattle.std.specs.List.{AllByRecursion}
 use Rattle.std.specs.Net.Addr.{ipv4_octets}
 use Rattle.dns_wire.specs.RecordType.{type_number, type_of}

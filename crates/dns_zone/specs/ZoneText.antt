@@ -1,6 +1,6 @@
 -- The text of a zone (RFC 1035 section 5.1), as far as it is read: a line is blank, a comment, or
 -- `<owner> <ttl> IN <A or SOA> <data>` with names that are fully qualified and numbers in digits.
-use Rattle.std.specs.Prelude.{◌≡◌, ◌<◌, ◌^◌, ◌==◌, ◌&&◌, ◌||◌, ◌+◌, nat_lt, not, codes, map, if◌then◌else◌, Bool, true, false, List, [], ◌∷◌, ◌++◌, ℕ, Option, Some, None, Result, Ok, Err, fold}
+use Rattle.std.specs.Prelude.{◌≡◌, ◌<◌, ◌^◌, ◌==◌, ◌&&◌, ◌||◌, ◌+◌, nat_lt, not, codes, if◌then◌else◌, Bool, true, false, List, [], ◌∷◌, ◌++◌, ℕ, Option, Some, None, Result, Ok, Err}
 use Rattle.std.specs.List.{list_any, list_all, AllByRecursion}
 use Rattle.std.specs.Str.{bytes_eq}
 use Rattle.std.specs.Str.Lines.{lines}
@@ -10,7 +10,6 @@ use Rattle.dns_names.specs.Comparison.{at_or_below, same_labels}
 use Rattle.dns_names.specs.Text.{name_of_text}
 use Rattle.dns_names.specs.Decimal.{decimal_up_to}
 use Rattle.dns_names.specs.declared.error.ParseError.{ParseError}
-use Rattle.dns_zone.specs.declared.rdata.SOA.{SOA}
 use Rattle.dns_zone.specs.declared.rdata.RData.{RData}
 use Rattle.dns_zone.specs.declared.rdata.RData.TheVariants as of
 use Rattle.dns_zone.specs.declared.text.Entry.{Entry}
@@ -20,20 +19,19 @@ use Rattle.dns_zone.specs.declared.text.LineContent.TheVariants.{Nothing, Holds,
 use Rattle.dns_zone.specs.declared.zone.ZoneFault.{ZoneFault}
 use Rattle.dns_zone.specs.declared.zone.ZoneFault.TheVariants.{Line, OutsideOrigin, NoSoa, SoaElsewhere}
 use Rattle.dns_zone.specs.Address.{address_of, address_data}
-use Rattle.dns_zone.specs.declared.rows.Row.{Row}
 use Rattle.dns_zone.specs.Rows.{Rows, ZoneContent, with_row, is_soa, IsSoundRow}
 
 -- blanks are space and tab
 abbrev pub is_blank : ℕ → Bool
 is_blank c = (c == 32) || (c == 9)
 
--- The words of a line, which blanks part, with the characters of a word that is begun. A backslash keeps the
--- character behind it in its word.
+-- the word that was begun, if there is one, and the words behind it
 abbrev pub ended : List ℕ → List (List ℕ) → List (List ℕ)
 ended [] words = words
 ended (c ∷ cs) words = (c ∷ cs) ∷ words
 
--- with whether a backslash stood just before
+-- The words of a line, which blanks part: by whether a backslash stood just before, which keeps a character in its
+-- word, and by the characters of the word that was begun.
 abbrev pub words_from : Bool → List ℕ → List ℕ → List (List ℕ)
 words_from escaped word [] = ended word []
 words_from escaped word (c ∷ cs) =

@@ -23,11 +23,9 @@ fn parse_octet(text: &[u8]) -> Option<u8>
 
 /// What stands before the first dot of a text, and what stands behind it.
 fn split_at_dot(text: &[u8]) -> Option<(&[u8], &[u8])>
-    ensures {
-        MatchOption result
-          (slice_split (λ c. c == 46) text.now ≡ text.now ∷ [])
-          (λ parts. slice_split (λ c. c == 46) text.now ≡ parts.0.now ∷ slice_split (λ c. c == 46) parts.1.now)
-    }
+    ensures { MatchOption result
+        (slice_split (λ c. c == 46) text.now ≡ text.now ∷ [])
+        (λ parts. slice_split (λ c. c == 46) text.now ≡ parts.0.now ∷ slice_split (λ c. c == 46) parts.1.now) }
 {
     for (i, c) in text.iter().enumerate() {
         if *c == b'.' {

@@ -9,7 +9,7 @@ use crate::header::ResponseCode;
 use crate::query::Query;
 use crate::rdata::RData;
 use crate::record::Record;
-use crate::rows::{has_row_below, rows_of, RecordSet, Row};
+use crate::rows::{RecordSet, Row, has_row_below, rows_of};
 use crate::section::Section;
 use dns_names::Name;
 use dns_wire::{DNSClass, RecordType};

@@ -1,19 +1,20 @@
 //! The entries of a zone's text, all together: its origin, what may not stand in it, and its rows.
 
-ghost use Rattle.std.specs.Prelude.{◌≡◌, IfOk, option_copied};
+ghost use Rattle.std.specs.Prelude.{◌≡◌, IfOk, IfSome, option_copied, true};
 ghost use Rattle.std.specs.FinMap as rows_map;
 ghost use Rattle.std.specs.List.{list_any};
 ghost use Rattle.dns_zone.specs.Rows.{rows_of_sets, AreSoundSets};
 ghost use Rattle.dns_zone.specs.ZoneText.{first_soa, rows_of, is_outside, is_soa_elsewhere, AreSoundEntries};
 
-use crate::rows::{add_row, is_start_of_authority, RecordSet};
+use crate::rows::{RecordSet, add_row, is_start_of_authority};
 use crate::text::Entry;
 use dns_names::Name;
 use std::alloc::{AllocError, Global};
 
 /// The owner of the first start of authority.
 pub fn first_soa_owner(entries: &[Entry]) -> Option<&Name>
-    ensures { option_copied result ≡ first_soa entries.now }
+    ensures owner { option_copied result ≡ first_soa entries.now }
+    ensures fqdn { IfSome result (λ owner. AreSoundEntries entries.now → owner.now.is_fqdn ≡ true) }
 {
     for entry in entries {
         if is_start_of_authority(&entry.row.rdata) {

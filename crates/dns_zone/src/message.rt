@@ -73,14 +73,7 @@ impl Message {
             truncation: true,
             ..self.metadata
         };
-        message_bytes(
-            alloc,
-            limit,
-            metadata,
-            self.queries.as_slice(),
-            &[],
-            &[],
-            &[],
-        )
+        let queries = self.queries.as_slice();
+        message_bytes(alloc, limit, metadata, queries, &[], &[], &[])
     }
 }

@@ -32,8 +32,7 @@ impl RecordSet {
     fn is_at(&self, name: &Name, record_type: RecordType) -> bool
         ensures { result ≡ eq_by_cmp key_cmp (key name.now.labels record_type) (set_key self.now) }
     {
-        name.eq_ignore_root(&self.name)
-            && u16::from(record_type) == u16::from(self.record_type)
+        name.eq_ignore_root(&self.name) && u16::from(record_type) == u16::from(self.record_type)
     }
 }
 

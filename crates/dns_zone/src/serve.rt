@@ -33,9 +33,7 @@ fn is_served(message: &Message) -> bool
 
 /// The header and the question of a request that is served.
 pub fn served_question(message: Message) -> Option<(Metadata, Query)>
-    ensures {
-        MatchOption result ((q : asked.Query) → ¬ (IsServed message q)) (λ served. IsServed message served.1 × (served.0 ≡ message.metadata))
-    }
+    ensures { MatchOption result ((q : asked.Query) → ¬ (IsServed message q)) (λ served. IsServed message served.1 × (served.0 ≡ message.metadata)) }
 {
     if !is_served(&message) {
         return None;

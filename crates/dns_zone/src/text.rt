@@ -11,7 +11,7 @@ use crate::address::parse_ip;
 use crate::rdata::{A, RData, SOA};
 use crate::rows::Row;
 use crate::zone::ZoneFault;
-use dns_names::{parse_decimal, Name, ParseError};
+use dns_names::{Name, ParseError, parse_decimal};
 use std::alloc::{AllocError, Global};
 use std::str;
 
@@ -50,9 +50,7 @@ fn is_blank_character(c: u8) -> bool
 
 /// Ends the word that was begun, if there is one, and begins the next.
 fn end_word(alloc: Global, done: &mut Vec<Vec<u8>>, word: &mut Vec<u8>) -> Result<(), AllocError>
-    ensures {
-        IfOk result (λ _. (rest : List (List ℕ)) → (map (λ v. v.items) done.old.items ++ ended word.old.items rest ≡ map (λ v. v.items) done.new.items ++ rest) × (word.new.items ≡ []))
-    }
+    ensures { IfOk result (λ _. (rest : List (List ℕ)) → (map (λ v. v.items) done.old.items ++ ended word.old.items rest ≡ map (λ v. v.items) done.new.items ++ rest) × (word.new.items ≡ [])) }
 {
     if !word.is_empty() {
         done.push(std::mem::replace(word, Vec::new(alloc)))?;

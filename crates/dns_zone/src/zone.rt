@@ -2,7 +2,7 @@
 
 ghost use Rattle.std.specs.Prelude.{◌≡◌, ◌≢◌, IfOk, IfErr, Ok, Err, option_map};
 
-use crate::answer::{answer_from, Answer};
+use crate::answer::{Answer, answer_from};
 use crate::entries::{first_soa_owner, has_owner_outside, has_soa_elsewhere, sets_of};
 use crate::header::Metadata;
 use crate::message::Message;

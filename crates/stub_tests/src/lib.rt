@@ -1,13 +1,15 @@
-// A library with one function.
+//! Tests that cross crates, on what no contract says: rows of the standard and of worked examples, printed texts, and
+//! that each call which takes memory succeeds where there is enough.
+//!
+//! - `messages`: bytes read as messages, and written under a limit;
+//! - `zones`: zone texts, the zone's table, and its server's replies;
+//! - `runs`: asking over any link, and runs over the honest one;
+//! - `plays`: the program's words, scripts, and what is printed.
 #![tactic(auto)]
 
-ghost use Rattle.std.specs.Prelude.{◌≡◌};
-ghost use Rattle.stub_tests.specs.Echo.{echo_of};
-
-// The `ensures` clause is the contract: what `echo` returns is `echo_of` of its argument, a definition
-// in `specs/Echo.antt`, which a caller's clause can cite too.
-pub fn echo(x: usize) -> usize
-    ensures { result ≡ echo_of x }
-{
-    x
-}
+#[cfg(test)]
+mod messages;
+#[cfg(test)]
+mod runs;
+#[cfg(test)]
+mod zones;

@@ -1,7 +1,5 @@
-use Rattle.std.proofs.Common.{◌≡◌, ◌++◌, drop, map, true}
-use Rattle.dns_zone.specs.declared.rows.Row.{Row}
-use Rattle.dns_zone.specs.Answer.{record_of, authority_row, AreSoundRecords}
-use Rattle.dns_zone.specs.Rows.{AreSoundRows}
+use Rattle.std.proofs.Common.{◌≡◌, ◌++◌, drop, map}
+use Rattle.dns_zone.specs.Answer.{record_of}
 use Rattle.dns_zone.proofs.answer.records_at.Given as goal
 
 abbrev pub invariant-loop-row : goal.invariant-loop-row

@@ -1,7 +1,6 @@
-use Rattle.std.proofs.Common.{◌≡◌, [], sym, ap, ◌∙◌, subst, arith, length}
-use Rattle.std.specs.FinMap as rows_map
+use Rattle.std.proofs.Common.{sym, ap, ◌∙◌, subst}
 use Rattle.std.specs.Vec.Iter.{into_iter_items}
-use Rattle.dns_zone.specs.Rows.{rows_of_sets, AreSoundSets, key_cmp}
+use Rattle.dns_zone.specs.Rows.{rows_of_sets, AreSoundSets}
 use Rattle.dns_zone.specs.ZoneText.{rows_of, AreSoundEntries}
 use Rattle.dns_zone.proofs.ListLaws.{empty_of_length}
 use Rattle.dns_zone.proofs.entries.sets_of.Goals as goal

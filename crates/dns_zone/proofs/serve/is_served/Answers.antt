@@ -1,4 +1,4 @@
-use Rattle.std.proofs.Common.{sym, ap, ◌∙◌, length, arith, ◌==◌}
+use Rattle.std.proofs.Common.{sym, ap, ◌∙◌, length, ◌==◌}
 use borrow.Author.Tests.{eqb-true}
 use Rattle.dns_zone.proofs.ServingLaws.{served_if}
 use Rattle.dns_zone.proofs.serve.is_served.Goals as goal

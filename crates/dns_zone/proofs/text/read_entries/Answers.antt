@@ -1,8 +1,7 @@
-use Rattle.std.proofs.Common.{◌≡◌, ◌+◌, ◌<◌, ◌++◌, ◌∷◌, [], sym, ap, ◌∙◌, map, List, ℕ, arith, length, drop, subst, Vec, Global}
+use Rattle.std.proofs.Common.{◌+◌, sym, ap, ◌∙◌, map, arith, subst, Vec, Global}
 use Rattle.dns_zone.specs.declared.text.Entry.{Entry}
 use Rattle.std.proofs.lemmas.List.{length-map}
-use Rattle.std.specs.Str.Lines.{lines}
-use Rattle.dns_zone.specs.ZoneText.{entries_from, AreSoundEntries, IsSoundContent, IsSoundEntry, content_of_line}
+use Rattle.dns_zone.specs.ZoneText.{entries_from, AreSoundEntries, IsSoundContent, IsSoundEntry}
 use Rattle.dns_zone.proofs.ListLaws.{All-push}
 use Rattle.dns_zone.proofs.TextLaws.{with_front, entries_begin, entries_step, entries_nothing, entries_holds, entries_unreadable, entries_end}
 use Rattle.dns_zone.proofs.text.read_entries.Goals as goal

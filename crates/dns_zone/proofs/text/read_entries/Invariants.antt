@@ -1,4 +1,4 @@
-use Rattle.std.proofs.Common.{◌≡◌, ◌+◌, drop, map, List, ℕ}
+use Rattle.std.proofs.Common.{◌≡◌, ◌+◌, drop, map}
 use Rattle.dns_zone.specs.ZoneText.{entries_from, AreSoundEntries}
 use Rattle.dns_zone.proofs.TextLaws.{with_front}
 use Rattle.dns_zone.proofs.text.read_entries.Given as goal

@@ -1,4 +1,4 @@
-use Rattle.std.proofs.Common.{◌≡◌, ◌++◌, drop, map, List, ℕ}
+use Rattle.std.proofs.Common.{◌≡◌, ◌++◌, drop, map}
 use Rattle.dns_zone.specs.ZoneText.{words, words_from}
 use Rattle.dns_zone.proofs.text.split_words.Given as goal
 

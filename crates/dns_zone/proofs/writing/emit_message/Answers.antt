@@ -1,10 +1,7 @@
-use Rattle.std.proofs.Common.{◌≡◌, ℕ, List, [], ◌∷◌, ◌++◌, Ok, Err, refl}
+use Rattle.std.proofs.Common.{◌++◌, refl}
 use Rattle.std.proofs.lemmas.Result.{err_from_is_err_and}
 use Rattle.dns_wire.specs.Encoder.{written}
-use Rattle.dns_wire.specs.Pieces.{Piece}
-use Rattle.dns_zone.specs.declared.message.Message.{Message}
 use Rattle.dns_zone.specs.Message.{message_of}
-use Rattle.dns_zone.proofs.Steps.{Underway}
 use Rattle.dns_zone.proofs.MessageWriting as parts
 use Rattle.dns_zone.proofs.writing.emit_message.Goals as goal
 

@@ -1,10 +1,10 @@
-use Rattle.std.proofs.Common.{◌≡◌, ℕ, List, [], ◌+◌, ◌∷◌, ◌∙◌, ap, sym, subst, drop, drop-cons, get_or, add-one, refl}
+use Rattle.std.proofs.Common.{◌≡◌, List, [], ◌+◌, ◌∙◌, subst, drop, drop-cons, add-one, refl}
 use Rattle.std.proofs.lemmas.List.{drop_all}
 use Rattle.dns_wire.specs.Encoder.{written}
 use Rattle.dns_zone.specs.declared.query.Query.{Query}
 use Rattle.dns_zone.specs.Question.{question_pieces}
 use Rattle.dns_zone.specs.Message.{queries_pieces}
-use Rattle.dns_zone.proofs.Steps.{Underway, goes_on, stops, ends, front}
+use Rattle.dns_zone.proofs.Steps.{Underway, goes_on, ends, front}
 use Rattle.dns_zone.proofs.writing.emit_queries.Goals as goal
 
 pub loop-query-preserved : goal.loop-query-preserved

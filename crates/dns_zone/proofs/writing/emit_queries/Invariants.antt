@@ -1,6 +1,5 @@
 use Rattle.std.proofs.Common.{◌≡◌, drop}
 use Rattle.dns_wire.specs.Encoder.{written, lender}
-use Rattle.dns_wire.specs.Pieces.{sofar}
 use Rattle.dns_zone.specs.Message.{queries_pieces}
 use Rattle.dns_zone.proofs.Steps.{Underway}
 use Rattle.dns_zone.proofs.writing.emit_queries.Given as goal

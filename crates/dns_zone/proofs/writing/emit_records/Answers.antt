@@ -1,4 +1,4 @@
-use Rattle.std.proofs.Common.{◌≡◌, ℕ, List, [], ◌+◌, ◌∷◌, ◌∙◌, ap, sym, subst, drop, drop-cons, get_or, add-one, refl}
+use Rattle.std.proofs.Common.{◌≡◌, List, [], ◌+◌, ◌∙◌, subst, drop, drop-cons, add-one, refl}
 use Rattle.std.proofs.lemmas.List.{drop_all}
 use Rattle.dns_wire.specs.Encoder.{written}
 use Rattle.dns_wire.specs.Pieces.{sofar}

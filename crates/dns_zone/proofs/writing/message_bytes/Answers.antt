@@ -1,8 +1,7 @@
-use Rattle.std.proofs.Common.{◌≡◌, ◌≤◌, ◌<◌, ◌∙◌, ℕ, List, length, refl, sym, ap, subst, arith, rules}
+use Rattle.std.proofs.Common.{◌≡◌, ◌<◌, ◌∙◌, ℕ, List, length, refl, sym, ap, subst, arith, rules}
 use Rattle.std.proofs.lemmas.Result.{err_from_is_err_and}
 use Rattle.dns_wire.specs.Encoder.{Written, written}
 use Rattle.dns_wire.specs.Pieces.{Sofar, sofar, reach}
-use Rattle.dns_zone.specs.declared.message.Message.{Message}
 use Rattle.dns_zone.specs.Message.{beginning, message_of, message_form, message_pieces}
 use Rattle.dns_zone.specs.Grammar.{ReadsMessage}
 use Rattle.dns_zone.proofs.MessageWriting.{length-form, bounds}

@@ -1,4 +1,4 @@
-use Rattle.std.proofs.Common.{◌≡◌, ◌<◌, length, refl}
+use Rattle.std.proofs.Common.{◌<◌, length, refl}
 use Rattle.dns_zone.specs.Message.{message_form}
 use Rattle.dns_zone.proofs.MessageLaws.{left_whole, left_cut}
 use Rattle.dns_zone.proofs.message.Message.to_vec.Goals as goal
@@ -15,5 +15,5 @@ returns-clause-reads c =
     let m = c.args.self.now in
     let full = rw (c.as_slice.ensures, c.as_slice-2.ensures, c.as_slice-3.ensures, c.as_slice-4.ensures) at (rw c.in-Err-MaxBufferSizeExceeded.field-0-is at c.in-Err-MaxBufferSizeExceeded.ensures.full) in
     let long : c.args.limit < length (message_form m) = full refl in
-    let reads = rw c.as_slice-5.ensures at c.message_bytes-2.ensures.reads in
+    let reads = rw c.as_slice-queries.ensures at c.message_bytes-2.ensures.reads in
     left_cut c.args.limit m c.message_bytes-2.result long reads

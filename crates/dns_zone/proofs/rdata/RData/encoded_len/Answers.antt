@@ -1,5 +1,5 @@
-use Rattle.std.proofs.Common.{◌≡◌, ◌<◌, ◌^◌, ℕ, length, ap, ◌∙◌, sym, arith}
-use Rattle.dns_wire.specs.Pieces.{Sofar, form}
+use Rattle.std.proofs.Common.{length, ap, arith}
+use Rattle.dns_wire.specs.Pieces.{form}
 use Rattle.dns_zone.specs.declared.rdata.RData.{RData}
 use Rattle.dns_zone.specs.Data.{data_pieces}
 use Rattle.dns_zone.proofs.DataLaws.{soa-len}

@@ -1,4 +1,4 @@
-use Rattle.std.proofs.Common.{List, ℕ, [], ◌∷◌, ◌++◌}
+use Rattle.std.proofs.Common.{List, ℕ, ◌++◌}
 use Rattle.std.specs.Int.{w32, to_be_bytes}
 use Rattle.dns_wire.specs.Encoder.{written}
 use Rattle.dns_zone.proofs.Steps.{then_bytes}

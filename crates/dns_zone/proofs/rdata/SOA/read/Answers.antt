@@ -1,6 +1,5 @@
-use Rattle.std.proofs.Common.{ℕ, List, ◌≡◌, ◌∙◌, refl, ap, rules}
+use Rattle.std.proofs.Common.{◌∙◌, refl, rules}
 use Rattle.std.proofs.lemmas.Result.{err_from_is_err_and}
-use Rattle.dns_zone.specs.declared.rdata.RData.TheVariants as of
 use Rattle.dns_zone.specs.Data.{soa_numbers}
 use Rattle.dns_zone.proofs.OneWay.{shows_here, soa_same}
 use Rattle.dns_zone.proofs.rdata.SOA.read.Goals as goal

@@ -1,4 +1,4 @@
-use Rattle.std.proofs.Common.{ℕ, List, ◌≡◌, ◌++◌, arith}
+use Rattle.std.proofs.Common.{ℕ, List, ◌++◌, arith}
 use Rattle.std.specs.Int.{w32, to_be_bytes}
 use Rattle.dns_zone.proofs.OneWay.{Took, took_then, shows_took}
 use Rattle.dns_zone.proofs.rdata.SOA.read_numbers.Goals as goal

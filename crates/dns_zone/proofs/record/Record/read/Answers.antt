@@ -1,9 +1,8 @@
-use Rattle.std.proofs.Common.{ℕ, List, ◌≡◌, ◌+◌, ◌≤◌, ◌∙◌, refl, sym, ap, subst, arith}
+use Rattle.std.proofs.Common.{ℕ, List, ◌≡◌, ◌+◌, sym, ap, subst, arith}
 use Rattle.std.proofs.lemmas.Result.{err_from_is_err_and}
 use Rattle.dns_zone.specs.declared.record.RecordHead.{RecordHead}
-use Rattle.dns_zone.specs.declared.record.Record.{Record}
 use Rattle.dns_zone.specs.Data.{data_pieces}
-use Rattle.dns_zone.specs.Grammar.{ReadsData, ReadsRecord}
+use Rattle.dns_zone.specs.Grammar.{ReadsData}
 use Rattle.dns_zone.proofs.OneWay.{head_of, head_there, data_there, record_there, record_same, are_at-on}
 use Rattle.dns_zone.proofs.record.Record.read.Goals as goal
 use Rattle.dns_zone.proofs.record.Record.read.Goals.{In_ok-head, In_ok-rdata}

@@ -1,9 +1,7 @@
-use Rattle.std.proofs.Common.{◌≡◌, ◌≤◌, ℕ, List, [], ◌∷◌, ◌++◌, length, refl, ap, sym, ◌∙◌, subst, Ok}
+use Rattle.std.proofs.Common.{◌≡◌, ℕ, [], ◌∷◌, ◌++◌, subst, Ok}
 use Rattle.std.specs.Int.{w16, to_be_bytes}
-use Rattle.std.proofs.lemmas.Result.{err_from_is_err_and}
 use Rattle.dns_wire.specs.Encoder.{written}
-use Rattle.dns_wire.specs.Pieces.{Piece, Plain, Emits, sofar, after}
-use Rattle.dns_wire.proofs.PieceLaws.{emits_stop}
+use Rattle.dns_wire.specs.Pieces.{Plain, Emits, sofar, after}
 use Rattle.dns_zone.specs.Record.{head_pieces, data_len}
 use Rattle.dns_zone.specs.Data.{data_pieces}
 use Rattle.dns_zone.proofs.Steps.{then_emits}

@@ -1,4 +1,4 @@
-use Rattle.std.proofs.Common.{◌≡◌, ◌<◌, ◌≤◌, sym, ap, ◌∙◌, subst, refl, length, arith, Err}
+use Rattle.std.proofs.Common.{◌≡◌, ◌<◌, sym, ap, ◌∙◌, subst, refl, length, arith, Err}
 use Rattle.dns_zone.specs.Message.{message_form, cut_off}
 use Rattle.dns_zone.specs.Serving.{IsServed, reply_to}
 use Rattle.dns_zone.proofs.ServingLaws.{not_read, serves, question_fits}
@@ -13,8 +13,8 @@ returns-in_default-served_question-clause-reply c = λ m q request. c.in_default
 pub returns-in-Ok-to_vec-clause-reply : goal.returns-in-Ok-to_vec-clause-reply
 returns-in-Ok-to_vec-clause-reply c =
     serves c.args.self.now c.args.road c.args.bytes.now c.in-Ok.message c.in-Some.query c.in_ok-reply.reply c.limit_of.result c.in-Ok-to_vec.out.items c.in-Ok.ensures.read c.in-Some.ensures.0 c.in_ok-reply.ensures.sound
-      (c.in_ok-reply.ensures.reply ∙ ap (λ request. reply_to c.args.self.now request c.in-Some.query) c.in-Some.ensures.1)
-      c.limit_of.ensures.value c.in-Ok-to_vec.ensures.bytes c.in-Ok-to_vec.ensures.reads
+    (c.in_ok-reply.ensures.reply ∙ ap (λ request. reply_to c.args.self.now request c.in-Some.query) c.in-Some.ensures.1)
+    c.limit_of.ensures.value c.in-Ok-to_vec.ensures.bytes c.in-Ok-to_vec.ensures.reads
 
 pub unreachable-requires : goal.unreachable-requires
 unreachable-requires c =
