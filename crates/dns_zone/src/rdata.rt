@@ -257,6 +257,9 @@ impl fmt::Display for SOA {
         let (mname, rname) = (&self.mname, &self.rname);
         let (serial, refresh, retry) = (self.serial, self.refresh, self.retry);
         let (expire, minimum) = (self.expire, self.minimum);
-        write!(f, "{mname} {rname} {serial} {refresh} {retry} {expire} {minimum}")
+        write!(
+            f,
+            "{mname} {rname} {serial} {refresh} {retry} {expire} {minimum}"
+        )
     }
 }

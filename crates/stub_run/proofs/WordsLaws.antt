@@ -1,6 +1,6 @@
 -- The program's command, as clap parses it.
 use Rattle.std.proofs.Common.{◌≡◌, ◌∙◌, ℕ, zero, suc, List, [], ◌∷◌, Some, Result, IfErr, IsErrAnd, true, false, codes, bytes_eq, slice_index, All, refl, sym, ap, arith, inl, inr}
-use Rattle.clap.specs.Words.{AddsArg, IsParsedFrom, IsPlainArg, HasMatchesOf, App, app_of, args_of, first_of, first_value, found_of, groups_of, is_simple, matches_of, takes, kind_of, fault_of, is_simple_and_free, HasKind}
+use Rattle.clap.specs.Words.{AddsArg, IsParsedFrom, IsPlainArg, HasMatchesOf, App, args_of, first_of, first_value, found_of, groups_of, is_simple, matches_of, takes, kind_of, fault_of, is_simple_and_free, HasKind}
 use Rattle.clap.specs.Built.{AddsInTurn, FitsChain, HasDistinctIds, TakesValue}
 use Rattle.clap.specs.declared.error.Error.{Error}
 use Rattle.clap.specs.declared.error.kind.ErrorKind.TheVariants.{OutOfMemory}

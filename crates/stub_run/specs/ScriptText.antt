@@ -1,6 +1,6 @@
 -- The text of a script: a line is blank, a comment, or `<at> lookup <name> A` with a name that is fully qualified and a
 -- moment in decimal digits.
-use Rattle.std.specs.Prelude.{◌==◌, ◌&&◌, ◌+◌, codes, if◌then◌else◌, Bool, List, [], ◌∷◌, ℕ, Option, Some, None, Result, Ok, Err}
+use Rattle.std.specs.Prelude.{◌==◌, ◌&&◌, ◌+◌, codes, if◌then◌else◌, List, [], ◌∷◌, ℕ, Option, Some, Result, Ok, Err}
 use Rattle.std.specs.List.{list_any}
 use Rattle.std.specs.Str.{bytes_eq}
 use Rattle.std.specs.Str.Lines.{lines}

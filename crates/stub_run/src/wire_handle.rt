@@ -1,6 +1,6 @@
 //! Asking a question over a link.
 
-ghost use Rattle.std.specs.Prelude.{◌≡◌, ◌+◌, ◌≤◌, ◌∷◌, ◌++◌, [], List, true, Err, Ok, IfOk, OnOk, OnErr, MatchOption, MatchResult, slice_get, length};
+ghost use Rattle.std.specs.Prelude.{◌≡◌, ◌+◌, ◌≤◌, ◌∷◌, ◌++◌, [], Err, IfOk, OnOk, OnErr, length, vec_len, vec_capacity};
 ghost use Rattle.dns_zone.specs.Grammar.{ReadsMessage};
 ghost use Rattle.dns_zone.specs.Message.{message_form};
 ghost use Rattle.dns_zone.specs.Sound.{IsSoundQuery};
@@ -45,6 +45,7 @@ impl<L: Link> WireHandle<L> {
 
     /// Makes room for so many more drawn ids.
     pub fn reserve(&mut self, additional: usize) -> Result<(), AllocError>
+        ensures room { OnOk result (vec_len self.new.sent + additional ≤ vec_capacity self.new.sent) }
         ensures ids { self.new.ids ≡ self.old.ids }
         ensures none { DrawsNone self.old self.new }
     {

@@ -1,6 +1,6 @@
 //! A world, what happens in it, and the report of that.
 
-ghost use Rattle.std.specs.Prelude.{◌≡◌, ◌≤◌, ◌↔◌, IfOk, IfSome, IfNone, IsTrue, true, [], ℕ, length, take, Err};
+ghost use Rattle.std.specs.Prelude.{◌≡◌, ◌≤◌, ◌↔◌, IfOk, IfSome, IsTrue, true, [], ℕ, length, take, Err};
 
 use crate::event::Event;
 use crate::link::Link;

@@ -10,6 +10,8 @@
 #[cfg(test)]
 mod messages;
 #[cfg(test)]
+mod plays;
+#[cfg(test)]
 mod runs;
 #[cfg(test)]
 mod zones;

@@ -1,6 +1,6 @@
-use dns_zone::{Message, MessageType, OpCode, Query, RData, ResponseCode};
 use dns_names::Name;
 use dns_wire::{DNSClass, DecodeError, EncodeError, RecordType};
+use dns_zone::{Message, MessageType, OpCode, Query, RData, ResponseCode};
 use std::test::Fail;
 
 // RFC 1035 section 4.1: a header with RD, and the question a.t. A IN.

@@ -6,8 +6,8 @@ use std::net::Ipv4Addr;
 use std::process::Abort;
 use std::test::Fail;
 use stub_run::{
-    DnsError, Event, EventReply, EventReport, Link, LinkError, LinkFault, NetError, Report, Script, Stopped, WireHandle, World,
-    run,
+    DnsError, Event, EventReply, EventReport, Link, LinkError, LinkFault, NetError, Report, Script,
+    Stopped, WireHandle, World, run,
 };
 
 /// A link that brings what it has, whatever is asked.

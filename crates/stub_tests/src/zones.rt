@@ -1,6 +1,6 @@
-use dns_zone::{DatagramLimit, Query, RData, Record, Road, Zone};
 use dns_names::Name;
 use dns_wire::{DNSClass, RecordType};
+use dns_zone::{DatagramLimit, Query, RData, Record, Road, Zone};
 use std::alloc::Global;
 use std::test::Fail;
 
@@ -28,16 +28,32 @@ fn texts_are_zones_or_their_first_fault(rt: HostRuntime) -> Result<(), Fail> {
         ("; a comment", "NoSoa"),
         ("a.t. 60 IN A 10.0.0.1", "NoSoa"),
         ("t. 60 IN SOA ns.t. h.t. 1 3600 600 86400 30", "a zone"),
-        ("t. 60 IN SOA ns.t. h.t. 1 3600 600 86400 30\r\n\r\n", "a zone"),
+        (
+            "t. 60 IN SOA ns.t. h.t. 1 3600 600 86400 30\r\n\r\n",
+            "a zone",
+        ),
         ("t. 60 IN SOA ns.t. h.t. 1 3600 600 86400 30\r", "Line(1)"),
         ("t. 60 IN SOA ns.t. h.t. 1 3600 600 86400", "Line(1)"),
         ("t. 60 IN SOA ns.t. h.t. 1 3600 600 86400 30 30", "Line(1)"),
         ("t. 60 IN SOA ns h.t. 1 3600 600 86400 30", "Line(1)"),
-        ("t. 60 IN SOA ns.t. h.t. 4294967296 3600 600 86400 30", "Line(1)"),
-        ("t. 4294967295 IN SOA ns.t. h.t. 4294967295 0 0 0 0", "a zone"),
-        ("a.u. 60 IN A 10.0.0.1\nt. 60 IN SOA ns.t. h.t. 1 0 0 0 0", "OutsideOrigin"),
+        (
+            "t. 60 IN SOA ns.t. h.t. 4294967296 3600 600 86400 30",
+            "Line(1)",
+        ),
+        (
+            "t. 4294967295 IN SOA ns.t. h.t. 4294967295 0 0 0 0",
+            "a zone",
+        ),
+        (
+            "a.u. 60 IN A 10.0.0.1\nt. 60 IN SOA ns.t. h.t. 1 0 0 0 0",
+            "OutsideOrigin",
+        ),
     ] {
-        assert_eq!(rt; verdict(rt.alloc(), text)?.as_str(), want, "the text {text}");
+        assert_eq!(rt;
+            verdict(rt.alloc(), text)?.as_str(),
+            want,
+            "the text {text}"
+        );
     }
     Ok(())
 }
@@ -78,12 +94,22 @@ fn lines_are_read_or_refused(rt: HostRuntime) -> Result<(), Fail> {
         ("a.t. 60 IN A 10.0.0.1\u{e9}", "Line(2)"),
         ("a.t. 60 IN A 10.0.0.1\n\nb", "Line(4)"),
         ("a.u. 60 IN A 10.0.0.1", "OutsideOrigin"),
-        ("b.t. 60 IN SOA ns.t. h.t. 1 3600 600 86400 30", "SoaElsewhere"),
-        ("b.t. 60 IN SOA ns.t. h.t. 1 0 0 0 0\na.u. 60 IN A 10.0.0.1", "OutsideOrigin"),
+        (
+            "b.t. 60 IN SOA ns.t. h.t. 1 3600 600 86400 30",
+            "SoaElsewhere",
+        ),
+        (
+            "b.t. 60 IN SOA ns.t. h.t. 1 0 0 0 0\na.u. 60 IN A 10.0.0.1",
+            "OutsideOrigin",
+        ),
         ("a.u. 60 IN A 10.0.0.1\nb", "Line(3)"),
     ] {
         let text = format!(in rt.alloc(); "{START}{line}")?;
-        assert_eq!(rt; verdict(rt.alloc(), text.as_str())?.as_str(), want, "the line {line}");
+        assert_eq!(rt;
+            verdict(rt.alloc(), text.as_str())?.as_str(),
+            want,
+            "the line {line}"
+        );
     }
     Ok(())
 }
@@ -104,7 +130,13 @@ fn told(alloc: Global, record: &Record) -> Result<String, Fail> {
 }
 
 /// The zone's answer in a few words: its code, its answers, and behind a bar who has authority.
-fn answered(alloc: Global, zone: &Zone, name: &str, number: u16, class: u16) -> Result<String, Fail> {
+fn answered(
+    alloc: Global,
+    zone: &Zone,
+    name: &str,
+    number: u16,
+    class: u16,
+) -> Result<String, Fail> {
     let mut query = Query::query(Name::from_ascii(alloc, name)?, RecordType::from(number));
     query.query_class = DNSClass::from(class);
     let answer = zone.answer(&query)?;
@@ -204,7 +236,10 @@ fn requests_have_their_replies(rt: HostRuntime) -> Result<(), Fail> {
     match zone.serve(&refused, Road::Stream)? {
         Some(reply) => assert_eq!(rt;
             reply.as_slice(),
-            [0xBE, 0xEF, 0x81, 0x15, 0, 1, 0, 0, 0, 0, 0, 0, 1, 0x7A, 0, 0, 1, 0, 1].as_slice()
+            [
+                0xBE, 0xEF, 0x81, 0x15, 0, 1, 0, 0, 0, 0, 0, 0, 1, 0x7A, 0, 0, 1, 0, 1
+            ]
+            .as_slice()
         ),
         None => assert!(rt; false, "a reply"),
     }
@@ -215,10 +250,21 @@ fn requests_have_their_replies(rt: HostRuntime) -> Result<(), Fail> {
 fn other_messages_have_no_reply(rt: HostRuntime) -> Result<(), Fail> {
     let mut zone = zone_of(rt.alloc(), "a.t. 60 IN A 10.0.0.1\n")?;
     for len in 0..REQUEST.len() {
-        assert!(rt; zone.serve(&REQUEST[..len], Road::Stream)?.is_none(), "at {len}");
+        assert!(rt;
+            zone.serve(&REQUEST[..len], Road::Stream)?.is_none(),
+            "at {len}"
+        );
     }
     // A response, NOTIFY, no question, two questions, and one record in each section.
-    for (place, byte) in [(2, 0x81), (2, 0x21), (5, 0), (5, 2), (7, 1), (9, 1), (11, 1)] {
+    for (place, byte) in [
+        (2, 0x81),
+        (2, 0x21),
+        (5, 0),
+        (5, 2),
+        (7, 1),
+        (9, 1),
+        (11, 1),
+    ] {
         let mut request = REQUEST;
         request[place] = byte;
         assert!(rt; zone.serve(&request, Road::Stream)?.is_none(), "at {place}");

@@ -1,6 +1,6 @@
-use Rattle.std.proofs.Common.{◌≡◌, ◌≤◌, length, rules, arith, take, Some, None, inl, inr}
+use Rattle.std.proofs.Common.{rules, inl, inr}
 use Rattle.stub_run.specs.Run.{InOrder}
-use Rattle.stub_run.proofs.OrderLaws.{Leads, Happens, IsOut, leads_on, out_is_first, out_is_not_in_order, none_is_in_order}
+use Rattle.stub_run.proofs.OrderLaws.{Happens, IsOut, leads_on, out_is_first, out_is_not_in_order, none_is_in_order}
 use Rattle.stub_run.proofs.playing.first_out_of_order.Goals as goal
 use Rattle.stub_run.proofs.playing.first_out_of_order.Goals.{then-now-last-via-then-now-last, then-now-last-via-else-now-last+then-now}
 

@@ -1,4 +1,4 @@
-use Rattle.std.proofs.Common.{◌≡◌, ◌<◌, length, refl}
+use Rattle.std.proofs.Common.{◌<◌, length, refl}
 use Rattle.std.proofs.lemmas.Option.{slice_get_read}
 use Rattle.stub_run.specs.Playing.{IsFirstOutOfOrder}
 use Rattle.stub_run.proofs.PlayLaws.{line_out_of_order, first_at_some}

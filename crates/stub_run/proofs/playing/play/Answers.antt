@@ -1,4 +1,4 @@
-use Rattle.std.proofs.Common.{◌≡◌, Ok, Err, string_bytes}
+use Rattle.std.proofs.Common.{Ok, Err, string_bytes}
 use Rattle.std.proofs.lemmas.Result.{err_from_is_err_and}
 use Rattle.stub_run.proofs.PlayLaws.{zone_is, line_is_at_fault, in_order_if_run, script_is, moment_is_at_fault, on_ok, write_fault}
 use Rattle.stub_run.proofs.playing.play.Goals as goal

@@ -1,7 +1,7 @@
-use Rattle.std.proofs.Common.{◌≡◌, ◌+◌, ◌++◌, [], ◌∷◌, ◌∙◌, sym, ap, length}
+use Rattle.std.proofs.Common.{◌≡◌, ◌+◌, ◌++◌, [], ◌∷◌, ◌∙◌, sym, ap}
 use Rattle.stub_run.specs.declared.script.LineContent.TheVariants.{Nothing, Holds}
 use Rattle.stub_run.specs.ScriptText.{side_by_side}
-use Rattle.stub_run.proofs.ScriptLaws.{in_front, Rest, IsLine, past_nothing, past_event, more_beside}
+use Rattle.stub_run.proofs.ScriptLaws.{in_front, IsLine, past_nothing, past_event, more_beside}
 use Rattle.stub_run.proofs.script.read_lines.Goals as goal
 use Rattle.stub_run.proofs.script.read_lines.Goals.{in-Nothing, in-Holds+in_ok-push-in-Holds+in_ok-push-in-Holds-2}
 
