@@ -2,7 +2,9 @@
 
 use dns_names::Name;
 use dns_wire::{BinDecoder, DNSClass, RecordType};
-use dns_zone::{A, DatagramLimit, Query, RData, Record, SOA, Section, Zone, parse_name, split_words};
+use dns_zone::{
+    A, DatagramLimit, Query, RData, Record, SOA, Section, Zone, parse_name, split_words,
+};
 use std::alloc::Global;
 use std::net::Ipv4Addr;
 use std::test::Fail;
@@ -10,9 +12,10 @@ use stub_run::{Link, ScriptedLink, WireHandle, read_script, read_words};
 
 // A question for t. SOA IN, and a record: t. 60 IN SOA ns.t. h.t. 1 2 3 4 5 (RFC 1035 sections 4.1.2 and 3.3.13).
 const QUESTION: [u8; 7] = [1, 0x74, 0, 0, 6, 0, 1];
+
 const RECORD: [u8; 44] = [
-    1, 0x74, 0, 0, 6, 0, 1, 0, 0, 0, 60, 0, 31, 2, 0x6E, 0x73, 1, 0x74, 0, 1, 0x68, 1, 0x74, 0, 0, 0,
-    0, 1, 0, 0, 0, 2, 0, 0, 0, 3, 0, 0, 0, 4, 0, 0, 0, 5,
+    1, 0x74, 0, 0, 6, 0, 1, 0, 0, 0, 60, 0, 31, 2, 0x6E, 0x73, 1, 0x74, 0, 1, 0x68, 1, 0x74, 0, 0,
+    0, 0, 1, 0, 0, 0, 2, 0, 0, 0, 3, 0, 0, 0, 4, 0, 0, 0, 5,
 ];
 
 #[test]
@@ -89,7 +92,10 @@ fn a_link_brings_a_reply_and_a_handle_makes_room(rt: HostRuntime) -> Result<(), 
     match link.next_datagram() {
         Ok(Some(reply)) => assert_eq!(rt;
             reply.as_slice(),
-            [0, 8, 0x81, 5, 0, 1, 0, 0, 0, 0, 0, 0, 1, 0x7A, 0, 0, 1, 0, 1].as_slice()
+            [
+                0, 8, 0x81, 5, 0, 1, 0, 0, 0, 0, 0, 0, 1, 0x7A, 0, 0, 1, 0, 1
+            ]
+            .as_slice()
         ),
         _ => assert!(rt; false, "a reply"),
     }
