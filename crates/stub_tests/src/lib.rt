@@ -1,9 +1,7 @@
-//! Tests that cross crates, on what no contract says: rows of the standard and of worked examples, printed texts, and
-//! that each call which takes memory succeeds where there is enough.
+//! Tests of the client, its link and the program, on what no contract says: rows of the standard and of worked examples,
+//! printed texts, and that each call which takes memory succeeds where there is enough.
 //!
 //! - `calls`: calls that may want memory, each made once;
-//! - `messages`: bytes read as messages, and written under a limit;
-//! - `zones`: zone texts, the zone's table, and its server's replies;
 //! - `runs`: asking over any link, and runs over the honest one;
 //! - `plays`: the program's words, scripts, and what is printed.
 #![tactic(auto)]
@@ -11,10 +9,6 @@
 #[cfg(test)]
 mod calls;
 #[cfg(test)]
-mod messages;
-#[cfg(test)]
 mod plays;
 #[cfg(test)]
 mod runs;
-#[cfg(test)]
-mod zones;

@@ -2,8 +2,8 @@ use dns_names::Name;
 use dns_wire::RecordType;
 use dns_zone::{DatagramLimit, Message, Query, RData, ResponseCode, Zone};
 use std::alloc::Global;
+use std::fmt::Write;
 use std::net::Ipv4Addr;
-use std::process::Abort;
 use std::test::Fail;
 use stub_run::{
     DnsError, Event, EventReply, EventReport, Link, LinkError, LinkFault, NetError, Report, Script,
@@ -93,20 +93,12 @@ fn fault(outcome: &Result<Message, NetError>) -> Option<u8> {
     }
 }
 
-/// Asks for `a.t. A` under the ids, and looks at how it ended and at how many datagrams were dropped.
-fn expect_ask(
-    rt: &impl Abort,
-    alloc: Global,
-    link: ListLink,
-    ids: &[u16],
-    wanted: (Option<u8>, u64),
-) -> Result<(), Fail> {
+/// How asking for `a.t. A` under the ids ended, and how many datagrams were dropped.
+fn asked(alloc: Global, link: ListLink, ids: &[u16]) -> Result<(Option<u8>, u64), Fail> {
     let name = Name::from_ascii(alloc, "a.t.")?;
     let mut handle = WireHandle::new(alloc, link, ids.to_vec(alloc)?);
     let outcome = handle.send(&Query::query(name, RecordType::A));
-    assert_eq!(rt; fault(&outcome), wanted.0);
-    assert_eq!(rt; handle.dropped(), wanted.1);
-    Ok(())
+    Ok((fault(&outcome), handle.dropped()))
 }
 
 /// The datagrams: so many of the first, and the second behind them.
@@ -130,76 +122,114 @@ fn reply_behind(alloc: Global, count: usize, first: &[u8]) -> Result<ListLink, F
     Ok(link_of(behind(alloc, count, first, reply)?))
 }
 
+/// How an ask ends where the reply comes behind so many datagrams of noise.
+fn asked_through_noise(alloc: Global, count: usize) -> Result<(Option<u8>, u64), Fail> {
+    asked(alloc, reply_behind(alloc, count, &[0, 7, 133])?, &[7])
+}
+
 #[test]
 fn looks_at_sixteen_datagrams(rt: HostRuntime) -> Result<(), Fail> {
-    let alloc = rt.alloc();
-    let noise = [0, 7, 133];
-    expect_ask(
-        &rt,
-        alloc,
-        reply_behind(alloc, 15, &noise)?,
-        &[7],
-        (None, 15),
-    )?;
-    expect_ask(
-        &rt,
-        alloc,
-        reply_behind(alloc, 16, &noise)?,
-        &[7],
-        (Some(4), 16),
-    )
+    for (count, want) in [(0, (None, 0)), (15, (None, 15)), (16, (Some(4), 16))] {
+        assert_eq!(rt;
+            asked_through_noise(rt.alloc(), count)?,
+            want,
+            "behind {count}"
+        );
+    }
+    Ok(())
+}
+
+/// How an ask ends where the reply comes behind a message with an id and flags.
+fn asked_behind(alloc: Global, id: u8, flags: u8) -> Result<(Option<u8>, u64), Fail> {
+    let foreign = message_bytes(alloc, id, flags)?;
+    asked(alloc, reply_behind(alloc, 1, foreign.as_slice())?, &[7])
 }
 
 // A reply under another id, a question, and the reply to an update.
 #[test]
 fn drops_what_is_no_reply(rt: HostRuntime) -> Result<(), Fail> {
-    let alloc = rt.alloc();
     for (id, flags) in [(8, REPLY), (7, 5), (7, 173)] {
-        let foreign = message_bytes(alloc, id, flags)?;
-        let link = reply_behind(alloc, 1, foreign.as_slice())?;
-        expect_ask(&rt, alloc, link, &[7], (None, 1))?;
+        assert_eq!(rt;
+            asked_behind(rt.alloc(), id, flags)?,
+            (None, 1),
+            "{id} {flags}"
+        );
     }
     Ok(())
+}
+
+/// The reply with another byte at a place.
+fn reply_with(alloc: Global, place: usize, byte: u8) -> Result<Vec<u8>, Fail> {
+    let mut bytes = message_bytes(alloc, 7, REPLY)?;
+    if let Some(at) = bytes.get_mut(place) {
+        *at = byte;
+    }
+    Ok(bytes)
 }
 
 // The same but for the question's type, AAAA; and then the reply in capital letters.
 #[test]
 fn drops_the_reply_to_another_question(rt: HostRuntime) -> Result<(), Fail> {
     let alloc = rt.alloc();
-    let mut other = message_bytes(alloc, 7, REPLY)?;
-    assert_eq!(rt; other.len(), 40);
-    other[18] = 28;
-    let mut capital = message_bytes(alloc, 7, REPLY)?;
-    assert_eq!(rt; capital.len(), 40);
-    capital[13] = 65;
-    let link = link_of(behind(alloc, 1, other.as_slice(), capital)?);
-    expect_ask(&rt, alloc, link, &[7], (None, 1))
+    let other = reply_with(alloc, 18, 28)?;
+    let capital = reply_with(alloc, 13, 65)?;
+    let found = asked(
+        alloc,
+        link_of(behind(alloc, 1, other.as_slice(), capital)?),
+        &[7],
+    )?;
+    assert_eq!(rt; found, (None, 1));
+    Ok(())
+}
+
+/// How an ask ends over a link that fails to send, or to receive.
+fn asked_in_vain(
+    alloc: Global,
+    fails_to_send: bool,
+    fails_to_receive: bool,
+) -> Result<(Option<u8>, u64), Fail> {
+    let mut link = reply_behind(alloc, 0, &[])?;
+    link.fails_to_send = fails_to_send;
+    link.fails_to_receive = fails_to_receive;
+    asked(alloc, link, &[7])
 }
 
 #[test]
 fn tells_that_a_call_failed(rt: HostRuntime) -> Result<(), Fail> {
-    let alloc = rt.alloc();
-    let mut unsendable = reply_behind(alloc, 0, &[])?;
-    unsendable.fails_to_send = true;
-    expect_ask(&rt, alloc, unsendable, &[7], (Some(1), 0))?;
-    let mut deaf = reply_behind(alloc, 0, &[])?;
-    deaf.fails_to_receive = true;
-    expect_ask(&rt, alloc, deaf, &[7], (Some(2), 0))
+    for (fails_to_send, fails_to_receive, want) in [
+        (true, false, 1),
+        (true, true, 1),
+        (false, true, 2),
+    ] {
+        let found = asked_in_vain(rt.alloc(), fails_to_send, fails_to_receive)?;
+        assert_eq!(rt; found, (Some(want), 0));
+    }
+    Ok(())
 }
 
 #[test]
-fn tells_why_there_is_no_reply(rt: HostRuntime) -> Result<(), Fail> {
+fn tells_that_nothing_came(rt: HostRuntime) -> Result<(), Fail> {
     let alloc = rt.alloc();
-    expect_ask(&rt, alloc, link_of(Vec::new(alloc)), &[7], (Some(3), 0))?;
+    let found = asked(alloc, link_of(Vec::new(alloc)), &[7])?;
+    assert_eq!(rt; found, (Some(3), 0));
+    Ok(())
+}
+
+#[test]
+fn tells_that_the_reply_was_cut(rt: HostRuntime) -> Result<(), Fail> {
+    let alloc = rt.alloc();
     let cut = message_bytes(alloc, 7, CUT_REPLY)?;
-    expect_ask(
-        &rt,
-        alloc,
-        link_of(behind(alloc, 0, &[], cut)?),
-        &[7],
-        (Some(6), 0),
-    )?;
-    expect_ask(&rt, alloc, reply_behind(alloc, 0, &[])?, &[], (Some(9), 0))
+    let found = asked(alloc, link_of(behind(alloc, 0, &[], cut)?), &[7])?;
+    assert_eq!(rt; found, (Some(6), 0));
+    Ok(())
+}
+
+#[test]
+fn tells_that_no_id_is_left(rt: HostRuntime) -> Result<(), Fail> {
+    let alloc = rt.alloc();
+    let found = asked(alloc, reply_behind(alloc, 0, &[])?, &[])?;
+    assert_eq!(rt; found, (Some(9), 0));
+    Ok(())
 }
 
 /// A world over a zone of two records, with these ids.
@@ -260,46 +290,41 @@ enum Told {
     Other,
 }
 
+/// What a run over that zone reports, in text: each event with its counts, each id with its question, what was dropped.
+fn run_told(alloc: Global, ids: &[u16], asked: &[(u64, &str)]) -> Result<String, Fail> {
+    let report = reported(alloc, ids, asked)?;
+    let mut text = String::new(alloc);
+    for event in report.events.iter() {
+        let (told, faults, questions) = (told_of(event), event.faults, event.questions);
+        writeln!(text, "{told:?} {faults} {questions}")?;
+    }
+    for (id, query) in report.sent.iter() {
+        let (name, kind) = (&query.name, query.query_type);
+        writeln!(text, "{id} {name} {kind}")?;
+    }
+    let dropped = report.dropped;
+    write!(text, "{dropped}")?;
+    Ok(text)
+}
+
 #[test]
 fn looks_up_in_a_zone(rt: HostRuntime) -> Result<(), Fail> {
-    let alloc = rt.alloc();
     let asked = [(0, "a.t."), (0, "n.t."), (1, "z."), (1, "a.t")];
-    let report = reported(alloc, &[1, 2, 3, 4], &asked)?;
-    let wanted = [
-        (Told::Address(Ipv4Addr::new(10, 0, 0, 1), 60), 0, 1),
-        (Told::NoRecords(ResponseCode::NXDomain), 0, 1),
-        (Told::Code(ResponseCode::Refused), 0, 1),
-        (Told::Unsupported, 0, 0),
-    ];
-    assert_eq!(rt; report.events.len(), wanted.len());
-    for (event, (what, faults, questions)) in report.events.iter().zip(wanted.iter()) {
-        assert_eq!(rt; told_of(event), *what);
-        assert_eq!(rt; event.faults, *faults);
-        assert_eq!(rt; event.questions, *questions);
-    }
-    assert_eq!(rt; report.sent.len(), 3);
-    assert_eq!(rt; report.dropped, 0);
+    let found = run_told(rt.alloc(), &[1, 2, 3, 4], &asked)?;
+    assert_eq!(rt;
+        found.as_str(),
+        "Address(10.0.0.1, 60) 0 1\nNoRecords(NXDomain) 0 1\nCode(Refused) 0 1\nUnsupported 0 0\n1 a.t. A\n2 n.t. A\n3 z. A\n0"
+    );
     Ok(())
 }
 
 #[test]
 fn draws_each_id_once(rt: HostRuntime) -> Result<(), Fail> {
-    let alloc = rt.alloc();
-    let name = Name::from_ascii(alloc, "a.t.")?;
-    let report = reported(alloc, &[7], &[(0, "a.t."), (2, "a.t.")])?;
-    assert_eq!(rt; report.events.len(), 2);
+    let found = run_told(rt.alloc(), &[7], &[(0, "a.t."), (2, "a.t.")])?;
     assert_eq!(rt;
-        told_of(&report.events[0]),
-        Told::Address(Ipv4Addr::new(10, 0, 0, 1), 60)
+        found.as_str(),
+        "Address(10.0.0.1, 60) 0 1\nFault(NoId) 1 0\n7 a.t. A\n0"
     );
-    assert_eq!(rt; told_of(&report.events[1]), Told::Fault(LinkFault::NoId));
-    assert_eq!(rt; report.events[1].faults, 1);
-    assert_eq!(rt; report.events[1].questions, 0);
-    assert_eq!(rt; report.sent.len(), 1);
-    let (id, query) = &report.sent[0];
-    assert_eq!(rt; *id, 7);
-    assert!(rt; query.name == name);
-    assert_eq!(rt; query.query_type, RecordType::A);
     Ok(())
 }
 
@@ -317,9 +342,13 @@ fn is_refused(alloc: Global, moments: &[u64]) -> Result<bool, Fail> {
 
 #[test]
 fn refuses_moments_that_go_back(rt: HostRuntime) -> Result<(), Fail> {
-    let alloc = rt.alloc();
-    assert!(rt; is_refused(alloc, &[5, 3])?);
-    assert!(rt; is_refused(alloc, &[0, (1 << 62) + 1])?);
-    assert!(rt; !is_refused(alloc, &[5, 1 << 62])?);
+    for (moments, want) in [
+        ([5, 3], true),
+        ([0, (1 << 62) + 1], true),
+        ([5, 1 << 62], false),
+        ([5, 5], false),
+    ] {
+        assert_eq!(rt; is_refused(rt.alloc(), &moments)?, want, "{moments:?}");
+    }
     Ok(())
 }

@@ -58,40 +58,67 @@ fn texts_are_zones_or_their_first_fault(rt: HostRuntime) -> Result<(), Fail> {
     Ok(())
 }
 
+/// What the zone t with a line behind its first is read as.
+fn verdict_on(alloc: Global, line: &str) -> Result<String, Fail> {
+    let text = format!(in alloc; "{START}{line}")?;
+    verdict(alloc, text.as_str())
+}
+
 #[test]
-fn lines_are_read_or_refused(rt: HostRuntime) -> Result<(), Fail> {
+fn lines_are_read(rt: HostRuntime) -> Result<(), Fail> {
+    for line in [
+        "",
+        " \t ",
+        "; a comment",
+        "a.t. 60 IN A 10.0.0.1",
+        "A.T.\t060  IN A\t10.0.0.1 \t",
+        "a.t. 60 IN A 0.0.0.0",
+        "a\\ b.t. 60 IN A 255.255.255.255",
+    ] {
+        let found = verdict_on(rt.alloc(), line)?;
+        assert_eq!(rt; found.as_str(), "a zone", "the line {line}");
+    }
+    Ok(())
+}
+
+#[test]
+fn lines_that_are_none_are_refused(rt: HostRuntime) -> Result<(), Fail> {
+    for line in [
+        "a.t. 60 IN A 10.0.0.1 ; data",
+        " a.t. 60 IN A 10.0.0.1",
+        " ; a comment",
+        "@ 60 IN A 10.0.0.1",
+        "$ORIGIN t.",
+        "a.t. 60 IN A \"10.0.0.1\"",
+        "a.t. 60 IN A ( 10.0.0.1 )",
+        "a.t. 60 in A 10.0.0.1",
+        "a.t. 60 IN a 10.0.0.1",
+        "a.t. 60 IN AAAA ::1",
+        "a.t. 60 CH A 10.0.0.1",
+        "a.t. IN A 10.0.0.1",
+        "a 60 IN A 10.0.0.1",
+        "a.t. 1h IN A 10.0.0.1",
+        "a.t. 4294967296 IN A 10.0.0.1",
+        "a.t. 60 IN A 10.0.0",
+        "a.t. 60 IN A 10.0.0.1.1",
+        "a.t. 60 IN A 10.0.0.256",
+        "a.t. 60 IN A 10.0.0.01",
+        "a.t. 60 IN A 10.0..1",
+        "a.t. 60 IN A 10.0.0.1\r",
+        "a.t. 60 IN A 10.0.\r0.1",
+        "\u{e9}.t. 60 IN A 10.0.0.1",
+        "a.t. 60 IN A 10.0.0.1\u{e9}",
+    ] {
+        let found = verdict_on(rt.alloc(), line)?;
+        assert_eq!(rt; found.as_str(), "Line(2)", "the line {line}");
+    }
+    Ok(())
+}
+
+/// Lines are looked at first, then owners, then where a start of authority stands.
+#[test]
+fn the_first_fault_is_told(rt: HostRuntime) -> Result<(), Fail> {
     for (line, want) in [
-        ("", "a zone"),
-        (" \t ", "a zone"),
-        ("; a comment", "a zone"),
-        ("a.t. 60 IN A 10.0.0.1", "a zone"),
-        ("A.T.\t060  IN A\t10.0.0.1 \t", "a zone"),
-        ("a.t. 60 IN A 0.0.0.0", "a zone"),
-        ("a\\ b.t. 60 IN A 255.255.255.255", "a zone"),
-        ("a.t. 60 IN A 10.0.0.1 ; data", "Line(2)"),
-        (" a.t. 60 IN A 10.0.0.1", "Line(2)"),
-        (" ; a comment", "Line(2)"),
-        ("@ 60 IN A 10.0.0.1", "Line(2)"),
-        ("$ORIGIN t.", "Line(2)"),
-        ("a.t. 60 IN A \"10.0.0.1\"", "Line(2)"),
-        ("a.t. 60 IN A ( 10.0.0.1 )", "Line(2)"),
-        ("a.t. 60 in A 10.0.0.1", "Line(2)"),
-        ("a.t. 60 IN a 10.0.0.1", "Line(2)"),
-        ("a.t. 60 IN AAAA ::1", "Line(2)"),
-        ("a.t. 60 CH A 10.0.0.1", "Line(2)"),
-        ("a.t. IN A 10.0.0.1", "Line(2)"),
-        ("a 60 IN A 10.0.0.1", "Line(2)"),
-        ("a.t. 1h IN A 10.0.0.1", "Line(2)"),
-        ("a.t. 4294967296 IN A 10.0.0.1", "Line(2)"),
-        ("a.t. 60 IN A 10.0.0", "Line(2)"),
-        ("a.t. 60 IN A 10.0.0.1.1", "Line(2)"),
-        ("a.t. 60 IN A 10.0.0.256", "Line(2)"),
-        ("a.t. 60 IN A 10.0.0.01", "Line(2)"),
-        ("a.t. 60 IN A 10.0..1", "Line(2)"),
-        ("a.t. 60 IN A 10.0.0.1\r", "Line(2)"),
-        ("a.t. 60 IN A 10.0.\r0.1", "Line(2)"),
-        ("\u{e9}.t. 60 IN A 10.0.0.1", "Line(2)"),
-        ("a.t. 60 IN A 10.0.0.1\u{e9}", "Line(2)"),
         ("a.t. 60 IN A 10.0.0.1\n\nb", "Line(4)"),
         ("a.u. 60 IN A 10.0.0.1", "OutsideOrigin"),
         (
@@ -104,12 +131,8 @@ fn lines_are_read_or_refused(rt: HostRuntime) -> Result<(), Fail> {
         ),
         ("a.u. 60 IN A 10.0.0.1\nb", "Line(3)"),
     ] {
-        let text = format!(in rt.alloc(); "{START}{line}")?;
-        assert_eq!(rt;
-            verdict(rt.alloc(), text.as_str())?.as_str(),
-            want,
-            "the line {line}"
-        );
+        let found = verdict_on(rt.alloc(), line)?;
+        assert_eq!(rt; found.as_str(), want, "the line {line}");
     }
     Ok(())
 }
@@ -185,7 +208,20 @@ fn questions_have_their_answers(rt: HostRuntime) -> Result<(), Fail> {
         let found = answered(rt.alloc(), &zone, name, number, class)?;
         assert_eq!(rt; found.as_str(), want, "{number} at {name}");
     }
-    assert_eq!(rt; format!(in rt.alloc(); "{}", zone.origin())?.as_str(), "t.");
+    Ok(())
+}
+
+/// The origin of the zone t in text.
+fn origin_told(alloc: Global) -> Result<String, Fail> {
+    let zone = zone_of(alloc, "")?;
+    let origin = zone.origin();
+    Ok(format!(in alloc; "{origin}")?)
+}
+
+#[test]
+fn the_start_of_authority_gives_the_origin(rt: HostRuntime) -> Result<(), Fail> {
+    let found = origin_told(rt.alloc())?;
+    assert_eq!(rt; found.as_str(), "t.");
     Ok(())
 }
 
@@ -216,46 +252,54 @@ const REQUEST: [u8; 21] = [
     0, 1, 1, 0, 0, 1, 0, 0, 0, 0, 0, 0, 1, 0x61, 1, 0x74, 0, 0, 1, 0, 1,
 ];
 
+/// The bytes of the zone's reply, and none where it has no reply. The zone has one address, at a.t.
+fn reply_bytes(alloc: Global, request: &[u8], road: Road) -> Result<Vec<u8>, Fail> {
+    let mut zone = zone_of(alloc, "a.t. 60 IN A 10.0.0.1\n")?;
+    match zone.serve(request, road)? {
+        Some(reply) => Ok(reply),
+        None => Ok(Vec::new(alloc)),
+    }
+}
+
 #[test]
 fn requests_have_their_replies(rt: HostRuntime) -> Result<(), Fail> {
-    let mut zone = zone_of(rt.alloc(), "a.t. 60 IN A 10.0.0.1\n")?;
     let want: [u8; 40] = [
         0, 1, 0x85, 0, 0, 1, 0, 1, 0, 0, 0, 0, 1, 0x61, 1, 0x74, 0, 0, 1, 0, 1, 1, 0x61, 1, 0x74,
         0, 0, 1, 0, 1, 0, 0, 0, 0x3C, 0, 4, 10, 0, 0, 1,
     ];
     for road in [datagram(1232)?, datagram(512)?, Road::Stream] {
-        match zone.serve(&REQUEST, road)? {
-            Some(reply) => assert_eq!(rt; reply.as_slice(), want.as_slice()),
-            None => assert!(rt; false, "a reply"),
-        }
-    }
-    // CD is copied, and nothing else of the flags; a refusal has no authority: z. A IN.
-    let refused: [u8; 19] = [
-        0xBE, 0xEF, 1, 0xF0, 0, 1, 0, 0, 0, 0, 0, 0, 1, 0x7A, 0, 0, 1, 0, 1,
-    ];
-    match zone.serve(&refused, Road::Stream)? {
-        Some(reply) => assert_eq!(rt;
-            reply.as_slice(),
-            [
-                0xBE, 0xEF, 0x81, 0x15, 0, 1, 0, 0, 0, 0, 0, 0, 1, 0x7A, 0, 0, 1, 0, 1
-            ]
-            .as_slice()
-        ),
-        None => assert!(rt; false, "a reply"),
+        let found = reply_bytes(rt.alloc(), &REQUEST, road)?;
+        assert_eq!(rt; found.as_slice(), want.as_slice());
     }
     Ok(())
 }
 
+/// CD is copied, and nothing else of the flags; a refusal has no authority: z. A IN.
+#[test]
+fn refusals_have_a_question_alone(rt: HostRuntime) -> Result<(), Fail> {
+    let request: [u8; 19] = [
+        0xBE, 0xEF, 1, 0xF0, 0, 1, 0, 0, 0, 0, 0, 0, 1, 0x7A, 0, 0, 1, 0, 1,
+    ];
+    let want: [u8; 19] = [
+        0xBE, 0xEF, 0x81, 0x15, 0, 1, 0, 0, 0, 0, 0, 0, 1, 0x7A, 0, 0, 1, 0, 1,
+    ];
+    let found = reply_bytes(rt.alloc(), &request, Road::Stream)?;
+    assert_eq!(rt; found.as_slice(), want.as_slice());
+    Ok(())
+}
+
+#[test]
+fn short_requests_have_no_reply(rt: HostRuntime) -> Result<(), Fail> {
+    for len in 0..REQUEST.len() {
+        let found = reply_bytes(rt.alloc(), &REQUEST[..len], Road::Stream)?;
+        assert!(rt; found.is_empty(), "at {len}");
+    }
+    Ok(())
+}
+
+/// A response, NOTIFY, no question, two questions, one record in each section, and a name that is a pointer to itself.
 #[test]
 fn other_messages_have_no_reply(rt: HostRuntime) -> Result<(), Fail> {
-    let mut zone = zone_of(rt.alloc(), "a.t. 60 IN A 10.0.0.1\n")?;
-    for len in 0..REQUEST.len() {
-        assert!(rt;
-            zone.serve(&REQUEST[..len], Road::Stream)?.is_none(),
-            "at {len}"
-        );
-    }
-    // A response, NOTIFY, no question, two questions, and one record in each section.
     for (place, byte) in [
         (2, 0x81),
         (2, 0x21),
@@ -264,14 +308,14 @@ fn other_messages_have_no_reply(rt: HostRuntime) -> Result<(), Fail> {
         (7, 1),
         (9, 1),
         (11, 1),
+        (12, 0xC0),
     ] {
         let mut request = REQUEST;
+        request[13] = if byte == 0xC0 { 12 } else { 0x61 };
         request[place] = byte;
-        assert!(rt; zone.serve(&request, Road::Stream)?.is_none(), "at {place}");
+        let found = reply_bytes(rt.alloc(), &request, Road::Stream)?;
+        assert!(rt; found.is_empty(), "at {place}");
     }
-    // The question's name is a pointer to itself.
-    let circle = [0, 1, 1, 0, 0, 1, 0, 0, 0, 0, 0, 0, 0xC0, 0x0C, 0, 1, 0, 1];
-    assert!(rt; zone.serve(&circle, Road::Stream)?.is_none());
     Ok(())
 }
 
@@ -293,15 +337,19 @@ fn size_of_reply(alloc: Global, addresses: usize, road: Road) -> Result<(usize, 
 
 #[test]
 fn what_does_not_fit_is_cut(rt: HostRuntime) -> Result<(), Fail> {
-    for (addresses, limit, want) in [
-        (25, 1232, (496, 0x85)),
-        (26, 1232, (21, 0x87)),
-        (26, 512, (21, 0x87)),
+    for (addresses, road, want) in [
+        (25, datagram(1232)?, (496, 0x85)),
+        (26, datagram(1232)?, (21, 0x87)),
+        (26, datagram(512)?, (21, 0x87)),
+        (26, Road::Stream, (515, 0x85)),
     ] {
-        let found = size_of_reply(rt.alloc(), addresses, datagram(limit)?)?;
+        let found = size_of_reply(rt.alloc(), addresses, road)?;
         assert_eq!(rt; found, want, "{addresses} addresses");
     }
-    assert_eq!(rt; size_of_reply(rt.alloc(), 26, Road::Stream)?, (515, 0x85));
-    assert!(rt; DatagramLimit::new(511).is_err());
     Ok(())
+}
+
+#[test]
+fn a_datagram_has_room_for_512_bytes(rt: HostRuntime) {
+    assert!(rt; DatagramLimit::new(511).is_err());
 }
