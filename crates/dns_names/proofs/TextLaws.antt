@@ -6,8 +6,7 @@ use Rattle.std.proofs.lemmas.Bool.Decides.{nat_tests}
 use Rattle.dns_wire.specs.Name.{name_len}
 use Rattle.dns_names.proofs.Underway.{name_len-push}
 use Rattle.dns_names.specs.declared.error.ParseError.TheVariants.{DomainNameTooLong}
-use Rattle.dns_names.specs.declared.symbol.Symbol.{Symbol}
-use Rattle.dns_names.specs.Text.{Begun, Placed, label_ended, with_symbol, name_from, symbols_from, symbol, more_len}
+use Rattle.dns_names.specs.Text.{Symbol, Begun, Placed, label_ended, with_symbol, name_from, symbols_from, symbol, more_len}
 
 pub ends_too_long : (b : Begun) → (length b.label == 0) ≡ false → 255 < name_len b.labels + (length b.label + 1) → label_ended b ≡ Err DomainNameTooLong
 ends_too_long b some over =
@@ -45,12 +44,12 @@ symbols-next place text within =
     ∙ ap (λ (n : ℕ). record { place = place; symbol = symbol (drop place text) } ∷ symbols_from 0 n (drop (suc more) (drop place text))) there
     ∙ ap (λ (cs : List ℕ). record { place = place; symbol = symbol (drop place text) } ∷ symbols_from 0 (place + (1 + more)) cs) rest
 
-from-taken : (b next : Begun) (p : Placed) (ps : List Placed) → with_symbol b p ≡ Ok next → name_from b (p ∷ ps) ≡ name_from next ps
-from-taken b next p ps e = rw (e, name_from) refl
+pub taken : (b next : Begun) (p : Placed) (ps : List Placed) → with_symbol b p ≡ Ok next → name_from b (p ∷ ps) ≡ name_from next ps
+taken b next p ps e = rw (e, name_from) refl
 
 -- a symbol that is taken, and the text behind it
 pub goes_on : (b next : Begun) (place : ℕ) (text : List ℕ) (s : Symbol) (more : ℕ) → place < length text → s ≡ symbol (drop place text) → more ≡ more_len (drop place text)
     → with_symbol b (record { place = place; symbol = s }) ≡ Ok next → name_from b (symbols_from 0 place (drop place text)) ≡ name_from next (symbols_from 0 (place + (1 + more)) (drop (place + (1 + more)) text))
-goes_on b next place text s more within is len taken =
+goes_on b next place text s more within is len accepted =
     let rest : List Placed = symbols_from 0 (place + (1 + more_len (drop place text))) (drop (place + (1 + more_len (drop place text))) text) in
-    rw len (ap (name_from b) (symbols-next place text within) ∙ from-taken b next (record { place = place; symbol = symbol (drop place text) }) rest (rw is at taken))
+    rw len (ap (name_from b) (symbols-next place text within) ∙ taken b next (record { place = place; symbol = symbol (drop place text) }) rest (rw is at accepted))

@@ -7,10 +7,15 @@ use Rattle.dns_names.specs.DomainName.{DomainName}
 use Rattle.dns_names.specs.Decimal.{is_digit, decimal_up_to}
 use Rattle.dns_names.specs.declared.error.ParseError.{ParseError}
 use Rattle.dns_names.specs.declared.error.ParseError.TheVariants.{LabelBytesTooLong, EmptyLabel, DomainNameTooLong, Text}
-use Rattle.dns_names.specs.declared.symbol.Symbol.{Symbol}
-use Rattle.dns_names.specs.declared.symbol.Symbol.TheVariants.{Dot, Plain, Escaped, Broken}
 
 -- ---- symbols
+
+-- a dot between labels, an octet as it stands or behind a backslash, or a backslash that escapes nothing
+pub data Symbol : Type 0 where
+  Dot : Symbol
+  Plain : ℕ → Symbol
+  Escaped : ℕ → Symbol
+  Broken : Symbol
 
 -- three decimal digits up to 255 are that octet
 abbrev pub decimal_octet : List ℕ → Symbol

@@ -28,7 +28,8 @@ impl Eq for Name {
 }
 
 impl Name {
-    /// Whether the name, as an origin, is at or above another: whether that one's last labels are this one's.
+    /// Whether the name, as an origin, is at or above another: whether that one's last labels are this one's. Whether
+    /// the names end at the root isn't looked at.
     pub fn zone_of(&self, name: &Name) -> bool
         ensures value { result ≡ at_or_below self.now.labels name.now.labels }
         ensures labels { AreLabels self.now.labels }

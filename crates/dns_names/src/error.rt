@@ -9,13 +9,14 @@ pub enum ParseError {
     /// A label of more than 63 bytes (RFC 1035 section 2.3.4).
     #[error("a label of more than 63 bytes")]
     LabelBytesTooLong,
-    /// Two dots with nothing between them, or a dot in front.
+    /// A label without a byte; in text two dots with nothing between them, or a dot in front.
     #[error("an empty label")]
     EmptyLabel,
     /// A name that takes more than 255 bytes (RFC 1035 section 2.3.4).
     #[error("a name of more than 255 bytes")]
     DomainNameTooLong,
-    /// A character that may not stand at this place, counted in bytes from 0, or a backslash that escapes nothing.
+    /// A character that may not stand at this place, counted in bytes from 0, or a backslash that escapes nothing; of a
+    /// time in text also the character with which it is too great, and 0 of a name that is no address.
     #[error("a character that may not stand at byte {0}")]
     Text(usize),
     /// Memory was refused.

@@ -1,6 +1,6 @@
 //! Domain names.
 
-ghost use Rattle.std.specs.Prelude.{◌≡◌, ◌==◌, ◌+◌, ◌<◌, ◌≤◌, ◌&&◌, [], ◌∷◌, ◌++◌, false, true, length, slice_get, slice_index_or, IfOk, OnOk, OnErr};
+ghost use Rattle.std.specs.Prelude.{◌≡◌, ◌==◌, ◌+◌, ◌<◌, ◌≤◌, ◌&&◌, [], ◌∷◌, ◌++◌, false, true, length, slice_get, slice_index_or, IfOk, IsOk, OnOk, OnErr};
 ghost use Rattle.dns_wire.specs.Name.{IsLabel, AreLabels, name_len};
 ghost use Rattle.dns_names.specs.Comparison.{lower};
 ghost use Rattle.dns_names.specs.Cut.{CutsFrom, labels_from};
@@ -70,9 +70,10 @@ impl Name {
         self.is_fqdn
     }
 
-    /// A copy of the name.
+    /// A copy of the name. Up to 24 labels of up to 32 bytes together take no memory.
     pub fn clone(&self) -> Result<Self, AllocError>
         ensures ok { IfOk result (λ name. name ≡ self.now) }
+        ensures inline { length self.now.labels ≤ 24 → name_len self.now.labels ≤ length self.now.labels + 33 → IsOk result }
         ensures labels { AreLabels self.now.labels }
     {
         Ok(Name {
@@ -91,11 +92,17 @@ impl Name {
     /// The name with its ASCII letters in lower case.
     pub fn to_lowercase(&self) -> Result<Self, AllocError>
         ensures ok { IfOk result (λ name. name ≡ record self.now { labels = lower self.now.labels }) }
+        ensures inline { length self.now.labels ≤ 24 → name_len self.now.labels ≤ length self.now.labels + 33 → IsOk result }
         ensures labels { AreLabels self.now.labels }
     {
         let mut name = self.clone()?;
         name.make_lowercase();
         Ok(name)
+    }
+
+    /// The allocator that the name was made with.
+    pub(crate) fn allocator(&self) -> Global {
+        *self.label_data.allocator()
     }
 
     /// How many labels the name has, a leading `*` among them.
@@ -142,7 +149,7 @@ impl Name {
     }
 
     /// Makes the name fully qualified, or relative.
-    pub(crate) fn set_fqdn(&mut self, is_fqdn: bool)
+    pub fn set_fqdn(&mut self, is_fqdn: bool)
         ensures { self.new ≡ record self.old { is_fqdn = is_fqdn } }
     {
         self.is_fqdn = is_fqdn;

@@ -7,7 +7,7 @@ ghost use Rattle.dns_wire.specs.Reading.{ReadsName, RefusesName};
 ghost use Rattle.dns_names.specs.Reading.{Shows, part_len};
 
 use crate::name::Name;
-use dns_wire::{BinDecoder, DecodeError};
+use dns_wire::{BinDecodable, BinDecoder, DecodeError};
 use std::alloc::Global;
 
 /// A part of a written name.
@@ -56,6 +56,24 @@ impl Name {
         *decoder = decoder.clone(end);
         Ok(name)
     }
+}
+
+impl BinDecodable for Name {
+    ghost use Rattle.std.specs.Prelude.{true};
+    ghost use Rattle.dns_wire.proofs.ReadingLaws.{reads_not_refused};
+    ghost use Rattle.dns_names.specs.OneReading.{one_name};
+
+    ghost stands = { λ bytes place name end. ReadsName bytes place name.labels end × (name.is_fqdn ≡ true) };
+
+    ghost refuses = { RefusesName };
+
+    fn read(alloc: Global, decoder: &mut BinDecoder<'_>) -> Result<Name, DecodeError> {
+        Name::read(alloc, decoder)
+    }
+
+    ghost one_way = { one_name };
+
+    ghost not_refused = { λ bytes place value end error stands refused. reads_not_refused stands.0 refused };
 }
 
 /// The name at the decoder's place, and where it ends.

@@ -2,6 +2,7 @@
 
 ghost use Rattle.std.specs.Prelude.{◌≡◌, ◌+◌, ◌<◌, ◌≤◌, length};
 ghost use Rattle.dns_names.specs.Text.{symbol, more_len, escape, escape_len, decimal_octet};
+ghost use Rattle.dns_names.specs.SymbolShown.{symbol_of};
 
 use crate::decimal::parse_decimal;
 
@@ -21,7 +22,7 @@ pub enum Symbol {
 /// The symbol in front of a text, and how many characters it takes behind its first.
 pub fn next_symbol(text: &[u8]) -> (Symbol, usize)
     requires { 0 < length text.now }
-    ensures symbol { result.0 ≡ symbol text.now }
+    ensures symbol { symbol_of result.0 ≡ symbol text.now }
     ensures more { result.1 ≡ more_len text.now }
     ensures small { result.1 ≤ 3 }
 {
@@ -34,7 +35,7 @@ pub fn next_symbol(text: &[u8]) -> (Symbol, usize)
 
 /// What a backslash makes of the text behind it.
 fn escaped(text: &[u8]) -> (Symbol, usize)
-    ensures symbol { result.0 ≡ escape text.now }
+    ensures symbol { symbol_of result.0 ≡ escape text.now }
     ensures more { result.1 ≡ escape_len text.now }
     ensures small { result.1 ≤ 3 }
 {
@@ -50,7 +51,7 @@ fn escaped(text: &[u8]) -> (Symbol, usize)
 
 /// The octet that three decimal digits spell.
 fn octet(text: &[u8]) -> Symbol
-    ensures { result ≡ decimal_octet text.now }
+    ensures { symbol_of result ≡ decimal_octet text.now }
 {
     if text.len() < 3 {
         return Symbol::Broken;

@@ -20,11 +20,12 @@ struct Begun {
 
 impl Begun {
     ghost use Rattle.dns_names.specs.BegunText.{begun};
+    ghost use Rattle.dns_names.specs.SymbolShown.{symbol_of};
 
     /// Takes a symbol that stands at a place of the text.
     fn take(&mut self, place: usize, symbol: Symbol) -> Result<(), ParseError>
-        ensures ok { OnOk result (with_symbol (begun self.old) (record { place = place; symbol = symbol }) ≡ Ok (begun self.new)) }
-        ensures refused { IfErr result (λ error. error ≢ ParseError.Memory → with_symbol (begun self.old) (record { place = place; symbol = symbol }) ≡ Err error) }
+        ensures ok { OnOk result (with_symbol (begun self.old) (record { place = place; symbol = symbol_of symbol }) ≡ Ok (begun self.new)) }
+        ensures refused { IfErr result (λ error. error ≢ ParseError.Memory → with_symbol (begun self.old) (record { place = place; symbol = symbol_of symbol }) ≡ Err error) }
     {
         match symbol {
             Symbol::Dot => self.end_label(),

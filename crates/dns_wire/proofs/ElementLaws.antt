@@ -1,9 +1,9 @@
 -- The element in front of given bytes, and in front of more of them.
-use Rattle.std.proofs.Common.{◌≡◌, ℕ, ◌-◌, ◌<◌, ◌≤◌, Bool, true, false, cond, eqb, ltb, List, [], ◌∷◌, ◌++◌, length, take, drop, Ok, Err, refl, sym, ap, ◌∙◌, arith, length-append, length-take, inl, inr}
+use Rattle.std.proofs.Common.{◌≡◌, ℕ, ◌+◌, ◌*◌, ◌-◌, ◌<◌, ◌≤◌, Bool, true, false, cond, eqb, ltb, List, [], ◌∷◌, ◌++◌, length, take, drop, Ok, Err, refl, sym, ap, ◌∙◌, arith, length-append, length-take, inl, inr}
 use Rattle.std.proofs.lemmas.Bool.{ltb-true, ltb-false, le-ltb, eqb-false, cases_lt}
 use Rattle.std.proofs.lemmas.List.{take_at, take-append-le, drop_all, drop-append-le}
 use Rattle.dns_wire.specs.declared.error.DecodeError.TheVariants.{InsufficientBytes, UnrecognizedLabelCode}
-use Rattle.dns_wire.specs.Element.{Element, Closing, Label, element, element_at, label_element, pointer_element}
+use Rattle.dns_wire.specs.Element.{Element, Closing, Label, Pointer, element, element_at, label_element, pointer_element}
 use Rattle.dns_wire.specs.Name.{IsLabel}
 
 -- ---- which element it is
@@ -15,6 +15,14 @@ element-label label rest is =
     let small : ltb (length label) 64 ≡ true = let most = is.most in grind arith in
     let enough : ltb (length (label ++ rest)) (length label) ≡ false = le-ltb _ _ (omega (arith, length-append label rest)) in
     rw (not_zero, small, enough, take_at label rest (length label) refl) refl
+
+-- two bytes, of which the high one has its two high bits set, are a pointer
+pub element-pointer : (code low : ℕ) (rest : List ℕ) → 192 ≤ code → element (code ∷ (low ∷ rest)) ≡ Ok (Pointer (256 * (code - 192) + low))
+element-pointer code low rest high =
+    let not_zero : eqb code 0 ≡ false = grind arith in
+    let no_label : ltb code 64 ≡ false = grind arith in
+    let not_between : ltb code 192 ≡ false = grind arith in
+    rw (not_zero, no_label, not_between) refl
 
 label_element-is_label : (n : ℕ) (bytes label : List ℕ) → 0 < n → n < 64 → label_element n bytes ≡ Ok (Label label) → IsLabel label
 label_element-is_label n bytes label some most e = at (ltb (length bytes) n) refl e

@@ -2,5 +2,9 @@ pub mod SuffixLaws
 pub mod ElementLaws
 pub mod ReadingLaws
 pub mod NameLaws
+pub mod CompressionLaws
 pub mod PieceLaws
 pub mod ShowsLaws
+pub mod ItemLaws
+pub mod FillLaws
+pub mod CallLaws

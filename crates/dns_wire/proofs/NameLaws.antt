@@ -4,11 +4,11 @@ use Rattle.std.specs.List.{AllByRecursion}
 use Rattle.std.specs.Str.{str_to_ascii_lowercase}
 use Rattle.std.proofs.lemmas.List.{drop_at, drop-drop, length-map}
 use Rattle.dns_wire.specs.declared.name_encoding.NameEncoding.{NameEncoding}
-use Rattle.dns_wire.specs.declared.name_encoding.NameEncoding.TheVariants.{Uncompressed, UncompressedLowercase}
+use Rattle.dns_wire.specs.declared.name_encoding.NameEncoding.TheVariants.{Compressed, Uncompressed, UncompressedLowercase}
 use Rattle.dns_wire.specs.Element.{Label, element, element_at}
 use Rattle.dns_wire.specs.Name.{IsLabel, name_len, AreLabels}
 use Rattle.dns_wire.specs.Reading.{Reads, at_closing, at_label}
-use Rattle.dns_wire.specs.Pieces.{labels_form, whole_form, spelled}
+use Rattle.dns_wire.specs.Writing.{labels_form, whole_form, spelled}
 use Rattle.dns_wire.proofs.ElementLaws.{element-label}
 
 -- ---- how long
@@ -36,30 +36,35 @@ name_len-lowercase [] = refl
 name_len-lowercase (label ∷ labels) = omega (arith, length-lowercase label, name_len-lowercase labels)
 
 pub name_len-spelled : (encoding : NameEncoding) (labels : List (List ℕ)) → name_len (spelled encoding labels) ≡ name_len labels
+name_len-spelled Compressed labels = refl
 name_len-spelled Uncompressed labels = refl
 name_len-spelled UncompressedLowercase labels = name_len-lowercase labels
 
 -- the spelling of a name is a name
 pub spelled-are_labels : (encoding : NameEncoding) (labels : List (List ℕ)) → AreLabels labels → AreLabels (spelled encoding labels)
+spelled-are_labels Compressed labels is = is
 spelled-are_labels Uncompressed labels is = is
 spelled-are_labels UncompressedLowercase labels is = record { each = lowercase-each labels is.each; fits = omega (arith, is.fits, name_len-lowercase labels) }
 
 -- ---- written whole and read again
 
 -- what follows a label
-past : (buffer : List ℕ) (place : ℕ) (label more rest : List ℕ) → drop place buffer ≡ (length label ∷ (label ++ more)) ++ rest → drop (place + (length label + 1)) buffer ≡ more ++ rest
+pub past : (buffer : List ℕ) (place : ℕ) (label more rest : List ℕ) → drop place buffer ≡ (length label ∷ (label ++ more)) ++ rest → drop (place + (length label + 1)) buffer ≡ more ++ rest
 past buffer place label more rest h =
     let e : drop (place + (length label + 1)) buffer ≡ drop (length label + 1) (drop place buffer) = sym (drop-drop (length label + 1) place buffer) in
     let f : (length label ∷ (label ++ more)) ++ rest ≡ (length label ∷ label) ++ (more ++ rest) = append_assoc (length label ∷ label) more rest in
     rw (e, h, f) (drop_at (length label ∷ label) (more ++ rest) (length label + 1) (omega arith))
+
+-- a label that stands there
+pub label_there : (buffer : List ℕ) (place : ℕ) (label more rest : List ℕ) → IsLabel label → drop place buffer ≡ (length label ∷ (label ++ more)) ++ rest → element_at buffer place ≡ Ok (Label label)
+label_there buffer place label more rest is h = ap element (h ∙ append_assoc (length label ∷ label) more rest) ∙ element-label label (more ++ rest) is
 
 pub whole_reads : (buffer : List ℕ) (place segment left : ℕ) (labels : List (List ℕ)) (rest : List ℕ) → AllByRecursion IsLabel labels → name_len labels ≤ left
     → drop place buffer ≡ whole_form labels ++ rest → Reads buffer place segment left labels (place + name_len labels)
 whole_reads buffer place segment left [] rest each fits h = at_closing (ap element h)
 whole_reads buffer place segment left (label ∷ labels) rest each fits h =
     let again : drop place buffer ≡ (length label ∷ (label ++ whole_form labels)) ++ rest = h ∙ ap (λ (xs : List ℕ). (length label ∷ xs) ++ rest) (append_assoc label (labels_form labels) (0 ∷ [])) in
-    let stands : element_at buffer place ≡ Ok (Label label) = ap element (again ∙ append_assoc (length label ∷ label) (whole_form labels) rest) ∙ element-label label (whole_form labels ++ rest) each.0 in
     let more = whole_reads buffer (place + (length label + 1)) segment (left - (length label + 1)) labels rest each.1 (omega arith) (past buffer place label (whole_form labels) rest again) in
     let room : length label + 1 < left = omega (arith, length-labels_form labels) in
     let end : place + (length label + 1) + name_len labels ≡ place + name_len (label ∷ labels) = omega arith in
-    subst (λ (e : ℕ). Reads buffer place segment left (label ∷ labels) e) end (at_label stands room more)
+    subst (λ (e : ℕ). Reads buffer place segment left (label ∷ labels) e) end (at_label (label_there buffer place label (whole_form labels) rest each.0 again) room more)

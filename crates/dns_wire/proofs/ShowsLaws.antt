@@ -1,6 +1,7 @@
 -- Bytes that stand at a place, as a reader sees them.
-use Rattle.std.proofs.Common.{◌≡◌, ℕ, ◌+◌, ◌≤◌, List, ◌++◌, length, take, drop, refl, sym, ap, subst, ◌∙◌, append_assoc, arith, length-append, length-drop}
+use Rattle.std.proofs.Common.{◌≡◌, ℕ, ◌+◌, ◌<◌, ◌≤◌, List, ◌++◌, length, take, drop, refl, sym, ap, subst, ◌∙◌, append_assoc, arith, length-append, length-drop}
 use Rattle.std.proofs.lemmas.List.{take-append-drop, take_at, drop_at, drop-drop}
+use Rattle.dns_wire.specs.Decoder.{Decoder, rest, Advances}
 use Rattle.dns_wire.specs.Pieces.{Shows}
 
 -- they are in front of what is unread
@@ -38,3 +39,10 @@ shows-split buffer place end a b s =
       rest-shows buffer place a (b ++ drop end buffer) (omega (arith, s.ends, s.within)) unread,
       subst (λ (n : ℕ). Shows buffer (place + length a) b n) ends (rest-shows buffer (place + length a) b (drop end buffer) (omega (arith, s.ends, s.within, length-append a b)) later),
     )
+
+-- what a decoder has read stands where it was
+pub advances-shows : (old new : Decoder) (bytes : List ℕ) → 0 < length bytes → rest old ≡ bytes ++ rest new → Advances old new (length bytes) → Shows old.bytes old.index bytes new.index
+advances-shows old new bytes some e moved =
+    let within : old.index ≤ length old.bytes = omega (arith, ap (λ (xs : List ℕ). length xs) e, length-drop old.index old.bytes, length-append bytes (rest new), some) in
+    let end : old.index + length bytes ≡ new.index = sym (ap (λ (d : Decoder). d.index) moved) in
+    subst (λ (n : ℕ). Shows old.bytes old.index bytes n) end (rest-shows old.bytes old.index bytes (rest new) within e)

@@ -1,11 +1,15 @@
--- The suffixes that begin before a place.
-use Rattle.std.proofs.Common.{◌≡◌, ℕ, Bool, true, false, cond, ltb, List, [], ◌∷◌, ◌≤◌, length, refl, ap, subst, ◌∙◌, arith}
-use Rattle.std.specs.Prelude.{map, filter}
-use Rattle.std.specs.List.{items_where_true}
+-- Remembered suffixes: those that begin before a place, where bytes are remembered, and what holds of each of them.
+use Rattle.std.proofs.Common.{◌≡◌, ℕ, Bool, true, false, cond, ltb, List, [], ◌∷◌, ◌++◌, ◌<◌, ◌≤◌, length, Some, refl, ap, subst, ◌∙◌, arith}
+use Rattle.std.specs.Prelude.{map, filter, is_none, ◌&&◌}
+use Rattle.std.specs.List.{AllByRecursion, items_where_true}
+use Rattle.std.specs.Str.{bytes_eq}
 use Rattle.std.specs.List.Retain.{IsFiltered, ReturnsInTurn}
-use Rattle.std.proofs.lemmas.Bool.{ltb-true, ltb-false}
+use Rattle.std.proofs.lemmas.Bool.{le-ltb, ltb-true, ltb-false, false_from_ne_true}
+use Rattle.std.proofs.lemmas.List.{append-nil}
+use Rattle.std.proofs.lemmas.List.Elements.{filter-append}
+use Rattle.std.proofs.lemmas.Slice.Eq.{bytes_eq-Decides}
 use Rattle.dns_wire.specs.declared.encoder.Suffix as code
-use Rattle.dns_wire.specs.Encoder.{Suffix, suffix_of, before}
+use Rattle.dns_wire.specs.Encoder.{Suffix, suffix_of, before, place_of, remember}
 
 -- choosing among the code's suffixes is choosing among what contracts see of them
 pub map-before : (place : ℕ) (xs : List code.Suffix) → map suffix_of (filter (λ s. ltb s.start place) xs) ≡ before place (map suffix_of xs)
@@ -27,6 +31,87 @@ before-before place later (s ∷ suffixes) le = at (ltb s.start later) (ltb s.st
     at true a p q more = ap (λ (c : Bool). cond c (s ∷ before place (before later suffixes)) (before place (before later suffixes))) q ∙ ap (λ (ss : List Suffix). cond a (s ∷ ss) ss) more
     at false true p q more = absurd (omega (arith, ltb-false _ _ p, ltb-true _ _ q))
     at false false p q more = more
+
+-- what is remembered from a place on is none of them
+pub before-remember : (place here : ℕ) (suffixes : List Suffix) (bytes : List ℕ) → place ≤ here → before place (remember suffixes here bytes) ≡ before place suffixes
+before-remember place here suffixes bytes le = at (ltb here 16383 && (ltb (length suffixes) 64 && is_none (place_of suffixes bytes)))
+  where
+    at : (b : Bool) → before place (cond b (suffixes ++ record { start = here; bytes = bytes } ∷ []) suffixes) ≡ before place suffixes
+    at true =
+        let no : ltb here place ≡ false = le-ltb _ _ le in
+        filter-append (λ s. ltb s.start place) suffixes (record { start = here; bytes = bytes } ∷ []) ∙ rw no (append-nil (before place suffixes))
+    at false = refl
+
+-- all of them, where all begin before it
+pub before-all : (place : ℕ) (suffixes : List Suffix) → AllByRecursion (λ x. x.start < place) suffixes → before place suffixes ≡ suffixes
+before-all place [] all = refl
+before-all place (s ∷ suffixes) all =
+    let yes : ltb s.start place ≡ true = grind arith in
+    rw yes (ap (λ (ss : List Suffix). s ∷ ss) (before-all place suffixes all.1))
+
+-- ---- what holds of each
+
+pub all_weaker : {P Q : Suffix → Type 0} (weaker : (s : Suffix) → P s → Q s) (suffixes : List Suffix) → AllByRecursion P suffixes → AllByRecursion Q suffixes
+all_weaker weaker [] all = tt
+all_weaker weaker (s ∷ suffixes) all = (weaker s all.0, all_weaker weaker suffixes all.1)
+
+pub all-push : (P : Suffix → Type 0) (suffixes : List Suffix) (s : Suffix) → AllByRecursion P suffixes → P s → AllByRecursion P (suffixes ++ s ∷ [])
+all-push P [] s all p = (p, tt)
+all-push P (x ∷ suffixes) s all p = (all.0, all-push P suffixes s all.1 p)
+
+pub all-before : (P : Suffix → Type 0) (place : ℕ) (suffixes : List Suffix) → AllByRecursion P suffixes → AllByRecursion P (before place suffixes)
+all-before P place [] all = tt
+all-before P place (s ∷ suffixes) all = at (ltb s.start place) (all-before P place suffixes all.1)
+  where
+    at : (b : Bool) → AllByRecursion P (before place suffixes) → AllByRecursion P (cond b (s ∷ before place suffixes) (before place suffixes))
+    at true more = (all.0, more)
+    at false more = more
+
+-- what holds of those before a place, and what holds from there on
+pub all-rejoin : {P Q : Suffix → Type 0} (place end : ℕ) (suffixes : List Suffix) → AllByRecursion P (before place suffixes) → AllByRecursion (λ s. s.start < end) suffixes
+    → (front : (s : Suffix) → P s → Q s) (back : (s : Suffix) → place ≤ s.start → s.start < end → Q s) → AllByRecursion Q suffixes
+all-rejoin place end [] all behind front back = tt
+all-rejoin {P} {Q} place end (s ∷ suffixes) all behind front back = at (ltb s.start place) refl all (λ all. all-rejoin place end suffixes all behind.1 front back)
+  where
+    at : (b : Bool) → ltb s.start place ≡ b → AllByRecursion P (cond b (s ∷ before place suffixes) (before place suffixes)) → (AllByRecursion P (before place suffixes) → AllByRecursion Q suffixes) → Q s × AllByRecursion Q suffixes
+    at true e all more = (front s all.0, more all.1)
+    at false e all more = (back s (ltb-false _ _ e) behind.0, more all)
+
+pub before-behind : (place : ℕ) (suffixes : List Suffix) → AllByRecursion (λ s. s.start < place) (before place suffixes)
+before-behind place [] = tt
+before-behind place (s ∷ suffixes) = at (ltb s.start place) refl (before-behind place suffixes)
+  where
+    at : (b : Bool) → ltb s.start place ≡ b → AllByRecursion (λ x. x.start < place) (before place suffixes) → AllByRecursion (λ x. x.start < place) (cond b (s ∷ before place suffixes) (before place suffixes))
+    at true e more = (ltb-true _ _ e, more)
+    at false e more = more
+
+-- ---- where bytes are remembered
+
+-- what holds of each suffix holds of the one that is found
+pub place_of-found : (P : Suffix → Type 0) (suffixes : List Suffix) (bytes : List ℕ) (target : ℕ) → AllByRecursion P suffixes → place_of suffixes bytes ≡ Some target → (s : Suffix) × (s.start ≡ target) × (s.bytes ≡ bytes) × P s
+place_of-found P [] bytes target all e = absurd (cc)
+place_of-found P (s ∷ suffixes) bytes target all e = at (bytes_eq s.bytes bytes) refl e (place_of-found P suffixes bytes target all.1)
+  where
+    at : (b : Bool) → bytes_eq s.bytes bytes ≡ b → cond b (Some s.start) (place_of suffixes bytes) ≡ Some target → (place_of suffixes bytes ≡ Some target → (s : Suffix) × (s.start ≡ target) × (s.bytes ≡ bytes) × P s) → (s : Suffix) × (s.start ≡ target) × (s.bytes ≡ bytes) × P s
+    at true same e more = (s, cc, (bytes_eq-Decides s.bytes bytes).0 same, all.0)
+    at false same e more = more e
+
+place_of-push : (suffixes : List Suffix) (s : Suffix) (bytes : List ℕ) → length bytes < length s.bytes → place_of (suffixes ++ s ∷ []) bytes ≡ place_of suffixes bytes
+place_of-push [] s bytes shorter =
+    let no : bytes_eq s.bytes bytes ≡ false = false_from_ne_true (bytes_eq s.bytes bytes) (λ same. let e = (bytes_eq-Decides s.bytes bytes).0 same in omega (arith, ap length e)) in
+    rw no refl
+place_of-push (x ∷ suffixes) s bytes shorter = ap (cond (bytes_eq x.bytes bytes) (Some x.start)) (place_of-push suffixes s bytes shorter)
+
+-- bytes shorter than this are remembered at the same places
+abbrev pub AgreeBelow : ℕ → List Suffix → List Suffix → Type 0
+AgreeBelow n old now = (bytes : List ℕ) → length bytes < n → place_of now bytes ≡ place_of old bytes
+
+pub remember-agree : (n : ℕ) (old now : List Suffix) (place : ℕ) (bytes : List ℕ) → n ≤ length bytes → AgreeBelow n old now → AgreeBelow n old (remember now place bytes)
+remember-agree n old now place bytes le agree = at (ltb place 16383 && (ltb (length now) 64 && is_none (place_of now bytes)))
+  where
+    at : (b : Bool) → AgreeBelow n old (cond b (now ++ record { start = place; bytes = bytes } ∷ []) now)
+    at true = λ sought lt. place_of-push now (record { start = place; bytes = bytes }) sought (omega arith) ∙ agree sought lt
+    at false = agree
 
 -- ---- what `retain` leaves, where the closure stays as it is and answers by a test
 

@@ -1,5 +1,6 @@
 -- What a contract sees of a `BinEncoder`.
-use Rattle.std.specs.Prelude.{◌≡◌, ℕ, ◌+◌, ◌≤◌, Bool, List, ◌++◌, length, take, drop, map, nat_lt, filter}
+use Rattle.std.specs.Prelude.{◌≡◌, ℕ, ◌+◌, ◌≤◌, Bool, ◌&&◌, if◌then◌else◌, List, [], ◌∷◌, ◌++◌, length, take, drop, map, nat_lt, filter, Option, Some, None, is_none}
+use Rattle.std.specs.Str.{bytes_eq}
 use Rattle.std.specs.Borrow.{GName}
 use Rattle.dns_wire.specs.declared.encoder.BinEncoder.{BinEncoder}
 use Rattle.dns_wire.specs.declared.encoder.Suffix as code
@@ -50,6 +51,19 @@ after_put w more = record w { bytes = put_at w.offset more w.bytes; offset = w.o
 -- the suffixes that begin before a place
 abbrev pub before : ℕ → List Suffix → List Suffix
 before place suffixes = filter (λ s. nat_lt s.start place) suffixes
+
+-- the earliest place at which these bytes are remembered
+abbrev pub place_of : List Suffix → List ℕ → Option ℕ
+place_of [] bytes = None
+place_of (suffix ∷ suffixes) bytes = if bytes_eq suffix.bytes bytes then Some suffix.start else place_of suffixes bytes
+
+-- These bytes are remembered at a place: unless they are held, or the place is one that no pointer is to lead to, or as
+-- many as 64 are held.
+abbrev pub remember : List Suffix → ℕ → List ℕ → List Suffix
+remember suffixes start bytes =
+    if nat_lt start 16383 && (nat_lt (length suffixes) 64 && is_none (place_of suffixes bytes))
+    then suffixes ++ record { start = start; bytes = bytes } ∷ []
+    else suffixes
 
 -- cut back to the offset
 abbrev pub trimmed : Written → Written

@@ -3,7 +3,9 @@ pub mod Element
 pub mod Name
 pub mod Reading
 pub mod Encoder
+pub mod Writing
 pub mod Pieces
-pub mod RecordType
-pub mod DNSClass
-pub mod SerialNumber
+pub mod RDataEncoding
+pub mod Items
+pub mod Calls
+pub mod NumberLaws

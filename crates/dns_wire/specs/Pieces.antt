@@ -2,21 +2,23 @@
 --
 -- What a piece looks like depends on where it begins, on how names are written, on the remembered suffixes and on the
 -- names begun, and on no byte that was written before.
-use Rattle.std.specs.Prelude.{◌≡◌, ℕ, ◌+◌, ◌<◌, ◌≤◌, List, [], ◌∷◌, ◌++◌, length, map, take, drop, max, Result, Err, OnOk, OnErr}
+use Rattle.std.specs.Prelude.{◌≡◌, ℕ, ◌+◌, ◌<◌, ◌≤◌, nat_lt, Bool, ◌&&◌, if◌then◌else◌, List, [], ◌∷◌, ◌++◌, length, take, drop, max, Result, Ok, Err, OnOk, OnErr}
 use Rattle.std.specs.List.{AllByRecursion}
-use Rattle.std.specs.Str.{str_to_ascii_lowercase}
 use Rattle.dns_wire.specs.Encoder.{Suffix, Written, TakesBack}
 use Rattle.dns_wire.specs.Name.{AreLabels}
 use Rattle.dns_wire.specs.Reading.{ReadsName}
+use Rattle.dns_wire.specs.Writing.{compresses, compressed_form, remembered}
+pub use Rattle.dns_wire.specs.Writing.{labels_form, whole_form, spelled, IsWholeEncoding}
 use Rattle.dns_wire.specs.declared.name_encoding.NameEncoding.{NameEncoding}
-use Rattle.dns_wire.specs.declared.name_encoding.NameEncoding.TheVariants.{Uncompressed, UncompressedLowercase}
+use Rattle.dns_wire.specs.declared.name_encoding.NameEncoding.TheVariants.{Compressed}
 use Rattle.dns_wire.specs.declared.error.EncodeError.{EncodeError}
 use Rattle.dns_wire.specs.declared.error.EncodeError.TheVariants.{MaxBufferSizeExceeded}
 
--- plain bytes, or a name by its labels
+-- plain bytes, a name by its labels, or a name that is written whole whatever the encoding, by its labels as spelled
 pub data Piece : Type 0 where
   Plain : List ℕ → Piece
   Domain : List (List ℕ) → Piece
+  Whole : List (List ℕ) → Piece
 
 -- how far the writing has come: all that the form of the next piece depends on
 pub record Sofar : Type 0 where
@@ -28,35 +30,48 @@ pub record Sofar : Type 0 where
 abbrev pub sofar : Written → Sofar
 sofar w = record { place = w.offset; encoding = w.encoding; suffixes = w.suffixes; attempts = w.attempts }
 
--- labels, each with its length before it
-abbrev pub labels_form : List (List ℕ) → List ℕ
-labels_form [] = []
-labels_form (label ∷ labels) = length label ∷ (label ++ labels_form labels)
+-- where nothing was written, and names are compressed
+abbrev pub unwritten : Sofar
+unwritten = record { place = 0; encoding = Compressed; suffixes = []; attempts = 0 }
 
--- a name written whole: its labels, and the closing zero (RFC 1035 section 3.1)
-abbrev pub whole_form : List (List ℕ) → List ℕ
-whole_form labels = labels_form labels ++ 0 ∷ []
-
--- labels as this encoding spells them
-abbrev pub spelled : NameEncoding → List (List ℕ) → List (List ℕ)
-spelled Uncompressed labels = labels
-spelled UncompressedLowercase labels = map str_to_ascii_lowercase labels
+-- whether a name that is written here is compressed: in that encoding, up to 120 names
+abbrev pub is_compressed : Sofar → Bool
+is_compressed s = compresses s.encoding && nat_lt s.attempts 120
 
 -- how a name is written here
 abbrev pub name_form : Sofar → List (List ℕ) → List ℕ
-name_form s labels = whole_form (spelled s.encoding labels)
+name_form s labels = if is_compressed s then compressed_form s.suffixes labels else whole_form (spelled s.encoding labels)
 
 abbrev pub piece_form : Sofar → Piece → List ℕ
 piece_form s (Plain bytes) = bytes
 piece_form s (Domain labels) = name_form s labels
+piece_form s (Whole labels) = whole_form labels
+
+-- what is remembered behind it
+abbrev pub piece_suffixes : Sofar → Piece → List Suffix
+piece_suffixes s (Plain bytes) = s.suffixes
+piece_suffixes s (Domain labels) = if is_compressed s then remembered s.suffixes s.place labels else s.suffixes
+piece_suffixes s (Whole labels) = s.suffixes
+
+-- how many names were begun that could be compressed
+abbrev pub piece_attempts : Sofar → Piece → ℕ
+piece_attempts s (Plain bytes) = s.attempts
+piece_attempts s (Domain labels) = if is_compressed s then s.attempts + 1 else s.attempts
+piece_attempts s (Whole labels) = s.attempts
 
 -- how far the writing has come behind it
 abbrev pub piece_next : Sofar → Piece → Sofar
-piece_next s p = record s { place = s.place + length (piece_form s p) }
+piece_next s p = record s {
+  place = s.place + length (piece_form s p);
+  suffixes = piece_suffixes s p;
+  attempts = piece_attempts s p;
+}
 
--- how far its writing reaches
+-- how far its writing reaches: a name's labels are written whole before a pointer takes their place
 abbrev pub piece_reach : Sofar → Piece → ℕ
-piece_reach s p = s.place + length (piece_form s p)
+piece_reach s (Plain bytes) = s.place + length bytes
+piece_reach s (Domain labels) = s.place + max (length (labels_form labels)) (length (name_form s labels))
+piece_reach s (Whole labels) = s.place + length (whole_form labels)
 
 -- ---- pieces in order
 
@@ -74,6 +89,11 @@ abbrev pub reach : Sofar → List Piece → ℕ
 reach s [] = 0
 reach s (p ∷ ps) = max (piece_reach s p) (reach (piece_next s p) ps)
 
+-- How many names were begun, where a piece reaches past the limit: those before it, and itself.
+abbrev pub tried : ℕ → Sofar → List Piece → ℕ
+tried limit s [] = s.attempts
+tried limit s (p ∷ ps) = if nat_lt limit (piece_reach s p) then (piece_next s p).attempts else tried limit (piece_next s p) ps
+
 -- the pieces were written at the end
 abbrev pub appended : Written → List Piece → Written
 appended w ps = record w {
@@ -89,7 +109,13 @@ pub record Emits (old : Written) (pieces : List Piece) (result : Result (Unit {0
   pub ok : OnOk result (new ≡ appended old pieces)
   pub room : OnOk result (reach (sofar old) pieces ≤ old.limit)
   pub full : result ≡ Err MaxBufferSizeExceeded → old.limit < reach (sofar old) pieces
+  pub tries : result ≡ Err MaxBufferSizeExceeded → new.attempts ≡ tried old.limit (sofar old) pieces
   pub back : OnErr result (TakesBack old new)
+
+-- how a call ended, but for what it answered
+abbrev pub outcome : {X : Type 0} → Result X EncodeError → Result (Unit {0}) EncodeError
+outcome (Ok x) = Ok tt
+outcome (Err error) = Err error
 
 -- ---- reading them again
 
@@ -103,6 +129,7 @@ pub record Shows (buffer : List ℕ) (place : ℕ) (bytes : List ℕ) (end : ℕ
 abbrev pub IsAt : NameEncoding → List ℕ → ℕ → Piece → ℕ → Type 0
 IsAt encoding buffer place (Plain bytes) end = Shows buffer place bytes end
 IsAt encoding buffer place (Domain labels) end = ReadsName buffer place (spelled encoding labels) end
+IsAt encoding buffer place (Whole labels) end = ReadsName buffer place labels end
 
 -- pieces stand one after another
 abbrev pub AreAt : NameEncoding → List ℕ → ℕ → List Piece → ℕ → Type 0
@@ -113,6 +140,11 @@ AreAt encoding buffer place (p ∷ ps) end = (middle : ℕ) × IsAt encoding buf
 abbrev pub IsWritable : Piece → Type 0
 IsWritable (Plain bytes) = Unit {0}
 IsWritable (Domain labels) = AreLabels labels
+IsWritable (Whole labels) = AreLabels labels
 
 abbrev pub AreWritable : List Piece → Type 0
 AreWritable ps = AllByRecursion IsWritable ps
+
+-- every remembered suffix begins before the place
+abbrev pub AllBehind : Sofar → Type 0
+AllBehind s = AllByRecursion (λ x. x.start < s.place) s.suffixes

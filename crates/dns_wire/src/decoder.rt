@@ -1,10 +1,11 @@
 //! Reading bytes, one after another.
 
-ghost use Rattle.std.specs.Prelude.{◌≡◌, ◌+◌, ◌<◌, ◌≤◌, ◌↔◌, [], ◌∷◌, ◌++◌, length, IsTrue, IfOk, IfErr, OnErr, slice_get};
-ghost use Rattle.std.specs.Int.{w16, w32, to_be_bytes};
+ghost use Rattle.std.specs.Prelude.{◌≡◌, ◌+◌, ◌<◌, ◌≤◌, ◌↔◌, ◌⊎◌, ℕ, List, [], ◌∷◌, ◌++◌, length, slice_range, IsOk, IsTrue, IfOk, IfErr, OnErr, slice_get};
+ghost use Rattle.std.specs.Int.{w16, w32, to_be_bytes, cast_unsigned};
 ghost use Rattle.dns_wire.specs.Decoder.{rest, Advances};
 
 use crate::error::DecodeError;
+use std::alloc::Global;
 use std::marker::Model;
 
 /// A reader of lent bytes. A read that is refused leaves it as it was.
@@ -124,5 +125,63 @@ impl<'a> BinDecoder<'a> {
     {
         let bytes = self.read_slice(4)?;
         Ok(u32::from_be_bytes([bytes[0], bytes[1], bytes[2], bytes[3]]))
+    }
+
+    /// A signed number of four bytes, the highest one first.
+    pub fn read_i32(&mut self) -> Result<i32, DecodeError>
+        ensures ok { IfOk result (λ number. rest self.old ≡ to_be_bytes w32 (cast_unsigned w32 number) ++ rest self.new) }
+        ensures moved { IfOk result (λ _. Advances self.old self.new 4) }
+        ensures short { IfErr result (λ error. (error ≡ DecodeError.InsufficientBytes) × (length (rest self.old) < 4)) }
+        ensures err { OnErr result (self.new ≡ self.old) }
+    {
+        Ok(self.read_u32()?.cast_signed())
+    }
+
+    /// The next byte, as `read_u8` reads it.
+    pub fn pop(&mut self) -> Result<u8, DecodeError>
+        ensures ok { IfOk result (λ byte. rest self.old ≡ byte ∷ rest self.new) }
+        ensures moved { IfOk result (λ _. Advances self.old self.new 1) }
+        ensures short { IfErr result (λ error. (error ≡ DecodeError.InsufficientBytes) × (rest self.old ≡ [])) }
+        ensures err { OnErr result (self.new ≡ self.old) }
+    {
+        self.read_u8()
+    }
+
+    /// The next bytes, copied.
+    pub fn read_vec(&mut self, alloc: Global, len: usize) -> Result<Vec<u8>, DecodeError>
+        ensures ok { IfOk result (λ bytes. rest self.old ≡ bytes.items ++ rest self.new) }
+        ensures len { IfOk result (λ bytes. length bytes.items ≡ len) }
+        ensures moved { IfOk result (λ _. Advances self.old self.new len) }
+        ensures short { (result ≡ Err DecodeError.InsufficientBytes) ↔ (length (rest self.old) < len) }
+        ensures only { IfErr result (λ error. (error ≡ DecodeError.InsufficientBytes) ⊎ (error ≡ DecodeError.Memory)) }
+        ensures err { OnErr result (self.new ≡ self.old) }
+    {
+        let mut reader = self.clone(self.index);
+        let bytes = Vec::from_slice(alloc, reader.read_slice(len)?)?;
+        *self = reader;
+        Ok(bytes)
+    }
+
+    /// Bytes behind one byte with their number, lent and not copied (RFC 1035 section 3.3).
+    pub fn read_character_data(&mut self) -> Result<&'a [u8], DecodeError>
+        ensures ok { IfOk result (λ bytes. rest self.old ≡ length bytes.now ∷ (bytes.now ++ rest self.new)) }
+        ensures moved { IfOk result (λ bytes. Advances self.old self.new (length bytes.now + 1)) }
+        ensures short { IfErr result (λ error. error ≡ DecodeError.InsufficientBytes) }
+        ensures only { (bytes more : List ℕ) → length bytes < 256 → rest self.old ≡ length bytes ∷ (bytes ++ more) → IsOk result }
+        ensures err { OnErr result (self.new ≡ self.old) }
+    {
+        let mut reader = self.clone(self.index);
+        let len = reader.read_u8()?;
+        let bytes = reader.read_slice(len as usize)?;
+        *self = reader;
+        Ok(bytes)
+    }
+
+    /// The bytes from an earlier place up to the next read, lent and not copied.
+    pub fn slice_from(&self, index: usize) -> &'a [u8]
+        requires { index ≤ self.now.index }
+        ensures { result.now ≡ slice_range self.now.bytes index self.now.index }
+    {
+        &self.buffer[index..self.index]
     }
 }

@@ -1,11 +1,12 @@
 //! What has a form on the wire.
 
-ghost use Rattle.std.specs.Prelude.{◌≡◌, List, IsOk};
+ghost use Rattle.std.specs.Prelude.{◌≡◌, ◌<◌, ◌≤◌, ℕ, List, [], ◌∷◌, length, IsOk, IfOk, OnOk};
 ghost use Rattle.dns_wire.specs.Encoder.{written, lender, IsAtEnd};
-ghost use Rattle.dns_wire.specs.Pieces.{Piece, Sofar, sofar, Emits, AreWritable};
+ghost use Rattle.dns_wire.specs.Pieces.{Piece, Plain, Sofar, sofar, unwritten, form, reach, Emits, AreWritable};
 
 use crate::encoder::BinEncoder;
 use crate::error::EncodeError;
+use std::alloc::Global;
 
 /// A value with a form on the wire.
 pub trait BinEncodable {
@@ -18,4 +19,50 @@ pub trait BinEncodable {
         ensures emits { Emits (written encoder.old) (pieces self.now (sofar (written encoder.old))) result (written encoder.new) }
         ensures writable { IsOk result → AreWritable (pieces self.now (sofar (written encoder.old))) }
         ensures lender { lender encoder.new ≡ lender encoder.old };
+
+    /// The bytes of the value alone.
+    final fn to_bytes(&self, alloc: Global) -> Result<Vec<u8>, EncodeError>
+        ensures ok { IfOk result (λ bytes. bytes.items ≡ form unwritten (pieces self.now unwritten)) }
+        ensures room { OnOk result (reach unwritten (pieces self.now unwritten) ≤ 65535) }
+        ensures full { result ≡ Err EncodeError.MaxBufferSizeExceeded → 65535 < reach unwritten (pieces self.now unwritten) }
+        ensures writable { IsOk result → AreWritable (pieces self.now unwritten) }
+    {
+        let mut buffer = Vec::new(alloc);
+        let mut encoder = BinEncoder::new(alloc, &mut buffer);
+        self.emit(&mut encoder)?;
+        encoder.into_bytes();
+        Ok(buffer)
+    }
+}
+
+impl<T: BinEncodable> BinEncodable for &T {
+    ghost pieces = { λ value s. T.pieces value.now s };
+
+    fn emit(&self, encoder: &mut BinEncoder<'_>) -> Result<(), EncodeError> {
+        (**self).emit(encoder)
+    }
+}
+
+/// A value whose form always takes the same number of bytes, and has no name in it.
+pub trait EncodedSize: BinEncodable {
+    ghost LEN: { ℕ };
+
+    /// How many bytes it takes.
+    const LEN: usize;
+
+    /// The bytes that it is written as.
+    ghost wire: { Self → List ℕ };
+
+    /// Writes the value over as many bytes.
+    fn fill(&self, target: &mut [u8])
+        requires { length target.old ≡ LEN }
+        ensures { target.new ≡ wire self.now };
+
+    /// It is written as these bytes, wherever it begins.
+    ghost is_plain: { (value : Self) (s : Sofar) → Self.pieces value s ≡ Plain (wire value) ∷ [] };
+
+    /// There are as many as the length says, and it is at least 1.
+    ghost has_len: { (value : Self) → length (wire value) ≡ LEN };
+
+    ghost some: { 0 < LEN };
 }

@@ -83,3 +83,45 @@ impl<T: Drop> From<AllocFailed<T>> for EncodeError {
         EncodeError::Memory
     }
 }
+
+/// Why a list or a text could not be written.
+#[derive(Debug, Drop, Error)]
+pub enum ProtoError {
+    /// An item of a list didn't fit, after so many that did.
+    #[error("not all records could be written, only {count}")]
+    NotAllRecordsWritten { count: usize },
+    /// A text of more than 255 bytes (RFC 1035 section 3.3).
+    #[error("character data of {len} bytes, where at most 255 can be written")]
+    CharacterDataTooLong { len: usize },
+    /// The write would pass the greatest size of the buffer.
+    #[error("the buffer's greatest size would be passed")]
+    MaxBufferSizeExceeded,
+    /// Memory was refused.
+    #[error("out of memory")]
+    Memory,
+}
+
+impl From<EncodeError> for ProtoError {
+    ghost use Rattle.std.specs.Prelude.{◌≡◌};
+    ghost use Rattle.dns_wire.specs.Items.{proto_error};
+
+    ghost from_gives = { λ error e. e ≡ proto_error error };
+
+    fn from(error: EncodeError) -> ProtoError {
+        match error {
+            EncodeError::MaxBufferSizeExceeded => ProtoError::MaxBufferSizeExceeded,
+            EncodeError::Memory => ProtoError::Memory,
+        }
+    }
+}
+
+impl From<AllocError> for ProtoError {
+    ghost use Rattle.std.specs.Prelude.{◌≡◌};
+    ghost use Rattle.dns_wire.specs.declared.error.ProtoError.TheVariants.{Memory};
+
+    ghost from_gives = { λ _ e. e ≡ Memory };
+
+    fn from(_e: AllocError) -> ProtoError {
+        ProtoError::Memory
+    }
+}

@@ -1,34 +1,46 @@
-//! The wire of DNS (RFC 1035 section 4): codes, a reader and a writer of bytes, and what they refuse.
+//! The wire of DNS (RFC 1035 section 4): a reader and a writer of bytes, what they refuse, and the codes.
 //!
-//! - `record_type`, `dns_class`, `serial_number`: the codes, with their numbers both ways;
-//! - `decoder`: reads numbers and slices, and stays as it was where it refuses;
-//! - `encoder`: writes at an offset, up to a size, and says exactly what it wrote;
-//! - `encodable`: what a value writes, as pieces: plain bytes and names;
-//! - `laws`: what was written is read again, and stays when more is written;
+//! What is written is a list of pieces, plain bytes and names, whose bytes depend on the place, the way names are written,
+//! the remembered suffixes and the names begun, and on no byte that was written. So what pieces were written says what
+//! stands in the buffer, what is remembered and what a later name looks like.
+//!
+//! - `decoder`: reads numbers and slices, and stays as it was where it refuses; `decodable`: what is read from the wire;
+//! - `encoder`: writes at an offset, up to a size, and says exactly what it wrote; `name_encoding`: how names are written;
+//!   `modal_encoder`: a guard that restores that; `place`: places whose value is written later;
+//! - `encodable`: what a value writes, as pieces; `items`: lists of values; `numbers`: numbers as values;
+//! - `laws`: what was written is read again, over any calls too, and stays when more is written;
 //! - `error`: the refusals, by their names.
+//!
+//! The codes are those of `dns_codes`, given on under this crate's name.
 #![tactic(auto)]
 
+mod decodable;
 mod decoder;
-mod dns_class;
 mod encodable;
 mod encoder;
 mod error;
+mod items;
 mod laws;
+mod modal_encoder;
 mod name_encoding;
-mod record_type;
-mod serial_number;
-#[cfg(test)]
-mod tests;
+mod numbers;
+mod place;
 
+pub use decodable::BinDecodable;
 pub use decoder::BinDecoder;
-pub use dns_class::DNSClass;
-pub use encodable::BinEncodable;
-pub use encoder::BinEncoder;
-pub use error::{DecodeError, EncodeError};
-pub use laws::{
-    every_class_number_comes_back, every_type_number_comes_back, serials_compare_by_distance,
-    what_stands_stays, written_is_read_again,
+pub use dns_codes::{
+    CodeTextError, DNSClass, RecordType, SerialNumber, SerialOrder, every_class_number_comes_back,
+    every_type_number_comes_back, serials_compare_by_distance,
 };
-pub use name_encoding::NameEncoding;
-pub use record_type::RecordType;
-pub use serial_number::{SerialNumber, SerialOrder};
+pub use encodable::{BinEncodable, EncodedSize};
+pub use encoder::BinEncoder;
+pub use error::{DecodeError, EncodeError, ProtoError};
+pub use items::emit_fitting;
+pub use laws::{
+    a_name_in_its_own_mode_is_whole, all_that_stands_is_read_again, emissions_compose,
+    filled_emissions_are_emissions, filling_is_writing, taking_back_composes,
+    what_is_remembered_lies_behind, what_stands_stays, written_is_read_again,
+};
+pub use modal_encoder::ModalEncoder;
+pub use name_encoding::{NameEncoding, RDataEncoding};
+pub use place::Place;

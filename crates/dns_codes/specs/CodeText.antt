@@ -1,0 +1,124 @@
+-- Types and classes in text (RFC 1035 section 5.1, RFC 3597 section 5).
+use Rattle.std.specs.Prelude.{ℕ, ◌+◌, ◌-◌, ◌*◌, ◌&&◌, nat_le, nat_lt, if◌then◌else◌, List, [], ◌∷◌, ◌++◌, length, take, drop, Option, Some, None, codes, find}
+use Rattle.std.specs.Fmt.{decimal}
+use Rattle.std.specs.Str.{str_eq_ignore_ascii_case}
+use Rattle.dns_codes.specs.RecordType.{type_of}
+use Rattle.dns_codes.specs.DNSClass.{class_of}
+use Rattle.dns_codes.specs.declared.record_type.RecordType.{RecordType}
+use Rattle.dns_codes.specs.declared.record_type.RecordType.TheVariants.{A, NS, CNAME, SOA, NULL, PTR, HINFO, MX, TXT, SIG, KEY, AAAA, SRV, NAPTR, CERT, DNAME, OPT, DS, SSHFP, RRSIG, NSEC, DNSKEY, NSEC3, NSEC3PARAM, TLSA, SMIMEA, CDS, CDNSKEY, OPENPGPKEY, CSYNC, SVCB, HTTPS, TSIG, IXFR, AXFR, ANY, CAA, ZERO, Unknown}
+use Rattle.dns_codes.specs.declared.dns_class.DNSClass.{DNSClass}
+use Rattle.dns_codes.specs.declared.dns_class.DNSClass.TheVariants as class
+
+-- ---- names
+
+-- those of RFC 1035, and the later ones that IANA lists, with none for any other
+
+abbrev pub later_type_name : RecordType → List ℕ
+later_type_name SIG = codes "SIG"
+later_type_name KEY = codes "KEY"
+later_type_name AAAA = codes "AAAA"
+later_type_name SRV = codes "SRV"
+later_type_name NAPTR = codes "NAPTR"
+later_type_name CERT = codes "CERT"
+later_type_name DNAME = codes "DNAME"
+later_type_name OPT = codes "OPT"
+later_type_name DS = codes "DS"
+later_type_name SSHFP = codes "SSHFP"
+later_type_name RRSIG = codes "RRSIG"
+later_type_name NSEC = codes "NSEC"
+later_type_name DNSKEY = codes "DNSKEY"
+later_type_name NSEC3 = codes "NSEC3"
+later_type_name NSEC3PARAM = codes "NSEC3PARAM"
+later_type_name TLSA = codes "TLSA"
+later_type_name SMIMEA = codes "SMIMEA"
+later_type_name CDS = codes "CDS"
+later_type_name CDNSKEY = codes "CDNSKEY"
+later_type_name OPENPGPKEY = codes "OPENPGPKEY"
+later_type_name CSYNC = codes "CSYNC"
+later_type_name SVCB = codes "SVCB"
+later_type_name HTTPS = codes "HTTPS"
+later_type_name TSIG = codes "TSIG"
+later_type_name IXFR = codes "IXFR"
+later_type_name CAA = codes "CAA"
+later_type_name ZERO = codes "ZERO"
+later_type_name kind = []
+
+abbrev pub type_name : RecordType → List ℕ
+type_name A = codes "A"
+type_name NS = codes "NS"
+type_name CNAME = codes "CNAME"
+type_name SOA = codes "SOA"
+type_name NULL = codes "NULL"
+type_name PTR = codes "PTR"
+type_name HINFO = codes "HINFO"
+type_name MX = codes "MX"
+type_name TXT = codes "TXT"
+type_name AXFR = codes "AXFR"
+type_name ANY = codes "ANY"
+type_name kind = later_type_name kind
+
+abbrev pub named_types : List RecordType
+named_types = A ∷ NS ∷ CNAME ∷ SOA ∷ NULL ∷ PTR ∷ HINFO ∷ MX ∷ TXT ∷ SIG ∷ KEY ∷ AAAA ∷ SRV ∷ NAPTR ∷ CERT ∷ DNAME ∷ OPT ∷ DS ∷ SSHFP ∷ RRSIG ∷ NSEC ∷ DNSKEY ∷ NSEC3 ∷ NSEC3PARAM ∷ TLSA ∷ SMIMEA ∷ CDS ∷ CDNSKEY ∷ OPENPGPKEY ∷ CSYNC ∷ SVCB ∷ HTTPS ∷ TSIG ∷ IXFR ∷ AXFR ∷ ANY ∷ CAA ∷ ZERO ∷ []
+
+abbrev pub class_name : DNSClass → List ℕ
+class_name class.IN = codes "IN"
+class_name class.CH = codes "CH"
+class_name class.HS = codes "HS"
+class_name class.NONE = codes "NONE"
+class_name class.ANY = codes "ANY"
+class_name (class.OPT payload) = []
+class_name (class.Unknown number) = []
+
+abbrev pub named_classes : List DNSClass
+named_classes = class.IN ∷ class.CH ∷ class.HS ∷ class.NONE ∷ class.ANY ∷ []
+
+-- a type is printed by its name, or as TYPE and its number
+abbrev pub type_text : RecordType → List ℕ
+type_text (Unknown number) = codes "TYPE" ++ decimal number
+type_text kind = type_name kind
+
+-- a class is printed by its name, or as CLASS and its number
+abbrev pub class_text : DNSClass → List ℕ
+class_text (class.OPT payload) = codes "CLASS" ++ decimal payload
+class_text (class.Unknown number) = codes "CLASS" ++ decimal number
+class_text class = class_name class
+
+-- ---- numbers behind a word
+
+-- a number with one more decimal digit, of at most 16 bits
+abbrev pub with_digit : ℕ → ℕ → Option ℕ
+with_digit number c =
+    if nat_le 48 c && nat_le c 57 && nat_lt (10 * number + (c - 48)) 65536 then Some (10 * number + (c - 48)) else None
+
+abbrev pub number_from : Option ℕ → List ℕ → Option ℕ
+number_from None cs = None
+number_from (Some number) [] = Some number
+number_from (Some number) (c ∷ cs) = number_from (with_digit number c) cs
+
+-- a word in any case, and at least one digit behind it
+abbrev pub numbered_text : List ℕ → List ℕ → Option ℕ
+numbered_text word text =
+    if nat_le (length text) (length word) then None
+    else if str_eq_ignore_ascii_case (take (length word) text) word then number_from (Some 0) (drop (length word) text)
+    else None
+
+abbrev pub typed : Option ℕ → Option RecordType
+typed None = None
+typed (Some number) = Some (type_of number)
+
+-- the first that gives something
+abbrev pub or_else : {X : Type 0} → Option X → Option X → Option X
+or_else (Some x) other = Some x
+or_else None other = other
+
+-- the type that a text names in any case, or gives by its number behind TYPE
+abbrev pub type_of_text : List ℕ → Option RecordType
+type_of_text text = or_else (find (λ kind. str_eq_ignore_ascii_case (type_name kind) text) named_types) (typed (numbered_text (codes "TYPE") text))
+
+abbrev pub classed : Option ℕ → Option DNSClass
+classed None = None
+classed (Some number) = Some (class_of number)
+
+-- the class that a text names in any case, or gives by its number behind CLASS
+abbrev pub class_of_text : List ℕ → Option DNSClass
+class_of_text text = or_else (find (λ class. str_eq_ignore_ascii_case (class_name class) text) named_classes) (classed (numbered_text (codes "CLASS") text))

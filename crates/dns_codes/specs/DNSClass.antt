@@ -1,0 +1,23 @@
+-- Classes and their numbers (RFC 1035 section 3.2.4, RFC 2136 section 1.3).
+use Rattle.std.specs.Prelude.{ℕ, ◌==◌, if◌then◌else◌}
+use Rattle.dns_codes.specs.declared.dns_class.DNSClass.{DNSClass}
+use Rattle.dns_codes.specs.declared.dns_class.DNSClass.TheVariants.{IN, CH, HS, NONE, ANY, OPT, Unknown}
+
+abbrev pub class_number : DNSClass → ℕ
+class_number IN = 1
+class_number CH = 3
+class_number HS = 4
+class_number NONE = 254
+class_number ANY = 255
+class_number (OPT payload) = payload
+class_number (Unknown number) = number
+
+-- the class that a number is read as
+abbrev pub class_of : ℕ → DNSClass
+class_of number =
+    if number == 1 then IN
+    else if number == 3 then CH
+    else if number == 4 then HS
+    else if number == 254 then NONE
+    else if number == 255 then ANY
+    else Unknown number

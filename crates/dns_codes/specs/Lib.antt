@@ -1,0 +1,4 @@
+pub mod RecordType
+pub mod DNSClass
+pub mod SerialNumber
+pub mod CodeText

@@ -1,0 +1,144 @@
+//! Classes of records (RFC 1035 section 3.2.4, RFC 2136 section 1.3).
+
+ghost use Rattle.std.specs.Prelude.{◌≡◌, Some, find};
+ghost use Rattle.std.specs.Str.{str_eq_ignore_ascii_case};
+ghost use Rattle.dns_codes.specs.CodeText.{class_name, class_text};
+
+use crate::code_text::{CodeTextError, numbered};
+use std::fmt;
+use std::str::FromStr;
+
+/// A class of records, or of questions.
+#[derive(Clone, Copy, Debug, PartialEq, Eq)]
+pub enum DNSClass {
+    /// The Internet, 1.
+    IN,
+    /// Chaos, 3.
+    CH,
+    /// Hesiod, 4.
+    HS,
+    /// No class, 254 (RFC 2136 section 2.4).
+    NONE,
+    /// Any class, 255.
+    ANY,
+    /// The payload size that stands in the class's place in an OPT record (RFC 6891 section 6.1.2).
+    OPT(u16),
+    /// Any other number.
+    Unknown(u16),
+}
+
+impl DNSClass {
+    ghost use Rattle.std.specs.Prelude.{◌≡◌, max};
+
+    /// Its name in capitals, and none for a class that is known by its number alone.
+    pub fn name(self) -> &'static str
+        ensures { result.now ≡ class_name self }
+    {
+        match self {
+            DNSClass::IN => "IN",
+            DNSClass::CH => "CH",
+            DNSClass::HS => "HS",
+            DNSClass::NONE => "NONE",
+            DNSClass::ANY => "ANY",
+            DNSClass::OPT(_) | DNSClass::Unknown(_) => "",
+        }
+    }
+
+    /// The class of an OPT record of this payload size, of which 512 is the least (RFC 6891 section 6.2.3).
+    pub fn for_opt(payload: u16) -> Self
+        ensures { result ≡ DNSClass.OPT (max payload 512) }
+    {
+        DNSClass::OPT(payload.max(512))
+    }
+}
+
+impl From<u16> for DNSClass {
+    ghost use Rattle.std.specs.Prelude.{◌≡◌};
+    ghost use Rattle.dns_codes.specs.DNSClass.{class_of};
+
+    ghost from_gives = { λ number class. class ≡ class_of number };
+
+    fn from(number: u16) -> DNSClass {
+        match number {
+            1 => DNSClass::IN,
+            3 => DNSClass::CH,
+            4 => DNSClass::HS,
+            254 => DNSClass::NONE,
+            255 => DNSClass::ANY,
+            _ => DNSClass::Unknown(number),
+        }
+    }
+}
+
+impl From<DNSClass> for u16 {
+    ghost use Rattle.std.specs.Prelude.{◌≡◌};
+    ghost use Rattle.dns_codes.specs.DNSClass.{class_number};
+
+    ghost from_gives = { λ class number. number ≡ class_number class };
+
+    fn from(class: DNSClass) -> u16 {
+        match class {
+            DNSClass::IN => 1,
+            DNSClass::CH => 3,
+            DNSClass::HS => 4,
+            DNSClass::NONE => 254,
+            DNSClass::ANY => 255,
+            DNSClass::OPT(payload) => payload,
+            DNSClass::Unknown(number) => number,
+        }
+    }
+}
+
+/// The classes that have a name.
+const NAMED: [DNSClass; 5] = [
+    DNSClass::IN,
+    DNSClass::CH,
+    DNSClass::HS,
+    DNSClass::NONE,
+    DNSClass::ANY,
+];
+
+/// The one of these classes that the text names, in any case.
+fn find_named(classes: &[DNSClass], text: &str) -> Option<DNSClass>
+    ensures { result ≡ find (λ class. str_eq_ignore_ascii_case (class_name class) text.now) classes.now }
+{
+    for class in classes {
+        if class.name().eq_ignore_ascii_case(text) {
+            return Some(*class);
+        }
+    }
+    None
+}
+
+impl FromStr for DNSClass {
+    type Err = CodeTextError;
+
+    ghost use Rattle.std.specs.Prelude.{◌≡◌, ok_or};
+    ghost use Rattle.dns_codes.specs.CodeText.{class_of_text};
+    ghost use Rattle.dns_codes.specs.declared.code_text.CodeTextError.TheVariants.{UnknownName};
+
+    ghost from_str_gives = { λ text result. result ≡ ok_or (class_of_text text) UnknownName };
+
+    /// The class that a text names in any case, or gives as `CLASS` and its number (RFC 3597 section 5).
+    fn from_str(text: &str) -> Result<DNSClass, CodeTextError> {
+        if let Some(class) = find_named(&NAMED, text) {
+            return Ok(class);
+        }
+        match numbered("CLASS", text) {
+            Some(number) => Ok(DNSClass::from(number)),
+            None => Err(CodeTextError::UnknownName),
+        }
+    }
+}
+
+impl fmt::Display for DNSClass {
+    ghost output = { λ class. Some (class_text class) };
+
+    /// Its name in capitals, or `CLASS` and its number where it has none (RFC 3597 section 5).
+    fn fmt<W: fmt::Write>(&self, f: &mut fmt::Formatter<W>) -> fmt::Result {
+        match self {
+            DNSClass::OPT(number) | DNSClass::Unknown(number) => write!(f, "CLASS{number}"),
+            _ => f.write_str(self.name()),
+        }
+    }
+}

@@ -1,0 +1,335 @@
+//! Types of records (RFC 1035 section 3.2.2, and the later ones that IANA lists).
+
+ghost use Rattle.std.specs.Prelude.{◌≡◌, Some, find};
+ghost use Rattle.std.specs.Str.{str_eq_ignore_ascii_case};
+ghost use Rattle.dns_codes.specs.CodeText.{type_name, type_text, type_of_text};
+
+use crate::code_text::{CodeTextError, numbered};
+use crate::later_types::{later_name, later_number, later_type};
+use std::fmt;
+use std::str::FromStr;
+
+/// A type of record, or of question.
+#[derive(Clone, Copy, Debug, PartialEq, Eq)]
+pub enum RecordType {
+    /// An address of IPv4, 1.
+    A,
+    /// A name server, 2.
+    NS,
+    /// The name that an alias stands for, 5.
+    CNAME,
+    /// The start of a zone's authority, 6.
+    SOA,
+    /// Any bytes, 10.
+    NULL,
+    /// A pointer to a name, 12.
+    PTR,
+    /// A host's hardware and system, 13.
+    HINFO,
+    /// A mail exchange, 15.
+    MX,
+    /// Texts, 16.
+    TXT,
+    /// A signature (RFC 2535), 24.
+    SIG,
+    /// A public key (RFC 2535), 25.
+    KEY,
+    /// An address of IPv6 (RFC 3596), 28.
+    AAAA,
+    /// A service's location (RFC 2782), 33.
+    SRV,
+    /// A rule that rewrites names (RFC 3403), 35.
+    NAPTR,
+    /// A certificate (RFC 4398), 37.
+    CERT,
+    /// An alias for a whole subtree (RFC 6672), 39.
+    DNAME,
+    /// The extension of a message (RFC 6891), 41.
+    OPT,
+    /// A delegation's signer (RFC 4034), 43.
+    DS,
+    /// A host key's fingerprint (RFC 4255), 44.
+    SSHFP,
+    /// A signature of a record set (RFC 4034), 46.
+    RRSIG,
+    /// The next secure name (RFC 4034), 47.
+    NSEC,
+    /// A zone's public key (RFC 4034), 48.
+    DNSKEY,
+    /// The next hashed name (RFC 5155), 50.
+    NSEC3,
+    /// How names are hashed (RFC 5155), 51.
+    NSEC3PARAM,
+    /// A certificate's association (RFC 6698), 52.
+    TLSA,
+    /// A mail certificate's association (RFC 8162), 53.
+    SMIMEA,
+    /// A child's delegation signer (RFC 7344), 59.
+    CDS,
+    /// A child's public key (RFC 7344), 60.
+    CDNSKEY,
+    /// An OpenPGP key (RFC 7929), 61.
+    OPENPGPKEY,
+    /// What a parent is to copy (RFC 7477), 62.
+    CSYNC,
+    /// A service's binding (RFC 9460), 64.
+    SVCB,
+    /// A binding for HTTPS (RFC 9460), 65.
+    HTTPS,
+    /// A transaction's signature (RFC 8945), 250.
+    TSIG,
+    /// A question for a zone's changes (RFC 1995), 251.
+    IXFR,
+    /// A question for a whole zone, 252.
+    AXFR,
+    /// A question for any type, 255.
+    ANY,
+    /// Who may issue certificates (RFC 8659), 257.
+    CAA,
+    /// The number 0, which is reserved (RFC 2931).
+    ZERO,
+    /// Any other number.
+    Unknown(u16),
+}
+
+impl RecordType {
+    ghost use Rattle.std.specs.Prelude.{◌≡◌, ◌⊎◌, ◌↔◌, IsTrue};
+    ghost use Rattle.dns_codes.specs.RecordType.{is_dnssec_type};
+
+    /// Its name in capitals, and none for a type that is known by its number alone.
+    pub fn name(self) -> &'static str
+        ensures { result.now ≡ type_name self }
+    {
+        match self {
+            RecordType::A => "A",
+            RecordType::NS => "NS",
+            RecordType::CNAME => "CNAME",
+            RecordType::SOA => "SOA",
+            RecordType::NULL => "NULL",
+            RecordType::PTR => "PTR",
+            RecordType::HINFO => "HINFO",
+            RecordType::MX => "MX",
+            RecordType::TXT => "TXT",
+            RecordType::AXFR => "AXFR",
+            RecordType::ANY => "ANY",
+            _ => later_name(self),
+        }
+    }
+
+    /// Whether it is the question for any type.
+    pub fn is_any(self) -> bool
+        ensures { IsTrue result ↔ (self ≡ RecordType.ANY) }
+    {
+        matches!(self, RecordType::ANY)
+    }
+
+    /// Whether it is a certificate.
+    pub fn is_cert(self) -> bool
+        ensures { IsTrue result ↔ (self ≡ RecordType.CERT) }
+    {
+        matches!(self, RecordType::CERT)
+    }
+
+    /// Whether it is an alias.
+    pub fn is_cname(self) -> bool
+        ensures { IsTrue result ↔ (self ≡ RecordType.CNAME) }
+    {
+        matches!(self, RecordType::CNAME)
+    }
+
+    /// Whether it is a name server.
+    pub fn is_ns(self) -> bool
+        ensures { IsTrue result ↔ (self ≡ RecordType.NS) }
+    {
+        matches!(self, RecordType::NS)
+    }
+
+    /// Whether it is the start of a zone's authority.
+    pub fn is_soa(self) -> bool
+        ensures { IsTrue result ↔ (self ≡ RecordType.SOA) }
+    {
+        matches!(self, RecordType::SOA)
+    }
+
+    /// Whether it is a service's location.
+    pub fn is_srv(self) -> bool
+        ensures { IsTrue result ↔ (self ≡ RecordType.SRV) }
+    {
+        matches!(self, RecordType::SRV)
+    }
+
+    /// Whether it is a record set's signature.
+    pub fn is_rrsig(self) -> bool
+        ensures { IsTrue result ↔ (self ≡ RecordType.RRSIG) }
+    {
+        matches!(self, RecordType::RRSIG)
+    }
+
+    /// Whether it is the reserved number 0.
+    pub fn is_zero(self) -> bool
+        ensures { IsTrue result ↔ (self ≡ RecordType.ZERO) }
+    {
+        matches!(self, RecordType::ZERO)
+    }
+
+    /// Whether it is an address.
+    pub fn is_ip_addr(self) -> bool
+        ensures { IsTrue result ↔ ((self ≡ RecordType.A) ⊎ (self ≡ RecordType.AAAA)) }
+    {
+        matches!(self, RecordType::A | RecordType::AAAA)
+    }
+
+    /// Whether records of this type belong to DNSSEC (RFC 2535, RFC 4034, RFC 5155, RFC 7344).
+    pub fn is_dnssec(self) -> bool
+        ensures { result ≡ is_dnssec_type self }
+    {
+        matches!(
+            self,
+            RecordType::SIG
+                | RecordType::KEY
+                | RecordType::DS
+                | RecordType::RRSIG
+                | RecordType::NSEC
+                | RecordType::DNSKEY
+                | RecordType::NSEC3
+                | RecordType::NSEC3PARAM
+                | RecordType::CDS
+                | RecordType::CDNSKEY
+        )
+    }
+}
+
+impl From<u16> for RecordType {
+    ghost use Rattle.std.specs.Prelude.{◌≡◌};
+    ghost use Rattle.dns_codes.specs.RecordType.{type_of};
+
+    ghost from_gives = { λ number kind. kind ≡ type_of number };
+
+    fn from(number: u16) -> RecordType {
+        match number {
+            1 => RecordType::A,
+            2 => RecordType::NS,
+            5 => RecordType::CNAME,
+            6 => RecordType::SOA,
+            10 => RecordType::NULL,
+            12 => RecordType::PTR,
+            13 => RecordType::HINFO,
+            15 => RecordType::MX,
+            16 => RecordType::TXT,
+            252 => RecordType::AXFR,
+            255 => RecordType::ANY,
+            _ => later_type(number),
+        }
+    }
+}
+
+impl From<RecordType> for u16 {
+    ghost use Rattle.std.specs.Prelude.{◌≡◌};
+    ghost use Rattle.dns_codes.specs.RecordType.{type_number};
+
+    ghost from_gives = { λ kind number. number ≡ type_number kind };
+
+    fn from(kind: RecordType) -> u16 {
+        match kind {
+            RecordType::A => 1,
+            RecordType::NS => 2,
+            RecordType::CNAME => 5,
+            RecordType::SOA => 6,
+            RecordType::NULL => 10,
+            RecordType::PTR => 12,
+            RecordType::HINFO => 13,
+            RecordType::MX => 15,
+            RecordType::TXT => 16,
+            RecordType::AXFR => 252,
+            RecordType::ANY => 255,
+            _ => later_number(kind),
+        }
+    }
+}
+
+/// The types that have a name.
+const NAMED: [RecordType; 38] = [
+    RecordType::A,
+    RecordType::NS,
+    RecordType::CNAME,
+    RecordType::SOA,
+    RecordType::NULL,
+    RecordType::PTR,
+    RecordType::HINFO,
+    RecordType::MX,
+    RecordType::TXT,
+    RecordType::SIG,
+    RecordType::KEY,
+    RecordType::AAAA,
+    RecordType::SRV,
+    RecordType::NAPTR,
+    RecordType::CERT,
+    RecordType::DNAME,
+    RecordType::OPT,
+    RecordType::DS,
+    RecordType::SSHFP,
+    RecordType::RRSIG,
+    RecordType::NSEC,
+    RecordType::DNSKEY,
+    RecordType::NSEC3,
+    RecordType::NSEC3PARAM,
+    RecordType::TLSA,
+    RecordType::SMIMEA,
+    RecordType::CDS,
+    RecordType::CDNSKEY,
+    RecordType::OPENPGPKEY,
+    RecordType::CSYNC,
+    RecordType::SVCB,
+    RecordType::HTTPS,
+    RecordType::TSIG,
+    RecordType::IXFR,
+    RecordType::AXFR,
+    RecordType::ANY,
+    RecordType::CAA,
+    RecordType::ZERO,
+];
+
+/// The one of these types that the text names, in any case.
+fn find_named(types: &[RecordType], text: &str) -> Option<RecordType>
+    ensures { result ≡ find (λ kind. str_eq_ignore_ascii_case (type_name kind) text.now) types.now }
+{
+    for kind in types {
+        if kind.name().eq_ignore_ascii_case(text) {
+            return Some(*kind);
+        }
+    }
+    None
+}
+
+impl FromStr for RecordType {
+    type Err = CodeTextError;
+
+    ghost use Rattle.std.specs.Prelude.{◌≡◌, ok_or};
+    ghost use Rattle.dns_codes.specs.CodeText.{type_of_text};
+    ghost use Rattle.dns_codes.specs.declared.code_text.CodeTextError.TheVariants.{UnknownName};
+
+    ghost from_str_gives = { λ text result. result ≡ ok_or (type_of_text text) UnknownName };
+
+    /// The type that a text names in any case, or gives as `TYPE` and its number (RFC 3597 section 5).
+    fn from_str(text: &str) -> Result<RecordType, CodeTextError> {
+        if let Some(kind) = find_named(&NAMED, text) {
+            return Ok(kind);
+        }
+        match numbered("TYPE", text) {
+            Some(number) => Ok(RecordType::from(number)),
+            None => Err(CodeTextError::UnknownName),
+        }
+    }
+}
+
+impl fmt::Display for RecordType {
+    ghost output = { λ kind. Some (type_text kind) };
+
+    /// Its name in capitals, or `TYPE` and its number where it has none (RFC 3597 section 5).
+    fn fmt<W: fmt::Write>(&self, f: &mut fmt::Formatter<W>) -> fmt::Result {
+        match self {
+            RecordType::Unknown(number) => write!(f, "TYPE{number}"),
+            _ => f.write_str(self.name()),
+        }
+    }
+}

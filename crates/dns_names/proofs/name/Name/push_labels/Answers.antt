@@ -1,0 +1,20 @@
+use Rattle.std.proofs.Common.{◌++◌, List, ℕ, drop, ap, ◌∙◌, arith, ◌+◌}
+use Rattle.dns_wire.specs.Name.{name_len}
+use Rattle.dns_names.specs.DomainName.{DomainName}
+use Rattle.dns_names.proofs.BuildingLaws.{room, moved}
+use Rattle.dns_names.proofs.name.Name.push_labels.Goals as goal
+
+pub push-requires-clause-fits : goal.push-requires-clause-fits
+push-requires-clause-fits c =
+    let whole = ap name_len c.loop-index.invariant.whole in
+    let short = c.requires in
+    room c.loop-index.self.labels c.args.other.now.labels c.loop-index.index c.label.result.now c.label.ensures.value (omega arith)
+
+pub loop-index-preserved : goal.loop-index-preserved
+loop-index-preserved c =
+    let labels = ap (λ (n : DomainName). n.labels) c.in_ok-push.ensures.ok in
+    record {
+      whole = ap (λ (ls : List (List ℕ)). ls ++ drop (c.loop-index.index + 1) c.args.other.now.labels) labels
+          ∙ moved c.loop-index.self.labels c.args.other.now.labels c.loop-index.index c.label.result.now c.label.ensures.value ∙ c.loop-index.invariant.whole;
+      same_flag = ap (λ (n : DomainName). n.is_fqdn) c.in_ok-push.ensures.ok ∙ c.loop-index.invariant.same_flag;
+    }

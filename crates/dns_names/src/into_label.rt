@@ -1,0 +1,67 @@
+//! What labels are made of.
+
+ghost use Rattle.std.specs.Prelude.{◌≡◌, ◌≢◌, ℕ, List, Result, Ok, Err, IfOk, IfErr, string_bytes};
+ghost use Rattle.dns_names.specs.Label.{label_of_bytes, label_of_text};
+ghost use Rattle.dns_names.specs.declared.error.ParseError.{ParseError};
+
+use crate::error::ParseError;
+use crate::label::Label;
+use std::alloc::Global;
+
+/// What a label can be made of: bytes as they are, or text without escapes.
+pub trait IntoLabel: Sized {
+    ghost label: { Self → Result (List ℕ) ParseError };
+
+    /// The label.
+    fn into_label(self, alloc: Global) -> Result<Label, ParseError>
+        ensures ok { IfOk result (λ made. label self ≡ Ok made) }
+        ensures refused { IfErr result (λ error. error ≢ ParseError.Memory → label self ≡ Err error) };
+}
+
+impl IntoLabel for Label {
+    ghost label = { λ own. Ok own };
+
+    fn into_label(self, _alloc: Global) -> Result<Label, ParseError> {
+        Ok(self)
+    }
+}
+
+impl<'a> IntoLabel for &'a Label {
+    ghost label = { λ own. Ok own.now };
+
+    fn into_label(self, _alloc: Global) -> Result<Label, ParseError> {
+        Ok(self.clone()?)
+    }
+}
+
+impl<'a> IntoLabel for &'a [u8] {
+    ghost label = { λ bytes. label_of_bytes bytes.now };
+
+    fn into_label(self, alloc: Global) -> Result<Label, ParseError> {
+        Label::from_raw_bytes(alloc, self)
+    }
+}
+
+impl IntoLabel for Vec<u8> {
+    ghost label = { λ bytes. label_of_bytes bytes.items };
+
+    fn into_label(self, alloc: Global) -> Result<Label, ParseError> {
+        Label::from_raw_bytes(alloc, self.as_slice())
+    }
+}
+
+impl<'a> IntoLabel for &'a str {
+    ghost label = { λ text. label_of_text text.now };
+
+    fn into_label(self, alloc: Global) -> Result<Label, ParseError> {
+        Label::from_ascii(alloc, self)
+    }
+}
+
+impl IntoLabel for String {
+    ghost label = { λ text. label_of_text (string_bytes text) };
+
+    fn into_label(self, alloc: Global) -> Result<Label, ParseError> {
+        Label::from_ascii(alloc, self.as_str())
+    }
+}

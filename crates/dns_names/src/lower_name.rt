@@ -1,0 +1,188 @@
+//! Names in lower case.
+
+ghost use Rattle.std.specs.Prelude.{◌≡◌, ◌==◌, ◌&&◌, length, IfOk};
+ghost use Rattle.std.specs.Ordering.{as_partial_cmp};
+ghost use Rattle.std.proofs.Common.{refl};
+ghost use Rattle.dns_wire.specs.Name.{AreLabels};
+ghost use Rattle.dns_names.specs.Comparison.{lower, at_or_below, same_name};
+ghost use Rattle.dns_names.specs.ComparisonEquivalence.{same_name-partial, same_name-equivalence};
+ghost use Rattle.dns_names.specs.Order.{name_cmp, name_writes};
+ghost use Rattle.dns_names.specs.OrderAgreement.{name_cmp-total, name_cmp-partial, names_agree, hashed_alike};
+ghost use Rattle.dns_names.specs.Parts.{begins_with_star, labels_counted, labels_len, base_of, wildcard_of};
+
+use crate::name::Name;
+use std::alloc::AllocError;
+use std::cmp::Ordering;
+use std::hash::{Hash, Hasher};
+use std::marker::Model;
+
+/// A name without an ASCII capital, as a key (RFC 4343).
+#[derive(Drop)]
+pub struct LowerName {
+    name: Name,
+}
+
+impl Model for LowerName {
+    ghost use Rattle.std.specs.Prelude.{◌≡◌};
+    ghost use Rattle.dns_names.specs.Comparison.{lower};
+    ghost use Rattle.dns_names.specs.DomainName.{DomainName};
+
+    ghost Value = { DomainName };
+
+    ghost view = { λ n. n.name };
+
+    ghost invariant = { λ n. lower n.name.labels ≡ n.name.labels };
+}
+
+impl LowerName {
+    /// The name with its ASCII letters in lower case.
+    pub fn new(name: &Name) -> Result<LowerName, AllocError>
+        ensures ok { IfOk result (λ made. made ≡ record name.now { labels = lower name.now.labels }) }
+        ensures labels { AreLabels name.now.labels }
+    {
+        Ok(LowerName {
+            name: name.to_lowercase()?,
+        })
+    }
+
+    /// The name as a plain one.
+    pub fn as_name(&self) -> &Name
+        ensures value { result.now ≡ self.now }
+        ensures is_lower { lower self.now.labels ≡ self.now.labels }
+    {
+        &self.name
+    }
+
+    /// Whether it is the root.
+    pub fn is_root(&self) -> bool
+        ensures { result ≡ (self.now.is_fqdn && length self.now.labels == 0) }
+    {
+        self.name.is_root()
+    }
+
+    /// Whether the name is fully qualified.
+    pub fn is_fqdn(&self) -> bool
+        ensures { result ≡ self.now.is_fqdn }
+    {
+        self.name.is_fqdn()
+    }
+
+    /// The name above, fully qualified; a name without a label is its own.
+    pub fn base_name(&self) -> Result<LowerName, AllocError>
+        ensures { IfOk result (λ name. name ≡ base_of self.now) }
+    {
+        Ok(LowerName {
+            name: self.name.base_name()?,
+        })
+    }
+
+    /// Whether the name, as an origin, is at or above another.
+    pub fn zone_of(&self, name: &LowerName) -> bool
+        ensures { result ≡ at_or_below self.now.labels name.now.labels }
+    {
+        self.name.zone_of(&name.name)
+    }
+
+    /// How many labels the name has; a leading `*` isn't counted.
+    pub fn num_labels(&self) -> u8
+        ensures { result ≡ labels_counted self.now.labels }
+    {
+        self.name.num_labels()
+    }
+
+    /// How many bytes the labels take, each with one for its length, and 1 where there is none.
+    pub fn len(&self) -> usize
+        ensures { result ≡ labels_len self.now.labels }
+    {
+        self.name.len()
+    }
+
+    /// Whether the length is 0, which it never is.
+    pub fn is_empty(&self) -> bool
+        ensures { result ≡ (labels_len self.now.labels == 0) }
+    {
+        self.name.is_empty()
+    }
+
+    /// Whether the first label is `*`.
+    pub fn is_wildcard(&self) -> bool
+        ensures { result ≡ begins_with_star self.now.labels }
+    {
+        self.name.is_wildcard()
+    }
+
+    /// The name with `*` in place of its first label.
+    pub fn into_wildcard(self) -> Result<LowerName, AllocError>
+        ensures { IfOk result (λ name. name ≡ wildcard_of self) }
+    {
+        let LowerName { name } = self;
+        Ok(LowerName {
+            name: name.into_wildcard()?,
+        })
+    }
+
+    /// A copy of the name.
+    pub fn clone(&self) -> Result<LowerName, AllocError>
+        ensures { IfOk result (λ name. name ≡ self.now) }
+    {
+        Ok(LowerName {
+            name: self.name.clone()?,
+        })
+    }
+}
+
+impl Clone for LowerName {
+    ghost is_clone = { λ name copy. copy ≡ name };
+
+    fn clone(&self) -> Result<Self, AllocError> {
+        LowerName::clone(self)
+    }
+}
+
+impl PartialEq for LowerName {
+    ghost eq = { same_name };
+
+    ghost laws = { same_name-partial };
+
+    fn eq(&self, other: &LowerName) -> bool {
+        self.name == other.name
+    }
+}
+
+impl Eq for LowerName {
+    ghost laws = { same_name-equivalence };
+}
+
+impl Ord for LowerName {
+    ghost cmp = { name_cmp };
+
+    ghost total = { name_cmp-total };
+
+    ghost matches_partial_cmp = { λ x y. refl };
+
+    ghost matches_eq = { names_agree };
+
+    fn cmp(&self, other: &LowerName) -> Ordering {
+        self.name.cmp(&other.name)
+    }
+}
+
+impl PartialOrd for LowerName {
+    ghost partial_cmp = { as_partial_cmp name_cmp };
+
+    ghost laws = { name_cmp-partial };
+
+    fn partial_cmp(&self, other: &LowerName) -> Option<Ordering> {
+        Some(self.cmp(other))
+    }
+}
+
+impl Hash for LowerName {
+    ghost hash_input = { name_writes };
+
+    ghost respects_eq = { hashed_alike };
+
+    fn hash<H: Hasher>(&self, state: &mut H) {
+        self.name.hash(state);
+    }
+}

@@ -1,0 +1,75 @@
+//! Writing names in another way for a while.
+
+ghost use Rattle.std.specs.Prelude.{◌≡◌};
+ghost use Rattle.dns_wire.specs.Encoder.{written, lender};
+ghost use Rattle.dns_wire.specs.RDataEncoding.{rdata_mode};
+
+use crate::encoder::BinEncoder;
+use crate::name_encoding::{NameEncoding, RDataEncoding};
+
+/// An encoder that writes names in another way, until this is dropped.
+pub struct ModalEncoder<'a, 'e> {
+    previous: NameEncoding,
+    encoder: &'e mut BinEncoder<'a>,
+}
+
+impl<'a, 'e> ModalEncoder<'a, 'e> {
+    /// The encoder, in its mode.
+    pub fn encoder_mut(&mut self) -> &mut BinEncoder<'a>
+        ensures value { written result.now ≡ written self.old.encoder.now }
+        ensures lender { lender result.now ≡ lender self.old.encoder.now }
+    {
+        self.encoder
+    }
+}
+
+impl Drop for ModalEncoder<'_, '_> {
+    /// Restores the former way.
+    fn drop(self)
+        ensures restores { written self.exit.1.0.now ≡ record (written self.entry.encoder.now) { encoding = self.entry.previous } }
+        ensures lender { lender self.exit.1.0.now ≡ lender self.entry.encoder.now }
+    {
+        let ModalEncoder { previous, encoder } = self;
+        encoder.set_name_encoding(previous);
+    }
+}
+
+impl<'a> BinEncoder<'a> {
+    /// Writes names in this way, until what is returned is dropped.
+    pub fn with_name_encoding<'e>(&'e mut self, name_encoding: NameEncoding) -> ModalEncoder<'a, 'e>
+        ensures value { written result.encoder.now ≡ record (written self.old) { encoding = name_encoding } }
+        ensures previous { result.previous ≡ (written self.old).encoding }
+        ensures lender { lender result.encoder.now ≡ lender self.old }
+        ensures borrow { result.encoder.ghost_name ≡ self.entry.ghost_name }
+    {
+        let previous = self.name_encoding();
+        self.set_name_encoding(name_encoding);
+        ModalEncoder {
+            previous,
+            encoder: self,
+        }
+    }
+
+    /// Writes names as record data asks, until what is returned is dropped.
+    pub fn with_rdata_behavior<'e>(
+        &'e mut self,
+        rdata_encoding: RDataEncoding,
+    ) -> ModalEncoder<'a, 'e>
+        ensures value { written result.encoder.now ≡ record (written self.old) {
+          encoding = rdata_mode rdata_encoding (written self.old).canonical (written self.old).encoding;
+        } }
+        ensures previous { result.previous ≡ (written self.old).encoding }
+        ensures lender { lender result.encoder.now ≡ lender self.old }
+        ensures borrow { result.encoder.ghost_name ≡ self.entry.ghost_name }
+    {
+        let name_encoding = match (rdata_encoding, self.is_canonical_form()) {
+            (RDataEncoding::StandardRecord, false) => self.name_encoding(),
+            (RDataEncoding::StandardRecord | RDataEncoding::Canonical, true) => {
+                NameEncoding::UncompressedLowercase
+            }
+            (RDataEncoding::Canonical, false) | (RDataEncoding::Other, _) =>
+                NameEncoding::Uncompressed,
+        };
+        self.with_name_encoding(name_encoding)
+    }
+}
