@@ -4,6 +4,7 @@ use Rattle.std.specs.Int.{w16, to_be_bytes}
 use Rattle.std.specs.List.{AllByRecursion}
 use Rattle.dns_wire.specs.declared.name_encoding.NameEncoding.{NameEncoding}
 use Rattle.dns_wire.specs.declared.name_encoding.NameEncoding.TheVariants.{Uncompressed}
+use Rattle.dns_wire.specs.Writing.{compresses}
 use Rattle.dns_wire.specs.Pieces.{Piece, Plain, Sofar, form, after, Shows, AreAt, AreWritable}
 use Rattle.dns_wire.proofs.PieceLaws.{after-place, after-encoding, after-append, form-append, pieces_again, are_at-append}
 use Rattle.dns_zone.specs.declared.header.MessageType.TheVariants as kinds
@@ -122,7 +123,7 @@ all-append P (x ∷ xs) ys a b = (a.0, all-append P xs ys a.1 b)
 
 -- pieces behind the bytes are read again where names are written whole
 whole_again : (bytes : List ℕ) (s : Sofar) (ps : List Piece) → s.encoding ≡ Uncompressed → s.place ≡ length bytes → AreWritable ps → AreAt Uncompressed (bytes ++ form s ps) s.place ps (after s ps).place
-whole_again bytes s ps e end is = subst (λ (encoding : NameEncoding). AreAt encoding (bytes ++ form s ps) s.place ps (after s ps).place) e (pieces_again bytes s ps end is)
+whole_again bytes s ps e end is = subst (λ (encoding : NameEncoding). AreAt encoding (bytes ++ form s ps) s.place ps (after s ps).place) e (pieces_again bytes s ps (ap compresses e) end is)
 
 queries_again : (bytes : List ℕ) (s : Sofar) (qs : List Query) → s.encoding ≡ Uncompressed → s.place ≡ length bytes → AreWritable (queries_pieces qs) → AllByRecursion IsSoundQuery qs
     → Follow (ReadsQuestion (bytes ++ form s (queries_pieces qs))) s.place qs (after s (queries_pieces qs)).place

@@ -3,10 +3,10 @@ use Rattle.std.proofs.Common.{◌≡◌, ℕ, ◌+◌, ◌≤◌, List, [], ◌�
 use Rattle.dns_wire.specs.declared.error.EncodeError.{EncodeError}
 use Rattle.dns_wire.specs.Encoder.{Written, IsAtEnd}
 use Rattle.std.specs.Int.{w16, w32, to_be_bytes}
-use Rattle.dns_wire.specs.RecordType.{type_number}
-use Rattle.dns_wire.specs.DNSClass.{class_number}
-use Rattle.dns_wire.specs.Pieces.{Piece, Plain, Domain, Sofar, sofar, form, after, reach, spelled, labels_form, whole_form, Emits, AreWritable}
-use Rattle.dns_wire.proofs.PieceLaws.{after-append, after-place, form-append, reach-some}
+use Rattle.dns_codes.specs.RecordType.{type_number}
+use Rattle.dns_codes.specs.DNSClass.{class_number}
+use Rattle.dns_wire.specs.Pieces.{Piece, Plain, Domain, Sofar, sofar, name_form, piece_next, form, after, reach, Emits, AreWritable}
+use Rattle.dns_wire.proofs.PieceLaws.{after-append, after-place, form-append, name_form-some, reach-some}
 use Rattle.dns_zone.specs.declared.query.Query.{Query}
 use Rattle.dns_zone.specs.Question.{question_pieces}
 use Rattle.dns_zone.specs.Data.{data_type, data_pieces}
@@ -96,15 +96,12 @@ module _ (old : Written) (m : Message) (at_end : IsAtEnd old) (fresh : sofar old
 pub length-form : (m : Message) → reach beginning (message_pieces m) ≡ length (message_form m)
 length-form m =
     let more : List Piece = queries_pieces m.queries ++ records_pieces (after beginning (front_pieces m)) (m.answers ++ (m.authorities ++ m.additionals)) in
-    omega (arith, reach-some beginning (Plain (header_bytes m)) more, after-place beginning (Plain (header_bytes m) ∷ more))
+    omega (arith, reach-some beginning (Plain (header_bytes m)) more refl, after-place beginning (Plain (header_bytes m) ∷ more))
 
 -- each item takes a byte at least
 
 some-form : (s : Sofar) (labels : List (List ℕ)) (ps : List Piece) → 1 ≤ length (form s (Domain labels ∷ ps))
-some-form s labels ps =
-    let names : List (List ℕ) = spelled s.encoding labels in
-    let more : List ℕ = form (record s { place = s.place + length (whole_form names) }) ps in
-    omega (arith, length-append (whole_form names) more, length-append (labels_form names) (0 ∷ []))
+some-form s labels ps = omega (arith, name_form-some s labels, length-append (name_form s labels) (form (piece_next s (Domain labels)) ps))
 
 abbrev tail_pieces_of : Query → List Piece
 tail_pieces_of q = Plain (to_be_bytes w16 (type_number q.query_type)) ∷ Plain (to_be_bytes w16 (class_number q.query_class)) ∷ []

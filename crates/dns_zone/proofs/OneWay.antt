@@ -5,11 +5,11 @@ use Rattle.std.specs.declared.net.ipv4_addr.Ipv4Addr.{Ipv4Addr}
 use Rattle.std.specs.Int.{w16, w32, to_be_bytes, from_be_bytes}
 use Rattle.std.proofs.lemmas.Nat.{from_be_bytes-to_be_bytes_2, from_be_bytes-to_be_bytes_4}
 use Rattle.std.proofs.lemmas.List.{take_at}
-use Rattle.dns_wire.specs.declared.record_type.RecordType.{RecordType}
-use Rattle.dns_wire.specs.declared.record_type.RecordType.TheVariants as types
-use Rattle.dns_wire.specs.declared.dns_class.DNSClass.{DNSClass}
-use Rattle.dns_wire.specs.RecordType.{type_number, type_of}
-use Rattle.dns_wire.specs.DNSClass.{class_number, class_of}
+use Rattle.dns_codes.specs.declared.record_type.RecordType.{RecordType}
+use Rattle.dns_codes.specs.declared.record_type.RecordType.TheVariants as types
+use Rattle.dns_codes.specs.declared.dns_class.DNSClass.{DNSClass}
+use Rattle.dns_codes.specs.RecordType.{type_number, type_of}
+use Rattle.dns_codes.specs.DNSClass.{class_number, class_of}
 use Rattle.dns_names.specs.DomainName.{DomainName}
 use Rattle.dns_zone.specs.declared.rdata.A.{A}
 use Rattle.dns_zone.specs.declared.rdata.SOA.{SOA}
@@ -27,7 +27,7 @@ use Rattle.dns_zone.specs.Header.{metadata_of}
 use Rattle.dns_zone.specs.Grammar.{Follow, ReadsQuestion, ReadsHead, ReadsData, ReadsRecord, ReadsMessage}
 use Rattle.dns_wire.specs.Decoder.{Decoder, rest}
 use Rattle.dns_wire.specs.Reading.{Reads, at_closing, at_label, at_pointer}
-use Rattle.dns_wire.specs.Pieces.{Piece, Plain, Domain, Shows, AreAt}
+use Rattle.dns_wire.specs.Pieces.{Piece, Plain, Domain, Whole, Shows, AreAt}
 use Rattle.dns_wire.specs.declared.name_encoding.NameEncoding.TheVariants.{Uncompressed}
 use Rattle.dns_wire.proofs.ReadingLaws.{reads_same}
 
@@ -100,6 +100,9 @@ pieces_same buffer place end end' (Plain x ∷ ps) [] like a b = absurd like
 pieces_same buffer place end end' (Domain x ∷ ps) [] like a b = absurd like
 pieces_same buffer place end end' (Plain x ∷ ps) (Domain y ∷ qs) like a b = absurd like
 pieces_same buffer place end end' (Domain x ∷ ps) (Plain y ∷ qs) like a b = absurd like
+pieces_same buffer place end end' (Plain x ∷ ps) (Whole y ∷ qs) like a b = absurd like
+pieces_same buffer place end end' (Domain x ∷ ps) (Whole y ∷ qs) like a b = absurd like
+pieces_same buffer place end end' (Whole x ∷ ps) qs like a b = absurd like
 
 -- ---- on to the end
 
@@ -112,6 +115,7 @@ pub are_at-on : (buffer : List ℕ) (place end : ℕ) (ps : List Piece) → AreA
 are_at-on buffer place end [] h = omega arith
 are_at-on buffer place end (Plain x ∷ ps) h = omega (arith, h.1.ends, are_at-on buffer h.0 end ps h.2)
 are_at-on buffer place end (Domain x ∷ ps) h = omega (arith, reads-on h.1, are_at-on buffer h.0 end ps h.2)
+are_at-on buffer place end (Whole x ∷ ps) h = omega (arith, reads-on h.1, are_at-on buffer h.0 end ps h.2)
 
 -- ---- names, questions
 

@@ -18,8 +18,8 @@ use Rattle.dns_zone.specs.Data.{data_type, same_data}
 use Rattle.dns_zone.proofs.ListLaws.{All-push, All-set, All-at}
 use Rattle.std.specs.FinMap.{IsAntisymmetric, slice_cmp-IsAntisymmetric, nat_cmp-IsAntisymmetric}
 use Rattle.std.specs.FinMap.Entries.{find, put, by_order}
-use Rattle.dns_wire.specs.RecordType.{type_number}
-use Rattle.dns_wire.specs.declared.record_type.RecordType.{RecordType}
+use Rattle.dns_codes.specs.RecordType.{type_number}
+use Rattle.dns_codes.specs.declared.record_type.RecordType.{RecordType}
 use Rattle.dns_names.specs.Comparison.{lower, same_labels, at_or_below}
 use Rattle.dns_zone.specs.declared.rows.Row.{Row}
 use Rattle.dns_zone.specs.declared.rows.RecordSet.{RecordSet}

@@ -5,10 +5,11 @@ use Rattle.std.specs.List.{AllByRecursion}
 use borrow.Author.Tests.{eqb-true, eqb-false}
 use Rattle.std.proofs.Common.{leb-true}
 use Rattle.dns_wire.specs.Name.{name_len}
-use Rattle.dns_wire.specs.Pieces.{Piece, Sofar, form, after, piece_form, piece_next, labels_form, whole_form, spelled}
-use Rattle.std.specs.Int.{w16, to_be_bytes}
-use Rattle.dns_wire.specs.RecordType.{type_number}
-use Rattle.dns_wire.specs.DNSClass.{class_number}
+use Rattle.dns_wire.specs.Pieces.{Piece, Plain, Domain, Sofar, name_form, form, after, piece_form, piece_next, labels_form, whole_form}
+use Rattle.dns_wire.proofs.PieceLaws.{name_form-some}
+use Rattle.std.specs.Int.{w16, w32, to_be_bytes}
+use Rattle.dns_codes.specs.RecordType.{type_number}
+use Rattle.dns_codes.specs.DNSClass.{class_number}
 use Rattle.dns_wire.specs.declared.error.DecodeError.{DecodeError}
 use Rattle.dns_wire.specs.declared.error.DecodeError.TheVariants as faults
 use Rattle.dns_zone.specs.declared.query.Query.{Query}
@@ -22,7 +23,8 @@ use Rattle.dns_zone.specs.declared.road.Road.TheVariants as roads
 use Rattle.dns_zone.specs.Header.{op_number, op_of}
 use Rattle.std.proofs.Common.{append_assoc, Some}
 use Rattle.dns_zone.specs.Rows.{ZoneContent}
-use Rattle.dns_zone.specs.Record.{record_pieces}
+use Rattle.dns_zone.specs.Data.{data_type, data_pieces}
+use Rattle.dns_zone.specs.Record.{data_len, record_pieces}
 use Rattle.dns_zone.specs.Message.{beginning, records_pieces, front_pieces, message_form, cut, cut_off}
 use Rattle.dns_zone.specs.Sound.{IsSound, IsSoundQuery, IsSoundMetadata}
 use Rattle.dns_zone.specs.Grammar.{ReadsMessage, ReadsQuestion, Follow}
@@ -62,11 +64,8 @@ name_long : (labels : List (List ℕ)) → length (whole_form labels) ≡ name_l
 name_long [] = refl
 name_long (label ∷ labels) = omega (arith, name_long labels, length-append label (labels_form labels), length-append (labels_form labels) (0 ∷ []), ap length (append_assoc label (labels_form labels) (0 ∷ [])), length-append label (labels_form labels ++ 0 ∷ []))
 
-behind_name : (xs rest : List ℕ) → 0 < length ((xs ++ 0 ∷ []) ++ rest)
-behind_name xs rest = omega (arith, length-append (xs ++ 0 ∷ []) rest, length-append xs (0 ∷ []))
-
 record_long : (s : Sofar) (r : Record) → 0 < length (form s (record_pieces s r))
-record_long s r = behind_name (labels_form (spelled s.encoding r.name.labels)) _
+record_long s r = omega (arith, name_form-some s r.name.labels, length-append (name_form s r.name.labels) (form (piece_next s (Domain r.name.labels)) (Plain (to_be_bytes w16 (type_number (data_type r.rdata))) ∷ Plain (to_be_bytes w16 (class_number r.dns_class)) ∷ Plain (to_be_bytes w32 r.ttl) ∷ Plain (to_be_bytes w16 (data_len s r)) ∷ data_pieces r.rdata)))
 
 records_long : (s : Sofar) (rs : List Record) → length rs ≤ length (form s (records_pieces s rs))
 records_long s [] = omega arith

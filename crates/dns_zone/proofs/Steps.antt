@@ -1,9 +1,11 @@
 -- Writing step by step.
-use Rattle.std.proofs.Common.{◌≡◌, ℕ, ◌+◌, List, [], ◌∷◌, ◌++◌, drop, get_or, Result, Ok, Err, sym, ap, subst, ◌∙◌, append_assoc, arith, length-append}
+use Rattle.std.proofs.Common.{◌≡◌, ℕ, ◌+◌, Bool, true, false, cond, ltb, length, refl, List, [], ◌∷◌, ◌++◌, drop, get_or, Result, Ok, Err, sym, ap, subst, ◌∙◌, append_assoc, arith, length-append}
+use Rattle.std.specs.Prelude.{IfErr}
 use Rattle.dns_wire.specs.declared.error.EncodeError.{EncodeError}
+use Rattle.dns_wire.specs.declared.error.EncodeError.TheVariants.{MaxBufferSizeExceeded}
 use Rattle.dns_wire.specs.Encoder.{Written, IsAtEnd}
 use Rattle.dns_wire.specs.declared.name_encoding.NameEncoding.{NameEncoding}
-use Rattle.dns_wire.specs.Pieces.{Piece, Plain, Sofar, sofar, form, after, reach, appended, Emits, AreWritable}
+use Rattle.dns_wire.specs.Pieces.{Piece, Plain, Sofar, sofar, form, after, reach, tried, appended, Emits, AreWritable}
 use Rattle.dns_wire.proofs.PieceLaws.{emits_then, emits_stop, emits_none, appended-end, after-encoding, writable-append}
 
 pub emits_end : (old new : Written) (ps : List Piece) → IsAtEnd old → Emits old ps (Ok tt) new → IsAtEnd new
@@ -18,6 +20,17 @@ then_emits old mid new ps qs r end a b = emits_then old mid new ps qs r end a (b
 one_piece : (s : Sofar) (a b : List ℕ) → (form s (Plain a ∷ Plain b ∷ []) ≡ form s (Plain (a ++ b) ∷ [])) × (after s (Plain a ∷ Plain b ∷ []) ≡ after s (Plain (a ++ b) ∷ [])) × (reach s (Plain a ∷ Plain b ∷ []) ≡ reach s (Plain (a ++ b) ∷ []))
 one_piece s a b = (sym (append_assoc a b []), ap (λ (n : ℕ). record s { place = n }) (omega (arith, length-append a b)), omega (arith, length-append a b))
 
+plain_tries : (limit : ℕ) (s : Sofar) (a b : List ℕ) → tried limit s (Plain a ∷ Plain b ∷ []) ≡ tried limit s (Plain (a ++ b) ∷ [])
+plain_tries limit s a b = at (ltb limit (s.place + length a)) (ltb limit (s.place + length a + length b)) (ltb limit (s.place + length (a ++ b)))
+  where
+    at : (x y z : Bool) → cond x s.attempts (cond y s.attempts s.attempts) ≡ cond z s.attempts s.attempts
+    at true y true = refl
+    at true y false = refl
+    at false true true = refl
+    at false true false = refl
+    at false false true = refl
+    at false false false = refl
+
 pub join_bytes : (old new : Written) (a b : List ℕ) (r : Result (Unit {0}) EncodeError) → Emits old (Plain a ∷ Plain b ∷ []) r new → Emits old (Plain (a ++ b) ∷ []) r new
 join_bytes old new a b (Ok u) e =
     let s : Sofar = sofar old in
@@ -26,12 +39,14 @@ join_bytes old new a b (Ok u) e =
       ok = e.ok ∙ ap (λ (xs : List ℕ). record (appended old (Plain a ∷ Plain b ∷ [])) { bytes = old.bytes ++ xs }) one.0 ∙ ap (λ (t : Sofar). record (appended old (Plain (a ++ b) ∷ [])) { offset = t.place; suffixes = t.suffixes; attempts = t.attempts }) one.1;
       room = omega (arith, e.room, one.2);
       full = λ is. absurd (cc);
+      tries = λ is. absurd (cc);
       back = tt;
     }
 join_bytes old new a b (Err error) e = record {
   ok = tt;
   room = tt;
   full = λ is. omega (arith, e.full is, (one_piece (sofar old) a b).2);
+  tries = λ is. e.tries is ∙ plain_tries old.limit (sofar old) a b;
   back = e.back;
 }
 
@@ -73,3 +88,8 @@ sofar-behind old new ps e = ap sofar e.ok ∙ ap (λ (encoding : NameEncoding). 
 -- the next item of a list, in front of the others
 pub front : {A : Type 0} (xs : List A) (i : ℕ) (x : A) → x ≡ get_or xs i x → drop i xs ≡ get_or xs i x ∷ drop (i + 1) xs → drop i xs ≡ x ∷ drop (i + 1) xs
 front xs i x is e = e ∙ ap (λ y. y ∷ drop (i + 1) xs) (sym is)
+
+-- what can be refused for size alone, and isn't, is done
+pub never_refused : (P : Type 0) (r : Result (Unit {0}) EncodeError) → IfErr r (λ error. (error ≡ MaxBufferSizeExceeded) × P) → (r ≡ Err MaxBufferSizeExceeded → ⊥) → r ≡ Ok tt
+never_refused P (Ok u) e never = refl
+never_refused P (Err error) e never = absurd (never (ap (λ (x : EncodeError). Err x) e.0))

@@ -1,9 +1,9 @@
 -- The answer of a zone to a question (RFC 1034 section 4.3.2, RFC 2308 sections 2 and 3).
 use Rattle.std.specs.Prelude.{◌≡◌, ◌<◌, ◌==◌, ◌&&◌, ◌||◌, nat_le, not, map, min, if◌then◌else◌, Bool, List, [], ◌∷◌, ℕ}
-use Rattle.dns_wire.specs.RecordType.{type_number}
-use Rattle.dns_wire.specs.DNSClass.{class_number}
-use Rattle.dns_wire.specs.declared.dns_class.DNSClass.TheVariants.{IN}
-use Rattle.dns_wire.specs.declared.record_type.RecordType.TheVariants as types
+use Rattle.dns_codes.specs.RecordType.{type_number}
+use Rattle.dns_codes.specs.DNSClass.{class_number}
+use Rattle.dns_codes.specs.declared.dns_class.DNSClass.TheVariants.{IN}
+use Rattle.dns_codes.specs.declared.record_type.RecordType.TheVariants as types
 use Rattle.dns_names.specs.DomainName.{DomainName}
 use Rattle.dns_names.specs.Comparison.{at_or_below}
 use Rattle.dns_zone.specs.declared.header.ResponseCode.{ResponseCode}

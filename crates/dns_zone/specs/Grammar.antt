@@ -1,8 +1,8 @@
 -- Which message bytes spell (RFC 1035 section 4.1). Bytes behind the last record are free.
 use Rattle.std.specs.Prelude.{◌≡◌, ◌+◌, ◌^◌, ◌<◌, ◌++◌, true, List, [], ◌∷◌, ℕ, length}
 use Rattle.std.specs.Int.{w16, w32, to_be_bytes}
-use Rattle.dns_wire.specs.RecordType.{type_number, type_of}
-use Rattle.dns_wire.specs.DNSClass.{class_number, class_of}
+use Rattle.dns_codes.specs.RecordType.{type_number, type_of}
+use Rattle.dns_codes.specs.DNSClass.{class_number, class_of}
 use Rattle.dns_wire.specs.Pieces.{Plain, Domain, Shows, AreAt}
 use Rattle.dns_wire.specs.declared.name_encoding.NameEncoding.TheVariants.{Uncompressed}
 use Rattle.dns_zone.specs.declared.header.Metadata.{Metadata}

@@ -1,4 +1,5 @@
 pub mod Data
+pub mod Printed
 pub mod Question
 pub mod Record
 pub mod Header

@@ -2,8 +2,8 @@
 use Rattle.std.specs.Prelude.{◌++◌, List, [], ◌∷◌, ℕ, length}
 use Rattle.std.specs.Int.{w16, w32, to_be_bytes}
 use Rattle.dns_wire.specs.Pieces.{Piece, Plain, Domain, Sofar, form, after}
-use Rattle.dns_wire.specs.RecordType.{type_number}
-use Rattle.dns_wire.specs.DNSClass.{class_number}
+use Rattle.dns_codes.specs.RecordType.{type_number}
+use Rattle.dns_codes.specs.DNSClass.{class_number}
 use Rattle.dns_zone.specs.declared.record.Record.{Record}
 use Rattle.dns_zone.specs.Data.{data_type, data_pieces}
 

@@ -5,11 +5,11 @@ use Rattle.std.specs.declared.cmp.Ordering.{Ordering}
 use Rattle.std.specs.Ordering.{nat_cmp, ordering_then}
 use Rattle.std.specs.Cmp.Lexicographic.{slice_cmp}
 use Rattle.std.specs.FinMap as rows_map
-use Rattle.dns_wire.specs.SerialNumber.{serial_order}
-use Rattle.dns_wire.specs.declared.serial_number.SerialOrder.TheVariants.{Greater}
-use Rattle.dns_wire.specs.declared.serial_number.SerialOrder.{SerialOrder}
-use Rattle.dns_wire.specs.declared.record_type.RecordType.{RecordType}
-use Rattle.dns_wire.specs.RecordType.{type_number}
+use Rattle.dns_codes.specs.SerialNumber.{serial_order}
+use Rattle.dns_codes.specs.declared.serial_number.SerialOrder.TheVariants.{Greater}
+use Rattle.dns_codes.specs.declared.serial_number.SerialOrder.{SerialOrder}
+use Rattle.dns_codes.specs.declared.record_type.RecordType.{RecordType}
+use Rattle.dns_codes.specs.RecordType.{type_number}
 use Rattle.dns_names.specs.DomainName.{DomainName}
 use Rattle.dns_names.specs.Comparison.{lower, at_or_below}
 use Rattle.dns_zone.specs.declared.rdata.RData.{RData}

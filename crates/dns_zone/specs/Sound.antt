@@ -3,8 +3,8 @@
 use Rattle.std.specs.Prelude.{◌≡◌, ◌^◌, ◌<◌, true, length}
 use Rattle.std.specs.List.{AllByRecursion}
 use Rattle.std.specs.Net.Addr.{ipv4_octets}
-use Rattle.dns_wire.specs.RecordType.{type_number, type_of}
-use Rattle.dns_wire.specs.DNSClass.{class_number, class_of}
+use Rattle.dns_codes.specs.RecordType.{type_number, type_of}
+use Rattle.dns_codes.specs.DNSClass.{class_number, class_of}
 use Rattle.dns_zone.specs.declared.rdata.SOA.{SOA}
 use Rattle.dns_zone.specs.declared.rdata.RData.{RData}
 use Rattle.dns_zone.specs.declared.rdata.RData.TheVariants as of

@@ -1,7 +1,7 @@
 //! The answer of a zone to a question (RFC 1034 section 4.3.2, RFC 2308 sections 2 and 3).
 
 ghost use Rattle.std.specs.Prelude.{◌≡◌, true, map, IfOk};
-ghost use Rattle.dns_wire.specs.RecordType.{type_number};
+ghost use Rattle.dns_codes.specs.RecordType.{type_number};
 ghost use Rattle.dns_zone.specs.Rows.{rows_of_sets, AreSoundRows, AreSoundSets};
 ghost use Rattle.dns_zone.specs.Answer.{answer, authority, authority_row, found, is_no_row_type, negative, negative_ttl, record_of, refusal, AreSoundRecords, IsSoundAnswer};
 

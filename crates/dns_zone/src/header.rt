@@ -1,7 +1,8 @@
 //! The header of a message (RFC 1035 section 4.1.1).
 
-ghost use Rattle.std.specs.Prelude.{◌≡◌, ◌<◌};
+ghost use Rattle.std.specs.Prelude.{◌≡◌, ◌<◌, Some};
 ghost use Rattle.dns_zone.specs.Header.{has_bit};
+ghost use Rattle.dns_zone.specs.Printed.{code_text};
 
 use std::fmt;
 
@@ -204,6 +205,8 @@ fn is_set(weight: u8, byte: u8) -> bool
 }
 
 impl fmt::Display for ResponseCode {
+    ghost output = { λ code. Some (code_text code) };
+
     /// Its name, or `CODE` and its number where it has none.
     fn fmt<W: fmt::Write>(&self, f: &mut fmt::Formatter<W>) -> fmt::Result {
         let name = match self {

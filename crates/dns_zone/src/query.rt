@@ -1,8 +1,8 @@
 //! Questions (RFC 1035 section 4.1.2).
 
 ghost use Rattle.std.specs.Prelude.{◌≡◌, ◌<◌, ◌^◌, ◌↔◌, ℕ, MatchResult, IfOk, IsTrue};
-ghost use Rattle.dns_wire.specs.RecordType.{type_of, type_number};
-ghost use Rattle.dns_wire.specs.DNSClass.{class_of, class_number};
+ghost use Rattle.dns_codes.specs.RecordType.{type_of, type_number};
+ghost use Rattle.dns_codes.specs.DNSClass.{class_of, class_number};
 
 use crate::numbers::read_u16;
 use dns_names::Name;
@@ -21,7 +21,7 @@ pub struct Query {
 }
 
 impl Query {
-    ghost use Rattle.dns_wire.specs.declared.dns_class.DNSClass.TheVariants.{IN};
+    ghost use Rattle.dns_codes.specs.declared.dns_class.DNSClass.TheVariants.{IN};
     ghost use Rattle.dns_zone.specs.Question.{same_question};
     ghost use Rattle.dns_zone.specs.Sound.{IsSoundQuery};
     ghost use Rattle.dns_zone.specs.declared.query.Query.{Query};

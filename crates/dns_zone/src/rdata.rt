@@ -1,9 +1,10 @@
 //! Record data (RFC 1035 section 3.3).
 
-ghost use Rattle.std.specs.Prelude.{◌≡◌, ◌≤◌, ℕ, List, [], ◌∷◌, length, MatchResult, IfOk, IsOk};
+ghost use Rattle.std.specs.Prelude.{◌≡◌, ◌≤◌, ℕ, List, [], ◌∷◌, length, MatchResult, IfOk, IsOk, Some};
 ghost use Rattle.dns_wire.specs.Encoder.{written, lender, IsAtEnd};
 ghost use Rattle.dns_wire.specs.Pieces.{Plain, Sofar, Emits, AreWritable, Shows, form};
 ghost use Rattle.dns_zone.specs.Grammar.{ReadsData};
+ghost use Rattle.dns_zone.specs.Printed.{soa_text, data_text};
 
 use crate::numbers::read_u32;
 use dns_names::Name;
@@ -89,16 +90,6 @@ impl RData {
             RecordType::A => Ok(RData::A(A::read(decoder)?)),
             RecordType::SOA => Ok(RData::SOA(SOA::read(alloc, decoder)?)),
             _ => Err(DecodeError::UnsupportedRecordType),
-        }
-    }
-
-    /// How many bytes it takes.
-    pub(crate) fn encoded_len(&self) -> u16
-        ensures { (s : Sofar) → result ≡ length (form s (data_pieces self.now)) }
-    {
-        match self {
-            RData::A(a) => a.0.octets().len() as u16,
-            RData::SOA(soa) => (soa.mname.encoded_len() + soa.rname.encoded_len() + 20) as u16,
         }
     }
 }
@@ -242,6 +233,8 @@ impl BinEncodable for SOA {
 }
 
 impl fmt::Display for RData {
+    ghost output = { λ rdata. Some (data_text rdata) };
+
     /// As a zone's text has it (RFC 1035 section 5.1).
     fn fmt<W: fmt::Write>(&self, f: &mut fmt::Formatter<W>) -> fmt::Result {
         match self {
@@ -252,6 +245,8 @@ impl fmt::Display for RData {
 }
 
 impl fmt::Display for SOA {
+    ghost output = { λ soa. Some (soa_text soa) };
+
     /// As a zone's text has it: two names, and five numbers.
     fn fmt<W: fmt::Write>(&self, f: &mut fmt::Formatter<W>) -> fmt::Result {
         let (mname, rname) = (&self.mname, &self.rname);

@@ -8,7 +8,7 @@ use crate::numbers::{read_u16, read_u32};
 use crate::rdata::RData;
 use dns_names::Name;
 use dns_wire::{
-    BinDecoder, BinEncodable, BinEncoder, DNSClass, DecodeError, EncodeError, RecordType,
+    BinDecoder, BinEncodable, BinEncoder, DNSClass, DecodeError, EncodeError, Place, RecordType,
     every_class_number_comes_back, every_type_number_comes_back,
 };
 use std::alloc::{AllocError, Global};
@@ -121,7 +121,9 @@ impl BinEncodable for Record {
 
     fn emit(&self, encoder: &mut BinEncoder<'_>) -> Result<(), EncodeError> {
         self.emit_head(encoder)?;
-        encoder.emit_u16(self.rdata.encoded_len())?;
-        self.rdata.emit(encoder)
+        let place: Place<u16> = encoder.place()?;
+        self.rdata.emit(encoder)?;
+        let len = encoder.len_since_place(&place);
+        place.replace(encoder, len as u16)
     }
 }

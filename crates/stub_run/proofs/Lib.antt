@@ -1,6 +1,7 @@
 pub mod Asking
 pub mod OrderLaws
 pub mod PlayLaws
+pub mod ReportLaws
 pub mod Replies
 pub mod Requests
 pub mod Running

@@ -1,5 +1,7 @@
 -- What lines and events side by side are, and what the exits of a whole run say.
-use Rattle.std.proofs.Common.{◌≡◌, ◌≢◌, ◌↔◌, ℕ, List, [], ◌∷◌, length, slice_get, Option, Some, IfSome, Result, Ok, Err, OnOk, IfErr, refl, sym, ap, ◌∙◌, inl, inr, arith}
+use Rattle.std.proofs.Common.{◌≡◌, ◌≢◌, ◌↔◌, ◌≤◌, ℕ, List, [], ◌∷◌, ◌++◌, suc, zero, length, take, slice_get, Option, Some, IfSome, Result, Ok, Err, OnOk, IfErr, refl, sym, subst, ap, ◌∙◌, inl, inr, arith}
+use Rattle.std.proofs.lemmas.List.{length-take-le}
+use Rattle.std.proofs.Math.Seq.{take-nil}
 use Rattle.dns_zone.specs.Rows.{ZoneContent}
 use Rattle.dns_zone.specs.ZoneText.{zone_of_text}
 use Rattle.stub_run.specs.declared.event.Event.{Event}
@@ -8,11 +10,17 @@ use Rattle.stub_run.specs.declared.script.ScriptFault.TheVariants.{Line, Memory}
 use Rattle.stub_run.specs.declared.world.Report.{Report}
 use Rattle.stub_run.specs.declared.world.Stopped.{Stopped}
 use Rattle.stub_run.specs.declared.world.Stopped.TheVariants.{Moments}
+use Rattle.stub_run.specs.declared.world.Stopped.TheVariants as stops
 use Rattle.stub_run.specs.declared.playing.PlayFault.{PlayFault}
 use Rattle.stub_run.specs.declared.playing.PlayFault.TheVariants.{Write}
-use Rattle.stub_run.specs.Run.{InOrder}
+use Rattle.dns_zone.specs.declared.query.Query.{Query}
+use Rattle.std.specs.Io.KnownBytes.{Appends}
+use Rattle.stub_run.specs.declared.world.EventReport.{EventReport}
+use Rattle.stub_run.specs.World.{WorldContent}
+use Rattle.stub_run.specs.Run.{InOrder, Runs, memory_report}
+use Rattle.stub_run.specs.ReportText.{event_text, reply_text, report_text}
 use Rattle.stub_run.specs.ScriptText.{script_of_text, side_by_side}
-use Rattle.stub_run.specs.Playing.{events_of, lines_of, IsFirstOutOfOrder, IsLineOutOfOrder, IsZone, IsScript, IsAtFault, Faults}
+use Rattle.stub_run.specs.Playing.{events_of, lines_of, IsFirstOutOfOrder, IsLineOutOfOrder, IsZone, IsScript, IsAtFault, Faults, IsWorldOver, Tells, TellsAll, TellsFirst}
 use Rattle.stub_run.proofs.OrderLaws.{in_order_if_not_out}
 
 pub events_beside : (numbers : List ℕ) (events : List Event) → length numbers ≡ length events → events_of (side_by_side numbers events) ≡ events
@@ -20,6 +28,12 @@ events_beside [] [] h = refl
 events_beside [] (e ∷ events) h = absurd (omega arith)
 events_beside (n ∷ numbers) [] h = absurd (omega arith)
 events_beside (n ∷ numbers) (e ∷ events) h = let same : length numbers ≡ length events = omega arith in ap (λ (x : List Event). e ∷ x) (events_beside numbers events same)
+
+sides_len : (numbers : List ℕ) (events : List Event) → length numbers ≡ length events → length (side_by_side numbers events) ≡ length events
+sides_len [] [] h = refl
+sides_len [] (e ∷ events) h = absurd (omega arith)
+sides_len (n ∷ numbers) [] h = absurd (omega arith)
+sides_len (n ∷ numbers) (e ∷ events) h = let same : length numbers ≡ length events = omega arith in ap suc (sides_len numbers events same)
 
 pub lines_beside : (numbers : List ℕ) (events : List Event) → length numbers ≡ length events → lines_of (side_by_side numbers events) ≡ numbers
 lines_beside [] [] h = refl
@@ -70,3 +84,85 @@ pub write_fault : {T : Type 0} (zone script : List ℕ) (r : Result T PlayFault)
     → IfErr r (Faults zone script)
 write_fault zone script (Ok x) h z s = tt
 write_fault zone script (Err e) h z s = rw h (z, s)
+
+-- a run reports of each event once
+runs_len : (world : WorldContent) (sent : List (ℕ × Query)) (events : List Event) (reports : List EventReport) (after : List (ℕ × Query))
+    → Runs world sent events reports after → length reports ≡ length events
+runs_len world sent [] [] after h = refl
+runs_len world sent [] (r ∷ reports) after h = absurd h
+runs_len world sent (e ∷ events) [] after h = absurd h
+runs_len world sent (e ∷ events) (r ∷ reports) after h = ap suc (runs_len world h.0 events reports after h.2)
+
+-- events without a report have no text
+front_text : (n : ℕ) (events : List Event) (reports : List EventReport) → length reports ≤ n → report_text events reports ≡ report_text (take n events) reports
+front_text n [] reports h = ap (λ (x : List Event). report_text x reports) (sym (take-nil n))
+front_text zero (e ∷ events) [] h = refl
+front_text zero (e ∷ events) (r ∷ reports) h = absurd (omega arith)
+front_text (suc n) (e ∷ events) [] h = refl
+front_text (suc n) (e ∷ events) (r ∷ reports) h =
+    let less : length reports ≤ n = omega arith in ap (λ (x : List ℕ). (event_text e ++ reply_text r.reply) ++ x) (front_text n events reports less)
+
+pub front_is : (world : WorldContent) (n : ℕ) (events : List Event) (reports : List EventReport) (sent : List (ℕ × Query))
+    → n ≤ length events → Runs world [] (take n events) reports sent → report_text events reports ≡ report_text (take n events) reports
+front_is world n events reports sent within runs =
+    let same : length reports ≡ length (take n events) = runs_len world [] (take n events) reports sent runs in
+    let short : length (take n events) ≡ n = length-take-le n events within in
+    let few : length reports ≤ n = omega arith in
+    front_text n events reports few
+
+-- a run over the zone's rows tells this
+module _ (found text : List ℕ) (rows : ZoneContent) (world : WorldContent) (same : found ≡ text) (read : zone_of_text found ≡ Ok rows)
+    (over : IsWorldOver rows world) where
+  pub tells : (asked events : List Event) (reports : List EventReport) (sent : List (ℕ × Query)) → asked ≡ events → Runs world [] asked reports sent
+      → Tells text events (report_text events reports)
+  tells asked events reports sent is runs = record {
+    rows = rows;
+    world = world;
+    reports = reports;
+    sent = sent;
+    is_zone = rw same at read;
+    is_over = over;
+    runs = rw is at runs;
+    is_text = refl;
+  }
+
+  pub tells_front : (asked events : List Event) (report : Report) → asked ≡ events
+      → (n : ℕ) × (n ≤ length asked) × Runs world [] (take n asked) report.events.items report.sent.items
+      → (n : ℕ) × (n ≤ length events) × Tells text (take n events) (report_text events report.events.items)
+  tells_front asked events report is h =
+      let within : h.0 ≤ length events = rw is at h.1 in
+      let runs : Runs world [] (take h.0 events) report.events.items report.sent.items = rw is at h.2 in
+      let front = front_is world h.0 events report.events.items report.sent.items within runs in
+      (h.0, within, subst (Tells text (take h.0 events)) (sym front) (tells (take h.0 events) (take h.0 events) report.events.items report.sent.items refl runs))
+
+-- what is said of a run that was stopped for memory
+pub stopped_is : (P : Report → Type 0) (error : Stopped) (report : Report) → error ≡ stops.Memory report → IfSome (memory_report (Err error)) P → P report
+stopped_is P error report is h = rw is at h
+
+-- what was written is what is told
+pub on_ok_told : {T E : Type 0} (P : List ℕ → Type 0) (old new : Option (List ℕ)) (r : Result T E) (text : List ℕ) → P text → OnOk r (Appends old new text)
+    → OnOk r ((x : List ℕ) × P x × Appends old new x)
+on_ok_told P old new (Ok x) text p h = (text, p, h)
+on_ok_told P old new (Err e) text p h = tt
+
+module _ (found text : List ℕ) (numbers : List ℕ) (events : List Event) (same : found ≡ text)
+    (read : script_of_text found ≡ Ok (side_by_side numbers events)) (beside : length numbers ≡ length events) (order : InOrder 0 events) where
+  pub tells_all : (zone : List ℕ) (told : List ℕ) → Tells zone events told → TellsAll zone text told
+  tells_all zone told h = (
+    side_by_side numbers events,
+    rw same at read,
+    rw (events_beside numbers events beside) order,
+    rw (events_beside numbers events beside) h,
+  )
+
+  pub tells_first : (zone : List ℕ) (n : ℕ) (told : List ℕ) → n ≤ length events → Tells zone (take n events) told → TellsFirst zone text told
+  tells_first zone n told few h =
+      let len : length (side_by_side numbers events) ≡ length events = sides_len numbers events beside in
+      let front : n ≤ length (side_by_side numbers events) = omega arith in (
+        side_by_side numbers events,
+        n,
+        rw same at read,
+        rw (events_beside numbers events beside) order,
+        front,
+        rw (events_beside numbers events beside) h,
+      )

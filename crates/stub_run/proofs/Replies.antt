@@ -4,8 +4,8 @@ use Rattle.std.specs.Prelude.{nat_eq, nat_le, if◌then◌else◌}
 use Rattle.std.specs.Str.{str_eq_ignore_ascii_case, str_to_ascii_lowercase}
 use Rattle.std.specs.Cmp.Lexicographic.{pointwise}
 use Rattle.std.proofs.lemmas.Bool.{and_from, eq-eqb, true≢false}
-use Rattle.dns_wire.specs.RecordType.{type_number}
-use Rattle.dns_wire.specs.DNSClass.{class_number}
+use Rattle.dns_codes.specs.RecordType.{type_number}
+use Rattle.dns_codes.specs.DNSClass.{class_number}
 use Rattle.dns_names.specs.Comparison.{same_labels}
 use Rattle.dns_zone.specs.declared.query.Query.{Query}
 use Rattle.dns_zone.specs.declared.message.Message.{Message}

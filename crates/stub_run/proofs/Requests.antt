@@ -10,8 +10,8 @@ use Rattle.dns_zone.specs.Message.{message_form, cut, cut_off}
 use Rattle.dns_zone.specs.Grammar.{ReadsMessage}
 use Rattle.dns_zone.specs.Sound.{IsSound, IsSoundQuery}
 use Rattle.std.specs.Int.{w16, to_be_bytes}
-use Rattle.dns_wire.specs.RecordType.{type_number}
-use Rattle.dns_wire.specs.DNSClass.{class_number}
+use Rattle.dns_codes.specs.RecordType.{type_number}
+use Rattle.dns_codes.specs.DNSClass.{class_number}
 use Rattle.stub_run.specs.Wire.{request}
 
 labels_form-len : (labels : List (List ℕ)) → length (labels_form labels) + 1 ≡ name_len labels

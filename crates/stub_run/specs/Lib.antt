@@ -6,4 +6,5 @@ pub mod World
 pub mod Run
 pub mod ScriptText
 pub mod Playing
+pub mod ReportText
 pub mod Words

@@ -1,6 +1,7 @@
 -- What a run of the program's two texts comes to, and in which order its faults are looked for: the zone's text, the
 -- script's lines, the script's moments.
-use Rattle.std.specs.Prelude.{◌≡◌, ◌≢◌, ◌<◌, ◌+◌, ◌⊎◌, List, ℕ, map, length, take, slice_get, Some, Ok, Err, ⊤}
+use Rattle.std.specs.Prelude.{◌≡◌, ◌≢◌, ◌<◌, ◌≤◌, ◌+◌, ◌⊎◌, List, [], ℕ, map, length, take, slice_get, slice_index, EachIndex, Some, Ok, Err, ⊤, ◌++◌, codes}
+use Rattle.std.specs.Fmt.{decimal}
 use Rattle.dns_zone.specs.Rows.{ZoneContent}
 use Rattle.dns_zone.specs.ZoneText.{zone_of_text}
 use Rattle.dns_zone.specs.declared.zone.ZoneFault.TheVariants as zones
@@ -8,7 +9,11 @@ use Rattle.stub_run.specs.declared.event.Event.{Event}
 use Rattle.stub_run.specs.declared.script.ScriptFault.TheVariants.{Line}
 use Rattle.stub_run.specs.declared.playing.PlayFault.{PlayFault}
 use Rattle.stub_run.specs.declared.playing.PlayFault.TheVariants.{Zone, Script, Memory, Write}
-use Rattle.stub_run.specs.Run.{InOrder}
+use Rattle.dns_zone.specs.declared.query.Query.{Query}
+use Rattle.stub_run.specs.declared.world.EventReport.{EventReport}
+use Rattle.stub_run.specs.World.{WorldContent}
+use Rattle.stub_run.specs.Run.{InOrder, Runs}
+use Rattle.stub_run.specs.ReportText.{report_text}
 use Rattle.stub_run.specs.ScriptText.{script_of_text}
 
 -- the events before this one are in order, and with it they are not
@@ -54,3 +59,43 @@ IsBeforeRun (Zone fault) = ⊤
 IsBeforeRun (Script line) = ⊤
 IsBeforeRun Memory = ⊥
 IsBeforeRun Write = ⊥
+
+-- a world over these rows, whose server's datagrams have at most 1,232 bytes, and whose ids count up from 1
+pub record IsWorldOver (rows : ZoneContent) (world : WorldContent) : Type 0 where
+  pub zone : world.zone ≡ rows
+  pub limit : world.limit.value ≡ 1232
+  pub ids : EachIndex world.ids (λ k. slice_index world.ids k ≡ k + 1)
+  pub all : length world.ids ≡ 65535
+
+-- reports that the events may have, over the zone's text, have this text
+pub record Tells (zone : List ℕ) (events : List Event) (text : List ℕ) : Type 0 where
+  pub rows : ZoneContent
+  pub world : WorldContent
+  pub reports : List EventReport
+  pub sent : List (ℕ × Query)
+  pub is_zone : zone_of_text zone ≡ Ok rows
+  pub is_over : IsWorldOver rows world
+  pub runs : Runs world [] events reports sent
+  pub is_text : text ≡ report_text events reports
+
+-- the text that is told of all events of the script
+abbrev pub TellsAll : List ℕ → List ℕ → List ℕ → Type 0
+TellsAll zone script text =
+    (numbered : List (ℕ × Event)) × (script_of_text script ≡ Ok numbered) × InOrder 0 (events_of numbered) × Tells zone (events_of numbered) text
+
+-- the text that is told of the script's events before memory was refused
+abbrev pub TellsFirst : List ℕ → List ℕ → List ℕ → Type 0
+TellsFirst zone script text =
+    (numbered : List (ℕ × Event)) × (n : ℕ) × (script_of_text script ≡ Ok numbered) × InOrder 0 (events_of numbered)
+    × (n ≤ length numbered) × Tells zone (take n (events_of numbered)) text
+
+-- the line that the program ends with
+abbrev pub fault_text : PlayFault → List ℕ
+fault_text (Zone (zones.Line line)) = codes "zone: Z1 line " ++ decimal line
+fault_text (Zone zones.OutsideOrigin) = codes "zone: Z3"
+fault_text (Zone zones.NoSoa) = codes "zone: Z4"
+fault_text (Zone zones.SoaElsewhere) = codes "zone: Z5"
+fault_text (Zone zones.Memory) = codes "zone: Z7"
+fault_text (Script line) = codes "script line " ++ decimal line
+fault_text Memory = codes "no memory"
+fault_text Write = codes "cannot write"

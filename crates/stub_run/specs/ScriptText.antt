@@ -4,7 +4,7 @@ use Rattle.std.specs.Prelude.{◌==◌, ◌&&◌, ◌+◌, codes, if◌then◌el
 use Rattle.std.specs.List.{list_any}
 use Rattle.std.specs.Str.{bytes_eq}
 use Rattle.std.specs.Str.Lines.{lines}
-use Rattle.dns_wire.specs.declared.record_type.RecordType.TheVariants.{A}
+use Rattle.dns_codes.specs.declared.record_type.RecordType.TheVariants.{A}
 use Rattle.dns_names.specs.DomainName.{DomainName}
 use Rattle.dns_names.specs.Decimal.{decimal_up_to}
 use Rattle.dns_zone.specs.ZoneText.{words, fqdn_of}

@@ -1,9 +1,11 @@
 //! A whole run: a zone's text and a script's text, and what is printed of them.
 
-ghost use Rattle.std.specs.Prelude.{◌≡◌, ◌↔◌, ◌<◌, ◌+◌, IfOk, IfErr, IfSome, OnOk, None, Ok, Err, length, string_bytes, slice_index, EachIndex};
+ghost use Rattle.std.specs.Prelude.{◌≡◌, ◌↔◌, ◌<◌, ◌+◌, ◌⊎◌, List, ℕ, IfOk, IfErr, IfSome, OnOk, Some, None, Ok, Err, length, string_bytes, slice_index, EachIndex};
+ghost use Rattle.std.specs.Io.KnownBytes.{Appends};
+ghost use Rattle.stub_run.specs.ReportText.{report_text};
 ghost use Rattle.stub_run.specs.Run.{InOrder};
 ghost use Rattle.stub_run.specs.ScriptText.{side_by_side};
-ghost use Rattle.stub_run.specs.Playing.{IsFirstOutOfOrder, IsZone, IsScript, IsLineOutOfOrder, Faults, IsBeforeRun};
+ghost use Rattle.stub_run.specs.Playing.{IsFirstOutOfOrder, IsZone, IsScript, IsLineOutOfOrder, IsWorldOver, Faults, IsBeforeRun, TellsAll, TellsFirst, fault_text};
 
 use crate::event::Event;
 use crate::report_text::write_report;
@@ -34,6 +36,8 @@ pub enum PlayFault {
 }
 
 impl fmt::Display for PlayFault {
+    ghost output = { λ fault. Some (fault_text fault) };
+
     /// The line that the program ends with, as `zone: Z1 line 3`.
     fn fmt<W: fmt::Write>(&self, f: &mut fmt::Formatter<W>) -> fmt::Result {
         match self {
@@ -56,6 +60,12 @@ pub fn play<W: io::Write>(alloc: Global, input: &PlayInput, writer: &mut W) -> R
     ensures script { OnOk result (IsScript (string_bytes input.now.script)) }
     ensures fault { IfErr result (Faults (string_bytes input.now.zone) (string_bytes input.now.script)) }
     ensures silent { IfErr result (λ fault. IsBeforeRun fault → writer.new ≡ writer.old) }
+    ensures told { OnOk result ((text : List ℕ) × TellsAll (string_bytes input.now.zone) (string_bytes input.now.script) text
+        × Appends (W.contents writer.old) (W.contents writer.new) text) }
+    // Where memory is refused before the run, nothing is written.
+    ensures stopped { IfErr result (λ fault. fault ≡ PlayFault.Memory → (writer.new ≡ writer.old)
+        ⊎ ((text : List ℕ) × TellsFirst (string_bytes input.now.zone) (string_bytes input.now.script) text
+        × Appends (W.contents writer.old) (W.contents writer.new) text)) }
 {
     let zone = match Zone::from_text(alloc, input.zone.as_str(), &[], None) {
         Ok(zone) => zone,
@@ -85,7 +95,9 @@ fn print<W: io::Write>(
     report: &Report,
     writer: &mut W,
 ) -> Result<(), PlayFault>
-    ensures { IfErr result (λ fault. fault ≡ PlayFault.Write) }
+    ensures fault { IfErr result (λ fault. fault ≡ PlayFault.Write) }
+    ensures written { OnOk result (Appends (W.contents writer.old) (W.contents writer.new)
+        (report_text script.now.events.items report.now.events.items)) }
 {
     match write_report(script.events.as_slice(), report, writer) {
         Ok(()) => Ok(()),
@@ -95,10 +107,7 @@ fn print<W: io::Write>(
 
 /// A world over a zone: its datagrams have at most 1,232 bytes, and its ids count up from 1.
 fn new_world(alloc: Global, zone: Zone) -> Result<World, AllocError>
-    ensures zone { IfOk result (λ world. world.zone ≡ zone) }
-    ensures limit { IfOk result (λ world. world.limit.value ≡ 1232) }
-    ensures ids { IfOk result (λ world. EachIndex world.ids (λ k. slice_index world.ids k ≡ k + 1)) }
-    ensures all { IfOk result (λ world. length world.ids ≡ 65535) }
+    ensures { IfOk result (IsWorldOver zone) }
 {
     let limit = DatagramLimit::new(1232).unwrap();
     let ids: Vec<u16> = (1..=u16::MAX).collect(alloc)?;

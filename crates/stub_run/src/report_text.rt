@@ -1,7 +1,9 @@
 //! The text of a report.
 
-ghost use Rattle.std.specs.Prelude.{◌≡◌};
-ghost use Rattle.dns_wire.specs.RecordType.{type_number, type_of};
+ghost use Rattle.std.specs.Prelude.{◌≡◌, ◌∷◌, ◌++◌, [], Some, OnOk, flat_map};
+ghost use Rattle.std.specs.Io.KnownBytes.{Appends};
+ghost use Rattle.dns_codes.specs.RecordType.{type_number, type_of};
+ghost use Rattle.stub_run.specs.ReportText.{owner_text, event_text, record_text, lookup_text, reason_text, reply_text, report_text};
 
 use crate::event::Event;
 use crate::lookup::{DnsError, Lookup, NetError};
@@ -16,7 +18,9 @@ pub fn write_report<W: io::Write>(
     events: &[Event],
     report: &Report,
     writer: &mut W,
-) -> io::Result<()> {
+) -> io::Result<()>
+    ensures { OnOk result (Appends (W.contents writer.old) (W.contents writer.new) (report_text events.now report.now.events.items)) }
+{
     for (event, told) in events.iter().zip(report.events.iter()) {
         write_event(event, writer)?;
         write_reply(&told.reply, writer)?;
@@ -25,7 +29,9 @@ pub fn write_report<W: io::Write>(
 }
 
 /// Writes what happened, as `0 lookup a.t. A: `.
-fn write_event<W: io::Write>(event: &Event, writer: &mut W) -> io::Result<()> {
+fn write_event<W: io::Write>(event: &Event, writer: &mut W) -> io::Result<()>
+    ensures { OnOk result (Appends (W.contents writer.old) (W.contents writer.new) (event_text event.now)) }
+{
     match event {
         Event::Lookup {
             at,
@@ -40,7 +46,9 @@ fn write_event<W: io::Write>(event: &Event, writer: &mut W) -> io::Result<()> {
 }
 
 /// Writes what an event gave: the records, or why there are none.
-fn write_reply<W: io::Write>(reply: &EventReply, writer: &mut W) -> io::Result<()> {
+fn write_reply<W: io::Write>(reply: &EventReply, writer: &mut W) -> io::Result<()>
+    ensures { OnOk result (Appends (W.contents writer.old) (W.contents writer.new) (reply_text reply.now)) }
+{
     match reply {
         EventReply::Lookup(Ok(lookup)) => write_lookup(lookup, writer),
         EventReply::Lookup(Err(error)) => write_error(error, writer),
@@ -48,10 +56,19 @@ fn write_reply<W: io::Write>(reply: &EventReply, writer: &mut W) -> io::Result<(
 }
 
 /// Writes how many records there are, and each on a line of its own.
-fn write_lookup<W: io::Write>(lookup: &Lookup, writer: &mut W) -> io::Result<()> {
+fn write_lookup<W: io::Write>(lookup: &Lookup, writer: &mut W) -> io::Result<()>
+    ensures { OnOk result (Appends (W.contents writer.old) (W.contents writer.new) (lookup_text lookup.now)) }
+{
     let records = lookup.answers.as_slice();
     let count = records.len();
     writeln!(writer, "{count} records")?;
+    write_records(records, writer)
+}
+
+/// Writes each record on a line of its own.
+fn write_records<W: io::Write>(records: &[Record], writer: &mut W) -> io::Result<()>
+    ensures { OnOk result (Appends (W.contents writer.old) (W.contents writer.new) (flat_map record_text records.now)) }
+{
     for record in records {
         write_record(record, writer)?;
     }
@@ -59,7 +76,9 @@ fn write_lookup<W: io::Write>(lookup: &Lookup, writer: &mut W) -> io::Result<()>
 }
 
 /// Writes a record, as `  a.t. 60 IN A 10.0.0.1`.
-fn write_record<W: io::Write>(found: &Record, writer: &mut W) -> io::Result<()> {
+fn write_record<W: io::Write>(found: &Record, writer: &mut W) -> io::Result<()>
+    ensures { OnOk result (Appends (W.contents writer.old) (W.contents writer.new) (record_text found.now)) }
+{
     let owner = Owner { name: &found.name };
     let ttl = found.ttl;
     let rtype = as_read(found.rdata.record_type());
@@ -68,7 +87,9 @@ fn write_record<W: io::Write>(found: &Record, writer: &mut W) -> io::Result<()> 
 }
 
 /// Writes why there are no records.
-fn write_error<W: io::Write>(error: &NetError, writer: &mut W) -> io::Result<()> {
+fn write_error<W: io::Write>(error: &NetError, writer: &mut W) -> io::Result<()>
+    ensures { OnOk result (Appends (W.contents writer.old) (W.contents writer.new) (reason_text error.now ++ 10 ∷ [])) }
+{
     match error {
         NetError::Dns(DnsError::NoRecordsFound(none)) => {
             let code = none.response_code;
@@ -98,6 +119,8 @@ struct Owner<'a> {
 }
 
 impl fmt::Display for Owner<'_> {
+    ghost output = { λ owner. Some (owner_text owner.name.now) };
+
     fn fmt<W: fmt::Write>(&self, f: &mut fmt::Formatter<W>) -> fmt::Result {
         let name = self.name;
         // The root byte alone: no label.

@@ -33,7 +33,7 @@ fn told(alloc: Global, bytes: &[u8]) -> Result<String, Fail> {
 fn told_of(alloc: Global, message: &Message) -> Result<String, Fail> {
     let mut text = String::new(alloc);
     for asked in message.queries.as_slice() {
-        let (name, kind, class) = (&asked.name, asked.query_type, u16::from(asked.query_class));
+        let (name, kind, class) = (&asked.name, asked.query_type, asked.query_class);
         write!(text, "{name} {class} {kind}")?;
     }
     text.push_str(" |")?;
@@ -47,9 +47,9 @@ fn told_of(alloc: Global, message: &Message) -> Result<String, Fail> {
 #[test]
 fn reads_questions_and_answers(rt: HostRuntime) -> Result<(), Fail> {
     for (bytes, want) in [
-        (QUERY.as_slice(), "a.t. 1 A |"),
-        (REPLY.as_slice(), "a.t. 1 A | a.t. 60 10.0.0.1"),
-        (CUT.as_slice(), "a.t. 1 A |"),
+        (QUERY.as_slice(), "a.t. IN A |"),
+        (REPLY.as_slice(), "a.t. IN A | a.t. 60 10.0.0.1"),
+        (CUT.as_slice(), "a.t. IN A |"),
     ] {
         let found = told(rt.alloc(), bytes)?;
         assert_eq!(rt; found.as_str(), want);

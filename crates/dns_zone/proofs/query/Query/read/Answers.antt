@@ -1,8 +1,8 @@
 use Rattle.std.proofs.Common.{ℕ, List, ◌∙◌, refl, rules}
 use Rattle.std.specs.Int.{w16, to_be_bytes}
 use Rattle.std.proofs.lemmas.Result.{err_from_is_err_and}
-use Rattle.dns_wire.specs.RecordType.{type_number}
-use Rattle.dns_wire.specs.DNSClass.{class_number}
+use Rattle.dns_codes.specs.RecordType.{type_number}
+use Rattle.dns_codes.specs.DNSClass.{class_number}
 use Rattle.dns_zone.proofs.OneWay.{shows_here, question_same}
 use Rattle.dns_zone.proofs.query.Query.read.Goals as goal
 

@@ -1,5 +1,5 @@
 use Rattle.std.proofs.Common.{◌==◌, ◌∙◌, ◌&&◌, ap}
-use Rattle.dns_wire.specs.RecordType.{type_number}
+use Rattle.dns_codes.specs.RecordType.{type_number}
 use Rattle.dns_zone.proofs.RowLaws.{keys_tie}
 use Rattle.dns_zone.proofs.rows.RecordSet.is_at.Goals as goal
 
