@@ -1,0 +1,11 @@
+pub mod Tokens
+pub mod TokenGrammar
+pub mod TokenShown
+pub mod FrontShown
+pub mod FrontLen
+pub mod FaultLine
+pub mod Looked
+pub mod Usage
+pub mod Ttl
+pub mod Counting
+pub mod AddressText
