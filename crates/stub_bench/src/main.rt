@@ -1,0 +1,71 @@
+//! `stub_bench WHAT COUNT`: repeats an operation on fixed inputs so often, and prints a checksum of what it gave, so that
+//! it can be timed from outside. `all` stands for every operation, one after another.
+#![tactic(auto)]
+
+mod operation;
+
+use anyhow::{Result, bail};
+use clap::{Arg, Command, Error, value_parser};
+use operation::Operation;
+use std::alloc::{AllocError, Global};
+use std::env;
+use std::process::ExitCode;
+
+/// What may be repeated.
+const WHAT: [&str; 6] = [
+    "all",
+    "name-read",
+    "name-write",
+    "name-parse",
+    "name-print",
+    "name-compare",
+];
+
+fn main(rt: HostRuntime) -> Result<ExitCode> {
+    let words: Vec<String> = env::args(&rt)?.collect(rt.alloc())?;
+    let command = bench_command(rt.alloc())?;
+    let matches = match command.try_get_matches_from(words.as_slice()) {
+        Ok(matches) => matches,
+        Err(error) => return refuse(&rt, error),
+    };
+    let (Some(what), Some(count)) = (matches.get_str("WHAT"), matches.get_one::<u64>("COUNT"))
+    else {
+        bail!("WHAT and COUNT are needed");
+    };
+    repeat_all(&rt, what, count)?;
+    Ok(ExitCode::SUCCESS)
+}
+
+/// Says what is wrong with the words, or helps.
+fn refuse(rt: &(impl Print + Eprint), error: Error) -> Result<ExitCode> {
+    error.print(rt)?;
+    Ok(ExitCode::from(error.exit_code() as u8))
+}
+
+/// The program's command, for clap.
+fn bench_command<'a>(alloc: Global) -> Result<Command<'a>, AllocError> {
+    let what = Arg::new(alloc, "WHAT")
+        .required(true)
+        .value_parser(WHAT.as_slice())
+        .help("The operation");
+    let count = Arg::new(alloc, "COUNT")
+        .required(true)
+        .value_parser(value_parser!(u64))
+        .help("How often it is repeated");
+    Command::new(alloc, "stub_bench")
+        .about("Repeats an operation on fixed inputs, and prints a checksum of what it gave")
+        .arg(what)?
+        .arg(count)
+}
+
+/// Repeats the operations that are meant, and prints their checksums.
+fn repeat_all<R: Print + AllocGlobal>(rt: &R, what: &str, count: u64) -> Result<()> {
+    for operation in Operation::ALL {
+        let name = operation.name();
+        if what == "all" || what == name {
+            let checksum = operation.repeat(rt.alloc(), count)?;
+            println!(rt; "{name} {checksum}")?;
+        }
+    }
+    Ok(())
+}

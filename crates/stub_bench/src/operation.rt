@@ -1,0 +1,154 @@
+//! The operations, each on fixed inputs of two kinds by turns, so that no turn can be left out.
+
+ghost use Rattle.std.specs.Prelude.{◌≡◌, []};
+
+use anyhow::Result;
+use dns_names::Name;
+use dns_wire::{BinDecoder, BinEncoder};
+use std::alloc::Global;
+
+/// An operation that is repeated.
+#[derive(Clone, Copy)]
+pub(crate) enum Operation {
+    /// Reads a name of four labels over three pointers.
+    NameRead,
+    /// Writes the ten names of a message, compressed.
+    NameWrite,
+    /// Reads a name of four labels from text.
+    NameParse,
+    /// Prints a name of four labels.
+    NamePrint,
+    /// Compares two names of four labels that are equal up to ASCII case.
+    NameCompare,
+}
+
+/// Two names of four labels, equal up to ASCII case.
+const TEXTS: [&str; 2] = ["Host.www.example.com.", "host.WWW.Example.com."];
+
+/// The names of a message: a question, and what answers it.
+const MESSAGE: [&str; 10] = [
+    "example.com.",
+    "example.com.",
+    "mail.example.com.",
+    "example.com.",
+    "www.example.com.",
+    "www.example.com.",
+    "web.example.com.",
+    "ns1.example.net.",
+    "ns2.example.net.",
+    "ns1.example.net.",
+];
+
+/// The names of four labels at 21 and 25, each over three pointers.
+const BYTES: &[u8; 29] = b"\x03com\x00\x07example\xC0\x00\x03www\xC0\x05\x01a\xC0\x0F\x01b\xC0\x0F";
+
+impl Operation {
+    /// All of them.
+    pub(crate) const ALL: [Operation; 5] = [
+        Operation::NameRead,
+        Operation::NameWrite,
+        Operation::NameParse,
+        Operation::NamePrint,
+        Operation::NameCompare,
+    ];
+
+    /// The word that means it.
+    pub(crate) fn name(self) -> &'static str {
+        match self {
+            Operation::NameRead => "name-read",
+            Operation::NameWrite => "name-write",
+            Operation::NameParse => "name-parse",
+            Operation::NamePrint => "name-print",
+            Operation::NameCompare => "name-compare",
+        }
+    }
+
+    /// Repeats it so often. The checksum is a sum of lengths, places and outcomes.
+    pub(crate) fn repeat(self, alloc: Global, count: u64) -> Result<u64> {
+        match self {
+            Operation::NameRead => read_names(alloc, count),
+            Operation::NameWrite => write_names(alloc, count),
+            Operation::NameParse => parse_names(alloc, count),
+            Operation::NamePrint => print_names(alloc, count),
+            Operation::NameCompare => compare_names(alloc, count),
+        }
+    }
+}
+
+fn read_names(alloc: Global, count: u64) -> Result<u64> {
+    let mut checksum = 0_u64;
+    for turn in 0..count {
+        let place = if turn % 2 == 0 { 21 } else { 25 };
+        let mut decoder = BinDecoder::new(BYTES).clone(place);
+        let name = Name::read(alloc, &mut decoder)?;
+        checksum = checksum.wrapping_add((name.len() + decoder.index()) as u64);
+    }
+    Ok(checksum)
+}
+
+fn write_names(alloc: Global, count: u64) -> Result<u64> {
+    let mut names = Vec::new(alloc);
+    for text in MESSAGE {
+        names.push(Name::from_ascii(alloc, text)?)?;
+    }
+    let mut checksum = 0_u64;
+    let mut buffer = Vec::new(alloc);
+    for _ in 0..count {
+        buffer.clear();
+        write_message(alloc, names.as_slice(), &mut buffer)?;
+        checksum = checksum.wrapping_add(buffer.len() as u64);
+    }
+    Ok(checksum)
+}
+
+/// Writes names one after another into an empty buffer, compressed.
+fn write_message(alloc: Global, names: &[Name], buffer: &mut Vec<u8>) -> Result<()>
+    requires { buffer.old.items ≡ [] }
+{
+    let mut encoder = BinEncoder::new(alloc, buffer);
+    encoder.emit_all(names)?;
+    encoder.into_bytes();
+    Ok(())
+}
+
+fn parse_names(alloc: Global, count: u64) -> Result<u64> {
+    let mut checksum = 0_u64;
+    for turn in 0..count {
+        let name = Name::from_ascii(alloc, TEXTS[(turn % 2) as usize])?;
+        checksum = checksum.wrapping_add(name.len() as u64);
+    }
+    Ok(checksum)
+}
+
+fn print_names(alloc: Global, count: u64) -> Result<u64> {
+    let names = two_names(alloc)?;
+    let mut checksum = 0_u64;
+    for turn in 0..count {
+        let name = name_of_turn(&names, turn);
+        checksum = checksum.wrapping_add(name.to_ascii()?.len() as u64);
+    }
+    Ok(checksum)
+}
+
+fn compare_names(alloc: Global, count: u64) -> Result<u64> {
+    let names = two_names(alloc)?;
+    let mut checksum = 0_u64;
+    for turn in 0..count {
+        let (one, other) = (name_of_turn(&names, turn), name_of_turn(&names, turn + 1));
+        checksum = checksum.wrapping_add(u64::from(one == other));
+    }
+    Ok(checksum)
+}
+
+/// The first name at every second turn, and else the other.
+fn name_of_turn(names: &(Name, Name), turn: u64) -> &Name {
+    if turn % 2 == 0 { &names.0 } else { &names.1 }
+}
+
+/// The two names of four labels.
+fn two_names(alloc: Global) -> Result<(Name, Name)> {
+    Ok((
+        Name::from_ascii(alloc, TEXTS[0])?,
+        Name::from_ascii(alloc, TEXTS[1])?,
+    ))
+}
