@@ -11,7 +11,7 @@ use Rattle.dns_codes.specs.declared.dns_class.DNSClass.TheVariants as class
 
 -- ---- names
 
--- those of RFC 1035, and the later ones that IANA lists, with none for any other
+-- types of RFC 1035, and later ones of IANA's list, with none for any other
 
 abbrev pub later_type_name : RecordType → List ℕ
 later_type_name SIG = codes "SIG"

@@ -1,9 +1,9 @@
--- Types and their numbers (RFC 1035 section 3.2.2, and the later ones that IANA lists).
+-- Types and their numbers (RFC 1035 section 3.2.2; of its types those that are named here, and later ones of IANA's list).
 use Rattle.std.specs.Prelude.{ℕ, ◌==◌, if◌then◌else◌, Bool, true, false}
 use Rattle.dns_codes.specs.declared.record_type.RecordType.{RecordType}
 use Rattle.dns_codes.specs.declared.record_type.RecordType.TheVariants.{A, NS, CNAME, SOA, NULL, PTR, HINFO, MX, TXT, SIG, KEY, AAAA, SRV, NAPTR, CERT, DNAME, OPT, DS, SSHFP, RRSIG, NSEC, DNSKEY, NSEC3, NSEC3PARAM, TLSA, SMIMEA, CDS, CDNSKEY, OPENPGPKEY, CSYNC, SVCB, HTTPS, TSIG, IXFR, AXFR, ANY, CAA, ZERO, Unknown}
 
--- ---- those of RFC 1035, and the later ones that IANA lists, with 0 for any other
+-- ---- types of RFC 1035, and later ones of IANA's list, with 0 for any other
 
 abbrev pub later_type_number : RecordType → ℕ
 later_type_number SIG = 24

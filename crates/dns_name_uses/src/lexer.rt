@@ -23,7 +23,7 @@ enum Look<'a> {
 
 /// A reader of the tokens of a zone's text, which is lent. Entries end at a line's end outside of parentheses, `;` begins
 /// a comment, a backslash keeps the character behind it, and a quoted string may hold blanks and `;` (RFC 1035
-/// section 5.1). A line ends at a line feed, with a carriage return right before it.
+/// section 5.1). A line ends at a line feed, or at a carriage return with a line feed right behind it.
 #[derive(Drop)]
 pub struct Lexer<'a> {
     text: &'a [u8],

@@ -159,3 +159,18 @@ fn codes_are_printed(rt: HostRuntime) -> Result<(), Fail> {
     }
     Ok(())
 }
+
+/// Why a text is no type, or that it is one.
+fn type_fault(alloc: Global, text: &str) -> Result<String, Fail> {
+    match text.parse::<RecordType>() {
+        Ok(kind) => Ok(format!(in alloc; "{kind}")?),
+        Err(fault) => Ok(format!(in alloc; "{fault}")?),
+    }
+}
+
+#[test]
+fn a_text_that_is_no_code_is_told(rt: HostRuntime) -> Result<(), Fail> {
+    let found = type_fault(rt.alloc(), "TYPE65536")?;
+    assert_eq!(rt; found.as_str(), "no such code");
+    Ok(())
+}
