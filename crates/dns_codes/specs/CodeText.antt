@@ -1,7 +1,8 @@
 -- Types and classes in text (RFC 1035 section 5.1, RFC 3597 section 5).
-use Rattle.std.specs.Prelude.{ℕ, ◌+◌, ◌-◌, ◌*◌, ◌&&◌, nat_le, nat_lt, if◌then◌else◌, List, [], ◌∷◌, ◌++◌, length, take, drop, Option, Some, None, codes, find}
+use Rattle.std.specs.Prelude.{ℕ, nat_lt, if◌then◌else◌, List, [], ◌∷◌, ◌++◌, length, take, drop, Option, Some, None, codes, find}
 use Rattle.std.specs.Fmt.{decimal}
 use Rattle.std.specs.Str.{str_eq_ignore_ascii_case}
+use Rattle.dns_codes.specs.Decimal.{decimal_up_to}
 use Rattle.dns_codes.specs.RecordType.{type_of}
 use Rattle.dns_codes.specs.DNSClass.{class_of}
 use Rattle.dns_codes.specs.declared.record_type.RecordType.{RecordType}
@@ -85,21 +86,11 @@ class_text class = class_name class
 
 -- ---- numbers behind a word
 
--- a number with one more decimal digit, of at most 16 bits
-abbrev pub with_digit : ℕ → ℕ → Option ℕ
-with_digit number c =
-    if nat_le 48 c && nat_le c 57 && nat_lt (10 * number + (c - 48)) 65536 then Some (10 * number + (c - 48)) else None
-
-abbrev pub number_from : Option ℕ → List ℕ → Option ℕ
-number_from None cs = None
-number_from (Some number) [] = Some number
-number_from (Some number) (c ∷ cs) = number_from (with_digit number c) cs
-
--- a word in any case, and at least one digit behind it
+-- a word in any case, and behind it the digits of a number of at most 16 bits
 abbrev pub numbered_text : List ℕ → List ℕ → Option ℕ
 numbered_text word text =
-    if nat_le (length text) (length word) then None
-    else if str_eq_ignore_ascii_case (take (length word) text) word then number_from (Some 0) (drop (length word) text)
+    if nat_lt (length text) (length word) then None
+    else if str_eq_ignore_ascii_case (take (length word) text) word then decimal_up_to 65535 (drop (length word) text)
     else None
 
 abbrev pub typed : Option ℕ → Option RecordType

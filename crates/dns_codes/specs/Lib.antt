@@ -1,4 +1,5 @@
 pub mod RecordType
 pub mod DNSClass
 pub mod SerialNumber
+pub mod Decimal
 pub mod CodeText

@@ -1,8 +1,10 @@
 //! Codes in text (RFC 3597 section 5).
 
-ghost use Rattle.std.specs.Prelude.{◌≡◌, ◌+◌, ◌*◌, [], ◌∷◌};
-ghost use Rattle.dns_codes.specs.CodeText.{number_from, numbered_text, with_digit};
+ghost use Rattle.std.specs.Prelude.{◌≡◌};
+ghost use Rattle.dns_codes.specs.CodeText.{numbered_text};
+ghost use Rattle.dns_codes.specs.Decimal.{decimal_up_to};
 
+use crate::decimal::parse_decimal;
 use thiserror::Error;
 
 /// Why a text is no code.
@@ -18,36 +20,19 @@ pub fn numbered(word: &str, text: &str) -> Option<u16>
     ensures { result ≡ numbered_text word.now text.now }
 {
     let bytes = text.as_bytes();
-    if bytes.len() <= word.len() {
+    if bytes.len() < word.len() {
         return None;
     }
     if bytes[..word.len()].eq_ignore_ascii_case(word.as_bytes()) {
-        digits(&bytes[word.len()..])
+        number_of(&bytes[word.len()..])
     } else {
         None
     }
 }
 
-/// The number of at most 16 bits that decimal digits spell.
-fn digits(text: &[u8]) -> Option<u16>
-    ensures { result ≡ number_from (Some 0) text.now }
+/// The number of at most 16 bits that a text spells.
+fn number_of(text: &[u8]) -> Option<u16>
+    ensures { result ≡ decimal_up_to 65535 text.now }
 {
-    let mut number = 0;
-    for byte in text {
-        match more(number, *byte) {
-            Some(next) => number = next,
-            None => return None,
-        }
-    }
-    Some(number)
-}
-
-/// The number with one more decimal digit at the right.
-fn more(number: u16, byte: u8) -> Option<u16>
-    ensures { result ≡ with_digit number byte }
-{
-    if !byte.is_ascii_digit() {
-        return None;
-    }
-    number.checked_mul(10)?.checked_add((byte - b'0') as u16)
+    Some(parse_decimal(text, 65_535)? as u16)
 }

@@ -2,10 +2,12 @@
 //!
 //! - `record_type`: the types of records, with their numbers both ways; `later_types`: those that came after RFC 1035;
 //! - `dns_class`: the classes, with their numbers both ways; `serial_number`: serial numbers, which lie on a circle;
-//! - `code_text`: codes in text, by a word and a number; `laws`: each number is its code's, and serials by distance.
+//! - `code_text`: codes in text, by a word and a number; `decimal`: numbers in text;
+//! - `laws`: each number is its code's, and serials by distance.
 #![tactic(auto)]
 
 mod code_text;
+mod decimal;
 mod dns_class;
 mod later_types;
 mod laws;
@@ -13,6 +15,7 @@ mod record_type;
 mod serial_number;
 
 pub use code_text::CodeTextError;
+pub use decimal::parse_decimal;
 pub use dns_class::DNSClass;
 pub use laws::{
     every_class_number_comes_back, every_type_number_comes_back, serials_compare_by_distance,

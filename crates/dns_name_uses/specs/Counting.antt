@@ -1,6 +1,6 @@
 -- How the code counts a time, character by character. No public clause cites this module.
 use Rattle.std.specs.Prelude.{ℕ, ◌+◌, ◌-◌, ◌*◌, if◌then◌else◌, Option, Some, None, unwrap_or}
-use Rattle.dns_names.specs.Decimal.{is_digit}
+use Rattle.dns_codes.specs.Decimal.{is_digit}
 use Rattle.dns_name_uses.specs.Ttl.{unit_seconds}
 use Rattle.dns_name_uses.specs.declared.ttl.Counted.{Counted}
 

@@ -8,7 +8,7 @@ use Rattle.std.proofs.lemmas.Bool.Decides.{nat_tests}
 use Rattle.std.proofs.lemmas.Slice.Eq.{bytes_eq-Decides}
 use Rattle.dns_wire.specs.Name.{name_len}
 use Rattle.dns_names.specs.DomainName.{DomainName}
-use Rattle.dns_names.specs.Decimal.{is_digit, decimal_up_to}
+use Rattle.dns_codes.specs.Decimal.{is_digit, decimal_up_to}
 use Rattle.dns_names.specs.declared.error.ParseError.{ParseError}
 use Rattle.dns_names.specs.declared.error.ParseError.TheVariants.{LabelBytesTooLong, EmptyLabel, DomainNameTooLong, Text}
 use Rattle.dns_names.specs.Text.{Dot, Plain, Escaped, Broken, Begun, Placed, symbols_from, escape, escape_len, may_stand, with_octet, with_symbol, label_ended, name_ended, name_from, name_of_text}

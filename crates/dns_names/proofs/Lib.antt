@@ -3,7 +3,6 @@ pub mod ArpaRoundTrip
 pub mod BuildingLaws
 pub mod ComparisonLaws
 pub mod CutLaws
-pub mod DecimalLaws
 pub mod EachLaws
 pub mod EmitLaws
 pub mod GrammarCompleteness

@@ -5,7 +5,7 @@ use Rattle.std.specs.Option.{option_map_or}
 use Rattle.std.proofs.lemmas.Bool.Decides.{nat_tests}
 use Rattle.dns_wire.specs.Name.{IsLabel, name_len}
 use Rattle.dns_names.specs.DomainName.{DomainName}
-use Rattle.dns_names.specs.Decimal.{is_digit, decimal_up_to}
+use Rattle.dns_codes.specs.Decimal.{is_digit, decimal_up_to}
 use Rattle.dns_names.specs.declared.error.ParseError.{ParseError}
 use Rattle.dns_names.specs.Text.{Symbol, Dot, Plain, Escaped, Broken, Begun, symbol, more_len, symbols_from, decimal_octet, escape, escape_len, may_stand, with_octet, with_symbol, label_ended, name_ended, name_from}
 use Rattle.dns_names.proofs.TextLaws.{taken, ends_well}

@@ -5,7 +5,7 @@ use Rattle.std.specs.declared.net.ip_addr.IpAddr.{IpAddr}
 use Rattle.std.specs.declared.net.ip_addr.IpAddr.TheVariants.{V4, V6}
 use Rattle.dns_names.specs.DomainName.{DomainName}
 use Rattle.dns_names.specs.Comparison.{same_labels}
-use Rattle.dns_names.specs.Decimal.{is_digit, decimal_up_to}
+use Rattle.dns_codes.specs.Decimal.{is_digit, decimal_up_to}
 use Rattle.dns_names.specs.declared.arpa.AddrPrefix.{AddrPrefix}
 
 -- below `in-addr.arpa.` each octet is a decimal label

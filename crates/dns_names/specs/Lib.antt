@@ -8,7 +8,6 @@ pub mod Text
 pub mod TextGrammar
 pub mod BegunText
 pub mod SymbolShown
-pub mod Decimal
 pub mod Label
 pub mod LabelCmp
 pub mod LabelOrder

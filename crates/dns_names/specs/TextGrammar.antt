@@ -2,7 +2,7 @@
 use Rattle.std.specs.Prelude.{◌≡◌, ℕ, ◌≤◌, Bool, true, false, List, [], ◌∷◌, ◌++◌, Some}
 use Rattle.dns_wire.specs.Name.{IsLabel, name_len}
 use Rattle.dns_names.specs.DomainName.{DomainName}
-use Rattle.dns_names.specs.Decimal.{is_digit, decimal_up_to}
+use Rattle.dns_codes.specs.Decimal.{is_digit, decimal_up_to}
 use Rattle.dns_names.specs.Text.{may_stand}
 
 -- The octets of a label, the first of which may be its first: a character that may stand unescaped, a backslash and

@@ -6,9 +6,9 @@ ghost use Rattle.dns_names.specs.Comparison.{same_labels};
 ghost use Rattle.dns_names.specs.Arpa.{number, numbers, hex_value, nibble, under, lies_under, arpa_prefix, v4_prefix, v6_prefix, segment_at, padded};
 
 use crate::arpa::AddrPrefix;
-use crate::decimal::parse_decimal;
 use crate::error::ParseError;
 use crate::name::Name;
+use dns_codes::parse_decimal;
 use std::net::{IpAddr, Ipv4Addr, Ipv6Addr};
 
 impl Name {

@@ -2,7 +2,8 @@
 //!
 //! A `Name` is seen in contracts as a flag and a list of labels: each has 1 to 63 bytes, and the whole takes at most 255.
 //! What is read from the wire stands there, a pointer leads back, and each refusal is the first fault on the way.
-//! What is written is the name whole, and what is read from text is what the text spells, or its first fault.
+//! What is written is the name, compressed or whole as the encoder's mode asks, and what is read from text is what the
+//! text spells, or its first fault.
 //!
 //! - `label`, `into_label`, `label_cmp`, `label_order`: labels, what they are made of, their order, equality and hash;
 //! - `name`: the type, and what it is made of; `parts`, `building`, `from_labels`: its parts, and names made of names;
@@ -10,7 +11,7 @@
 //! - `comparison`, `order`: equality, zones, order and hash, up to ASCII case;
 //! - `reading`, `writing`: names on the wire; `symbol`, `text`: names in text, read; `display`, `to_ascii`: printed;
 //! - `arpa`, `arpa_parse`: names of addresses, made and read;
-//! - `decimal`: numbers in text; `error`: why a text is no name;
+//! - `error`: why a text is no name;
 //! - `laws`, `order_laws`, `text_laws`, `arpa_laws`: what these mean together, for the crates above.
 #![tactic(auto)]
 
@@ -19,7 +20,6 @@ mod arpa_laws;
 mod arpa_parse;
 mod building;
 mod comparison;
-mod decimal;
 mod display;
 mod error;
 mod from_labels;
@@ -43,7 +43,6 @@ mod writing;
 
 pub use arpa::AddrPrefix;
 pub use arpa_laws::names_of_addresses_are_read;
-pub use decimal::parse_decimal;
 pub use error::ParseError;
 pub use into_label::IntoLabel;
 pub use label::Label;

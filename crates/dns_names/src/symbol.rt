@@ -4,7 +4,7 @@ ghost use Rattle.std.specs.Prelude.{◌≡◌, ◌+◌, ◌<◌, ◌≤◌, leng
 ghost use Rattle.dns_names.specs.Text.{symbol, more_len, escape, escape_len, decimal_octet};
 ghost use Rattle.dns_names.specs.SymbolShown.{symbol_of};
 
-use crate::decimal::parse_decimal;
+use dns_codes::parse_decimal;
 
 /// A symbol of a name in text.
 #[derive(Clone, Copy)]

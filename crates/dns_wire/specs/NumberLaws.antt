@@ -7,8 +7,18 @@ use Rattle.std.specs.Int.RustNames.{FitsSigned}
 use Rattle.dns_wire.specs.Pieces.{Shows}
 use lib.IntN.{ℤ, pos, negsuc}
 
+-- ---- numbers of a width, by their bytes
+
+pub same_number_2 : (a b : ℕ) → a < 2 ^ 16 → b < 2 ^ 16 → to_be_bytes w16 a ≡ to_be_bytes w16 b → a ≡ b
+same_number_2 a b fits fits' e = sym (from_be_bytes-to_be_bytes_2 a fits) ∙ ap (from_be_bytes w16) e ∙ from_be_bytes-to_be_bytes_2 b fits'
+
+pub same_number_4 : (a b : ℕ) → a < 2 ^ 32 → b < 2 ^ 32 → to_be_bytes w32 a ≡ to_be_bytes w32 b → a ≡ b
+same_number_4 a b fits fits' e = sym (from_be_bytes-to_be_bytes_4 a fits) ∙ ap (from_be_bytes w32) e ∙ from_be_bytes-to_be_bytes_4 b fits'
+
+-- ---- what stands at a place
+
 -- as many bytes at one place are the same, up to the same end
-same_bytes : (buffer : List ℕ) (place : ℕ) (a b : List ℕ) (end end' : ℕ) → length a ≡ length b → Shows buffer place a end → Shows buffer place b end' → (a ≡ b) × (end ≡ end')
+pub same_bytes : (buffer : List ℕ) (place : ℕ) (a b : List ℕ) (end end' : ℕ) → length a ≡ length b → Shows buffer place a end → Shows buffer place b end' → (a ≡ b) × (end ≡ end')
 same_bytes buffer place a b end end' len s t =
     (sym s.there ∙ ap (λ (n : ℕ). take n (drop place buffer)) len ∙ t.there, omega (arith, s.ends, t.ends))
 
@@ -20,12 +30,12 @@ one_byte buffer place a b end end' s t =
 pub one_of_two : (buffer : List ℕ) (place a b end end' : ℕ) → Shows buffer place (to_be_bytes w16 a) end × (a < 2 ^ 16) → Shows buffer place (to_be_bytes w16 b) end' × (b < 2 ^ 16) → (a ≡ b) × (end ≡ end')
 one_of_two buffer place a b end end' s t =
     let same = same_bytes buffer place (to_be_bytes w16 a) (to_be_bytes w16 b) end end' refl s.0 t.0 in
-    (sym (from_be_bytes-to_be_bytes_2 a s.1) ∙ ap (from_be_bytes w16) same.0 ∙ from_be_bytes-to_be_bytes_2 b t.1, same.1)
+    (same_number_2 a b s.1 t.1 same.0, same.1)
 
 pub one_of_four : (buffer : List ℕ) (place a b end end' : ℕ) → Shows buffer place (to_be_bytes w32 a) end × (a < 2 ^ 32) → Shows buffer place (to_be_bytes w32 b) end' × (b < 2 ^ 32) → (a ≡ b) × (end ≡ end')
 one_of_four buffer place a b end end' s t =
     let same = same_bytes buffer place (to_be_bytes w32 a) (to_be_bytes w32 b) end end' refl s.0 t.0 in
-    (sym (from_be_bytes-to_be_bytes_4 a s.1) ∙ ap (from_be_bytes w32) same.0 ∙ from_be_bytes-to_be_bytes_4 b t.1, same.1)
+    (same_number_4 a b s.1 t.1 same.0, same.1)
 
 bits_fit : (z : ℤ) → FitsSigned w32 z → cast_unsigned w32 z < 2 ^ 32
 bits_fit (pos n) fits = omega (arith, fits.sfits)

@@ -2,8 +2,8 @@
 use Rattle.std.proofs.Common.{◌≡◌, ◌<◌, ◌^◌, ℕ, true, List, [], ◌∷◌, map, refl, arith}
 use Rattle.dns_names.specs.DomainName.{DomainName}
 use Rattle.dns_zone.specs.declared.rows.Row.{Row}
-use Rattle.dns_zone.specs.declared.rdata.RData.{RData}
-use Rattle.dns_zone.specs.declared.rdata.RData.TheVariants as of
+use Rattle.dns_messages.specs.declared.rdata.RData.{RData}
+use Rattle.dns_messages.specs.declared.rdata.RData.TheVariants as of
 use Rattle.dns_zone.specs.Rows.{AreSoundRows}
 use Rattle.dns_zone.specs.Answer.{record_of, authority_row, negative_ttl, AreSoundRecords}
 

@@ -1,11 +1,6 @@
 pub mod AddressLaws
 pub mod AnswerLaws
 pub mod ListLaws
-pub mod MessageAgain
-pub mod MessageLaws
-pub mod MessageWriting
-pub mod OneWay
 pub mod RowLaws
 pub mod ServingLaws
-pub mod Steps
 pub mod TextLaws

@@ -12,22 +12,22 @@ use Rattle.dns_codes.specs.RecordType.{type_number}
 use Rattle.dns_codes.specs.DNSClass.{class_number}
 use Rattle.dns_wire.specs.declared.error.DecodeError.{DecodeError}
 use Rattle.dns_wire.specs.declared.error.DecodeError.TheVariants as faults
-use Rattle.dns_zone.specs.declared.query.Query.{Query}
-use Rattle.dns_zone.specs.declared.record.Record.{Record}
-use Rattle.dns_zone.specs.declared.message.Message.{Message}
-use Rattle.dns_zone.specs.declared.header.Metadata.{Metadata}
-use Rattle.dns_zone.specs.declared.header.MessageType.TheVariants as kinds
-use Rattle.dns_zone.specs.declared.header.OpCode.TheVariants as ops
+use Rattle.dns_messages.specs.declared.query.Query.{Query}
+use Rattle.dns_messages.specs.declared.record.Record.{Record}
+use Rattle.dns_messages.specs.declared.message.Message.{Message}
+use Rattle.dns_messages.specs.declared.header.Metadata.{Metadata}
+use Rattle.dns_messages.specs.declared.header.MessageType.TheVariants as kinds
+use Rattle.dns_messages.specs.declared.header.OpCode.TheVariants as ops
 use Rattle.dns_zone.specs.declared.road.Road.{Road}
 use Rattle.dns_zone.specs.declared.road.Road.TheVariants as roads
-use Rattle.dns_zone.specs.Header.{op_number, op_of}
+use Rattle.dns_messages.specs.Header.{op_number, op_of}
 use Rattle.std.proofs.Common.{append_assoc, Some}
 use Rattle.dns_zone.specs.Rows.{ZoneContent}
-use Rattle.dns_zone.specs.Data.{data_type, data_pieces}
-use Rattle.dns_zone.specs.Record.{data_len, record_pieces}
-use Rattle.dns_zone.specs.Message.{beginning, records_pieces, front_pieces, message_form, cut, cut_off}
-use Rattle.dns_zone.specs.Sound.{IsSound, IsSoundQuery, IsSoundMetadata}
-use Rattle.dns_zone.specs.Grammar.{ReadsMessage, ReadsQuestion, Follow}
+use Rattle.dns_messages.specs.Data.{data_type, data_pieces}
+use Rattle.dns_messages.specs.Record.{data_len, record_pieces}
+use Rattle.dns_messages.specs.Message.{beginning, records_pieces, front_pieces, message_form, cut, cut_off}
+use Rattle.dns_messages.specs.Sound.{IsSound, IsSoundQuery, IsSoundMetadata}
+use Rattle.dns_messages.specs.Grammar.{ReadsMessage, ReadsQuestion, Follow}
 use Rattle.dns_zone.specs.Answer.{answer, IsSoundAnswer, AreSoundRecords}
 use Rattle.dns_zone.specs.Serving.{IsServed, IsRequest, Serves, reply, reply_to, reply_limit, sent_reply}
 

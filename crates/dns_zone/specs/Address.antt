@@ -2,9 +2,9 @@
 use Rattle.std.specs.Prelude.{◌==◌, ◌&&◌, ◌||◌, nat_lt, slice_index, if◌then◌else◌, Bool, Option, Some, None, List, [], ◌∷◌, ℕ, length}
 use Rattle.std.specs.List.{slice_split}
 use Rattle.std.specs.declared.net.ipv4_addr.Ipv4Addr.{Ipv4Addr}
-use Rattle.dns_names.specs.Decimal.{decimal_up_to}
-use Rattle.dns_zone.specs.declared.rdata.RData.{RData}
-use Rattle.dns_zone.specs.declared.rdata.RData.TheVariants as of
+use Rattle.dns_codes.specs.Decimal.{decimal_up_to}
+use Rattle.dns_messages.specs.declared.rdata.RData.{RData}
+use Rattle.dns_messages.specs.declared.rdata.RData.TheVariants as of
 
 -- a zero with a digit behind it
 abbrev pub has_leading_zero : List ℕ → Bool

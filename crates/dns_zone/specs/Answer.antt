@@ -6,17 +6,17 @@ use Rattle.dns_codes.specs.declared.dns_class.DNSClass.TheVariants.{IN}
 use Rattle.dns_codes.specs.declared.record_type.RecordType.TheVariants as types
 use Rattle.dns_names.specs.DomainName.{DomainName}
 use Rattle.dns_names.specs.Comparison.{at_or_below}
-use Rattle.dns_zone.specs.declared.header.ResponseCode.{ResponseCode}
-use Rattle.dns_zone.specs.declared.header.ResponseCode.TheVariants.{NoError, NXDomain, NotImp, Refused}
+use Rattle.dns_messages.specs.declared.header.ResponseCode.{ResponseCode}
+use Rattle.dns_messages.specs.declared.header.ResponseCode.TheVariants.{NoError, NXDomain, NotImp, Refused}
 use Rattle.dns_zone.specs.declared.answer.Answer.{Answer}
-use Rattle.dns_zone.specs.declared.query.Query.{Query}
-use Rattle.dns_zone.specs.declared.record.Record.{Record}
-use Rattle.dns_zone.specs.declared.rdata.RData.{RData}
-use Rattle.dns_zone.specs.declared.rdata.RData.TheVariants as of
+use Rattle.dns_messages.specs.declared.query.Query.{Query}
+use Rattle.dns_messages.specs.declared.record.Record.{Record}
+use Rattle.dns_messages.specs.declared.rdata.RData.{RData}
+use Rattle.dns_messages.specs.declared.rdata.RData.TheVariants as of
 use Rattle.dns_zone.specs.declared.rows.Row.{Row}
 use Rattle.std.specs.List.{AllByRecursion}
-use Rattle.dns_zone.specs.Header.{code_number, code_of}
-use Rattle.dns_zone.specs.Sound.{IsSoundRecord}
+use Rattle.dns_messages.specs.Header.{code_number, code_of}
+use Rattle.dns_messages.specs.Sound.{IsSoundRecord}
 use Rattle.dns_zone.specs.Rows.{ZoneContent, rows_at, some_row_below}
 
 -- types that no row has: 0, SIG, OPT, and 128 to 255 (RFC 6895 section 3.1)

@@ -1,11 +1,3 @@
-pub mod Data
-pub mod Printed
-pub mod Question
-pub mod Record
-pub mod Header
-pub mod Message
-pub mod Sound
-pub mod Grammar
 pub mod Address
 pub mod Rows
 pub mod Answer

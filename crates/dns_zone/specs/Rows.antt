@@ -12,12 +12,12 @@ use Rattle.dns_codes.specs.declared.record_type.RecordType.{RecordType}
 use Rattle.dns_codes.specs.RecordType.{type_number}
 use Rattle.dns_names.specs.DomainName.{DomainName}
 use Rattle.dns_names.specs.Comparison.{lower, at_or_below}
-use Rattle.dns_zone.specs.declared.rdata.RData.{RData}
-use Rattle.dns_zone.specs.declared.rdata.RData.TheVariants as of
+use Rattle.dns_messages.specs.declared.rdata.RData.{RData}
+use Rattle.dns_messages.specs.declared.rdata.RData.TheVariants as of
 use Rattle.dns_zone.specs.declared.rows.Row.{Row}
 use Rattle.dns_zone.specs.declared.rows.RecordSet.{RecordSet}
-use Rattle.dns_zone.specs.Sound.{IsSoundData}
-use Rattle.dns_zone.specs.Data.{same_data, data_type}
+use Rattle.dns_messages.specs.Sound.{IsSoundData}
+use Rattle.dns_messages.specs.Data.{same_data, data_type}
 
 -- the place of a record set: its owner's labels in lower case, and its type's number
 abbrev pub Key : Type 0

@@ -1,19 +1,19 @@
 -- What a zone's server replies (RFC 1035 sections 4.1 and 4.2).
 use Rattle.std.specs.Prelude.{◌≡◌, min, true, false, Bool, List, [], ◌∷◌, ℕ, Option, Some, None}
-use Rattle.dns_zone.specs.declared.header.MessageType.TheVariants as kinds
-use Rattle.dns_zone.specs.declared.header.OpCode.TheVariants as ops
-use Rattle.dns_zone.specs.declared.header.ResponseCode.{ResponseCode}
-use Rattle.dns_zone.specs.declared.header.ResponseCode.TheVariants.{NoError, NXDomain}
-use Rattle.dns_zone.specs.declared.header.Metadata.{Metadata}
-use Rattle.dns_zone.specs.declared.query.Query.{Query}
-use Rattle.dns_zone.specs.declared.message.Message.{Message}
+use Rattle.dns_messages.specs.declared.header.MessageType.TheVariants as kinds
+use Rattle.dns_messages.specs.declared.header.OpCode.TheVariants as ops
+use Rattle.dns_messages.specs.declared.header.ResponseCode.{ResponseCode}
+use Rattle.dns_messages.specs.declared.header.ResponseCode.TheVariants.{NoError, NXDomain}
+use Rattle.dns_messages.specs.declared.header.Metadata.{Metadata}
+use Rattle.dns_messages.specs.declared.query.Query.{Query}
+use Rattle.dns_messages.specs.declared.message.Message.{Message}
 use Rattle.dns_zone.specs.declared.road.Road.{Road}
 use Rattle.dns_zone.specs.declared.road.Road.TheVariants.{Datagram, Stream}
 use Rattle.dns_zone.specs.Rows.{ZoneContent}
 use Rattle.dns_zone.specs.declared.answer.Answer.{Answer}
 use Rattle.dns_zone.specs.Answer.{answer}
-use Rattle.dns_zone.specs.Message.{cut, message_form}
-use Rattle.dns_zone.specs.Grammar.{ReadsMessage}
+use Rattle.dns_messages.specs.Message.{cut, message_form}
+use Rattle.dns_messages.specs.Grammar.{ReadsMessage}
 
 -- which requests are served: a question, one, and no record
 pub record IsServed (m : Message) (q : Query) : Type 0 where

@@ -8,10 +8,10 @@ use Rattle.std.specs.FinMap as map
 use Rattle.dns_names.specs.DomainName.{DomainName}
 use Rattle.dns_names.specs.Comparison.{at_or_below, same_labels}
 use Rattle.dns_names.specs.Text.{name_of_text}
-use Rattle.dns_names.specs.Decimal.{decimal_up_to}
+use Rattle.dns_codes.specs.Decimal.{decimal_up_to}
 use Rattle.dns_names.specs.declared.error.ParseError.{ParseError}
-use Rattle.dns_zone.specs.declared.rdata.RData.{RData}
-use Rattle.dns_zone.specs.declared.rdata.RData.TheVariants as of
+use Rattle.dns_messages.specs.declared.rdata.RData.{RData}
+use Rattle.dns_messages.specs.declared.rdata.RData.TheVariants as of
 use Rattle.dns_zone.specs.declared.text.Entry.{Entry}
 use Rattle.dns_zone.specs.declared.text.SoaNumbers.{SoaNumbers}
 use Rattle.dns_zone.specs.declared.text.LineContent.{LineContent}

@@ -5,7 +5,7 @@ ghost use Rattle.std.specs.List.{slice_split};
 ghost use Rattle.std.specs.Net.Addr.{ipv4_octets};
 ghost use Rattle.dns_zone.specs.Address.{address_of, octet_of};
 
-use dns_names::parse_decimal;
+use dns_codes::parse_decimal;
 use std::net::Ipv4Addr;
 
 /// A number of a dotted address: one to three digits, at most 255, without leading zeros.

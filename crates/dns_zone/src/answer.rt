@@ -5,12 +5,8 @@ ghost use Rattle.dns_codes.specs.RecordType.{type_number};
 ghost use Rattle.dns_zone.specs.Rows.{rows_of_sets, AreSoundRows, AreSoundSets};
 ghost use Rattle.dns_zone.specs.Answer.{answer, authority, authority_row, found, is_no_row_type, negative, negative_ttl, record_of, refusal, AreSoundRecords, IsSoundAnswer};
 
-use crate::header::ResponseCode;
-use crate::query::Query;
-use crate::rdata::RData;
-use crate::record::Record;
 use crate::rows::{RecordSet, Row, has_row_below, rows_of};
-use crate::section::Section;
+use dns_messages::{Query, RData, Record, ResponseCode, Section};
 use dns_names::Name;
 use dns_wire::{DNSClass, RecordType};
 use std::alloc::{AllocError, Global};

@@ -5,9 +5,9 @@ ghost use Rattle.std.specs.FinMap as rows_map;
 ghost use Rattle.std.specs.List.{list_any, position_or_len};
 ghost use Rattle.std.specs.Ordering.{eq_by_cmp};
 ghost use Rattle.dns_zone.specs.Rows.{key, key_cmp, set_key, rows_of_sets, rows_at, some_row_below, with_row, joined, replaced, is_soa, supersedes, AreSoundRows, AreSoundSets, IsSoundRow};
-ghost use Rattle.dns_zone.specs.Data.{same_data};
+ghost use Rattle.dns_messages.specs.Data.{same_data};
 
-use crate::rdata::RData;
+use dns_messages::RData;
 use dns_names::Name;
 use dns_wire::{RecordType, SerialNumber, SerialOrder};
 use std::alloc::{AllocError, Global};

@@ -1,13 +1,11 @@
 //! Requests, and the frame of their replies (RFC 1035 sections 4.1 and 4.2).
 
 ghost use Rattle.std.specs.Prelude.{◌≡◌, ◌≤◌, MatchBool, MatchOption};
-ghost use Rattle.dns_zone.specs.declared.query.Query as asked;
+ghost use Rattle.dns_messages.specs.declared.query.Query as asked;
 ghost use Rattle.dns_zone.specs.Serving.{has_authority, reply_limit, reply_metadata, IsServed};
 
-use crate::header::{MessageType, Metadata, OpCode, ResponseCode};
-use crate::message::Message;
-use crate::query::Query;
 use crate::road::Road;
+use dns_messages::{Message, MessageType, Metadata, OpCode, Query, ResponseCode};
 
 /// Whether a message is a request that is served: a question, one, and no record.
 fn is_served(message: &Message) -> bool

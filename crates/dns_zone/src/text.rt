@@ -4,14 +4,15 @@ ghost use Rattle.std.specs.Prelude.{◌≡◌, ◌≢◌, ◌<◌, ◌^◌, Opti
 ghost use Rattle.std.specs.List.{list_all, AllByRecursion};
 ghost use Rattle.std.specs.Str.Lines.{lines};
 ghost use Rattle.dns_zone.specs.Rows.{IsSoundRow};
-ghost use Rattle.dns_zone.specs.Sound.{IsSoundData};
+ghost use Rattle.dns_messages.specs.Sound.{IsSoundData};
 ghost use Rattle.dns_zone.specs.ZoneText.{is_blank, words, ended, fqdn_of, number_of, numbers_of, soa_of, a_of, rdata_of, entry_of, content_of_line, entries_from, IsSoundContent, AreSoundEntries, NumbersFit};
 
 use crate::address::parse_ip;
-use crate::rdata::{A, RData, SOA};
 use crate::rows::Row;
 use crate::zone::ZoneFault;
-use dns_names::{Name, ParseError, parse_decimal};
+use dns_codes::parse_decimal;
+use dns_messages::{A, RData, SOA};
+use dns_names::{Name, ParseError};
 use std::alloc::{AllocError, Global};
 use std::str;
 

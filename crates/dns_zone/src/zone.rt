@@ -4,14 +4,11 @@ ghost use Rattle.std.specs.Prelude.{◌≡◌, ◌≢◌, IfOk, IfErr, Ok, Err, 
 
 use crate::answer::{Answer, answer_from};
 use crate::entries::{first_soa_owner, has_owner_outside, has_soa_elsewhere, sets_of};
-use crate::header::Metadata;
-use crate::message::Message;
-use crate::query::Query;
 use crate::road::Road;
 use crate::rows::RecordSet;
-use crate::section::Section;
 use crate::serve::{limit_of, metadata_of_reply, served_question};
 use crate::text::read_entries;
+use dns_messages::{Message, Metadata, Query, Section};
 use dns_names::Name;
 use dns_wire::{DecodeError, EncodeError};
 use std::alloc::{AllocError, AllocFailed, Global};

@@ -3,9 +3,9 @@ use Rattle.std.proofs.Common.{◌≡◌, ◌≤◌, ℕ, ◌+◌, ◌++◌, List
 use Rattle.std.specs.Prelude.{◌⊎◌, slice_get, if◌then◌else◌}
 use Rattle.std.proofs.Math.Seq.{take-append_seam, take-length}
 use Rattle.std.proofs.lemmas.Bool.{true≢false, cases_Bool}
-use Rattle.dns_zone.specs.declared.query.Query.{Query}
-use Rattle.dns_zone.specs.declared.message.Message.{Message}
-use Rattle.dns_zone.specs.Sound.{IsSoundQuery}
+use Rattle.dns_messages.specs.declared.query.Query.{Query}
+use Rattle.dns_messages.specs.declared.message.Message.{Message}
+use Rattle.dns_messages.specs.Sound.{IsSoundQuery}
 use Rattle.stub_run.specs.declared.event.Event.{Event}
 use Rattle.stub_run.specs.declared.lookup.Lookup.{Lookup}
 use Rattle.stub_run.specs.declared.lookup.LinkFault.TheVariants as fault

@@ -13,7 +13,7 @@ use Rattle.stub_run.specs.declared.world.Stopped.TheVariants.{Moments}
 use Rattle.stub_run.specs.declared.world.Stopped.TheVariants as stops
 use Rattle.stub_run.specs.declared.playing.PlayFault.{PlayFault}
 use Rattle.stub_run.specs.declared.playing.PlayFault.TheVariants.{Write}
-use Rattle.dns_zone.specs.declared.query.Query.{Query}
+use Rattle.dns_messages.specs.declared.query.Query.{Query}
 use Rattle.std.specs.Io.KnownBytes.{Appends}
 use Rattle.stub_run.specs.declared.world.EventReport.{EventReport}
 use Rattle.stub_run.specs.World.{WorldContent}

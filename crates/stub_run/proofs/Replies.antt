@@ -7,14 +7,14 @@ use Rattle.std.proofs.lemmas.Bool.{and_from, eq-eqb, true≢false}
 use Rattle.dns_codes.specs.RecordType.{type_number}
 use Rattle.dns_codes.specs.DNSClass.{class_number}
 use Rattle.dns_names.specs.Comparison.{same_labels}
-use Rattle.dns_zone.specs.declared.query.Query.{Query}
-use Rattle.dns_zone.specs.declared.message.Message.{Message}
+use Rattle.dns_messages.specs.declared.query.Query.{Query}
+use Rattle.dns_messages.specs.declared.message.Message.{Message}
 use Rattle.dns_zone.specs.declared.road.DatagramLimit.{DatagramLimit}
 use Rattle.dns_zone.specs.declared.road.Road.TheVariants.{Datagram}
 use Rattle.dns_zone.specs.Rows.{ZoneContent}
-use Rattle.dns_zone.specs.Question.{same_question}
-use Rattle.dns_zone.specs.Message.{message_form, cut, cut_off}
-use Rattle.dns_zone.specs.Grammar.{ReadsMessage}
+use Rattle.dns_messages.specs.Question.{same_question}
+use Rattle.dns_messages.specs.Message.{message_form, cut, cut_off}
+use Rattle.dns_messages.specs.Grammar.{ReadsMessage}
 use Rattle.dns_zone.specs.Serving.{Serves, sent_reply, reply, reply_limit}
 use Rattle.stub_run.specs.declared.link.LinkError.{LinkError}
 use Rattle.stub_run.specs.declared.link.LinkError.TheVariants.{Failed, Memory}

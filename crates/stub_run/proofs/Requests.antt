@@ -3,12 +3,12 @@ use Rattle.std.proofs.Common.{◌≡◌, ◌+◌, ◌≤◌, ◌<◌, ◌^◌, �
 use Rattle.std.proofs.lemmas.Bool.{le-leb}
 use Rattle.dns_wire.specs.Name.{name_len}
 use Rattle.dns_wire.specs.Pieces.{labels_form, whole_form}
-use Rattle.dns_zone.specs.declared.header.Metadata.{Metadata}
-use Rattle.dns_zone.specs.declared.query.Query.{Query}
-use Rattle.dns_zone.specs.declared.message.Message.{Message}
-use Rattle.dns_zone.specs.Message.{message_form, cut, cut_off}
-use Rattle.dns_zone.specs.Grammar.{ReadsMessage}
-use Rattle.dns_zone.specs.Sound.{IsSound, IsSoundQuery}
+use Rattle.dns_messages.specs.declared.header.Metadata.{Metadata}
+use Rattle.dns_messages.specs.declared.query.Query.{Query}
+use Rattle.dns_messages.specs.declared.message.Message.{Message}
+use Rattle.dns_messages.specs.Message.{message_form, cut, cut_off}
+use Rattle.dns_messages.specs.Grammar.{ReadsMessage}
+use Rattle.dns_messages.specs.Sound.{IsSound, IsSoundQuery}
 use Rattle.std.specs.Int.{w16, to_be_bytes}
 use Rattle.dns_codes.specs.RecordType.{type_number}
 use Rattle.dns_codes.specs.DNSClass.{class_number}

@@ -1,6 +1,6 @@
 -- A run goes on.
 use Rattle.std.proofs.Common.{◌≡◌, ℕ, List, [], ◌∷◌, ◌++◌, refl, sym, subst}
-use Rattle.dns_zone.specs.declared.query.Query.{Query}
+use Rattle.dns_messages.specs.declared.query.Query.{Query}
 use Rattle.stub_run.specs.declared.event.Event.{Event}
 use Rattle.stub_run.specs.declared.world.EventReport.{EventReport}
 use Rattle.stub_run.specs.World.{WorldContent}

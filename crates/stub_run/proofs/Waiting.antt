@@ -1,13 +1,13 @@
 -- Waiting goes on.
 use Rattle.std.proofs.Common.{◌≡◌, ℕ, zero, suc, ◌-◌, ◌<◌, List, Option, Some, None, Result, Err, refl, subst, inl, inr, arith}
-use Rattle.dns_zone.specs.declared.query.Query.{Query}
-use Rattle.dns_zone.specs.declared.message.Message.{Message}
-use Rattle.dns_zone.specs.Grammar.{ReadsMessage}
+use Rattle.dns_messages.specs.declared.query.Query.{Query}
+use Rattle.dns_messages.specs.declared.message.Message.{Message}
+use Rattle.dns_messages.specs.Grammar.{ReadsMessage}
 use Rattle.stub_run.specs.declared.link.LinkError.{LinkError}
 use Rattle.stub_run.specs.declared.lookup.LinkFault.TheVariants as fault
 use Rattle.stub_run.specs.declared.lookup.NetError.{NetError}
 use Rattle.stub_run.specs.declared.lookup.NetError.TheVariants as net
-use Rattle.dns_zone.specs.Message.{message_form}
+use Rattle.dns_messages.specs.Message.{message_form}
 use Rattle.stub_run.specs.Wire.{Waits, Heard, Took, FindsReply, accepted, one_more, request, Exchanges, AfterSending}
 
 abbrev pub Receives-of : Type 0 → Type 1

@@ -1,10 +1,10 @@
 -- What a reply gives to a lookup (RFC 2308 section 2).
 use Rattle.std.specs.Prelude.{List, [], ◌∷◌, ℕ, Result, Ok, Err}
-use Rattle.dns_zone.specs.declared.header.ResponseCode.{ResponseCode}
-use Rattle.dns_zone.specs.declared.header.ResponseCode.TheVariants.{NoError, NXDomain}
-use Rattle.dns_zone.specs.declared.query.Query.{Query}
-use Rattle.dns_zone.specs.declared.record.Record.{Record}
-use Rattle.dns_zone.specs.declared.message.Message.{Message}
+use Rattle.dns_messages.specs.declared.header.ResponseCode.{ResponseCode}
+use Rattle.dns_messages.specs.declared.header.ResponseCode.TheVariants.{NoError, NXDomain}
+use Rattle.dns_messages.specs.declared.query.Query.{Query}
+use Rattle.dns_messages.specs.declared.record.Record.{Record}
+use Rattle.dns_messages.specs.declared.message.Message.{Message}
 use Rattle.stub_run.specs.declared.lookup.Lookup.{Lookup}
 use Rattle.stub_run.specs.declared.lookup.LinkFault.{LinkFault}
 use Rattle.stub_run.specs.declared.lookup.LinkFault.TheVariants.{NotSent, NotReceived, Quiet, NoMatch, Truncated, NoId}

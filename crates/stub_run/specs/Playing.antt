@@ -9,7 +9,7 @@ use Rattle.stub_run.specs.declared.event.Event.{Event}
 use Rattle.stub_run.specs.declared.script.ScriptFault.TheVariants.{Line}
 use Rattle.stub_run.specs.declared.playing.PlayFault.{PlayFault}
 use Rattle.stub_run.specs.declared.playing.PlayFault.TheVariants.{Zone, Script, Memory, Write}
-use Rattle.dns_zone.specs.declared.query.Query.{Query}
+use Rattle.dns_messages.specs.declared.query.Query.{Query}
 use Rattle.stub_run.specs.declared.world.EventReport.{EventReport}
 use Rattle.stub_run.specs.World.{WorldContent}
 use Rattle.stub_run.specs.Run.{InOrder, Runs}

@@ -6,9 +6,9 @@ use Rattle.dns_codes.specs.RecordType.{type_number, type_of}
 use Rattle.dns_codes.specs.declared.record_type.RecordType.{RecordType}
 use Rattle.dns_names.specs.DomainName.{DomainName}
 use Rattle.dns_names.specs.Printed.{text_of_name}
-use Rattle.dns_zone.specs.Data.{data_type}
-use Rattle.dns_zone.specs.Printed.{code_text, data_text}
-use Rattle.dns_zone.specs.declared.record.Record.{Record}
+use Rattle.dns_messages.specs.Data.{data_type}
+use Rattle.dns_messages.specs.Printed.{code_text, data_text}
+use Rattle.dns_messages.specs.declared.record.Record.{Record}
 use Rattle.stub_run.specs.declared.event.Event.{Event}
 use Rattle.stub_run.specs.declared.event.Event.TheVariants as event
 use Rattle.stub_run.specs.declared.lookup.Lookup.{Lookup}

@@ -2,8 +2,8 @@
 use Rattle.std.specs.Prelude.{◌≡◌, ◌≤◌, ◌^◌, true, false, List, [], ◌∷◌, ◌++◌, ℕ, length, slice_get, Option, Some, None, Result, Ok, Err, if◌then◌else◌}
 use Rattle.dns_codes.specs.RecordType.{type_number, type_of}
 use Rattle.dns_codes.specs.declared.dns_class.DNSClass.TheVariants.{IN}
-use Rattle.dns_zone.specs.declared.query.Query.{Query}
-use Rattle.dns_zone.specs.declared.message.Message.{Message}
+use Rattle.dns_messages.specs.declared.query.Query.{Query}
+use Rattle.dns_messages.specs.declared.message.Message.{Message}
 use Rattle.dns_zone.specs.declared.road.Road.TheVariants.{Datagram}
 use Rattle.dns_zone.specs.Serving.{sent_reply}
 use Rattle.stub_run.specs.declared.event.Event.{Event}

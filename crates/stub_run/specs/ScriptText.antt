@@ -6,7 +6,7 @@ use Rattle.std.specs.Str.{bytes_eq}
 use Rattle.std.specs.Str.Lines.{lines}
 use Rattle.dns_codes.specs.declared.record_type.RecordType.TheVariants.{A}
 use Rattle.dns_names.specs.DomainName.{DomainName}
-use Rattle.dns_names.specs.Decimal.{decimal_up_to}
+use Rattle.dns_codes.specs.Decimal.{decimal_up_to}
 use Rattle.dns_zone.specs.ZoneText.{words, fqdn_of}
 use Rattle.stub_run.specs.declared.event.Script.TheVariants.{Honest}
 use Rattle.stub_run.specs.declared.event.Event.{Event}

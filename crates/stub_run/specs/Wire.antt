@@ -1,16 +1,16 @@
 -- One question, asked over any link (RFC 1035 section 7.3, RFC 5452 section 3).
 use Rattle.std.specs.Prelude.{◌≡◌, ◌==◌, ◌&&◌, ◌+◌, ◌-◌, ◌≤◌, ◌^◌, ◌⊎◌, min, zero, suc, Bool, true, false, List, [], ◌∷◌, ◌++◌, ℕ, length, slice_get, Option, Some, None, Result, Ok, Err, if◌then◌else◌}
-use Rattle.dns_zone.specs.declared.header.MessageType.{MessageType}
-use Rattle.dns_zone.specs.declared.header.MessageType.TheVariants as kinds
-use Rattle.dns_zone.specs.declared.header.OpCode.{OpCode}
-use Rattle.dns_zone.specs.declared.header.OpCode.TheVariants as ops
-use Rattle.dns_zone.specs.declared.header.ResponseCode.TheVariants.{NoError}
-use Rattle.dns_zone.specs.declared.query.Query.{Query}
-use Rattle.dns_zone.specs.declared.message.Message.{Message}
-use Rattle.dns_zone.specs.Question.{same_question}
-use Rattle.dns_zone.specs.Message.{message_form}
-use Rattle.dns_zone.specs.Sound.{IsSoundQuery}
-use Rattle.dns_zone.specs.Grammar.{ReadsMessage}
+use Rattle.dns_messages.specs.declared.header.MessageType.{MessageType}
+use Rattle.dns_messages.specs.declared.header.MessageType.TheVariants as kinds
+use Rattle.dns_messages.specs.declared.header.OpCode.{OpCode}
+use Rattle.dns_messages.specs.declared.header.OpCode.TheVariants as ops
+use Rattle.dns_messages.specs.declared.header.ResponseCode.TheVariants.{NoError}
+use Rattle.dns_messages.specs.declared.query.Query.{Query}
+use Rattle.dns_messages.specs.declared.message.Message.{Message}
+use Rattle.dns_messages.specs.Question.{same_question}
+use Rattle.dns_messages.specs.Message.{message_form}
+use Rattle.dns_messages.specs.Sound.{IsSoundQuery}
+use Rattle.dns_messages.specs.Grammar.{ReadsMessage}
 use Rattle.stub_run.specs.declared.link.LinkError.{LinkError}
 use Rattle.stub_run.specs.declared.link.LinkError.TheVariants.{Failed, Memory}
 use Rattle.stub_run.specs.declared.lookup.LinkFault.TheVariants as fault

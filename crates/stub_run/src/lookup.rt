@@ -3,7 +3,7 @@
 ghost use Rattle.std.specs.Prelude.{◌≡◌};
 ghost use Rattle.stub_run.specs.Lookup.{lookup_of, without_record};
 
-use dns_zone::{Message, Query, Record, ResponseCode, Section};
+use dns_messages::{Message, Query, Record, ResponseCode, Section};
 use thiserror::Error;
 
 /// The records that a lookup found.

@@ -8,9 +8,9 @@ ghost use Rattle.stub_run.specs.ReportText.{owner_text, event_text, record_text,
 use crate::event::Event;
 use crate::lookup::{DnsError, Lookup, NetError};
 use crate::world::{EventReply, Report};
+use dns_messages::Record;
 use dns_names::Name;
 use dns_wire::RecordType;
-use dns_zone::Record;
 use std::{fmt, io};
 
 /// Writes what each event gave, event by event. What has no event beside it, or no report, isn't written.

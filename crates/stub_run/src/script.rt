@@ -5,7 +5,8 @@ ghost use Rattle.std.specs.Str.Lines.{lines};
 ghost use Rattle.stub_run.specs.ScriptText.{script_of_text, events_from, side_by_side, content_of_line, content_of_words};
 
 use crate::event::{Event, Script};
-use dns_names::{Name, parse_decimal};
+use dns_codes::parse_decimal;
+use dns_names::Name;
 use dns_wire::RecordType;
 use dns_zone::{parse_name, split_words};
 use std::alloc::{AllocError, AllocFailed, Global};

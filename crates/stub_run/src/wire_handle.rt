@@ -1,15 +1,15 @@
 //! Asking a question over a link.
 
 ghost use Rattle.std.specs.Prelude.{◌≡◌, ◌+◌, ◌≤◌, ◌∷◌, ◌++◌, [], Err, IfOk, OnOk, OnErr, length, vec_len, vec_capacity};
-ghost use Rattle.dns_zone.specs.Grammar.{ReadsMessage};
-ghost use Rattle.dns_zone.specs.Message.{message_form};
-ghost use Rattle.dns_zone.specs.Sound.{IsSoundQuery};
+ghost use Rattle.dns_messages.specs.Grammar.{ReadsMessage};
+ghost use Rattle.dns_messages.specs.Message.{message_form};
+ghost use Rattle.dns_messages.specs.Sound.{IsSoundQuery};
 ghost use Rattle.stub_run.specs.Wire.{request, matches, accepted, Waits, Exchanges, MaySend, FindsReply};
 
 use crate::link::{Link, LinkError};
 use crate::lookup::{LinkFault, NetError};
+use dns_messages::{Message, MessageType, Metadata, OpCode, Query, ResponseCode, Section};
 use dns_wire::{DecodeError, EncodeError};
-use dns_zone::{Message, MessageType, Metadata, OpCode, Query, ResponseCode, Section};
 use std::alloc::{AllocError, Global};
 
 /// Asks questions over a link, each with the next id of a list.

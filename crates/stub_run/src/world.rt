@@ -7,8 +7,9 @@ use crate::link::Link;
 use crate::lookup::{Lookup, NetError};
 use crate::scripted_link::ScriptedLink;
 use crate::wire_handle::WireHandle;
+use dns_messages::{Message, Query, a_message_is_read_one_way};
 use dns_wire::{RecordType, every_type_number_comes_back};
-use dns_zone::{DatagramLimit, Message, Query, Zone, a_message_is_read_one_way};
+use dns_zone::{DatagramLimit, Zone};
 use std::alloc::{AllocError, Global};
 use std::marker::Model;
 
@@ -82,7 +83,7 @@ impl World {
     }
 }
 
-ghost use Rattle.dns_zone.specs.Sound.{IsSoundQuery};
+ghost use Rattle.dns_messages.specs.Sound.{IsSoundQuery};
 ghost use Rattle.stub_run.specs.Run.{Runs, Step, InOrder, question_of, found_by, told, memory_report};
 ghost use Rattle.stub_run.specs.World.{content, IsQuiet};
 

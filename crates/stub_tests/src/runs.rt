@@ -1,6 +1,7 @@
 use dns_names::Name;
 use dns_wire::RecordType;
-use dns_zone::{DatagramLimit, Message, Query, RData, ResponseCode, Zone};
+use dns_messages::{Message, Query, RData, ResponseCode};
+use dns_zone::{DatagramLimit, Zone};
 use std::alloc::Global;
 use std::fmt::Write;
 use std::net::Ipv4Addr;

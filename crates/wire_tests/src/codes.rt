@@ -1,3 +1,4 @@
+use dns_codes::parse_decimal;
 use dns_wire::{DNSClass, RecordType, SerialNumber, SerialOrder};
 use std::alloc::Global;
 use std::test::Fail;
@@ -173,4 +174,20 @@ fn a_text_that_is_no_code_is_told(rt: HostRuntime) -> Result<(), Fail> {
     let found = type_fault(rt.alloc(), "TYPE65536")?;
     assert_eq!(rt; found.as_str(), "no such code");
     Ok(())
+}
+
+#[test]
+fn decimals(rt: HostRuntime) {
+    for (text, greatest, want) in [
+        (b"0".as_slice(), 0, Some(0)),
+        (b"00255".as_slice(), 255, Some(255)),
+        (b"256".as_slice(), 255, None),
+        (b"".as_slice(), 255, None),
+        (b"+1".as_slice(), 255, None),
+        (b"18446744073709551615".as_slice(), u64::MAX, Some(u64::MAX)),
+        (b"18446744073709551616".as_slice(), u64::MAX, None),
+        (b"4".as_slice(), 3, None),
+    ] {
+        assert_eq!(rt; parse_decimal(text, greatest), want, "{text:?}");
+    }
 }

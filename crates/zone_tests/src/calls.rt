@@ -2,7 +2,8 @@
 
 use dns_names::Name;
 use dns_wire::BinDecoder;
-use dns_zone::{A, Query, RData, Record, SOA, Section, parse_name, split_words};
+use dns_messages::{A, Query, RData, Record, SOA, Section};
+use dns_zone::{parse_name, split_words};
 use std::alloc::Global;
 use std::net::Ipv4Addr;
 use std::test::Fail;

@@ -1,5 +1,5 @@
 use Rattle.std.proofs.Common.{◌≡◌, false, sym, subst, ◌∙◌}
-use Rattle.dns_zone.specs.declared.message.Message.{Message}
+use Rattle.dns_messages.specs.declared.message.Message.{Message}
 use Rattle.stub_run.specs.Wire.{matches}
 use Rattle.stub_run.proofs.wire_handle.reply_in.Goals as goal
 

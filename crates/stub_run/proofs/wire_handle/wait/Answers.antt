@@ -1,5 +1,5 @@
 use Rattle.std.proofs.Common.{◌≡◌, ℕ, ◌-◌, ◌+◌, ◌<◌, Ok, Err, Some, None, List, Result, refl, sym, subst, arith}
-use Rattle.dns_zone.specs.declared.message.Message.{Message}
+use Rattle.dns_messages.specs.declared.message.Message.{Message}
 use Rattle.stub_run.specs.declared.link.LinkError.TheVariants.{Failed, Memory}
 use Rattle.stub_run.specs.declared.lookup.LinkFault.TheVariants as fault
 use Rattle.stub_run.specs.declared.lookup.NetError.{NetError}

@@ -1,6 +1,6 @@
 use Rattle.std.proofs.Common.{◌≡◌, ℕ, ◌+◌, List, [], ◌∷◌, ◌++◌, take, sym, ap, subst, ◌∙◌}
 use Rattle.std.proofs.lemmas.List.{take_more}
-use Rattle.dns_zone.specs.declared.query.Query.{Query}
+use Rattle.dns_messages.specs.declared.query.Query.{Query}
 use Rattle.stub_run.specs.declared.event.Event.{Event}
 use Rattle.stub_run.specs.declared.world.EventReport.{EventReport}
 use Rattle.stub_run.specs.World.{WorldContent}

@@ -1,5 +1,5 @@
 use Rattle.std.proofs.Common.{◌≡◌, ◌<◌, sym, ap, ◌∙◌, subst, refl, length, arith, Err}
-use Rattle.dns_zone.specs.Message.{message_form, cut_off}
+use Rattle.dns_messages.specs.Message.{message_form, cut_off}
 use Rattle.dns_zone.specs.Serving.{IsServed, reply_to}
 use Rattle.dns_zone.proofs.ServingLaws.{not_read, serves, question_fits}
 use Rattle.dns_zone.proofs.zone.Zone.serve.Goals as goal

@@ -1,0 +1,5 @@
+pub mod MessageAgain
+pub mod MessageLaws
+pub mod MessageWriting
+pub mod OneWay
+pub mod Steps

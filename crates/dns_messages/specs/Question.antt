@@ -1,0 +1,16 @@
+-- Questions: what is written for them, and when two ask the same (RFC 1035 section 4.1.2).
+use Rattle.std.specs.Prelude.{◌==◌, ◌&&◌, Bool, List, [], ◌∷◌}
+use Rattle.std.specs.Int.{w16, to_be_bytes}
+use Rattle.dns_wire.specs.Pieces.{Piece, Plain, Domain}
+use Rattle.dns_codes.specs.RecordType.{type_number}
+use Rattle.dns_codes.specs.DNSClass.{class_number}
+use Rattle.dns_names.specs.Comparison.{same_labels}
+use Rattle.dns_messages.specs.declared.query.Query.{Query}
+
+-- a name, a type and a class
+abbrev pub question_pieces : Query → List Piece
+question_pieces q = Domain q.name.labels ∷ Plain (to_be_bytes w16 (type_number q.query_type)) ∷ Plain (to_be_bytes w16 (class_number q.query_class)) ∷ []
+
+-- the name up to ASCII case and without its flag, the type and the class by their numbers
+abbrev pub same_question : Query → Query → Bool
+same_question a b = same_labels a.name.labels b.name.labels && ((type_number a.query_type == type_number b.query_type) && (class_number a.query_class == class_number b.query_class))
