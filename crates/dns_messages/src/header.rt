@@ -20,7 +20,7 @@ pub enum OpCode {
     Status,
     Notify,
     Update,
-    /// Any other number of four bits.
+    /// Any other number. A header has four bits for it, and keeps the lower ones.
     Unknown(u8),
 }
 
@@ -38,7 +38,7 @@ pub enum ResponseCode {
     NXRRSet,
     NotAuth,
     NotZone,
-    /// Any other number.
+    /// Any other number. A header has four bits for it, and keeps the lower ones.
     Unknown(u16),
 }
 

@@ -51,6 +51,8 @@ impl Message {
 
     /// Writes what is left of the message under a limit of bytes. It is refused for its size where header and
     /// questions alone pass the limit.
+    ///
+    /// What it says of reading again is of sound messages alone: an opcode or a code above 15 is written as another one.
     pub fn to_vec(&self, alloc: Global, limit: u16) -> Result<Vec<u8>, EncodeError>
         ensures bytes { IfOk result (λ bytes. bytes.items ≡ message_form (cut limit self.now)) }
         ensures within { IfOk result (λ bytes. length bytes.items ≤ limit) }

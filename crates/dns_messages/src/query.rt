@@ -1,6 +1,6 @@
 //! Questions (RFC 1035 section 4.1.2).
 
-ghost use Rattle.std.specs.Prelude.{◌≡◌, ◌<◌, ◌^◌, ◌↔◌, ℕ, MatchResult, IfOk, IsTrue};
+ghost use Rattle.std.specs.Prelude.{◌≡◌, ◌<◌, ◌^◌, ◌↔◌, ℕ, MatchResult, IfOk, OnErr, IsTrue};
 ghost use Rattle.dns_codes.specs.RecordType.{type_of, type_number};
 ghost use Rattle.dns_codes.specs.DNSClass.{class_of, class_number};
 
@@ -49,8 +49,22 @@ impl Query {
         })
     }
 
-    /// Reads a question.
+    /// Reads a question. A refusal leaves the decoder as it was.
     pub fn read(alloc: Global, decoder: &mut BinDecoder<'_>) -> Result<Query, DecodeError>
+        ensures read { IfOk result (λ query. ReadsQuestion decoder.old.bytes decoder.old.index query decoder.new.index) }
+        ensures only { (query : Query) (end : ℕ) → ReadsQuestion decoder.old.bytes decoder.old.index query end
+            → MatchResult result (λ read. (read ≡ query) × (decoder.new.index ≡ end)) (λ error. error ≡ DecodeError.Memory) }
+        ensures bytes { decoder.new.bytes ≡ decoder.old.bytes }
+        ensures err { OnErr result (decoder.new ≡ decoder.old) }
+    {
+        let mut reader = decoder.clone(decoder.index());
+        let query = Query::read_on(alloc, &mut reader)?;
+        *decoder = reader;
+        Ok(query)
+    }
+
+    /// Reads a question; a refusal leaves the decoder wherever it came to.
+    fn read_on(alloc: Global, decoder: &mut BinDecoder<'_>) -> Result<Query, DecodeError>
         ensures read { IfOk result (λ query. ReadsQuestion decoder.old.bytes decoder.old.index query decoder.new.index) }
         ensures only { (query : Query) (end : ℕ) → ReadsQuestion decoder.old.bytes decoder.old.index query end
             → MatchResult result (λ read. (read ≡ query) × (decoder.new.index ≡ end)) (λ error. error ≡ DecodeError.Memory) }

@@ -1,6 +1,6 @@
 //! Records (RFC 1035 section 4.1.3).
 
-ghost use Rattle.std.specs.Prelude.{◌≡◌, ℕ, MatchResult, IfOk, IsOk};
+ghost use Rattle.std.specs.Prelude.{◌≡◌, ℕ, MatchResult, IfOk, IsOk, OnErr};
 ghost use Rattle.dns_wire.specs.Encoder.{written, lender, IsAtEnd};
 ghost use Rattle.dns_wire.specs.Pieces.{Emits, AreWritable};
 
@@ -79,8 +79,23 @@ impl Record {
         })
     }
 
-    /// Reads a record. Its data takes exactly the length before it, and its type is A or SOA.
+    /// Reads a record. Its data takes exactly the length before it, and its type is A or SOA. A refusal leaves the
+    /// decoder as it was.
     pub fn read(alloc: Global, decoder: &mut BinDecoder<'_>) -> Result<Record, DecodeError>
+        ensures read { IfOk result (λ row. ReadsRecord decoder.old.bytes decoder.old.index row decoder.new.index) }
+        ensures only { (row : Record) (end : ℕ) → ReadsRecord decoder.old.bytes decoder.old.index row end
+            → MatchResult result (λ read. (read ≡ row) × (decoder.new.index ≡ end)) (λ error. error ≡ DecodeError.Memory) }
+        ensures bytes { decoder.new.bytes ≡ decoder.old.bytes }
+        ensures err { OnErr result (decoder.new ≡ decoder.old) }
+    {
+        let mut reader = decoder.clone(decoder.index());
+        let row = Record::read_on(alloc, &mut reader)?;
+        *decoder = reader;
+        Ok(row)
+    }
+
+    /// Reads a record; a refusal leaves the decoder wherever it came to.
+    fn read_on(alloc: Global, decoder: &mut BinDecoder<'_>) -> Result<Record, DecodeError>
         ensures read { IfOk result (λ row. ReadsRecord decoder.old.bytes decoder.old.index row decoder.new.index) }
         ensures only { (row : Record) (end : ℕ) → ReadsRecord decoder.old.bytes decoder.old.index row end
             → MatchResult result (λ read. (read ≡ row) × (decoder.new.index ≡ end)) (λ error. error ≡ DecodeError.Memory) }

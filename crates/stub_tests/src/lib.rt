@@ -3,7 +3,8 @@
 //!
 //! - `calls`: calls that may want memory, each made once;
 //! - `runs`: asking over any link, and runs over the honest one;
-//! - `plays`: the program's words, scripts, and what is printed.
+//! - `plays`: the program's words, scripts, and what is printed;
+//! - `texts`: what is printed of faults.
 #![tactic(auto)]
 
 #[cfg(test)]
@@ -12,3 +13,5 @@ mod calls;
 mod plays;
 #[cfg(test)]
 mod runs;
+#[cfg(test)]
+mod texts;

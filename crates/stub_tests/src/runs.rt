@@ -1,6 +1,6 @@
+use dns_messages::{Message, Query, RData, ResponseCode};
 use dns_names::Name;
 use dns_wire::RecordType;
-use dns_messages::{Message, Query, RData, ResponseCode};
 use dns_zone::{DatagramLimit, Zone};
 use std::alloc::Global;
 use std::fmt::Write;

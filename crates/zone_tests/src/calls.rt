@@ -1,8 +1,8 @@
 //! Calls that may want memory, each made once where there is enough.
 
+use dns_messages::{A, Query, RData, Record, SOA, Section};
 use dns_names::Name;
 use dns_wire::BinDecoder;
-use dns_messages::{A, Query, RData, Record, SOA, Section};
 use dns_zone::{parse_name, split_words};
 use std::alloc::Global;
 use std::net::Ipv4Addr;

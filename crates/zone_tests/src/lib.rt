@@ -3,6 +3,7 @@
 //!
 //! - `calls`: calls that may want memory, each made once;
 //! - `messages`: bytes read as messages, and written under a limit;
+//! - `texts`: what is printed of codes and faults;
 //! - `zones`: zone texts, the zone's table, and its server's replies.
 #![tactic(auto)]
 
@@ -10,5 +11,7 @@
 mod calls;
 #[cfg(test)]
 mod messages;
+#[cfg(test)]
+mod texts;
 #[cfg(test)]
 mod zones;

@@ -1,6 +1,6 @@
+use dns_messages::{Message, MessageType, Metadata, OpCode, Query, ResponseCode};
 use dns_names::Name;
 use dns_wire::{EncodeError, RecordType};
-use dns_messages::{Message, MessageType, Metadata, OpCode, Query, ResponseCode};
 use std::alloc::Global;
 use std::fmt::Write;
 use std::test::Fail;

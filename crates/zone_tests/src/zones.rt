@@ -1,6 +1,6 @@
+use dns_messages::{Query, RData, Record};
 use dns_names::Name;
 use dns_wire::{DNSClass, RecordType};
-use dns_messages::{Query, RData, Record};
 use dns_zone::{DatagramLimit, Road, Zone};
 use std::alloc::Global;
 use std::test::Fail;
