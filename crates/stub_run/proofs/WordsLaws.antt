@@ -70,6 +70,10 @@ fault_is app words r e same kinds h =
     let has : HasKind (fault_of stub_app words) e = rw same at (kinds (rw same app_is_free)) in
     rw found.1 (fault_is_so words e found.0 has found.2)
 
+-- where clap parsed the words, it found no fault in them
+pub no_fault : (app : App) (words : List (List ℕ)) → app ≡ stub_app → (is_simple_and_free app ≡ true → fault_of app words ≡ []) → fault_of stub_app words ≡ []
+no_fault app words same none = rw same at (none (rw same app_is_free))
+
 -- an option of this name
 pub record IsOption (name : List ℕ) (a : Arg) : Type 0 where
   pub id : a.id.now ≡ name

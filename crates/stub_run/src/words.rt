@@ -1,7 +1,7 @@
 //! The words that the program is called with.
 
-ghost use Rattle.std.specs.Prelude.{◌≡◌, IfOk, IfErr, Some, true, false, is_some, map, codes, string_bytes};
-ghost use Rattle.clap.specs.Words.{IsParsedFrom, IsPlainArg, app_of, first_value, found_of, kind_of, rule_of, takes};
+ghost use Rattle.std.specs.Prelude.{◌≡◌, [], IfOk, IfErr, OnOk, Some, true, false, is_some, map, codes, string_bytes};
+ghost use Rattle.clap.specs.Words.{IsParsedFrom, IsPlainArg, app_of, fault_of, first_value, found_of, kind_of, rule_of, takes};
 ghost use Rattle.clap.specs.Built.{TakesValue};
 ghost use Rattle.clap.specs.declared.parser.matches.ArgMatches.{ArgMatches};
 ghost use Rattle.stub_run.specs.Words.{HasFiles, IsWordsFault, file_option, stub_app, value_of};
@@ -54,6 +54,8 @@ impl From<clap::Error> for WordsFault {
 pub fn read_words(alloc: Global, words: &[&str]) -> Result<Words, WordsFault>
     ensures zone { IfOk result (λ found. value_of (codes "zone") (map (λ word. word.now) words.now) ≡ Some (string_bytes found.zone)) }
     ensures script { IfOk result (λ found. value_of (codes "script") (map (λ word. word.now) words.now) ≡ Some (string_bytes found.script)) }
+    // None is taken in which clap finds a fault.
+    ensures only { OnOk result (fault_of stub_app (map (λ word. word.now) words.now) ≡ []) }
     ensures fault { IfErr result (IsWordsFault (map (λ word. word.now) words.now)) }
     ensures taken { IfErr result (λ fault. takes stub_app (map (λ word. word.now) words.now) ≡ true → fault ≡ WordsFault.Memory) }
 {

@@ -1,6 +1,6 @@
 use Rattle.std.proofs.Common.{codes, map, string_bytes}
 use Rattle.clap.specs.Words.{app_of}
-use Rattle.stub_run.proofs.WordsLaws.{value_is, only_memory, fault_is}
+use Rattle.stub_run.proofs.WordsLaws.{value_is, only_memory, fault_is, no_fault}
 use Rattle.stub_run.proofs.words.read_words.Goals as goal
 
 pub returns-in_err-matches-clause-taken : goal.returns-in_err-matches-clause-taken
@@ -22,3 +22,7 @@ pub returns-clause-script : goal.returns-clause-script
 returns-clause-script c =
     value_is (app_of c.in_ok-command.command) (map (λ word. word.now) c.args.words.now) c.in_ok-matches.matches (codes "script") (string_bytes c.in_ok-value_of-2.field-0)
     c.in_ok-command.ensures.app c.in_ok-matches.ensures.matches c.in_ok-value_of-2.ensures
+
+pub returns-clause-only : goal.returns-clause-only
+returns-clause-only c =
+    no_fault (app_of c.in_ok-command.command) (map (λ word. word.now) c.args.words.now) c.in_ok-command.ensures.app c.in_ok-matches.ensures.kinds
