@@ -1,5 +1,5 @@
 -- One question, asked over any link (RFC 1035 section 7.3, RFC 5452 section 3).
-use Rattle.std.specs.Prelude.{◌≡◌, ◌==◌, ◌&&◌, ◌+◌, ◌-◌, ◌≤◌, ◌^◌, ◌⊎◌, min, zero, suc, Bool, true, false, List, [], ◌∷◌, ◌++◌, ℕ, length, slice_get, Option, Some, None, Result, Ok, Err, if◌then◌else◌}
+use Rattle.std.specs.Prelude.{◌≡◌, ◌==◌, ◌&&◌, ◌+◌, ◌-◌, ◌≤◌, ◌^◌, ◌⊎◌, min, zero, suc, Bool, true, false, List, [], ◌∷◌, ◌++◌, ℕ, ⊤, length, slice_get, Option, Some, None, Result, Ok, Err, if◌then◌else◌}
 use Rattle.dns_messages.specs.declared.header.MessageType.{MessageType}
 use Rattle.dns_messages.specs.declared.header.MessageType.TheVariants as kinds
 use Rattle.dns_messages.specs.declared.header.OpCode.{OpCode}
@@ -17,6 +17,7 @@ use Rattle.stub_run.specs.declared.lookup.LinkFault.TheVariants as fault
 use Rattle.stub_run.specs.declared.lookup.NetError.{NetError}
 use Rattle.stub_run.specs.declared.lookup.NetError.TheVariants as net
 use Rattle.stub_run.specs.declared.wire_handle.WireHandle.{WireHandle}
+use Rattle.stub_run.specs.Link.{Rises}
 
 -- a request: the question under an id, with RD
 abbrev pub request : ℕ → Query → Message
@@ -133,3 +134,9 @@ MaySend (Err (net.Link fault.NotSent)) questions = questions ≡ 0
 MaySend (Err (net.Link error)) questions = questions ≡ 1
 MaySend (Err (net.Dns error)) questions = questions ≡ 1
 MaySend (Err net.Memory) questions = questions ≤ 1
+
+-- An outcome tells that the link failed only where it did: between these two counts of its failures.
+abbrev pub FailsByLink : Result Message NetError → ℕ → ℕ → Type 0
+FailsByLink (Err (net.Link fault.NotSent)) old new = Rises old new
+FailsByLink (Err (net.Link fault.NotReceived)) old new = Rises old new
+FailsByLink outcome old new = ⊤

@@ -4,7 +4,7 @@ ghost use Rattle.std.specs.Prelude.{◌≡◌, ◌+◌, ◌≤◌, ◌∷◌, �
 ghost use Rattle.dns_messages.specs.Grammar.{ReadsMessage};
 ghost use Rattle.dns_messages.specs.Message.{message_form};
 ghost use Rattle.dns_messages.specs.Sound.{IsSoundQuery};
-ghost use Rattle.stub_run.specs.Wire.{request, matches, accepted, Waits, Exchanges, MaySend, FindsReply};
+ghost use Rattle.stub_run.specs.Wire.{request, matches, accepted, Waits, Exchanges, MaySend, FailsByLink, FindsReply};
 
 use crate::link::{Link, LinkError};
 use crate::lookup::{LinkFault, NetError};
@@ -54,7 +54,8 @@ impl<L: Link> WireHandle<L> {
 
     /// Asks a question: the message that replies to it, whatever its code.
     pub fn send(&mut self, query: &Query) -> Result<Message, NetError>
-        ensures { Asks L.sends L.receives self.old query.now result self.new }
+        ensures asks { Asks L.sends L.receives self.old query.now result self.new }
+        ensures failed { FailsByLink result (L.failure_count self.old.link) (L.failure_count self.new.link) }
     {
         self.ask(query).outcome
     }
@@ -62,6 +63,7 @@ impl<L: Link> WireHandle<L> {
     /// Asks a question, and counts the datagrams with it that are sent.
     pub(crate) fn ask(&mut self, query: &Query) -> Asked
         ensures asks { Asks L.sends L.receives self.old query.now result.outcome self.new }
+        ensures failed { FailsByLink result.outcome (L.failure_count self.old.link) (L.failure_count self.new.link) }
         ensures questions { MaySend result.outcome result.questions }
         // No more are sent than ids are drawn.
         ensures drawn { length self.old.sent.items + result.questions ≤ length self.new.sent.items }
@@ -126,6 +128,7 @@ fn exchange<L: Link>(
 ) -> Asked
     requires { IsSoundQuery query.now }
     ensures exchange { Exchanges L.sends L.receives id query.now link.old dropped.old result.outcome link.new dropped.new }
+    ensures failed { FailsByLink result.outcome (L.failure_count link.old) (L.failure_count link.new) }
     ensures questions { MaySend result.outcome result.questions }
     ensures one { result.questions ≤ 1 }
 {
@@ -192,6 +195,7 @@ fn wait<L: Link>(
     dropped: &mut u64,
 ) -> Result<Message, NetError>
     ensures waits { Waits L.receives 16 id query.now link.old dropped.old result link.new dropped.new }
+    ensures failed { FailsByLink result (L.failure_count link.old) (L.failure_count link.new) }
     ensures questions { MaySend result 1 }
 {
     for _looked in 0..16u8 {
