@@ -51,17 +51,20 @@ returns-in-Ok-Some-reply_in-clause-waits g c =
     (took-reply c.args.id c.args.query.now c.in-Ok-Some.bytes.items c.next_datagram.new.self c.loop-looked.dropped (λ more. Waits g.L.Link.receives (i - 1) c.args.id c.args.query.now c.next_datagram.new.self more) c.in-Ok-Some-reply_in.message found)))
 
 pub loop-looked-preserved : goal.loop-looked-preserved
-loop-looked-preserved g c = (λ outcome new total rest.
-    let left : 0 < 16 - c.loop-looked._looked = omega arith in
-    let i = 16 - c.loop-looked._looked in
-    let same : 16 - (c.loop-looked._looked + 1) ≡ i - 1 = omega arith in
-    let found : FindsReply c.args.id c.args.query.now c.in-Ok-Some.bytes.items None =
-    subst (λ (xs : List ℕ). FindsReply c.args.id c.args.query.now xs None) c.as_slice.ensures.value (rw c.in-Ok-None-reply_in.field-0-is at c.in-Ok-None-reply_in.ensures) in
-    c.loop-looked.invariant.0 outcome new total
-    (waits-step g.L.Link.receives c.args.id c.args.query.now i c.loop-looked.link c.loop-looked.dropped (Ok (Some c.in-Ok-Some.bytes.items)) c.next_datagram.new.self outcome new total left
-    (rw c.in-Ok-Some.field-0-is at c.in-Ok-Some.ensures.receives)
-    (took-other c.args.id c.args.query.now c.in-Ok-Some.bytes.items c.next_datagram.new.self c.loop-looked.dropped (λ more. Waits g.L.Link.receives (i - 1) c.args.id c.args.query.now c.next_datagram.new.self more) outcome new total found
-    (subst (λ (n : ℕ). Waits g.L.Link.receives n c.args.id c.args.query.now c.next_datagram.new.self (one_more c.loop-looked.dropped) outcome new total) same (rw c.saturating_add.ensures at rest)))), omega (arith, c.loop-looked.invariant.1, c.next_datagram.ensures.kept))
+loop-looked-preserved g c = (
+  λ outcome new total rest.
+      let left : 0 < 16 - c.loop-looked._looked = omega arith in
+      let i = 16 - c.loop-looked._looked in
+      let same : 16 - (c.loop-looked._looked + 1) ≡ i - 1 = omega arith in
+      let found : FindsReply c.args.id c.args.query.now c.in-Ok-Some.bytes.items None =
+      subst (λ (xs : List ℕ). FindsReply c.args.id c.args.query.now xs None) c.as_slice.ensures.value (rw c.in-Ok-None-reply_in.field-0-is at c.in-Ok-None-reply_in.ensures) in
+      c.loop-looked.invariant.0 outcome new total
+      (waits-step g.L.Link.receives c.args.id c.args.query.now i c.loop-looked.link c.loop-looked.dropped (Ok (Some c.in-Ok-Some.bytes.items)) c.next_datagram.new.self outcome new total left
+      (rw c.in-Ok-Some.field-0-is at c.in-Ok-Some.ensures.receives)
+      (took-other c.args.id c.args.query.now c.in-Ok-Some.bytes.items c.next_datagram.new.self c.loop-looked.dropped (λ more. Waits g.L.Link.receives (i - 1) c.args.id c.args.query.now c.next_datagram.new.self more) outcome new total found
+      (subst (λ (n : ℕ). Waits g.L.Link.receives n c.args.id c.args.query.now c.next_datagram.new.self (one_more c.loop-looked.dropped) outcome new total) same (rw c.saturating_add.ensures at rest)))),
+  omega (arith, c.loop-looked.invariant.1, c.next_datagram.ensures.kept),
+)
 
 pub returns-clause-waits : goal.returns-clause-waits
 returns-clause-waits g c =
