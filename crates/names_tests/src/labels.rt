@@ -1,4 +1,4 @@
-use dns_name_uses::{IntoName, parse_ttl};
+use dns_text::{IntoName, parse_ttl};
 use dns_names::{Label, LowerName, Name, ParseError};
 use std::alloc::Global;
 use std::test::Fail;

@@ -1,4 +1,4 @@
-use dns_name_uses::{IntoName, ZoneUsage, usage};
+use dns_text::{IntoName, ZoneUsage, usage};
 use dns_names::{IntoLabel, Label, LowerName, Name, ParseError};
 use std::alloc::{AllocError, Global};
 use std::test::Fail;

@@ -1,4 +1,4 @@
-use dns_name_uses::{Lexer, LexerError, Token};
+use dns_text::{Lexer, LexerError, Token};
 use std::alloc::Global;
 use std::str;
 use std::test::Fail;

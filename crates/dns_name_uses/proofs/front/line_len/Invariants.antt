@@ -1,7 +1,0 @@
-use Rattle.std.proofs.Common.{◌≡◌, drop}
-use Rattle.dns_name_uses.specs.Tokens.{line_from}
-use Rattle.dns_name_uses.proofs.front.line_len.Given as goal
-
--- no line has ended before
-abbrev pub invariant-loop-place : goal.invariant-loop-place
-invariant-loop-place l = line_from 0 l.text ≡ line_from l.place (drop l.place l.text)
