@@ -109,8 +109,13 @@ pub(crate) fn written_record(alloc: Global, input: &str) -> Result<String, Alloc
 /// The copy of the record that comes next.
 fn read_copy(alloc: Global, decoder: &mut BinDecoder<'_>) -> Result<String, DecodeError> {
     let found = Record::read(alloc, decoder)?;
+    Ok(copy_text(alloc, &found)?)
+}
+
+/// The copy of a record.
+fn copy_text(alloc: Global, found: &Record) -> Result<String, AllocError> {
     let copy = found.clone()?;
-    Ok(record_text(alloc, &copy)?)
+    record_text(alloc, &copy)
 }
 
 /// `same-data HEX = HEX`: whether the data of two records is the same.

@@ -9,11 +9,7 @@ use crate::zone::{fault, zone};
 use std::alloc::{AllocError, Global};
 
 /// What an operation answers to its input, or none where there is no such operation.
-pub(crate) fn answer(
-    alloc: Global,
-    word: &str,
-    input: &str,
-) -> Result<Option<String>, AllocError> {
+pub(crate) fn answer(alloc: Global, word: &str, input: &str) -> Result<Option<String>, AllocError> {
     let text = match word {
         "response-code" => response_code(alloc, input)?,
         "op-code" => op_code(alloc, input)?,

@@ -37,8 +37,13 @@ pub(crate) fn written_question(alloc: Global, input: &str) -> Result<String, All
 /// The copy of the question that comes next.
 fn read_copy(alloc: Global, decoder: &mut BinDecoder<'_>) -> Result<String, DecodeError> {
     let query = Query::read(alloc, decoder)?;
+    Ok(copy_text(alloc, &query)?)
+}
+
+/// The copy of a question.
+fn copy_text(alloc: Global, query: &Query) -> Result<String, AllocError> {
     let copy = query.clone()?;
-    Ok(question_text(alloc, &copy)?)
+    question_text(alloc, &copy)
 }
 
 /// The question of a name, a type and a class, or none where one of these is no such thing. A type `?1` is
