@@ -2,10 +2,13 @@
 //! and `stub_rows` have the rest.
 //!
 //! - `calls`: room for ids, which a program may make before it asks;
-//! - `plays`: a writer that fails in the middle of a report.
+//! - `plays`: a writer that fails in the middle of a report;
+//! - `examples`: the examples of the README.
 #![tactic(auto)]
 
 #[cfg(test)]
 mod calls;
+#[cfg(test)]
+mod examples;
 #[cfg(test)]
 mod plays;
