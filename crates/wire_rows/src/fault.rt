@@ -26,17 +26,16 @@ pub(crate) enum RowFault {
     Memory,
 }
 
-/// The answer of an operation.
-pub(crate) type Answer = Result<String, RowFault>;
-
 impl From<AllocError> for RowFault {
     fn from(_e: AllocError) -> RowFault {
+        // The allocator refused memory.
         RowFault::Memory
     }
 }
 
 impl<T: Drop> From<AllocFailed<T>> for RowFault {
     fn from(_e: AllocFailed<T>) -> RowFault {
+        // The allocator refused memory.
         RowFault::Memory
     }
 }

@@ -4,10 +4,12 @@
 //! A row is an operation, a blank, its input, ` > ` and the wanted answer. Empty lines, and lines that begin with `#`, are
 //! no rows. The status is 0 where each row holds, 1 where one fails, and 2 where a file can't be read or none is given.
 //!
-//! - `row`: a row and its parts, and the patterns in it; `fault`: why a row has no answer; `hex`: bytes in text;
+//! - `row`: a row and its parts, and the patterns in it; `tally`: how many rows there were, and how many failed;
+//! - `answer`: answers of operations; `fault`: why a row has none; `hex`: bytes in text;
 //! - `operation`: the operations by their words, and a module for each subject.
 #![tactic(auto)]
 
+mod answer;
 mod fault;
 mod hex;
 mod operation;

@@ -19,7 +19,8 @@ mod sentences;
 mod writes;
 mod zone_text;
 
-use crate::fault::{Answer, RowFault};
+use crate::answer::Answer;
+use crate::fault::RowFault;
 use std::alloc::Global;
 
 /// The answer of the operation with this word.
@@ -71,8 +72,14 @@ fn name_answer(alloc: Global, word: &str, input: &str) -> Answer {
         "domain" => joins::domain(alloc, input),
         "origin" => joins::origin(alloc, input),
         "from-labels" => joins::from_labels(alloc, input),
-        "order" | "order-case" | "equal" | "equal-case" | "equal-labels" | "equal-labels-case"
-        | "zone" | "zone-case" => relations::relation(alloc, word, input),
+        "order"
+        | "order-case"
+        | "equal"
+        | "equal-case"
+        | "equal-labels"
+        | "equal-labels-case"
+        | "zone"
+        | "zone-case" => relations::relation(alloc, word, input),
         _ => text_answer(alloc, word, input),
     }
 }
@@ -81,6 +88,7 @@ fn name_answer(alloc: Global, word: &str, input: &str) -> Answer {
 fn text_answer(alloc: Global, word: &str, input: &str) -> Answer {
     match word {
         "label" => labels::printed(alloc, input),
+        "label-ascii" => labels::ascii(alloc, input),
         "label-hex" => labels::of_bytes(alloc, input),
         "into-label" => labels::converted(alloc, input),
         "label-debug" => labels::debug(alloc, input),

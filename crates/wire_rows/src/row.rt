@@ -36,7 +36,11 @@ pub(crate) fn try_row(alloc: Global, line: &str) -> Result<Verdict, AllocError> 
 
 /// Whether an answer is the wanted one. An empty answer is written `(empty)`.
 fn compare(found: String, wanted: &str) -> Verdict {
-    let shown = if found.is_empty() { "(empty)" } else { found.as_str() };
+    let shown = if found.is_empty() {
+        "(empty)"
+    } else {
+        found.as_str()
+    };
     if shown == wanted {
         Verdict::Holds
     } else {

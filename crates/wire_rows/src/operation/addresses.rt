@@ -1,7 +1,8 @@
 //! Addresses in text, reverse names, and the zones of special use.
 
 use super::names::name_of;
-use crate::fault::{Answer, RowFault};
+use crate::answer::{Answer, made_or_none, named, text};
+use crate::fault::RowFault;
 use crate::row::{parsed, two_words};
 use dns_names::{AddrPrefix, Name};
 use dns_text::{IntoName, ZoneUsage, usage};
@@ -9,24 +10,21 @@ use std::alloc::Global;
 use std::net::IpAddr;
 
 /// `address TEXT`: the address that a text is, printed, or `none`.
-pub(crate) fn address(alloc: Global, text: &str) -> Answer {
-    match text.to_ip() {
-        Some(address) => Ok(format!(in alloc; "{address}")?),
-        None => Ok(String::from_str(alloc, "none")?),
-    }
+pub(crate) fn address(alloc: Global, input: &str) -> Answer {
+    made_or_none(alloc, input.to_ip())
 }
 
 /// The address that a text is.
-fn address_of(text: &str) -> Result<IpAddr, RowFault> {
-    match text.to_ip() {
+fn address_of(input: &str) -> Result<IpAddr, RowFault> {
+    match input.to_ip() {
         Some(address) => Ok(address),
         None => Err(RowFault::MalformedInput),
     }
 }
 
 /// `reverse ADDRESS`: the address's reverse name.
-pub(crate) fn reverse(alloc: Global, text: &str) -> Answer {
-    Ok(Name::from(alloc, address_of(text)?)?.to_ascii()?)
+pub(crate) fn reverse(alloc: Global, input: &str) -> Answer {
+    Ok(Name::from(alloc, address_of(input)?)?.to_ascii()?)
 }
 
 /// `prefix ADDRESS LENGTH`: the prefix of so many bits, or `none` where it is too long.
@@ -34,15 +32,15 @@ pub(crate) fn prefix(alloc: Global, input: &str) -> Answer {
     let (address, len) = two_words(input)?;
     match AddrPrefix::new(address_of(address)?, parsed::<u8>(len)?) {
         Some(prefix) => prefix_answer(alloc, prefix),
-        None => Ok(String::from_str(alloc, "none")?),
+        None => text(alloc, "none"),
     }
 }
 
 /// `prefix-name NAME`: the prefix that a reverse name stands for, or the refusal.
-pub(crate) fn prefix_of_name(alloc: Global, text: &str) -> Answer {
-    match name_of(alloc, text)?.parse_arpa_name() {
+pub(crate) fn prefix_of_name(alloc: Global, input: &str) -> Answer {
+    match name_of(alloc, input)?.parse_arpa_name() {
         Ok(prefix) => prefix_answer(alloc, prefix),
-        Err(fault) => Ok(format!(in alloc; "{fault:?}")?),
+        Err(refusal) => named(alloc, refusal),
     }
 }
 
@@ -54,8 +52,8 @@ fn prefix_answer(alloc: Global, prefix: AddrPrefix) -> Answer {
 
 /// `usage ZONE NAME`: a zone of special use, what a resolver does with its names, and whether a name is at or below it.
 pub(crate) fn usage_of(alloc: Global, input: &str) -> Answer {
-    let (zone, text) = two_words(input)?;
-    let name = name_of(alloc, text)?;
+    let (zone, name) = two_words(input)?;
+    let name = name_of(alloc, name)?;
     usage_answer(alloc, &zone_of(alloc, zone)?, &name)
 }
 

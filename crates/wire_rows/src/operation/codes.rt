@@ -1,8 +1,9 @@
 //! Types, classes and serial numbers, and decimal numbers in text.
 
-use crate::fault::{Answer, RowFault};
+use crate::answer::{Answer, made_or_none, named};
+use crate::fault::RowFault;
 use crate::row::{parsed, push_answer, two_words};
-use dns_codes::{CodeTextError, parse_decimal};
+use dns_codes::parse_decimal;
 use dns_wire::{DNSClass, RecordType, SerialNumber};
 use std::alloc::Global;
 
@@ -10,7 +11,7 @@ use std::alloc::Global;
 pub(crate) fn type_of_text(alloc: Global, text: &str) -> Answer {
     match text.parse::<RecordType>() {
         Ok(kind) => type_answer(alloc, kind),
-        Err(CodeTextError::UnknownName) => Ok(String::from_str(alloc, "UnknownName")?),
+        Err(refusal) => named(alloc, refusal),
     }
 }
 
@@ -54,7 +55,7 @@ pub(crate) fn type_groups(alloc: Global, text: &str) -> Answer {
 pub(crate) fn class_of_text(alloc: Global, text: &str) -> Answer {
     match text.parse::<DNSClass>() {
         Ok(class) => class_answer(alloc, class),
-        Err(CodeTextError::UnknownName) => Ok(String::from_str(alloc, "UnknownName")?),
+        Err(refusal) => named(alloc, refusal),
     }
 }
 
@@ -87,8 +88,6 @@ pub(crate) fn serial_order(alloc: Global, input: &str) -> Answer {
 /// `decimal GREATEST TEXT`: the number that a text spells, or `none`.
 pub(crate) fn decimal(alloc: Global, input: &str) -> Answer {
     let (greatest, text) = two_words(input)?;
-    match parse_decimal(text.as_bytes(), parsed::<u64>(greatest)?) {
-        Some(number) => Ok(format!(in alloc; "{number}")?),
-        None => Ok(String::from_str(alloc, "none")?),
-    }
+    let greatest = parsed::<u64>(greatest)?;
+    made_or_none(alloc, parse_decimal(text.as_bytes(), greatest))
 }

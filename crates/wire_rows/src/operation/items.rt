@@ -1,6 +1,7 @@
 //! Lists of items, which an encoder writes up to the first that doesn't fit.
 
-use crate::fault::{Answer, RowFault};
+use crate::answer::Answer;
+use crate::fault::RowFault;
 use crate::hex::{bytes_of, hex_of};
 use crate::row::{parsed, two_words};
 use dns_names::Name;

@@ -1,7 +1,7 @@
 //! Names that are made of two parts.
 
-use super::names::{made, name_of};
-use crate::fault::{Answer, RowFault};
+use super::names::name_of;
+use crate::answer::{Answer, made};
 use crate::hex::bytes_of;
 use crate::row::two_words;
 use dns_names::{Name, ParseError};

@@ -1,7 +1,7 @@
 //! Labels.
 
-use super::names::made;
-use crate::fault::{Answer, RowFault};
+use crate::answer::{Answer, made, named, shown};
+use crate::fault::RowFault;
 use crate::hex::bytes_of;
 use crate::row::two_words;
 use dns_names::{CaseInsensitive, CaseSensitive, IntoLabel, Label, ParseError};
@@ -18,6 +18,15 @@ fn label_of(alloc: Global, text: &str) -> Result<Label, RowFault> {
 /// `label TEXT`: the label that a text without escapes spells, printed, or the refusal.
 pub(crate) fn printed(alloc: Global, text: &str) -> Answer {
     made(alloc, Label::from_ascii(alloc, text))
+}
+
+/// `label-ascii HEX`: the label of bytes, as `to_ascii` prints it.
+pub(crate) fn ascii(alloc: Global, digits: &str) -> Answer {
+    let bytes = bytes_of(alloc, digits)?;
+    match Label::from_raw_bytes(alloc, bytes.as_slice()) {
+        Ok(label) => Ok(label.to_ascii()?),
+        Err(refusal) => named(alloc, refusal),
+    }
 }
 
 /// `label-hex HEX`: the label of bytes, printed, or the refusal.
@@ -62,14 +71,12 @@ fn copied(alloc: Global, bytes: &[u8]) -> Result<Label, ParseError> {
 
 /// `label-debug TEXT`: the label as it is printed for a developer.
 pub(crate) fn debug(alloc: Global, text: &str) -> Answer {
-    let label = label_of(alloc, text)?;
-    Ok(format!(in alloc; "{label:?}")?)
+    named(alloc, label_of(alloc, text)?)
 }
 
 /// `label-lower TEXT`: the label in lower case.
 pub(crate) fn lower(alloc: Global, text: &str) -> Answer {
-    let label = label_of(alloc, text)?.to_lowercase()?;
-    Ok(format!(in alloc; "{label}")?)
+    shown(alloc, label_of(alloc, text)?.to_lowercase()?)
 }
 
 /// `label-sizes TEXT`: the label's length, and whether it is `*`.

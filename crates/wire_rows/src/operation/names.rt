@@ -1,19 +1,11 @@
 //! Names that are made of one text.
 
-use crate::fault::{Answer, RowFault};
+use crate::answer::{Answer, made, named, shown};
+use crate::fault::RowFault;
 use crate::row::{parsed, push_answer, two_words};
-use dns_names::{LowerName, Name, ParseError};
+use dns_names::{LowerName, Name};
 use dns_text::IntoName;
 use std::alloc::Global;
-use std::fmt::Display;
-
-/// What was made, printed, or the refusal.
-pub(crate) fn made<T: Display + Drop>(alloc: Global, made: Result<T, ParseError>) -> Answer {
-    match made {
-        Ok(value) => Ok(format!(in alloc; "{value}")?),
-        Err(fault) => Ok(format!(in alloc; "{fault:?}")?),
-    }
-}
 
 /// The name that a text spells, where the operation is not about its refusals.
 pub(crate) fn name_of(alloc: Global, text: &str) -> Result<Name, RowFault> {
@@ -40,14 +32,12 @@ pub(crate) fn ascii(alloc: Global, text: &str) -> Answer {
 
 /// `debug TEXT`: the name as it is printed for a developer.
 pub(crate) fn debug(alloc: Global, text: &str) -> Answer {
-    let name = name_of(alloc, text)?;
-    Ok(format!(in alloc; "{name:?}")?)
+    named(alloc, name_of(alloc, text)?)
 }
 
 /// `debug-lower TEXT`: the lower-case name as it is printed for a developer.
 pub(crate) fn debug_lower(alloc: Global, text: &str) -> Answer {
-    let name = lower_of(alloc, text)?;
-    Ok(format!(in alloc; "{name:?}")?)
+    named(alloc, lower_of(alloc, text)?)
 }
 
 /// The lower-case name that a text spells.
@@ -80,8 +70,7 @@ pub(crate) fn converted(alloc: Global, input: &str) -> Answer {
 
 /// A copy of a name, printed.
 fn copied(alloc: Global, name: &Name) -> Answer {
-    let copy = Clone::clone(name)?;
-    Ok(format!(in alloc; "{copy}")?)
+    shown(alloc, Clone::clone(name)?)
 }
 
 /// `trim COUNT TEXT`: the name of so many of the last labels.
@@ -98,26 +87,22 @@ pub(crate) fn star(alloc: Global, text: &str) -> Answer {
 
 /// `lower-name TEXT`: the lower-case name, printed.
 pub(crate) fn lower_name(alloc: Global, text: &str) -> Answer {
-    let name = lower_of(alloc, text)?;
-    Ok(format!(in alloc; "{name}")?)
+    shown(alloc, lower_of(alloc, text)?)
 }
 
 /// `lower-copy TEXT`: a copy of the lower-case name.
 pub(crate) fn lower_copy(alloc: Global, text: &str) -> Answer {
-    let name = Clone::clone(&lower_of(alloc, text)?)?;
-    Ok(format!(in alloc; "{name}")?)
+    shown(alloc, Clone::clone(&lower_of(alloc, text)?)?)
 }
 
 /// `lower-base TEXT`: the name above the lower-case name.
 pub(crate) fn lower_base(alloc: Global, text: &str) -> Answer {
-    let name = lower_of(alloc, text)?.base_name()?;
-    Ok(format!(in alloc; "{name}")?)
+    shown(alloc, lower_of(alloc, text)?.base_name()?)
 }
 
 /// `lower-star TEXT`: the lower-case name with `*` in place of its first label.
 pub(crate) fn lower_star(alloc: Global, text: &str) -> Answer {
-    let name = lower_of(alloc, text)?.into_wildcard()?;
-    Ok(format!(in alloc; "{name}")?)
+    shown(alloc, lower_of(alloc, text)?.into_wildcard()?)
 }
 
 /// `sizes TEXT`: how many labels the name counts, how many it has, its length without and with the root's byte.

@@ -1,11 +1,11 @@
 //! Numbers on the wire, each as a value of its own.
 
-use crate::fault::{Answer, RowFault};
+use crate::answer::{Answer, made, named};
+use crate::fault::RowFault;
 use crate::hex::{bytes_of, hex_of};
 use crate::row::{parsed, two_words};
-use dns_wire::{BinDecodable, BinEncodable, DecodeError};
+use dns_wire::{BinDecodable, BinEncodable};
 use std::alloc::Global;
-use std::fmt::Display;
 
 /// `encode u8|u16|u32|i32 NUMBER`: the bytes of a number.
 pub(crate) fn encode(alloc: Global, input: &str) -> Answer {
@@ -23,7 +23,7 @@ pub(crate) fn encode(alloc: Global, input: &str) -> Answer {
 fn encoded<T: BinEncodable + Drop>(alloc: Global, value: T) -> Answer {
     match value.to_bytes(alloc) {
         Ok(bytes) => Ok(hex_of(alloc, bytes.as_slice())?),
-        Err(fault) => Ok(format!(in alloc; "{fault:?}")?),
+        Err(refusal) => named(alloc, refusal),
     }
 }
 
@@ -32,18 +32,10 @@ pub(crate) fn decode(alloc: Global, input: &str) -> Answer {
     let (kind, digits) = two_words(input)?;
     let bytes = bytes_of(alloc, digits)?;
     match kind {
-        "u8" => decoded(alloc, u8::from_bytes(alloc, bytes.as_slice())),
-        "u16" => decoded(alloc, u16::from_bytes(alloc, bytes.as_slice())),
-        "u32" => decoded(alloc, u32::from_bytes(alloc, bytes.as_slice())),
-        "i32" => decoded(alloc, i32::from_bytes(alloc, bytes.as_slice())),
+        "u8" => made(alloc, u8::from_bytes(alloc, bytes.as_slice())),
+        "u16" => made(alloc, u16::from_bytes(alloc, bytes.as_slice())),
+        "u32" => made(alloc, u32::from_bytes(alloc, bytes.as_slice())),
+        "i32" => made(alloc, i32::from_bytes(alloc, bytes.as_slice())),
         _ => Err(RowFault::MalformedInput),
-    }
-}
-
-/// What was read, printed, or the refusal.
-pub(crate) fn decoded<T: Display + Drop>(alloc: Global, read: Result<T, DecodeError>) -> Answer {
-    match read {
-        Ok(value) => Ok(format!(in alloc; "{value}")?),
-        Err(fault) => Ok(format!(in alloc; "{fault:?}")?),
     }
 }

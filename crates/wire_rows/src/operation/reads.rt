@@ -1,7 +1,7 @@
 //! Scripts of a decoder: reads one after another, from the same bytes.
 
-use super::numbers::decoded;
-use crate::fault::{Answer, RowFault};
+use crate::answer::{Answer, made, made_or_none, named, shown};
+use crate::fault::RowFault;
 use crate::hex::{bytes_of, hex_of};
 use crate::row::{parsed, push_answer, word_and_rest};
 use dns_names::Name;
@@ -44,12 +44,12 @@ fn read_step<'a>(
 ) -> Answer {
     let (word, input) = word_and_rest(step);
     match word {
-        "u8" => decoded(alloc, decoder.read_u8()),
-        "pop" => decoded(alloc, decoder.pop()),
-        "u16" => decoded(alloc, decoder.read_u16()),
-        "u32" => decoded(alloc, decoder.read_u32()),
-        "i32" => decoded(alloc, decoder.read_i32()),
-        "name" => decoded(alloc, Name::read(alloc, decoder)),
+        "u8" => made(alloc, decoder.read_u8()),
+        "pop" => made(alloc, decoder.pop()),
+        "u16" => made(alloc, decoder.read_u16()),
+        "u32" => made(alloc, decoder.read_u32()),
+        "i32" => made(alloc, decoder.read_i32()),
+        "name" => made(alloc, Name::read(alloc, decoder)),
         "slice" => slice_answer(alloc, decoder.read_slice(parsed::<usize>(input)?)),
         "chars" => slice_answer(alloc, decoder.read_character_data()),
         "vec" => vec_answer(alloc, decoder.read_vec(alloc, parsed::<usize>(input)?)),
@@ -62,22 +62,10 @@ fn read_step<'a>(
 /// The answer of a step that reads nothing.
 fn look(alloc: Global, decoder: &BinDecoder<'_>, word: &str) -> Answer {
     match word {
-        "peek" => match decoder.peek() {
-            Some(byte) => Ok(format!(in alloc; "{byte}")?),
-            None => Ok(String::from_str(alloc, "none")?),
-        },
-        "index" => {
-            let index = decoder.index();
-            Ok(format!(in alloc; "{index}")?)
-        }
-        "len" => {
-            let len = decoder.len();
-            Ok(format!(in alloc; "{len}")?)
-        }
-        "empty" => {
-            let is_empty = decoder.is_empty();
-            Ok(format!(in alloc; "{is_empty}")?)
-        }
+        "peek" => made_or_none(alloc, decoder.peek()),
+        "index" => shown(alloc, decoder.index()),
+        "len" => shown(alloc, decoder.len()),
+        "empty" => shown(alloc, decoder.is_empty()),
         _ => Err(RowFault::UnknownStep),
     }
 }
@@ -86,7 +74,7 @@ fn look(alloc: Global, decoder: &BinDecoder<'_>, word: &str) -> Answer {
 fn slice_answer(alloc: Global, read: Result<&[u8], DecodeError>) -> Answer {
     match read {
         Ok(bytes) => Ok(hex_of(alloc, bytes)?),
-        Err(fault) => Ok(format!(in alloc; "{fault:?}")?),
+        Err(refusal) => named(alloc, refusal),
     }
 }
 
@@ -94,17 +82,12 @@ fn slice_answer(alloc: Global, read: Result<&[u8], DecodeError>) -> Answer {
 fn vec_answer(alloc: Global, read: Result<Vec<u8>, DecodeError>) -> Answer {
     match read {
         Ok(bytes) => Ok(hex_of(alloc, bytes.as_slice())?),
-        Err(fault) => Ok(format!(in alloc; "{fault:?}")?),
+        Err(refusal) => named(alloc, refusal),
     }
 }
 
 /// Goes on at a place of the bytes.
-fn go_to<'a>(
-    alloc: Global,
-    bytes: &'a [u8],
-    decoder: &mut BinDecoder<'a>,
-    place: usize,
-) -> Answer {
+fn go_to<'a>(alloc: Global, bytes: &'a [u8], decoder: &mut BinDecoder<'a>, place: usize) -> Answer {
     if place > bytes.len() {
         return Err(RowFault::MalformedInput);
     }

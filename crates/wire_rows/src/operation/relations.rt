@@ -1,11 +1,10 @@
 //! Two names, compared.
 
 use super::names::name_of;
-use crate::fault::Answer;
+use crate::answer::{Answer, named, shown};
 use crate::row::two_words;
 use dns_names::Name;
 use std::alloc::Global;
-use std::cmp::Ordering;
 
 /// `order|order-case|equal|equal-case|equal-labels|equal-labels-case|zone|zone-case NAME OTHER`: how the first name
 /// compares to the other, whether they are equal, or whether the first is at or above the other. `-case` minds ASCII
@@ -20,18 +19,10 @@ pub(crate) fn relation(alloc: Global, word: &str, input: &str) -> Answer {
 fn relation_to(alloc: Global, word: &str, text: &str, other: &Name) -> Answer {
     let one = name_of(alloc, text)?;
     match word {
-        "order" => order_answer(alloc, one.cmp(other)),
-        "order-case" => order_answer(alloc, one.cmp_case(other)),
-        _ => truth_answer(alloc, holds(word, &one, other)),
+        "order" => named(alloc, one.cmp(other)),
+        "order-case" => named(alloc, one.cmp_case(other)),
+        _ => shown(alloc, holds(word, &one, other)),
     }
-}
-
-fn order_answer(alloc: Global, order: Ordering) -> Answer {
-    Ok(format!(in alloc; "{order:?}")?)
-}
-
-fn truth_answer(alloc: Global, holds: bool) -> Answer {
-    Ok(format!(in alloc; "{holds}")?)
 }
 
 /// Whether a relation holds.

@@ -1,22 +1,17 @@
 //! What refusals print.
 
-use crate::fault::{Answer, RowFault};
+use crate::answer::{Answer, shown};
+use crate::fault::RowFault;
 use crate::row::{parsed, word_and_rest};
 use dns_codes::CodeTextError;
 use dns_names::ParseError;
 use dns_text::LexerError;
 use dns_wire::{DecodeError, EncodeError, ProtoError};
 use std::alloc::Global;
-use std::fmt::Display;
-
-/// What a refusal prints.
-fn sentence<E: Display + Drop>(alloc: Global, error: E) -> Answer {
-    Ok(format!(in alloc; "{error}")?)
-}
 
 /// `decode-error NAME`
 pub(crate) fn decode_error(alloc: Global, name: &str) -> Answer {
-    sentence(
+    shown(
         alloc,
         match name {
             "InsufficientBytes" => DecodeError::InsufficientBytes,
@@ -25,6 +20,7 @@ pub(crate) fn decode_error(alloc: Global, name: &str) -> Answer {
             "DomainNameTooLong" => DecodeError::DomainNameTooLong,
             "IncorrectRDataLengthRead" => DecodeError::IncorrectRDataLengthRead,
             "UnsupportedRecordType" => DecodeError::UnsupportedRecordType,
+            // The row names want of memory.
             "Memory" => DecodeError::Memory,
             _ => return Err(RowFault::MalformedInput),
         },
@@ -34,8 +30,9 @@ pub(crate) fn decode_error(alloc: Global, name: &str) -> Answer {
 /// `encode-error NAME`
 pub(crate) fn encode_error(alloc: Global, name: &str) -> Answer {
     match name {
-        "MaxBufferSizeExceeded" => sentence(alloc, EncodeError::MaxBufferSizeExceeded),
-        "Memory" => sentence(alloc, EncodeError::Memory),
+        "MaxBufferSizeExceeded" => shown(alloc, EncodeError::MaxBufferSizeExceeded),
+        // The row names want of memory.
+        "Memory" => shown(alloc, EncodeError::Memory),
         _ => Err(RowFault::MalformedInput),
     }
 }
@@ -43,7 +40,7 @@ pub(crate) fn encode_error(alloc: Global, name: &str) -> Answer {
 /// `proto-error NAME [COUNT]`; `Encode` before the name makes it of the encoder's refusal.
 pub(crate) fn proto_error(alloc: Global, input: &str) -> Answer {
     let (name, rest) = word_and_rest(input);
-    sentence(
+    shown(
         alloc,
         match name {
             "NotAllRecordsWritten" => ProtoError::NotAllRecordsWritten {
@@ -53,6 +50,7 @@ pub(crate) fn proto_error(alloc: Global, input: &str) -> Answer {
                 len: parsed::<usize>(rest)?,
             },
             "MaxBufferSizeExceeded" => ProtoError::MaxBufferSizeExceeded,
+            // The row names want of memory.
             "Memory" => ProtoError::Memory,
             "From" => encode_as_proto(rest)?,
             _ => return Err(RowFault::MalformedInput),
@@ -64,6 +62,7 @@ pub(crate) fn proto_error(alloc: Global, input: &str) -> Answer {
 fn encode_as_proto(name: &str) -> Result<ProtoError, RowFault> {
     match name {
         "MaxBufferSizeExceeded" => Ok(ProtoError::from(EncodeError::MaxBufferSizeExceeded)),
+        // The row names want of memory.
         "Memory" => Ok(ProtoError::from(EncodeError::Memory)),
         _ => Err(RowFault::MalformedInput),
     }
@@ -72,13 +71,14 @@ fn encode_as_proto(name: &str) -> Result<ProtoError, RowFault> {
 /// `parse-error NAME [PLACE]`
 pub(crate) fn parse_error(alloc: Global, input: &str) -> Answer {
     let (name, place) = word_and_rest(input);
-    sentence(
+    shown(
         alloc,
         match name {
             "LabelBytesTooLong" => ParseError::LabelBytesTooLong,
             "EmptyLabel" => ParseError::EmptyLabel,
             "DomainNameTooLong" => ParseError::DomainNameTooLong,
             "Text" => ParseError::Text(parsed::<usize>(place)?),
+            // The row names want of memory.
             "Memory" => ParseError::Memory,
             _ => return Err(RowFault::MalformedInput),
         },
@@ -104,7 +104,7 @@ pub(crate) fn lexer_error(alloc: Global, input: &str) -> Answer {
 /// `code-error NAME`
 pub(crate) fn code_error(alloc: Global, name: &str) -> Answer {
     match name {
-        "UnknownName" => sentence(alloc, CodeTextError::UnknownName),
+        "UnknownName" => shown(alloc, CodeTextError::UnknownName),
         _ => Err(RowFault::MalformedInput),
     }
 }

@@ -4,13 +4,13 @@ ghost use Rattle.std.specs.Prelude.{◌≤◌, length, IfOk};
 ghost use Rattle.dns_wire.specs.Encoder.{written};
 
 use super::names::name_of;
-use crate::fault::{Answer, RowFault};
+use crate::answer::{Answer, made_or_none, named, shown};
+use crate::fault::RowFault;
 use crate::hex::{bytes_of, hex_of};
 use crate::row::{parsed, push_answer, two_words, word_and_rest};
-use dns_wire::{
-    BinEncodable, BinEncoder, EncodeError, NameEncoding, Place, ProtoError, RDataEncoding,
-};
+use dns_wire::{BinEncodable, BinEncoder, NameEncoding, Place, ProtoError, RDataEncoding};
 use std::alloc::Global;
+use std::fmt::Debug;
 
 /// `write STEP; STEP; ..`: the answers of the steps, on an empty buffer.
 ///
@@ -87,10 +87,7 @@ fn set_step(alloc: Global, encoder: &mut BinEncoder<'_>, word: &str, input: &str
         "limit" => encoder.set_max_size(parsed::<u16>(input)?),
         "at" => go_to(encoder, parsed::<usize>(input)?)?,
         "trim" => encoder.trim(),
-        "begin" => {
-            let is_begun = encoder.begin_name();
-            return Ok(format!(in alloc; "{is_begun}")?);
-        }
+        "begin" => return shown(alloc, encoder.begin_name()),
         _ => return look(alloc, encoder, word, input),
     }
     Ok(String::new(alloc))
@@ -102,39 +99,20 @@ fn look(alloc: Global, encoder: &BinEncoder<'_>, word: &str, input: &str) -> Ans
         "hex" => Ok(hex_of(alloc, encoder.slice_of(0, encoder.len()))?),
         "slice" => slice(alloc, encoder, input),
         "find" => find(alloc, encoder, input),
-        "offset" => number_answer(alloc, encoder.offset()),
-        "len" => number_answer(alloc, encoder.len()),
-        "empty" => bool_answer(alloc, encoder.is_empty()),
-        "is-canonical" => bool_answer(alloc, encoder.is_canonical_form()),
-        "encoding" => {
-            let encoding = encoder.name_encoding();
-            Ok(format!(in alloc; "{encoding:?}")?)
-        }
+        "offset" => shown(alloc, encoder.offset()),
+        "len" => shown(alloc, encoder.len()),
+        "empty" => shown(alloc, encoder.is_empty()),
+        "is-canonical" => shown(alloc, encoder.is_canonical_form()),
+        "encoding" => named(alloc, encoder.name_encoding()),
         _ => Err(RowFault::UnknownStep),
     }
 }
 
-fn number_answer(alloc: Global, number: usize) -> Answer {
-    Ok(format!(in alloc; "{number}")?)
-}
-
-fn bool_answer(alloc: Global, holds: bool) -> Answer {
-    Ok(format!(in alloc; "{holds}")?)
-}
-
 /// Nothing for a write that succeeded, and else the refusal.
-fn wrote(alloc: Global, written: Result<(), EncodeError>) -> Answer {
+fn wrote<E: Debug + Drop>(alloc: Global, written: Result<(), E>) -> Answer {
     match written {
         Ok(()) => Ok(String::new(alloc)),
-        Err(fault) => Ok(format!(in alloc; "{fault:?}")?),
-    }
-}
-
-/// Nothing for character data that was written, and else the refusal.
-fn wrote_chars(alloc: Global, written: Result<(), ProtoError>) -> Answer {
-    match written {
-        Ok(()) => Ok(String::new(alloc)),
-        Err(fault) => Ok(format!(in alloc; "{fault:?}")?),
+        Err(refusal) => named(alloc, refusal),
     }
 }
 
@@ -145,7 +123,7 @@ fn write_bytes(alloc: Global, encoder: &mut BinEncoder<'_>, digits: &str) -> Ans
 
 fn write_chars(alloc: Global, encoder: &mut BinEncoder<'_>, digits: &str) -> Answer {
     let bytes = bytes_of(alloc, digits)?;
-    wrote_chars(alloc, encoder.emit_character_data(bytes.as_slice()))
+    wrote(alloc, encoder.emit_character_data(bytes.as_slice()))
 }
 
 fn write_free(alloc: Global, encoder: &mut BinEncoder<'_>, digits: &str) -> Answer {
@@ -161,7 +139,7 @@ fn write_free(alloc: Global, encoder: &mut BinEncoder<'_>, digits: &str) -> Answ
 
 fn write_sized(alloc: Global, encoder: &mut BinEncoder<'_>, digits: &str) -> Answer {
     let bytes = bytes_of(alloc, digits)?;
-    wrote_chars(alloc, emit_sized(encoder, bytes.as_slice()))
+    wrote(alloc, emit_sized(encoder, bytes.as_slice()))
 }
 
 /// Writes character data behind a place, and its size into that place.
@@ -176,7 +154,7 @@ fn emit_sized(encoder: &mut BinEncoder<'_>, bytes: &[u8]) -> Result<(), ProtoErr
 fn write_late(alloc: Global, encoder: &mut BinEncoder<'_>, input: &str) -> Answer {
     let (digits, size) = two_words(input)?;
     let bytes = bytes_of(alloc, digits)?;
-    wrote_chars(
+    wrote(
         alloc,
         emit_late(encoder, bytes.as_slice(), parsed::<u16>(size)?),
     )
@@ -241,10 +219,7 @@ fn slice(alloc: Global, encoder: &BinEncoder<'_>, input: &str) -> Answer {
 
 fn find(alloc: Global, encoder: &BinEncoder<'_>, input: &str) -> Answer {
     let (start, end) = range_of(encoder, input)?;
-    match encoder.get_label_pointer(start, end) {
-        Some(place) => Ok(format!(in alloc; "{place}")?),
-        None => Ok(String::from_str(alloc, "none")?),
-    }
+    made_or_none(alloc, encoder.get_label_pointer(start, end))
 }
 
 fn store(alloc: Global, encoder: &mut BinEncoder<'_>, input: &str) -> Answer {

@@ -1,6 +1,7 @@
 //! Tokens and times of a zone's text.
 
-use crate::fault::{Answer, RowFault};
+use crate::answer::{Answer, made, named};
+use crate::fault::RowFault;
 use crate::row::push_answer;
 use dns_text::{Lexer, LexerError, Token, parse_ttl};
 use std::alloc::Global;
@@ -8,10 +9,7 @@ use std::str;
 
 /// `ttl TEXT`: the seconds of a time to live, or the refusal.
 pub(crate) fn ttl(alloc: Global, text: &str) -> Answer {
-    match parse_ttl(text) {
-        Ok(seconds) => Ok(format!(in alloc; "{seconds}")?),
-        Err(fault) => Ok(format!(in alloc; "{fault:?}")?),
-    }
+    made(alloc, parse_ttl(text))
 }
 
 /// `tokens TEXT`: the tokens of a text and the line on which it ends, or the refusal. `|` is the end of a line, at which
@@ -64,7 +62,7 @@ fn refusal(
     next: Result<Option<Token<'_>>, LexerError>,
 ) -> Answer {
     if next == Err(fault) {
-        Ok(format!(in alloc; "{fault:?}")?)
+        named(alloc, fault)
     } else {
         Ok(format!(in alloc; "{fault:?} and then {next:?}")?)
     }
