@@ -1,7 +1,7 @@
 //! Names made of names and labels (RFC 1035 sections 2.3.4 and 3.1).
 
 ghost use Rattle.std.specs.Prelude.{◌≡◌, ◌≢◌, ◌≤◌, ◌++◌, Ok, Err, drop, IfOk, IfErr, OnOk, option_map};
-ghost use Rattle.dns_wire.specs.Name.{name_len};
+ghost use Rattle.dns_wire.specs.Name.{IsLabel, name_len};
 ghost use Rattle.dns_names.specs.Text.{name_of_text};
 ghost use Rattle.dns_names.specs.Building.{with_label, behind_label, with_name, in_domain, name_at};
 
@@ -12,15 +12,24 @@ use std::alloc::{AllocError, Global};
 
 impl Name {
     /// The name with a label at its right.
-    pub fn append_label<L: IntoLabel>(mut self, label: L) -> Result<Name, ParseError>
+    pub fn append_label<L: IntoLabel>(self, label: L) -> Result<Name, ParseError>
         ensures ok { IfOk result (λ name. with_label self (L.label label) ≡ Ok name) }
         ensures refused { IfErr result (λ error. error ≢ ParseError.Memory → with_label self (L.label label) ≡ Err error) }
     {
         let label = label.into_label(self.allocator())?;
+        self.append_bytes(label.as_bytes())
+    }
+
+    /// The name with these bytes as a label at its right.
+    fn append_bytes(mut self, label: &[u8]) -> Result<Name, ParseError>
+        requires { IsLabel label.now }
+        ensures ok { IfOk result (λ name. with_label self (Ok label.now) ≡ Ok name) }
+        ensures refused { IfErr result (λ error. error ≢ ParseError.Memory → with_label self (Ok label.now) ≡ Err error) }
+    {
         if self.encoded_len() + label.len() + 1 > Name::MAX_LENGTH {
             return Err(ParseError::DomainNameTooLong);
         }
-        self.push(label.as_bytes())?;
+        self.push(label)?;
         Ok(self)
     }
 
@@ -30,11 +39,20 @@ impl Name {
         ensures refused { IfErr result (λ error. error ≢ ParseError.Memory → behind_label (L.label label) self.now ≡ Err error) }
     {
         let label = label.into_label(self.allocator())?;
+        self.prepend_bytes(label.as_bytes())
+    }
+
+    /// The name with these bytes as a label at its left.
+    fn prepend_bytes(&self, label: &[u8]) -> Result<Name, ParseError>
+        requires { IsLabel label.now }
+        ensures ok { IfOk result (λ name. behind_label (Ok label.now) self.now ≡ Ok name) }
+        ensures refused { IfErr result (λ error. error ≢ ParseError.Memory → behind_label (Ok label.now) self.now ≡ Err error) }
+    {
         if self.encoded_len() + label.len() + 1 > Name::MAX_LENGTH {
             return Err(ParseError::DomainNameTooLong);
         }
         let mut name = Name::new(self.allocator());
-        name.push(label.as_bytes())?;
+        name.push(label)?;
         name.push_labels(self, 0)?;
         name.set_fqdn(self.is_fqdn());
         Ok(name)

@@ -1,6 +1,6 @@
 //! Parts of names, and what they tell (RFC 1035 section 3.1, RFC 4592, RFC 6761).
 
-ghost use Rattle.std.specs.Prelude.{◌≡◌, ◌↔◌, ◌++◌, ◌∷◌, [], ◌==◌, ◌+◌, List, ℕ, drop, length, IfOk};
+ghost use Rattle.std.specs.Prelude.{◌≡◌, ◌↔◌, ◌++◌, ◌∷◌, [], ◌==◌, ◌+◌, ◌<◌, List, ℕ, drop, length, IfOk};
 ghost use Rattle.std.specs.Bool.{IsTrue};
 ghost use Rattle.dns_wire.specs.Name.{AreLabels};
 ghost use Rattle.dns_names.specs.Parts.{begins_with_star, labels_counted, labels_len, trimmed, base_of, wildcard_of, ends_in_localhost};
@@ -87,10 +87,18 @@ impl Name {
         if self.label_count() == 0 {
             return Ok(self);
         }
+        self.with_star()
+    }
+
+    /// A copy with `*` in place of the first label, where there is one.
+    fn with_star(&self) -> Result<Name, AllocError>
+        requires { 0 < length self.now.labels }
+        ensures { IfOk result (λ name. name ≡ wildcard_of self.now) }
+    {
         let mut name = Name::new(self.allocator());
-        name.push(b"*")?;
-        name.push_labels(&self, 1)?;
         name.set_fqdn(self.is_fqdn());
+        name.push(b"*")?;
+        name.push_labels(self, 1)?;
         Ok(name)
     }
 
