@@ -10,7 +10,7 @@ use Rattle.dns_wire.specs.declared.error.EncodeError.{EncodeError}
 use Rattle.dns_wire.specs.declared.error.EncodeError.TheVariants.{MaxBufferSizeExceeded}
 use Rattle.dns_wire.proofs.NameLaws.{name_len-spelled, length-labels_form, length-whole_form}
 use Rattle.dns_wire.proofs.PieceLaws.{form-append, after-append, reach-append, appended-end, emits_then, emits_stop}
-use Rattle.dns_names.specs.Writing.{label_pieces, labels_pieces, whole_pieces, after_compressed, compressed_reach}
+use Rattle.dns_names.specs.internal.Wire.{label_pieces, labels_pieces, whole_pieces, after_compressed, compressed_reach}
 
 -- ---- one label more
 

@@ -10,7 +10,7 @@ use Rattle.dns_wire.specs.Pieces.{Sofar, sofar, appended}
 use Rattle.dns_wire.specs.Writing.{labels_form, compressed_form, remembered, pointer_form}
 use Rattle.dns_wire.proofs.NameLaws.{length-labels_form}
 use Rattle.dns_wire.proofs.SuffixLaws.{before-before, before-remember, AgreeBelow, remember-agree}
-use Rattle.dns_names.specs.Writing.{labels_pieces, after_compressed}
+use Rattle.dns_names.specs.internal.Wire.{labels_pieces, after_compressed}
 use Rattle.dns_names.proofs.EmitLaws.{form-labels, after-labels}
 
 -- ---- label by label

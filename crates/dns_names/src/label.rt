@@ -5,6 +5,8 @@ ghost use Rattle.std.specs.Str.{str_to_ascii_lowercase, str_eq_ignore_ascii_case
 ghost use Rattle.dns_wire.specs.Name.{IsLabel};
 ghost use Rattle.dns_names.specs.Label.{label_of_bytes, label_of_text, refused_from};
 
+pub(crate) mod compare;
+
 use crate::error::ParseError;
 use crate::text::may_stand;
 use smallvec::SmallVec;

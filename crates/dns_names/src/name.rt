@@ -2,9 +2,15 @@
 
 ghost use Rattle.std.specs.Prelude.{◌≡◌, ◌==◌, ◌+◌, ◌<◌, ◌≤◌, ◌&&◌, [], ◌∷◌, ◌++◌, false, true, length, slice_get, slice_index_or, IfOk, IsOk, OnOk, OnErr};
 ghost use Rattle.dns_wire.specs.Name.{IsLabel, AreLabels, name_len};
-ghost use Rattle.dns_names.specs.Comparison.{lower};
-ghost use Rattle.dns_names.specs.Cut.{CutsFrom, labels_from};
+ghost use Rattle.dns_names.specs.Compare.{lower};
+ghost use Rattle.dns_names.specs.internal.Name.{CutsFrom, labels_from};
 
+mod build;
+mod compare;
+mod labels;
+mod wire;
+
+pub use labels::LabelIter;
 use smallvec::SmallVec;
 use std::alloc::{AllocError, Global};
 use std::marker::Model;
@@ -18,8 +24,8 @@ pub struct Name {
 }
 
 impl Model for Name {
-    ghost use Rattle.dns_names.specs.DomainName.{DomainName};
-    ghost use Rattle.dns_names.specs.Cut.{labels_from, IsCut};
+    ghost use Rattle.dns_names.specs.Name.{DomainName};
+    ghost use Rattle.dns_names.specs.internal.Name.{labels_from, IsCut};
 
     ghost Value = { DomainName };
 

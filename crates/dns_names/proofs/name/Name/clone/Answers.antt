@@ -1,6 +1,6 @@
 use Rattle.std.proofs.Common.{◌≡◌, ◌+◌, ◌≤◌, true, false, length, ap, arith}
 use Rattle.dns_wire.specs.Name.{name_len}
-use Rattle.dns_names.specs.Cut.{labels_from}
+use Rattle.dns_names.specs.internal.Name.{labels_from}
 use Rattle.dns_names.proofs.CutLaws.{are_labels, len_is, length-labels_from}
 use Rattle.dns_names.proofs.name.Name.clone.Goals as goal
 

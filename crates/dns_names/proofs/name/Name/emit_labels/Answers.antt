@@ -2,7 +2,7 @@ use Rattle.std.proofs.Common.{◌≡◌, ◌≤◌, ◌∙◌, length, take, Ok,
 use Rattle.std.proofs.lemmas.List.{take_all}
 use Rattle.std.proofs.lemmas.Result.{err_from_is_err_and}
 use Rattle.dns_wire.specs.Encoder.{written}
-use Rattle.dns_names.specs.Writing.{labels_pieces}
+use Rattle.dns_names.specs.internal.Wire.{labels_pieces}
 use Rattle.dns_names.proofs.EmitLaws.{still_at_end, one_more, one_refused}
 use Rattle.dns_names.proofs.name.Name.emit_labels.Goals as goal
 

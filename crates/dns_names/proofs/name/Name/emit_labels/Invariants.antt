@@ -1,7 +1,7 @@
 use Rattle.std.proofs.Common.{◌≡◌, take, Ok}
 use Rattle.dns_wire.specs.Encoder.{written, lender}
 use Rattle.dns_wire.specs.Pieces.{Emits}
-use Rattle.dns_names.specs.Writing.{labels_pieces}
+use Rattle.dns_names.specs.internal.Wire.{labels_pieces}
 use Rattle.dns_names.proofs.name.Name.emit_labels.Given as goal
 
 -- the labels before the index were written

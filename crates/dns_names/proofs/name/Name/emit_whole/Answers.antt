@@ -3,7 +3,7 @@ use Rattle.std.proofs.Common.{◌∷◌, []}
 use Rattle.dns_wire.specs.Encoder.{written}
 use Rattle.dns_wire.specs.Pieces.{Plain}
 use Rattle.dns_wire.proofs.PieceLaws.{emits_stop}
-use Rattle.dns_names.specs.Writing.{labels_pieces}
+use Rattle.dns_names.specs.internal.Wire.{labels_pieces}
 use Rattle.dns_names.proofs.EmitLaws.{still_at_end, closes}
 use Rattle.dns_names.proofs.name.Name.emit_whole.Goals as goal
 

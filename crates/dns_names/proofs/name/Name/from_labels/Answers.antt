@@ -1,6 +1,6 @@
 use Rattle.std.proofs.Common.{◌∙◌, ◌++◌, ◌∷◌, [], rules}
 use Rattle.std.proofs.lemmas.Result.{err_from_is_err_and}
-use Rattle.dns_names.specs.Building.{root_name}
+use Rattle.dns_names.specs.Build.{root_name}
 use Rattle.dns_names.proofs.EachLaws.{one_more, Yields-push}
 use Rattle.dns_names.proofs.name.Name.from_labels.Goals as goal
 

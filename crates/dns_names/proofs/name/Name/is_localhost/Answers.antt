@@ -1,6 +1,6 @@
 use Rattle.std.proofs.Common.{◌∙◌, ◌-◌, ℕ, ap, sym, arith}
 use Rattle.std.specs.Prelude.{slice_get}
-use Rattle.dns_names.specs.Parts.{localhost_label}
+use Rattle.dns_names.specs.Labels.{localhost_label}
 use Rattle.dns_names.proofs.PartsLaws.{last_is, tests_alike}
 use Rattle.dns_names.proofs.name.Name.is_localhost.Goals as goal
 

@@ -1,6 +1,6 @@
 use Rattle.std.proofs.Common.{◌≡◌, ◌-◌, false, ◌∙◌, sym, arith}
 use Rattle.std.proofs.lemmas.Bool.Decides.{nat_tests}
-use Rattle.dns_names.specs.Comparison.{at_or_below}
+use Rattle.dns_names.specs.Compare.{at_or_below}
 use Rattle.dns_names.proofs.ComparisonLaws.{zone_by_last, too_short}
 use Rattle.dns_names.proofs.name.Name.zone_of.Goals as goal
 
