@@ -1,5 +1,6 @@
 -- What is written over a list of calls.
 use Rattle.std.proofs.Common.{◌≡◌, ℕ, ◌+◌, ◌<◌, ◌≤◌, ◌⊎◌, inl, inr, List, [], ◌∷◌, ◌++◌, length, take, drop, refl, sym, ap, subst, ◌∙◌, append_assoc, arith, length-append, length-drop}
+use Rattle.std.specs.Borrow.{GName}
 use Rattle.std.specs.List.{AllByRecursion}
 use Rattle.std.proofs.lemmas.List.{take-append-le, take_all, drop-append-le, append-nil, take-append-drop, length-take-le}
 use Rattle.dns_wire.specs.declared.name_encoding.NameEncoding.{NameEncoding}
@@ -81,6 +82,7 @@ record Keeps (front w : Written) : Type 0 where
   suffixes : before front.offset w.suffixes ≡ before front.offset front.suffixes
   on : front.offset ≤ w.offset
   end : IsAtEnd w
+  lender : w.lender ≡ front.lender
 
 keeps-more : (front w : Written) (encoding : NameEncoding) (attempts : ℕ) (ps : List Piece) → Keeps front w → Keeps front (appended (begun w encoding attempts) ps)
 keeps-more front w encoding attempts ps k =
@@ -90,6 +92,7 @@ keeps-more front w encoding attempts ps k =
       suffixes = before-after front.offset s ps k.on ∙ k.suffixes;
       on = omega (arith, k.on, after-place s ps);
       end = appended-end (begun w encoding attempts) ps k.end;
+      lender = k.lender;
     }
 
 keeps-lost : (front w : Written) (bytes : List ℕ) (suffixes : List Suffix) → before w.offset suffixes ≡ before w.offset w.suffixes → Keeps front w → Keeps front (with_lost w bytes suffixes)
@@ -99,10 +102,11 @@ keeps-lost front w bytes suffixes same k =
       suffixes = sym (before-before front.offset w.offset suffixes k.on) ∙ ap (before front.offset) same ∙ before-before front.offset w.offset w.suffixes k.on ∙ k.suffixes;
       on = omega (arith, k.on);
       end = omega (arith, k.end, length-append w.bytes bytes);
+      lender = k.lender;
     }
 
 keeps-self : (w : Written) → IsAtEnd w → Keeps w w
-keeps-self w end = record { bytes = take_all w.offset w.bytes (omega (arith, end)); suffixes = refl; on = omega arith; end = end }
+keeps-self w end = record { bytes = take_all w.offset w.bytes (omega (arith, end)); suffixes = refl; on = omega arith; end = end; lender = refl }
 
 keeps-later : (old : Written) (later earlier : List Part) → IsAtEnd old → AreSound old (later ++ earlier) → Keeps (after_parts old earlier) (after_parts old (later ++ earlier))
 keeps-later old [] earlier end are = keeps-self (after_parts old earlier) (parts-end old earlier end)
@@ -187,12 +191,14 @@ record Agrees (old : Written) (parts : List Part) (w : Written) : Type 0 where
   bytes : w.bytes ≡ (after_parts old parts).bytes
   offset : w.offset ≡ (after_parts old parts).offset
   suffixes : w.suffixes ≡ (after_parts old parts).suffixes
+  lender : w.lender ≡ (after_parts old parts).lender
   sound : AreSound old parts
 
 agrees-is : {old : Written} {parts : List Part} {w : Written} → Agrees old parts w → w ≡ record (after_parts old parts) { limit = w.limit; encoding = w.encoding; canonical = w.canonical; attempts = w.attempts }
 agrees-is {old} {parts} {w} g =
     ap (λ (xs : List ℕ). record w { bytes = xs }) g.bytes ∙ ap (λ (n : ℕ). record w { bytes = (after_parts old parts).bytes; offset = n }) g.offset
     ∙ ap (λ (ss : List Suffix). record w { bytes = (after_parts old parts).bytes; offset = (after_parts old parts).offset; suffixes = ss }) g.suffixes
+    ∙ ap (λ (l : GName). record (after_parts old parts) { limit = w.limit; encoding = w.encoding; canonical = w.canonical; attempts = w.attempts; lender = l }) g.lender
 
 agrees-end : {old : Written} {parts : List Part} {w : Written} → IsAtEnd old → Agrees old parts w → IsAtEnd w
 agrees-end {old} {parts} {w} end g = g.offset ∙ parts-end old parts end ∙ ap length (sym g.bytes)
@@ -216,6 +222,7 @@ agrees-piece {old} {parts} {w} piece g is clear =
       bytes = ap (λ (v : Written). v.bytes) same;
       offset = ap (λ (v : Written). v.offset) same;
       suffixes = ap (λ (v : Written). v.suffixes) same;
+      lender = ap (λ (v : Written). v.lender) same;
       sound = (is, clear', g.sound);
     }
 
@@ -235,6 +242,7 @@ agrees-in_vain {old} {parts} {w} {new} piece behind g e =
       bytes = ap (λ (v : Written). v.bytes) e ∙ ap (λ (xs : List ℕ). w.bytes ++ xs) (append-nil bytes) ∙ ap (λ (xs : List ℕ). xs ++ bytes) g.bytes;
       offset = ap (λ (v : Written). v.offset) e ∙ ap (λ (n : ℕ). n + length bytes) g.offset;
       suffixes = refl;
+      lender = ap (λ (v : Written). v.lender) e ∙ g.lender;
       sound = (
         ap (before place) suffixes ∙ before-after place (sofar w) (piece ∷ []) (omega (arith, g.offset)) ∙ ap (before place) g.suffixes,
         subst (λ (n : ℕ). AllByRecursion (λ x. x.start < n + length bytes) new.suffixes) g.offset (subst (λ (ss : List Suffix). AllByRecursion (λ x. x.start < w.offset + length bytes) ss) (sym suffixes) behind'),
@@ -258,6 +266,7 @@ agrees-back {old} {w} {new} place later earlier end g from to e =
       bytes = sym (take-append-drop front.offset new.bytes) ∙ ap (λ (xs : List ℕ). xs ++ drop front.offset new.bytes) kept;
       offset = offset ∙ sym ends;
       suffixes = refl;
+      lender = ap (λ (v : Written). v.lender) e ∙ g.lender ∙ k.lender;
       sound = (
         ap (before front.offset) suffixes ∙ before-before front.offset place w.suffixes from ∙ ap (before front.offset) g.suffixes ∙ k.suffixes,
         subst (λ (n : ℕ). AllByRecursion (λ x. x.start < n) new.suffixes) (sym ends) (subst (λ (ss : List Suffix). AllByRecursion (λ x. x.start < place) ss) (sym suffixes) (before-behind place w.suffixes)),
@@ -273,11 +282,12 @@ agrees-filled {old} {w} {new} later encoding attempts a b earlier end g len is =
       bytes = ap (λ (v : Written). v.bytes) is ∙ ap (put_at (after_parts old earlier).offset b) g.bytes ∙ sym (ap (λ (v : Written). v.bytes) f.is);
       offset = ap (λ (v : Written). v.offset) is ∙ g.offset ∙ sym (ap (λ (v : Written). v.offset) f.is);
       suffixes = ap (λ (v : Written). v.suffixes) is ∙ g.suffixes ∙ sym (ap (λ (v : Written). v.suffixes) f.is);
+      lender = ap (λ (v : Written). v.lender) is ∙ g.lender ∙ sym (ap (λ (v : Written). v.lender) f.is);
       sound = sound-filled old later encoding attempts a b earlier end len g.sound;
     }
 
 calls-agree : {old : Written} {parts : List Part} {w : Written} → IsAtEnd old → AllStand old.bytes old.suffixes → Calls old parts w → Agrees old parts w
-calls-agree end stand no_call = record { bytes = refl; offset = refl; suffixes = refl; sound = tt }
+calls-agree end stand no_call = record { bytes = refl; offset = refl; suffixes = refl; lender = refl; sound = tt }
 calls-agree {old} end stand (wrote {parts} {w} {new} pieces calls e are clear) =
     subst (Agrees old (with_pieces w pieces parts)) (sym e) (agrees-pieces w pieces (calls-agree end stand calls) are clear)
 calls-agree {old} end stand (wrote_in_vain {parts} {w} {new} piece calls e) = agrees-in_vain piece (stand_behind old end stand) (calls-agree end stand calls) e
@@ -289,6 +299,7 @@ calls-agree {old} end stand (took_back {parts} {w} {refused} {new} calls back cu
       bytes = ap (λ (v : Written). v.bytes) is ∙ g.bytes;
       offset = ap (λ (v : Written). v.offset) is ∙ g.offset;
       suffixes = ap (λ (v : Written). v.suffixes) is ∙ g.suffixes;
+      lender = ap (λ (v : Written). v.lender) is ∙ g.lender;
       sound = g.sound;
     }
 calls-agree {old} end stand (went_back {w} {new} place later earlier calls from to e) = agrees-back place later earlier end (calls-agree end stand calls) from to e
@@ -299,6 +310,7 @@ calls-agree {old} end stand (wrote_nothing {parts} {w} {new} encoding canonical 
       bytes = ap (λ (v : Written). v.bytes) is ∙ g.bytes;
       offset = ap (λ (v : Written). v.offset) is ∙ g.offset;
       suffixes = ap (λ (v : Written). v.suffixes) is ∙ g.suffixes;
+      lender = ap (λ (v : Written). v.lender) is ∙ g.lender;
       sound = g.sound;
     }
 

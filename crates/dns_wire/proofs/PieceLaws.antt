@@ -195,9 +195,7 @@ appended-back w ps end = record {
   bytes = take-append-le w.offset w.bytes (form (sofar w) ps) (omega arith);
   within = omega (arith, length-append w.bytes (form (sofar w) ps));
   suffixes = before-after w.offset (sofar w) ps (omega arith);
-  limit = refl;
-  encoding = refl;
-  canonical = refl;
+  same = refl;
 }
 
 pub take-shorter : {A : Type 0} (m n : ℕ) (xs : List A) → m ≤ n → take m (take n xs) ≡ take m xs
@@ -207,16 +205,18 @@ take-shorter (suc m) (suc n) [] le = refl
 take-shorter (suc m) (suc n) (x ∷ xs) le = ap (λ l. x ∷ l) (take-shorter m n xs (omega arith))
 
 pub back-refl : (w : Written) → IsAtEnd w → TakesBack w w
-back-refl w end = record { bytes = refl; within = omega (arith, end); suffixes = refl; limit = refl; encoding = refl; canonical = refl }
+back-refl w end = record { bytes = refl; within = omega (arith, end); suffixes = refl; same = refl }
+
+-- a state with the bytes, the offset, the suffixes and the attempts of another
+abbrev rolled_to : Written → Written → Written
+rolled_to w new = record w { bytes = new.bytes; offset = new.offset; suffixes = new.suffixes; attempts = new.attempts }
 
 pub back-trans : (old mid new : Written) → old.offset ≤ mid.offset → TakesBack old mid → TakesBack mid new → TakesBack old new
 back-trans old mid new le a b = record {
   bytes = sym (take-shorter old.offset mid.offset new.bytes le) ∙ ap (take old.offset) b.bytes ∙ take-shorter old.offset mid.offset mid.bytes le ∙ a.bytes;
   within = omega (arith, b.within);
   suffixes = sym (before-before old.offset mid.offset new.suffixes le) ∙ ap (before old.offset) b.suffixes ∙ before-before old.offset mid.offset mid.suffixes le ∙ a.suffixes;
-  limit = b.limit ∙ a.limit;
-  encoding = b.encoding ∙ a.encoding;
-  canonical = b.canonical ∙ a.canonical;
+  same = b.same ∙ ap (λ (w : Written). rolled_to w new) a.same;
 }
 
 -- going back to where a refused write began, and trimming, gives what was there, but for the names that were begun
@@ -226,9 +226,7 @@ taken_back old new end behind back =
     let suffixes : before old.offset new.suffixes ≡ old.suffixes = back.suffixes ∙ before-all old.offset old.suffixes behind in
     ap (λ (xs : List ℕ). record new { bytes = xs; offset = old.offset; suffixes = before old.offset new.suffixes }) bytes
     ∙ ap (λ (ss : List Suffix). record new { bytes = old.bytes; offset = old.offset; suffixes = ss }) suffixes
-    ∙ ap (λ (n : ℕ). record new { bytes = old.bytes; offset = old.offset; suffixes = old.suffixes; limit = n }) back.limit
-    ∙ ap (λ (e : NameEncoding). record old { attempts = new.attempts; encoding = e; canonical = new.canonical }) back.encoding
-    ∙ ap (λ (b : Bool). record old { attempts = new.attempts; canonical = b }) back.canonical
+    ∙ ap (λ (w : Written). record w { bytes = old.bytes; offset = old.offset; suffixes = old.suffixes; attempts = new.attempts }) back.same
 
 pub stand_behind : (w : Written) → IsAtEnd w → AllStand w.bytes w.suffixes → AllBehind (sofar w)
 stand_behind w end stand = all_weaker {P = Stands w.bytes} {Q = λ x. x.start < w.offset} (λ x q. omega (arith, q.within, end)) w.suffixes stand
@@ -308,7 +306,7 @@ emits_whole old new encoding labels r whole e =
       room = subst (λ (n : ℕ). OnOk r (n ≤ old.limit)) same.2 e.room;
       full = λ is. subst (λ (n : ℕ). old.limit < n) same.2 (e.full is);
       tries = λ is. e.tries is ∙ tried-one old.limit t (Domain labels) ∙ attempts ∙ sym (tried-one old.limit s (Whole (spelled encoding labels)));
-      back = on_err_weaker r (λ b. record { bytes = b.bytes; within = b.within; suffixes = b.suffixes; limit = b.limit; encoding = refl; canonical = b.canonical }) e.back;
+      back = on_err_weaker r (λ b. record { bytes = b.bytes; within = b.within; suffixes = b.suffixes; same = ap (λ (w : Written). record w { encoding = old.encoding }) b.same }) e.back;
     }
 
 -- ---- bytes that follow change nothing

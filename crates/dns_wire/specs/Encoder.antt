@@ -12,7 +12,8 @@ pub record Suffix : Type 0 where
   pub bytes : List ℕ
 
 -- what was written, the place of the next byte, how many bytes there may be, how names are written, whether in
--- canonical form, the remembered suffixes in their order, and how many names were begun that could be compressed
+-- canonical form, the remembered suffixes in their order, how many names were begun that could be compressed, and
+-- which vector was borrowed
 pub record Written : Type 0 where
   pub bytes : List ℕ
   pub offset : ℕ
@@ -21,6 +22,7 @@ pub record Written : Type 0 where
   pub canonical : Bool
   pub suffixes : List Suffix
   pub attempts : ℕ
+  pub lender : GName
 
 abbrev pub suffix_of : code.Suffix → Suffix
 suffix_of s = record { start = s.start; bytes = s.bytes.items }
@@ -34,11 +36,8 @@ written e = record {
   canonical = e.canonical_form;
   suffixes = map suffix_of e.suffixes.items;
   attempts = e.attempts;
+  lender = e.buffer.ghost_name;
 }
-
--- whose buffer it is
-abbrev pub lender : BinEncoder → GName
-lender e = e.buffer.ghost_name
 
 -- the bytes, with these from a place on
 abbrev pub put_at : ℕ → List ℕ → List ℕ → List ℕ
@@ -78,6 +77,10 @@ pub record TakesBack (old new : Written) : Type 0 where
   pub bytes : take old.offset new.bytes ≡ take old.offset old.bytes
   pub within : old.offset ≤ length new.bytes
   pub suffixes : before old.offset new.suffixes ≡ before old.offset old.suffixes
-  pub limit : new.limit ≡ old.limit
-  pub encoding : new.encoding ≡ old.encoding
-  pub canonical : new.canonical ≡ old.canonical
+  -- nothing else changes
+  pub same : new ≡ record old {
+    bytes = new.bytes;
+    offset = new.offset;
+    suffixes = new.suffixes;
+    attempts = new.attempts;
+  }

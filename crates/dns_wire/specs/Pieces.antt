@@ -2,9 +2,9 @@
 --
 -- What a piece looks like depends on where it begins, on how names are written, on the remembered suffixes and on the
 -- names begun, and on no byte that was written before.
-use Rattle.std.specs.Prelude.{◌≡◌, ℕ, ◌+◌, ◌<◌, ◌≤◌, nat_lt, Bool, ◌&&◌, if◌then◌else◌, List, [], ◌∷◌, ◌++◌, length, take, drop, max, Result, Ok, Err, OnOk, OnErr}
+use Rattle.std.specs.Prelude.{◌≡◌, ℕ, ◌+◌, ◌<◌, ◌≤◌, ◌↔◌, nat_lt, Bool, ◌&&◌, if◌then◌else◌, List, [], ◌∷◌, ◌++◌, length, take, drop, max, Result, Ok, Err, OnOk, OnErr}
 use Rattle.std.specs.List.{AllByRecursion}
-use Rattle.dns_wire.specs.Encoder.{Suffix, Written, TakesBack}
+use Rattle.dns_wire.specs.Encoder.{Suffix, Written, IsAtEnd, TakesBack, after_put}
 use Rattle.dns_wire.specs.Name.{AreLabels}
 use Rattle.dns_wire.specs.Reading.{ReadsName}
 use Rattle.dns_wire.specs.Writing.{compresses, compressed_form, remembered}
@@ -111,6 +111,15 @@ pub record Emits (old : Written) (pieces : List Piece) (result : Result (Unit {0
   pub full : result ≡ Err MaxBufferSizeExceeded → old.limit < reach (sofar old) pieces
   pub tries : result ≡ Err MaxBufferSizeExceeded → new.attempts ≡ tried old.limit (sofar old) pieces
   pub back : OnErr result (TakesBack old new)
+
+-- Writing bytes at the offset: they replace what is there, or extend the buffer; or they pass the limit, or memory is
+-- refused, and nothing changes. At the end of the buffer this emits them.
+pub record Puts (old : Written) (bytes : List ℕ) (result : Result (Unit {0}) EncodeError) (new : Written) : Type 0 where
+  pub ok : OnOk result (new ≡ after_put old bytes)
+  pub room : OnOk result (old.offset + length bytes ≤ old.limit)
+  pub full : (result ≡ Err MaxBufferSizeExceeded) ↔ (old.limit < old.offset + length bytes)
+  pub err : OnErr result (new ≡ old)
+  pub at_end : IsAtEnd old → Emits old (Plain bytes ∷ []) result new
 
 -- how a call ended, but for what it answered
 abbrev pub outcome : {X : Type 0} → Result X EncodeError → Result (Unit {0}) EncodeError

@@ -1,7 +1,7 @@
 //! What has a form on the wire.
 
 ghost use Rattle.std.specs.Prelude.{◌≡◌, ◌<◌, ◌≤◌, ℕ, List, [], ◌∷◌, length, IsOk, IfOk, OnOk};
-ghost use Rattle.dns_wire.specs.Encoder.{written, lender, IsAtEnd};
+ghost use Rattle.dns_wire.specs.Encoder.{written, IsAtEnd};
 ghost use Rattle.dns_wire.specs.Pieces.{Piece, Plain, Sofar, sofar, unwritten, form, reach, Emits, AreWritable};
 
 use crate::encoder::BinEncoder;
@@ -17,8 +17,7 @@ pub trait BinEncodable {
     fn emit(&self, encoder: &mut BinEncoder<'_>) -> Result<(), EncodeError>
         requires { IsAtEnd (written encoder.old) }
         ensures emits { Emits (written encoder.old) (pieces self.now (sofar (written encoder.old))) result (written encoder.new) }
-        ensures writable { IsOk result → AreWritable (pieces self.now (sofar (written encoder.old))) }
-        ensures lender { lender encoder.new ≡ lender encoder.old };
+        ensures writable { IsOk result → AreWritable (pieces self.now (sofar (written encoder.old))) };
 
     /// The bytes of the value alone.
     final fn to_bytes(&self, alloc: Global) -> Result<Vec<u8>, EncodeError>

@@ -31,13 +31,13 @@ pub struct BinEncoder<'a> {
 impl<'a> BinEncoder<'a> {
     ghost use Rattle.std.specs.Prelude.{◌≡◌, vec_len, ◌+◌, ◌<◌, ◌≤◌, ◌↔◌, ◌⊎◌, nat_lt, if◌then◌else◌, [], ◌∷◌, false, length, replicate, slice_range, IsTrue, IfErr, OnOk, OnErr};
     ghost use Rattle.std.specs.Int.{w16, w32, to_be_bytes, cast_unsigned};
-    ghost use Rattle.dns_wire.specs.Encoder.{written, lender, after_put, put_at, place_of, remember, trimmed, IsAtEnd, TakesBack};
-    ghost use Rattle.dns_wire.specs.Pieces.{Plain, Emits, appended};
+    ghost use Rattle.dns_wire.specs.Encoder.{written, after_put, put_at, place_of, remember, trimmed, IsAtEnd, TakesBack};
+    ghost use Rattle.dns_wire.specs.Pieces.{Plain, Emits, Puts, appended};
     ghost use Rattle.dns_wire.specs.declared.name_encoding.NameEncoding.TheVariants.{Compressed};
 
     /// An encoder at the front of the buffer, of at most 65,535 bytes, which compresses names.
     pub fn new(alloc: Global, buffer: &'a mut Vec<u8>) -> BinEncoder<'a>
-        ensures value { written result ≡ record {
+        ensures { written result ≡ record {
           bytes = buffer.old.items;
           offset = 0;
           limit = 65535;
@@ -45,8 +45,8 @@ impl<'a> BinEncoder<'a> {
           canonical = false;
           suffixes = [];
           attempts = 0;
+          lender = buffer.entry.ghost_name;
         } }
-        ensures lender { lender result ≡ buffer.entry.ghost_name }
     {
         BinEncoder::with_offset(alloc, buffer, 0, NameEncoding::Compressed)
     }
@@ -59,7 +59,7 @@ impl<'a> BinEncoder<'a> {
         name_encoding: NameEncoding,
     ) -> BinEncoder<'a>
         requires within { offset ≤ vec_len buffer.old }
-        ensures value { written result ≡ record {
+        ensures { written result ≡ record {
           bytes = buffer.old.items;
           offset = offset;
           limit = 65535;
@@ -67,8 +67,8 @@ impl<'a> BinEncoder<'a> {
           canonical = false;
           suffixes = [];
           attempts = 0;
+          lender = buffer.entry.ghost_name;
         } }
-        ensures lender { lender result ≡ buffer.entry.ghost_name }
     {
         BinEncoder {
             buffer,
@@ -84,7 +84,7 @@ impl<'a> BinEncoder<'a> {
     /// The buffer, given back.
     pub fn into_bytes(self) -> &'a mut Vec<u8>
         ensures value { result.now.items ≡ (written self.entry).bytes }
-        ensures lender { result.ghost_name ≡ lender self.entry }
+        ensures lender { result.ghost_name ≡ (written self.entry).lender }
     {
         let BinEncoder {
             buffer,
@@ -125,16 +125,14 @@ impl<'a> BinEncoder<'a> {
     /// Goes to another place of the buffer.
     pub fn set_offset(&mut self, offset: usize)
         requires { offset ≤ length (written self.old).bytes }
-        ensures value { written self.new ≡ record (written self.old) { offset = offset } }
-        ensures lender { lender self.new ≡ lender self.old }
+        ensures { written self.new ≡ record (written self.old) { offset = offset } }
     {
         self.offset = offset;
     }
 
     /// Sets how many bytes the buffer may have.
     pub fn set_max_size(&mut self, max: u16)
-        ensures value { written self.new ≡ record (written self.old) { limit = max } }
-        ensures lender { lender self.new ≡ lender self.old }
+        ensures { written self.new ≡ record (written self.old) { limit = max } }
     {
         self.max_size = usize::from(max);
     }
@@ -148,8 +146,7 @@ impl<'a> BinEncoder<'a> {
 
     /// Sets how names are written.
     pub fn set_name_encoding(&mut self, encoding: NameEncoding)
-        ensures value { written self.new ≡ record (written self.old) { encoding = encoding } }
-        ensures lender { lender self.new ≡ lender self.old }
+        ensures { written self.new ≡ record (written self.old) { encoding = encoding } }
     {
         self.name_encoding = encoding;
     }
@@ -163,20 +160,14 @@ impl<'a> BinEncoder<'a> {
 
     /// Sets whether record data is written in its canonical form.
     pub fn set_canonical_form(&mut self, canonical_form: bool)
-        ensures value { written self.new ≡ record (written self.old) { canonical = canonical_form } }
-        ensures lender { lender self.new ≡ lender self.old }
+        ensures { written self.new ≡ record (written self.old) { canonical = canonical_form } }
     {
         self.canonical_form = canonical_form;
     }
 
     /// Writes bytes at the offset.
     pub fn emit_vec(&mut self, bytes: &[u8]) -> Result<(), EncodeError>
-        ensures ok { OnOk result (written self.new ≡ after_put (written self.old) bytes.now) }
-        ensures room { OnOk result ((written self.old).offset + length bytes.now ≤ (written self.old).limit) }
-        ensures full { (result ≡ Err EncodeError.MaxBufferSizeExceeded) ↔ ((written self.old).limit < (written self.old).offset + length bytes.now) }
-        ensures err { OnErr result (written self.new ≡ written self.old) }
-        ensures at_end { IsAtEnd (written self.old) → Emits (written self.old) (Plain bytes.now ∷ []) result (written self.new) }
-        ensures lender { lender self.new ≡ lender self.old }
+        ensures { Puts (written self.old) bytes.now result (written self.new) }
     {
         let offset = self.offset;
         if bytes.len() > self.max_size || offset > self.max_size - bytes.len() {
@@ -191,60 +182,35 @@ impl<'a> BinEncoder<'a> {
 
     /// Writes a byte.
     pub fn emit_u8(&mut self, byte: u8) -> Result<(), EncodeError>
-        ensures ok { OnOk result (written self.new ≡ after_put (written self.old) (byte ∷ [])) }
-        ensures room { OnOk result ((written self.old).offset + 1 ≤ (written self.old).limit) }
-        ensures full { (result ≡ Err EncodeError.MaxBufferSizeExceeded) ↔ ((written self.old).limit < (written self.old).offset + 1) }
-        ensures err { OnErr result (written self.new ≡ written self.old) }
-        ensures at_end { IsAtEnd (written self.old) → Emits (written self.old) (Plain (byte ∷ []) ∷ []) result (written self.new) }
-        ensures lender { lender self.new ≡ lender self.old }
+        ensures { Puts (written self.old) (byte ∷ []) result (written self.new) }
     {
         self.emit_vec(&[byte])
     }
 
     /// Writes a number of two bytes, the high one first.
     pub fn emit_u16(&mut self, number: u16) -> Result<(), EncodeError>
-        ensures ok { OnOk result (written self.new ≡ after_put (written self.old) (to_be_bytes w16 number)) }
-        ensures room { OnOk result ((written self.old).offset + 2 ≤ (written self.old).limit) }
-        ensures full { (result ≡ Err EncodeError.MaxBufferSizeExceeded) ↔ ((written self.old).limit < (written self.old).offset + 2) }
-        ensures err { OnErr result (written self.new ≡ written self.old) }
-        ensures at_end { IsAtEnd (written self.old) → Emits (written self.old) (Plain (to_be_bytes w16 number) ∷ []) result (written self.new) }
-        ensures lender { lender self.new ≡ lender self.old }
+        ensures { Puts (written self.old) (to_be_bytes w16 number) result (written self.new) }
     {
         self.emit_vec(&number.to_be_bytes())
     }
 
     /// Writes a number of four bytes, the highest one first.
     pub fn emit_u32(&mut self, number: u32) -> Result<(), EncodeError>
-        ensures ok { OnOk result (written self.new ≡ after_put (written self.old) (to_be_bytes w32 number)) }
-        ensures room { OnOk result ((written self.old).offset + 4 ≤ (written self.old).limit) }
-        ensures full { (result ≡ Err EncodeError.MaxBufferSizeExceeded) ↔ ((written self.old).limit < (written self.old).offset + 4) }
-        ensures err { OnErr result (written self.new ≡ written self.old) }
-        ensures at_end { IsAtEnd (written self.old) → Emits (written self.old) (Plain (to_be_bytes w32 number) ∷ []) result (written self.new) }
-        ensures lender { lender self.new ≡ lender self.old }
+        ensures { Puts (written self.old) (to_be_bytes w32 number) result (written self.new) }
     {
         self.emit_vec(&number.to_be_bytes())
     }
 
     /// Writes a signed number of four bytes, the highest one first.
     pub fn emit_i32(&mut self, number: i32) -> Result<(), EncodeError>
-        ensures ok { OnOk result (written self.new ≡ after_put (written self.old) (to_be_bytes w32 (cast_unsigned w32 number))) }
-        ensures room { OnOk result ((written self.old).offset + 4 ≤ (written self.old).limit) }
-        ensures full { (result ≡ Err EncodeError.MaxBufferSizeExceeded) ↔ ((written self.old).limit < (written self.old).offset + 4) }
-        ensures err { OnErr result (written self.new ≡ written self.old) }
-        ensures at_end { IsAtEnd (written self.old) → Emits (written self.old) (Plain (to_be_bytes w32 (cast_unsigned w32 number)) ∷ []) result (written self.new) }
-        ensures lender { lender self.new ≡ lender self.old }
+        ensures { Puts (written self.old) (to_be_bytes w32 (cast_unsigned w32 number)) result (written self.new) }
     {
         self.emit_u32(number.cast_unsigned())
     }
 
     /// Writes a byte, as `emit_u8` does.
     pub fn emit(&mut self, byte: u8) -> Result<(), EncodeError>
-        ensures ok { OnOk result (written self.new ≡ after_put (written self.old) (byte ∷ [])) }
-        ensures room { OnOk result ((written self.old).offset + 1 ≤ (written self.old).limit) }
-        ensures full { (result ≡ Err EncodeError.MaxBufferSizeExceeded) ↔ ((written self.old).limit < (written self.old).offset + 1) }
-        ensures err { OnErr result (written self.new ≡ written self.old) }
-        ensures at_end { IsAtEnd (written self.old) → Emits (written self.old) (Plain (byte ∷ []) ∷ []) result (written self.new) }
-        ensures lender { lender self.new ≡ lender self.old }
+        ensures { Puts (written self.old) (byte ∷ []) result (written self.new) }
     {
         self.emit_u8(byte)
     }
@@ -260,7 +226,6 @@ impl<'a> BinEncoder<'a> {
         ensures err { OnErr result ((written self.new ≡ written self.old) ⊎ (written self.new ≡ after_put (written self.old) (length bytes.now ∷ []))) }
         ensures at_end { IsAtEnd (written self.old)
             → Emits (written self.old) (Plain (length bytes.now ∷ []) ∷ Plain bytes.now ∷ []) result (written self.new) }
-        ensures lender { lender self.new ≡ lender self.old }
     {
         if !self.has_room(bytes.len() + 1) {
             return Err(EncodeError::MaxBufferSizeExceeded);
@@ -281,7 +246,6 @@ impl<'a> BinEncoder<'a> {
         ensures err { OnErr result ((written self.new ≡ written self.old) ⊎ (written self.new ≡ after_put (written self.old) (length bytes.now ∷ []))) }
         ensures appended { IsAtEnd (written self.old) → OnOk result (written self.new ≡ appended (written self.old) (Plain (length bytes.now ∷ []) ∷ Plain bytes.now ∷ [])) }
         ensures back { IsAtEnd (written self.old) → OnErr result (TakesBack (written self.old) (written self.new)) }
-        ensures lender { lender self.new ≡ lender self.old }
     {
         if bytes.len() > 255 {
             return Err(ProtoError::CharacterDataTooLong { len: bytes.len() });
@@ -299,12 +263,7 @@ impl<'a> BinEncoder<'a> {
 
     /// Writes so many zero bytes. Where they have no room, no memory is asked for.
     pub(crate) fn emit_zeros(&mut self, len: usize) -> Result<(), EncodeError>
-        ensures ok { OnOk result (written self.new ≡ after_put (written self.old) (replicate len 0)) }
-        ensures room { OnOk result ((written self.old).offset + len ≤ (written self.old).limit) }
-        ensures full { (result ≡ Err EncodeError.MaxBufferSizeExceeded) ↔ ((written self.old).limit < (written self.old).offset + len) }
-        ensures err { OnErr result (written self.new ≡ written self.old) }
-        ensures at_end { IsAtEnd (written self.old) → Emits (written self.old) (Plain (replicate len 0) ∷ []) result (written self.new) }
-        ensures lender { lender self.new ≡ lender self.old }
+        ensures { Puts (written self.old) (replicate len 0) result (written self.new) }
     {
         if !self.has_room(len) {
             return Err(EncodeError::MaxBufferSizeExceeded);
@@ -323,8 +282,7 @@ impl<'a> BinEncoder<'a> {
     /// Writes a value over the bytes at a place.
     pub(crate) fn fill_at<T: EncodedSize>(&mut self, start: usize, value: &T)
         requires { start + T.LEN ≤ length (written self.old).bytes }
-        ensures value { written self.new ≡ record (written self.old) { bytes = put_at start (T.wire value.now) (written self.old).bytes } }
-        ensures lender { lender self.new ≡ lender self.old }
+        ensures { written self.new ≡ record (written self.old) { bytes = put_at start (T.wire value.now) (written self.old).bytes } }
     {
         value.fill(&mut self.buffer[start..start + T::LEN]);
     }
@@ -361,7 +319,6 @@ impl<'a> BinEncoder<'a> {
           suffixes = remember (written self.old).suffixes start (slice_range (written self.old).bytes start end);
         }) }
         ensures err { OnErr result (written self.new ≡ written self.old) }
-        ensures lender { lender self.new ≡ lender self.old }
     {
         if start >= 0x3FFF || self.suffixes.len() >= 64 {
             return Ok(());
@@ -385,7 +342,6 @@ impl<'a> BinEncoder<'a> {
         ensures counts { written self.new ≡ record (written self.old) {
           attempts = if nat_lt (written self.old).attempts 120 then (written self.old).attempts + 1 else (written self.old).attempts;
         } }
-        ensures lender { lender self.new ≡ lender self.old }
     {
         if self.attempts < 120 {
             self.attempts += 1;
@@ -397,8 +353,7 @@ impl<'a> BinEncoder<'a> {
 
     /// Cuts the buffer back to the offset, and forgets the suffixes from there on.
     pub fn trim(&mut self)
-        ensures value { written self.new ≡ trimmed (written self.old) }
-        ensures lender { lender self.new ≡ lender self.old }
+        ensures { written self.new ≡ trimmed (written self.old) }
     {
         let offset = self.offset;
         self.buffer.truncate(offset);

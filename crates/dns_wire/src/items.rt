@@ -1,7 +1,7 @@
 //! Writing items one after another.
 
 ghost use Rattle.std.specs.Prelude.{◌≡◌, length, IfOk, IfErr, IsOk, OnErr};
-ghost use Rattle.dns_wire.specs.Encoder.{written, lender, IsAtEnd, TakesBack};
+ghost use Rattle.dns_wire.specs.Encoder.{written, IsAtEnd, TakesBack};
 ghost use Rattle.dns_wire.specs.Items.{kept, all_pieces, after_all};
 ghost use Rattle.dns_wire.specs.Pieces.{sofar, AllBehind, AreWritable};
 
@@ -28,7 +28,6 @@ impl<'a> BinEncoder<'a> {
         ensures writable { result ≢ Err ProtoError.Memory
             → AreWritable (all_pieces T.pieces (sofar (written self.old)) (kept T.pieces (written self.old).limit (sofar (written self.old)) items.now)) }
         ensures back { result ≡ Err ProtoError.Memory → TakesBack (written self.old) (written self.new) }
-        ensures lender { lender self.new ≡ lender self.old }
     {
         let count = emit_fitting(items, self)?;
         if count < items.len() {
@@ -49,7 +48,6 @@ impl<'a> BinEncoder<'a> {
         ensures writable { result ≢ Err ProtoError.Memory
             → AreWritable (all_pieces (λ x s. T.pieces x.now s) (sofar (written self.old)) (kept (λ x s. T.pieces x.now s) (written self.old).limit (sofar (written self.old)) items.now)) }
         ensures back { result ≡ Err ProtoError.Memory → TakesBack (written self.old) (written self.new) }
-        ensures lender { lender self.new ≡ lender self.old }
     {
         self.emit_all(items)
     }
@@ -69,7 +67,6 @@ impl<'a> BinEncoder<'a> {
             × IfOk result (λ n. (n ≡ length xs) × (kept (λ x s. T.pieces x.now s) (written self.old).limit (sofar (written self.old)) xs ≡ xs))
             × IfErr result (λ error. (error ≡ ProtoError.Memory) ⊎ ((error ≡ ProtoError.NotAllRecordsWritten (length (kept (λ x s. T.pieces x.now s) (written self.old).limit (sofar (written self.old)) xs))) × (length (kept (λ x s. T.pieces x.now s) (written self.old).limit (sofar (written self.old)) xs) < length xs))) }
         ensures back { result ≡ Err ProtoError.Memory → TakesBack (written self.old) (written self.new) }
-        ensures lender { lender self.new ≡ lender self.old }
     {
         let lent: Vec<&T> = items.collect(alloc)?;
         self.emit_all_refs(&lent)
@@ -89,7 +86,6 @@ pub fn emit_fitting<T: BinEncodable>(
         → AreWritable (all_pieces T.pieces (sofar (written encoder.old)) (kept T.pieces (written encoder.old).limit (sofar (written encoder.old)) items.now)) }
     ensures memory { IfErr result (λ error. error ≡ EncodeError.Memory) }
     ensures back { OnErr result (TakesBack (written encoder.old) (written encoder.new)) }
-    ensures lender { lender encoder.new ≡ lender encoder.old }
 {
     let mut count = 0;
     for item in items {

@@ -1,8 +1,8 @@
 //! Places whose value is written later.
 
-ghost use Rattle.std.specs.Prelude.{◌≡◌, ◌+◌, ◌<◌, ◌≤◌, ◌↔◌, [], ◌∷◌, length, replicate, OnErr, OnOk, IfOk, IfErr};
-ghost use Rattle.dns_wire.specs.Encoder.{written, lender, after_put, put_at, IsAtEnd};
-ghost use Rattle.dns_wire.specs.Pieces.{Plain, Emits, outcome};
+ghost use Rattle.std.specs.Prelude.{◌≡◌, ◌+◌, ◌<◌, ◌≤◌, ◌↔◌, length, replicate, OnOk, IfOk, IfErr};
+ghost use Rattle.dns_wire.specs.Encoder.{written, put_at};
+ghost use Rattle.dns_wire.specs.Pieces.{Puts, outcome};
 
 use crate::encodable::EncodedSize;
 use crate::encoder::BinEncoder;
@@ -23,7 +23,6 @@ impl<T: EncodedSize + Drop> Place<T> {
         ensures ok { OnOk result (written encoder.new ≡ record (written encoder.old) { bytes = put_at self.start (T.wire content) (written encoder.old).bytes }) }
         ensures full { (result ≡ Err EncodeError.MaxBufferSizeExceeded) ↔ ((written encoder.old).limit < self.start + T.LEN) }
         ensures err { IfErr result (λ error. (error ≡ EncodeError.MaxBufferSizeExceeded) × (written encoder.new ≡ written encoder.old)) }
-        ensures lender { lender encoder.new ≡ lender encoder.old }
     {
         encoder.emit_at(self, content)
     }
@@ -33,12 +32,7 @@ impl<'a> BinEncoder<'a> {
     /// Leaves a place for a value, filled with zeros.
     pub fn place<T: EncodedSize>(&mut self) -> Result<Place<T>, EncodeError>
         ensures start { IfOk result (λ place. place.start ≡ (written self.old).offset) }
-        ensures ok { OnOk result (written self.new ≡ after_put (written self.old) (replicate T.LEN 0)) }
-        ensures room { OnOk result ((written self.old).offset + T.LEN ≤ (written self.old).limit) }
-        ensures full { (result ≡ Err EncodeError.MaxBufferSizeExceeded) ↔ ((written self.old).limit < (written self.old).offset + T.LEN) }
-        ensures err { OnErr result (written self.new ≡ written self.old) }
-        ensures at_end { IsAtEnd (written self.old) → Emits (written self.old) (Plain (replicate T.LEN 0) ∷ []) (outcome result) (written self.new) }
-        ensures lender { lender self.new ≡ lender self.old }
+        ensures zeros { Puts (written self.old) (replicate T.LEN 0) (outcome result) (written self.new) }
     {
         let start = self.offset();
         self.emit_zeros(T::LEN)?;
@@ -67,7 +61,6 @@ impl<'a> BinEncoder<'a> {
         ensures ok { OnOk result (written self.new ≡ record (written self.old) { bytes = put_at place.start (T.wire content) (written self.old).bytes }) }
         ensures full { (result ≡ Err EncodeError.MaxBufferSizeExceeded) ↔ ((written self.old).limit < place.start + T.LEN) }
         ensures err { IfErr result (λ error. (error ≡ EncodeError.MaxBufferSizeExceeded) × (written self.new ≡ written self.old)) }
-        ensures lender { lender self.new ≡ lender self.old }
     {
         if place.start + T::LEN > self.max_size() {
             return Err(EncodeError::MaxBufferSizeExceeded);

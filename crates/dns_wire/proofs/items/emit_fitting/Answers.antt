@@ -18,7 +18,6 @@ loop-item-preserved g c =
     record {
       underway = all_goes_on g.T.BinEncodable.pieces (written c.args.encoder.now) w (written c.emit.new.encoder) c.args.items.now (drop (c.loop-item.item-index + 1) c.args.items.now) c.item-item.result c.loop-item.count here c.in-Ok.ensures.emits (c.in-Ok.ensures.writable refl);
       count_is = omega (arith, so_far.count_is);
-      same_lender = c.emit.ensures.lender ∙ so_far.same_lender;
     }
 
 pub returns-in-Err-MaxBufferSizeExceeded-clause-wrote : goal.returns-in-Err-MaxBufferSizeExceeded-clause-wrote
@@ -27,7 +26,7 @@ returns-in-Err-MaxBufferSizeExceeded-clause-wrote g c =
     let w = written c.loop-item.encoder in
     let cons = front c.args.items.now c.loop-item.item-index c.item-item.result c.item-item.is (rw add-one (drop-cons c.args.items.now c.loop-item.item-index c.item-item.result c.loop-item-test.true)) in
     let here = subst (λ xs. Underway g.T.BinEncodable.pieces (written c.args.encoder.now) w c.args.items.now xs c.loop-item.count) cons so_far.underway in
-    let cut = c.trim.ensures.value ∙ ap trimmed (c.set_offset.ensures.value ∙ ap (λ (n : ℕ). record (written c.emit.new.encoder) { offset = n }) c.offset-start.ensures.value) in
+    let cut = c.trim.ensures ∙ ap trimmed (c.set_offset.ensures ∙ ap (λ (n : ℕ). record (written c.emit.new.encoder) { offset = n }) c.offset-start.ensures.value) in
     λ _. (all_stops g.T.BinEncodable.pieces (written c.args.encoder.now) w (written c.emit.new.encoder) (written c.trim.new.self) c.args.items.now (drop (c.loop-item.item-index + 1) c.args.items.now) c.item-item.result c.loop-item.count here (rw c.in-Err-MaxBufferSizeExceeded.field-0-is at c.in-Err-MaxBufferSizeExceeded.ensures.emits) cut).1
 
 pub returns-in-Err-clause-back : goal.returns-in-Err-clause-back

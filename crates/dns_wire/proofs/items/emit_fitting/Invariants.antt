@@ -1,5 +1,5 @@
 use Rattle.std.proofs.Common.{◌≡◌, drop}
-use Rattle.dns_wire.specs.Encoder.{written, lender}
+use Rattle.dns_wire.specs.Encoder.{written}
 use Rattle.dns_wire.proofs.ItemLaws.{Underway}
 use Rattle.dns_wire.proofs.items.emit_fitting.Given as goal
 
@@ -7,5 +7,4 @@ abbrev pub invariant-loop-item : goal.invariant-loop-item
 invariant-loop-item g l = record {
   underway : Underway g.T.BinEncodable.pieces (written l.fn.encoder) (written l.encoder) l.items (drop l.item-index l.items) l.count;
   count_is : l.count ≡ l.item-index;
-  same_lender : lender l.encoder ≡ lender l.fn.encoder;
 }
