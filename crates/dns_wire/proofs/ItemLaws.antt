@@ -5,7 +5,7 @@ use Rattle.dns_wire.specs.declared.error.EncodeError.{EncodeError}
 use Rattle.dns_wire.specs.declared.error.EncodeError.TheVariants.{MaxBufferSizeExceeded}
 use Rattle.dns_wire.specs.Encoder.{EncoderState, IsAtEnd, CanRollBack, trim_to_offset}
 use Rattle.dns_wire.specs.Encodable.{Piece, Position, position_of, after, reach, attempts_at_limit, append_pieces, Emits, AreWritable, AllBehind}
-use Rattle.dns_wire.specs.Items.{fitting_prefix, all_pieces, attempts_after, append_fitting}
+use Rattle.dns_wire.specs.Items.{fitting_prefix, all_pieces, attempts_after, fitting_items, fitting_pieces, append_fitting}
 use Rattle.dns_wire.proofs.PieceLaws.{after-place, append_pieces-append, append_pieces-none, append_pieces-end, can_roll_back-append, can_roll_back-refl, can_roll_back-trans, pieces-behind, position_of-append_pieces, roll_back-restores, writable-append}
 
 pub append_pieces-behind : (w : EncoderState) (ps : List Piece) → AllBehind (position_of w) → AllBehind (position_of (append_pieces w ps))
@@ -54,7 +54,7 @@ module _ {X : Type 0} (pieces : X → Position → List Piece) where
       subst (λ (v : EncoderState). Underway pieces old v items rest (count + 1)) (sym e.ok) there
 
   pub all_stops : (old w w1 w2 : EncoderState) (items rest : List X) (x : X) (count : ℕ) → Underway pieces old w items (x ∷ rest) count → Emits w (pieces x (position_of w)) (Err MaxBufferSizeExceeded) w1 → w2 ≡ trim_to_offset (record w1 { offset = w.offset })
-      → (count ≡ length (fitting_prefix pieces old.limit (position_of old) items)) × (w2 ≡ append_fitting pieces old items) × AreWritable (all_pieces pieces (position_of old) (fitting_prefix pieces old.limit (position_of old) items))
+      → (count ≡ length (fitting_prefix pieces old.limit (position_of old) items)) × (w2 ≡ append_fitting pieces old items) × AreWritable (all_pieces pieces (position_of old) (fitting_prefix pieces old.limit (position_of old) items)) × IsAtEnd w2 × AllBehind (position_of w2)
   all_stops old w w1 w2 items rest x count u e is =
       let ps : List Piece = pieces x (position_of w) in
       let next : Position = after (position_of w) ps in
@@ -66,7 +66,7 @@ module _ {X : Type 0} (pieces : X → Position → List Piece) where
       ap (λ (n : ℕ). record w { attempts = n }) (e.tries refl ∙ sym counted)
       ∙ ap (λ (v : EncoderState). record v { attempts = attempts_after pieces w.limit (position_of w) (x ∷ rest) }) (sym (append_pieces-none w))
       ∙ ap (λ (k : List X). record (append_pieces w (all_pieces pieces (position_of w) k)) { attempts = attempts_after pieces w.limit (position_of w) (x ∷ rest) }) (sym keeps) in
-      (omega (arith, u.counts, ap length keeps), back ∙ leads ∙ u.leads, u.writable (subst (λ (k : List X). AreWritable (all_pieces pieces (position_of w) k)) (sym keeps) tt))
+      (omega (arith, u.counts, ap length keeps), back ∙ leads ∙ u.leads, u.writable (subst (λ (k : List X). AreWritable (all_pieces pieces (position_of w) k)) (sym keeps) tt), subst IsAtEnd (sym back) u.at_end, subst (λ (v : EncoderState). AllBehind (position_of v)) (sym back) u.behind)
 
   pub all_ends : (old w : EncoderState) (items : List X) (count : ℕ) → Underway pieces old w items [] count
       → (count ≡ length (fitting_prefix pieces old.limit (position_of old) items)) × (w ≡ append_fitting pieces old items) × AreWritable (all_pieces pieces (position_of old) (fitting_prefix pieces old.limit (position_of old) items))
@@ -93,3 +93,25 @@ module _ {X : Type 0} (pieces : X → Position → List Piece) where
           → cond b [] (x ∷ fitting_prefix pieces limit (after s (pieces x s)) xs) ≡ x ∷ xs
       at true all more = absurd (omega arith)
       at false all more = ap (λ (ys : List X). x ∷ ys) (more (omega arith))
+
+  -- ---- one item
+
+  one-fits : (w : EncoderState) (x : X) → 1 ≡ length (fitting_items pieces w (x ∷ [])) → fitting_items pieces w (x ∷ []) ≡ x ∷ []
+  one-fits w x is = fitting_prefix-all w.limit (position_of w) (x ∷ []) (omega (arith, is))
+
+  none-fits : {Y : Type 0} (ys : List Y) → 0 ≡ length ys → ys ≡ []
+  none-fits [] is = refl
+  none-fits (y ∷ ys) is = absurd (omega arith)
+
+  pub one_written : (w w1 : EncoderState) (x : X) → IsAtEnd w → AllBehind (position_of w) → Emits w (pieces x (position_of w)) (Ok tt) w1 → AreWritable (pieces x (position_of w))
+      → (fitting_items pieces w (x ∷ []) ≡ x ∷ []) × (w1 ≡ append_fitting pieces w (x ∷ [])) × AreWritable (fitting_pieces pieces w (x ∷ [])) × IsAtEnd w1 × AllBehind (position_of w1)
+  one_written w w1 x end behind e is =
+      let u = all_goes_on w w w1 (x ∷ []) [] x 0 (all_begins w (x ∷ []) end behind) e is in
+      let done = all_ends w w1 (x ∷ []) 1 u in
+      (one-fits w x done.0, done.1, done.2, u.at_end, u.behind)
+
+  pub one_dropped : (w w1 w2 : EncoderState) (x : X) → IsAtEnd w → AllBehind (position_of w) → Emits w (pieces x (position_of w)) (Err MaxBufferSizeExceeded) w1 → w2 ≡ trim_to_offset (record w1 { offset = w.offset })
+      → (fitting_items pieces w (x ∷ []) ≡ []) × (w2 ≡ append_fitting pieces w (x ∷ [])) × AreWritable (fitting_pieces pieces w (x ∷ [])) × IsAtEnd w2 × AllBehind (position_of w2)
+  one_dropped w w1 w2 x end behind e cut =
+      let done = all_stops w w w1 w2 (x ∷ []) [] x 0 (all_begins w (x ∷ []) end behind) e cut in
+      (none-fits (fitting_items pieces w (x ∷ [])) done.0, done.1, done.2, done.3, done.4)

@@ -6,6 +6,7 @@ pub mod CompressionLaws
 pub mod PieceLaws
 pub mod BytesAtLaws
 pub mod ItemLaws
+pub mod SectionLaws
 pub mod FillLaws
 pub mod CallLaws
 pub mod DecodeErrorLaws

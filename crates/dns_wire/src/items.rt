@@ -1,6 +1,6 @@
 //! Writing items one after another.
 
-ghost use Rattle.std.specs.Prelude.{◌≡◌, length, IfOk, IfErr, IsOk, OnErr};
+ghost use Rattle.std.specs.Prelude.{◌≡◌, [], ◌∷◌, if◌then◌else◌, length, IfOk, IfErr, IsOk, OnErr};
 ghost use Rattle.dns_wire.specs.Encoder.{state_of, IsAtEnd, CanRollBack};
 ghost use Rattle.dns_wire.specs.Items.{fitting_items, fitting_pieces, append_fitting, lent_pieces};
 ghost use Rattle.dns_wire.specs.Encodable.{position_of, AllBehind, AreWritable};
@@ -98,6 +98,8 @@ pub fn emit_fitting<T: BinEncodable>(
         → state_of encoder.new ≡ append_fitting T.pieces (state_of encoder.old) items.now }
     ensures writable { IsOk result
         → AreWritable (fitting_pieces T.pieces (state_of encoder.old) items.now) }
+    ensures at_end { IsOk result → IsAtEnd (state_of encoder.new) }
+    ensures behind { IsOk result → AllBehind (position_of (state_of encoder.new)) }
     ensures memory { IfErr result (λ error. error ≡ EncodeError.Memory) }
     ensures back { OnErr result (CanRollBack (state_of encoder.old) (state_of encoder.new)) }
 {
@@ -115,4 +117,34 @@ pub fn emit_fitting<T: BinEncodable>(
         }
     }
     Ok(count)
+}
+
+/// Writes an item at the end if it fits, and returns true if it was written. An item that does not fit is rolled back.
+pub fn emit_if_fits<T: BinEncodable>(
+    item: &T,
+    encoder: &mut BinEncoder<'_>,
+) -> Result<bool, EncodeError>
+    requires at_end { IsAtEnd (state_of encoder.old) }
+    requires behind { AllBehind (position_of (state_of encoder.old)) }
+    ensures fits { IfOk result (λ fits. fitting_items T.pieces (state_of encoder.old) (item.now ∷ [])
+        ≡ if fits then item.now ∷ [] else []) }
+    ensures wrote { IsOk result
+        → state_of encoder.new ≡ append_fitting T.pieces (state_of encoder.old) (item.now ∷ []) }
+    ensures writable { IsOk result
+        → AreWritable (fitting_pieces T.pieces (state_of encoder.old) (item.now ∷ [])) }
+    ensures at_end { IsOk result → IsAtEnd (state_of encoder.new) }
+    ensures behind { IsOk result → AllBehind (position_of (state_of encoder.new)) }
+    ensures memory { IfErr result (λ error. error ≡ EncodeError.Memory) }
+    ensures back { OnErr result (CanRollBack (state_of encoder.old) (state_of encoder.new)) }
+{
+    let offset = encoder.offset();
+    match item.emit(encoder) {
+        Ok(()) => Ok(true),
+        Err(EncodeError::MaxBufferSizeExceeded) => {
+            encoder.set_offset(offset);
+            encoder.trim();
+            Ok(false)
+        }
+        Err(error) => Err(error),
+    }
 }

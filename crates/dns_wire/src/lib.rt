@@ -32,7 +32,7 @@ pub use dns_codes::{CodeTextError, DNSClass, RecordType, SerialNumber, SerialOrd
 pub use encodable::{BinEncodable, EncodedSize};
 pub use encoder::BinEncoder;
 pub use error::{DecodeError, EncodeError, ProtoError};
-pub use items::emit_fitting;
+pub use items::{emit_fitting, emit_if_fits};
 pub use modal_encoder::ModalEncoder;
 pub use name_encoding::{NameEncoding, RDataEncoding};
 pub use place::Place;

@@ -29,6 +29,24 @@ returns-in-Err-MaxBufferSizeExceeded-clause-wrote g c =
     let cut = c.trim.ensures ∙ ap trim_to_offset (c.set_offset.ensures ∙ ap (λ (n : ℕ). record (state_of c.emit.new.encoder) { offset = n }) c.offset-start.ensures.value) in
     λ _. (all_stops g.T.BinEncodable.pieces (state_of c.args.encoder.now) w (state_of c.emit.new.encoder) (state_of c.trim.new.self) c.args.items.now (drop (c.loop-item.item-index + 1) c.args.items.now) c.item-item.result c.loop-item.count here (rw c.in-Err-MaxBufferSizeExceeded.field-0-is at c.in-Err-MaxBufferSizeExceeded.ensures.emits) cut).1
 
+pub returns-in-Err-MaxBufferSizeExceeded-clause-at_end : goal.returns-in-Err-MaxBufferSizeExceeded-clause-at_end
+returns-in-Err-MaxBufferSizeExceeded-clause-at_end g c =
+    let so_far = c.loop-item.invariant in
+    let w = state_of c.loop-item.encoder in
+    let cons = front c.args.items.now c.loop-item.item-index c.item-item.result c.item-item.is (rw add-one (drop-cons c.args.items.now c.loop-item.item-index c.item-item.result c.loop-item-test.true)) in
+    let here = subst (λ xs. Underway g.T.BinEncodable.pieces (state_of c.args.encoder.now) w c.args.items.now xs c.loop-item.count) cons so_far.underway in
+    let cut = c.trim.ensures ∙ ap trim_to_offset (c.set_offset.ensures ∙ ap (λ (n : ℕ). record (state_of c.emit.new.encoder) { offset = n }) c.offset-start.ensures.value) in
+    λ _. (all_stops g.T.BinEncodable.pieces (state_of c.args.encoder.now) w (state_of c.emit.new.encoder) (state_of c.trim.new.self) c.args.items.now (drop (c.loop-item.item-index + 1) c.args.items.now) c.item-item.result c.loop-item.count here (rw c.in-Err-MaxBufferSizeExceeded.field-0-is at c.in-Err-MaxBufferSizeExceeded.ensures.emits) cut).3
+
+pub returns-in-Err-MaxBufferSizeExceeded-clause-behind : goal.returns-in-Err-MaxBufferSizeExceeded-clause-behind
+returns-in-Err-MaxBufferSizeExceeded-clause-behind g c =
+    let so_far = c.loop-item.invariant in
+    let w = state_of c.loop-item.encoder in
+    let cons = front c.args.items.now c.loop-item.item-index c.item-item.result c.item-item.is (rw add-one (drop-cons c.args.items.now c.loop-item.item-index c.item-item.result c.loop-item-test.true)) in
+    let here = subst (λ xs. Underway g.T.BinEncodable.pieces (state_of c.args.encoder.now) w c.args.items.now xs c.loop-item.count) cons so_far.underway in
+    let cut = c.trim.ensures ∙ ap trim_to_offset (c.set_offset.ensures ∙ ap (λ (n : ℕ). record (state_of c.emit.new.encoder) { offset = n }) c.offset-start.ensures.value) in
+    λ _. (all_stops g.T.BinEncodable.pieces (state_of c.args.encoder.now) w (state_of c.emit.new.encoder) (state_of c.trim.new.self) c.args.items.now (drop (c.loop-item.item-index + 1) c.args.items.now) c.item-item.result c.loop-item.count here (rw c.in-Err-MaxBufferSizeExceeded.field-0-is at c.in-Err-MaxBufferSizeExceeded.ensures.emits) cut).4
+
 pub returns-in-Err-clause-back : goal.returns-in-Err-clause-back
 returns-in-Err-clause-back g c =
     let so_far = c.loop-item.invariant in
