@@ -7,12 +7,12 @@ ghost use Rattle.dns_codes.specs.SerialNumber.{serial_order, steps_up};
 ghost use Rattle.dns_codes.specs.declared.serial_number.SerialOrder.TheVariants.{Less, Undecided};
 
 /// Each number is the number of the type that it is read as (RFC 3597 section 2).
-pub fn every_type_number_comes_back()
+pub fn type_number_round_trips()
     ensures { (number : ℕ) → type_number (type_of number) ≡ number }
 {}
 
 /// Each number is the number of the class that it is read as (RFC 3597 section 2).
-pub fn every_class_number_comes_back()
+pub fn class_number_round_trips()
     ensures { (number : ℕ) → class_number (class_of number) ≡ number }
 {}
 

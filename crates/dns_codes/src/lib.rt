@@ -10,15 +10,12 @@ mod code_text;
 mod decimal;
 mod dns_class;
 mod later_types;
-mod laws;
+pub mod laws;
 mod record_type;
 mod serial_number;
 
 pub use code_text::CodeTextError;
 pub use decimal::parse_decimal;
 pub use dns_class::DNSClass;
-pub use laws::{
-    every_class_number_comes_back, every_type_number_comes_back, serials_compare_by_distance,
-};
 pub use record_type::RecordType;
 pub use serial_number::{SerialNumber, SerialOrder};

@@ -1,11 +1,13 @@
+pub mod Error
 pub mod Decoder
+pub mod Decodable
 pub mod Element
 pub mod Name
 pub mod Reading
 pub mod Encoder
 pub mod Writing
-pub mod Pieces
-pub mod RDataEncoding
+pub mod Encodable
+pub mod NameEncoding
 pub mod Items
-pub mod Calls
-pub mod NumberLaws
+pub mod Laws
+pub mod internal

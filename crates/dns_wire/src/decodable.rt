@@ -10,21 +10,21 @@ use std::alloc::Global;
 /// A value that is read from the wire.
 pub trait BinDecodable {
     /// The value stands in the bytes from a place up to an end.
-    ghost stands: { List ℕ → ℕ → Self → ℕ → Type 0 };
+    ghost decodes: { List ℕ → ℕ → Self → ℕ → Type 0 };
 
     /// No value stands at the place, for this reason.
     ghost refuses: { List ℕ → ℕ → DecodeError → Type 0 };
 
     /// Reads a value, and goes on behind it. A refusal leaves the decoder as it was.
     fn read(alloc: Global, decoder: &mut BinDecoder<'_>) -> Result<Self, DecodeError>
-        ensures read { IfOk result (λ value. stands decoder.old.bytes decoder.old.index value decoder.new.index) }
+        ensures read { IfOk result (λ value. decodes decoder.old.bytes decoder.old.index value decoder.new.index) }
         ensures refused { IfErr result (λ error. error ≢ DecodeError.Memory → refuses decoder.old.bytes decoder.old.index error) }
         ensures bytes { decoder.new.bytes ≡ decoder.old.bytes }
         ensures err { OnErr result (decoder.new ≡ decoder.old) };
 
     /// The value in front of the bytes.
     final fn from_bytes(alloc: Global, bytes: &[u8]) -> Result<Self, DecodeError>
-        ensures read { IfOk result (λ value. (end : ℕ) × stands bytes.now 0 value end) }
+        ensures read { IfOk result (λ value. (end : ℕ) × decodes bytes.now 0 value end) }
         ensures refused { IfErr result (λ error. error ≢ DecodeError.Memory → refuses bytes.now 0 error) }
     {
         let mut decoder = BinDecoder::new(bytes);
@@ -32,10 +32,10 @@ pub trait BinDecodable {
     }
 
     /// What stands at a place is one value, up to one end.
-    ghost one_way: { (bytes : List ℕ) (place : ℕ) (value other : Self) (end other_end : ℕ) → stands bytes place value end
-        → stands bytes place other other_end → (value ≡ other) × (end ≡ other_end) };
+    ghost unambiguous: { (bytes : List ℕ) (place : ℕ) (value other : Self) (end other_end : ℕ) → decodes bytes place value end
+        → decodes bytes place other other_end → (value ≡ other) × (end ≡ other_end) };
 
     /// What stands is not refused.
-    ghost not_refused: { (bytes : List ℕ) (place : ℕ) (value : Self) (end : ℕ) (error : DecodeError) → stands bytes place value end
+    ghost not_refused: { (bytes : List ℕ) (place : ℕ) (value : Self) (end : ℕ) (error : DecodeError) → decodes bytes place value end
         → refuses bytes place error → ⊥ };
 }

@@ -103,7 +103,7 @@ pub enum ProtoError {
 
 impl From<EncodeError> for ProtoError {
     ghost use Rattle.std.specs.Prelude.{◌≡◌};
-    ghost use Rattle.dns_wire.specs.Items.{proto_error};
+    ghost use Rattle.dns_wire.specs.Error.{proto_error};
 
     ghost from_gives = { λ error e. e ≡ proto_error error };
 

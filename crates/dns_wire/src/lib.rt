@@ -20,7 +20,7 @@ mod encodable;
 mod encoder;
 mod error;
 mod items;
-mod laws;
+pub mod laws;
 mod modal_encoder;
 mod name_encoding;
 mod numbers;
@@ -28,19 +28,11 @@ mod place;
 
 pub use decodable::BinDecodable;
 pub use decoder::BinDecoder;
-pub use dns_codes::{
-    CodeTextError, DNSClass, RecordType, SerialNumber, SerialOrder, every_class_number_comes_back,
-    every_type_number_comes_back, serials_compare_by_distance,
-};
+pub use dns_codes::{CodeTextError, DNSClass, RecordType, SerialNumber, SerialOrder};
 pub use encodable::{BinEncodable, EncodedSize};
 pub use encoder::BinEncoder;
 pub use error::{DecodeError, EncodeError, ProtoError};
-pub use items::emit_fitting;
-pub use laws::{
-    a_name_in_its_own_mode_is_whole, all_that_stands_is_read_again, emissions_compose,
-    filled_emissions_are_emissions, filling_is_writing, taking_back_composes,
-    what_is_remembered_lies_behind, what_stands_stays, written_is_read_again,
-};
+pub use items::{emit_fitting, emit_if_fits};
 pub use modal_encoder::ModalEncoder;
 pub use name_encoding::{NameEncoding, RDataEncoding};
 pub use place::Place;

@@ -1,8 +1,8 @@
 //! Writing names in another way for a while.
 
 ghost use Rattle.std.specs.Prelude.{◌≡◌};
-ghost use Rattle.dns_wire.specs.Encoder.{written, lender};
-ghost use Rattle.dns_wire.specs.RDataEncoding.{rdata_mode};
+ghost use Rattle.dns_wire.specs.Encoder.{state_of};
+ghost use Rattle.dns_wire.specs.NameEncoding.{rdata_mode};
 
 use crate::encoder::BinEncoder;
 use crate::name_encoding::{NameEncoding, RDataEncoding};
@@ -16,8 +16,7 @@ pub struct ModalEncoder<'a, 'e> {
 impl<'a, 'e> ModalEncoder<'a, 'e> {
     /// The encoder, in its mode.
     pub fn encoder_mut(&mut self) -> &mut BinEncoder<'a>
-        ensures value { written result.now ≡ written self.old.encoder.now }
-        ensures lender { lender result.now ≡ lender self.old.encoder.now }
+        ensures { state_of result.now ≡ state_of self.old.encoder.now }
     {
         self.encoder
     }
@@ -26,8 +25,7 @@ impl<'a, 'e> ModalEncoder<'a, 'e> {
 impl Drop for ModalEncoder<'_, '_> {
     /// Restores the former way.
     fn drop(self)
-        ensures restores { written self.exit.1.0.now ≡ record (written self.entry.encoder.now) { encoding = self.entry.previous } }
-        ensures lender { lender self.exit.1.0.now ≡ lender self.entry.encoder.now }
+        ensures { state_of self.exit.1.0.now ≡ record (state_of self.entry.encoder.now) { encoding = self.entry.previous } }
     {
         let ModalEncoder { previous, encoder } = self;
         encoder.set_name_encoding(previous);
@@ -37,9 +35,8 @@ impl Drop for ModalEncoder<'_, '_> {
 impl<'a> BinEncoder<'a> {
     /// Writes names in this way, until what is returned is dropped.
     pub fn with_name_encoding<'e>(&'e mut self, name_encoding: NameEncoding) -> ModalEncoder<'a, 'e>
-        ensures value { written result.encoder.now ≡ record (written self.old) { encoding = name_encoding } }
-        ensures previous { result.previous ≡ (written self.old).encoding }
-        ensures lender { lender result.encoder.now ≡ lender self.old }
+        ensures value { state_of result.encoder.now ≡ record (state_of self.old) { encoding = name_encoding } }
+        ensures previous { result.previous ≡ (state_of self.old).encoding }
         ensures borrow { result.encoder.ghost_name ≡ self.entry.ghost_name }
     {
         let previous = self.name_encoding();
@@ -55,11 +52,10 @@ impl<'a> BinEncoder<'a> {
         &'e mut self,
         rdata_encoding: RDataEncoding,
     ) -> ModalEncoder<'a, 'e>
-        ensures value { written result.encoder.now ≡ record (written self.old) {
-          encoding = rdata_mode rdata_encoding (written self.old).canonical (written self.old).encoding;
+        ensures value { state_of result.encoder.now ≡ record (state_of self.old) {
+          encoding = rdata_mode rdata_encoding (state_of self.old).canonical (state_of self.old).encoding;
         } }
-        ensures previous { result.previous ≡ (written self.old).encoding }
-        ensures lender { lender result.encoder.now ≡ lender self.old }
+        ensures previous { result.previous ≡ (state_of self.old).encoding }
         ensures borrow { result.encoder.ghost_name ≡ self.entry.ghost_name }
     {
         let name_encoding = match (rdata_encoding, self.is_canonical_form()) {

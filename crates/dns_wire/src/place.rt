@@ -1,8 +1,8 @@
 //! Places whose value is written later.
 
-ghost use Rattle.std.specs.Prelude.{◌≡◌, ◌+◌, ◌<◌, ◌≤◌, ◌↔◌, [], ◌∷◌, length, replicate, OnErr, OnOk, IfOk, IfErr};
-ghost use Rattle.dns_wire.specs.Encoder.{written, lender, after_put, put_at, IsAtEnd};
-ghost use Rattle.dns_wire.specs.Pieces.{Plain, Emits, outcome};
+ghost use Rattle.std.specs.Prelude.{◌≡◌, ◌+◌, ◌<◌, ◌≤◌, ◌↔◌, length, replicate, OnOk, IfOk, IfErr};
+ghost use Rattle.dns_wire.specs.Encoder.{state_of, put_at};
+ghost use Rattle.dns_wire.specs.Encodable.{Puts, outcome};
 
 use crate::encodable::EncodedSize;
 use crate::encoder::BinEncoder;
@@ -19,11 +19,10 @@ pub struct Place<T> {
 impl<T: EncodedSize + Drop> Place<T> {
     /// Writes the value at its place. The encoder's offset stays.
     pub fn replace(self, encoder: &mut BinEncoder<'_>, content: T) -> Result<(), EncodeError>
-        requires { self.start + T.LEN ≤ length (written encoder.old).bytes }
-        ensures ok { OnOk result (written encoder.new ≡ record (written encoder.old) { bytes = put_at self.start (T.wire content) (written encoder.old).bytes }) }
-        ensures full { (result ≡ Err EncodeError.MaxBufferSizeExceeded) ↔ ((written encoder.old).limit < self.start + T.LEN) }
-        ensures err { IfErr result (λ error. (error ≡ EncodeError.MaxBufferSizeExceeded) × (written encoder.new ≡ written encoder.old)) }
-        ensures lender { lender encoder.new ≡ lender encoder.old }
+        requires { self.start + T.LEN ≤ length (state_of encoder.old).bytes }
+        ensures ok { OnOk result (state_of encoder.new ≡ record (state_of encoder.old) { bytes = put_at self.start (T.wire content) (state_of encoder.old).bytes }) }
+        ensures full { (result ≡ Err EncodeError.MaxBufferSizeExceeded) ↔ ((state_of encoder.old).limit < self.start + T.LEN) }
+        ensures err { IfErr result (λ error. (error ≡ EncodeError.MaxBufferSizeExceeded) × (state_of encoder.new ≡ state_of encoder.old)) }
     {
         encoder.emit_at(self, content)
     }
@@ -32,13 +31,8 @@ impl<T: EncodedSize + Drop> Place<T> {
 impl<'a> BinEncoder<'a> {
     /// Leaves a place for a value, filled with zeros.
     pub fn place<T: EncodedSize>(&mut self) -> Result<Place<T>, EncodeError>
-        ensures start { IfOk result (λ place. place.start ≡ (written self.old).offset) }
-        ensures ok { OnOk result (written self.new ≡ after_put (written self.old) (replicate T.LEN 0)) }
-        ensures room { OnOk result ((written self.old).offset + T.LEN ≤ (written self.old).limit) }
-        ensures full { (result ≡ Err EncodeError.MaxBufferSizeExceeded) ↔ ((written self.old).limit < (written self.old).offset + T.LEN) }
-        ensures err { OnErr result (written self.new ≡ written self.old) }
-        ensures at_end { IsAtEnd (written self.old) → Emits (written self.old) (Plain (replicate T.LEN 0) ∷ []) (outcome result) (written self.new) }
-        ensures lender { lender self.new ≡ lender self.old }
+        ensures start { IfOk result (λ place. place.start ≡ (state_of self.old).offset) }
+        ensures zeros { Puts (state_of self.old) (replicate T.LEN 0) (outcome result) (state_of self.new) }
     {
         let start = self.offset();
         self.emit_zeros(T::LEN)?;
@@ -50,9 +44,9 @@ impl<'a> BinEncoder<'a> {
 
     /// How many bytes were written behind a place.
     pub fn len_since_place<T: EncodedSize>(&self, place: &Place<T>) -> usize
-        requires { place.now.start + T.LEN ≤ (written self.now).offset }
-        ensures value { place.now.start + T.LEN + result ≡ (written self.now).offset }
-        ensures small { (written self.now).limit ≤ 65535 }
+        requires { place.now.start + T.LEN ≤ (state_of self.now).offset }
+        ensures value { place.now.start + T.LEN + result ≡ (state_of self.now).offset }
+        ensures small { (state_of self.now).limit ≤ 65535 }
     {
         self.offset() - place.start - T::LEN
     }
@@ -63,11 +57,10 @@ impl<'a> BinEncoder<'a> {
         place: Place<T>,
         content: T,
     ) -> Result<(), EncodeError>
-        requires { place.start + T.LEN ≤ length (written self.old).bytes }
-        ensures ok { OnOk result (written self.new ≡ record (written self.old) { bytes = put_at place.start (T.wire content) (written self.old).bytes }) }
-        ensures full { (result ≡ Err EncodeError.MaxBufferSizeExceeded) ↔ ((written self.old).limit < place.start + T.LEN) }
-        ensures err { IfErr result (λ error. (error ≡ EncodeError.MaxBufferSizeExceeded) × (written self.new ≡ written self.old)) }
-        ensures lender { lender self.new ≡ lender self.old }
+        requires { place.start + T.LEN ≤ length (state_of self.old).bytes }
+        ensures ok { OnOk result (state_of self.new ≡ record (state_of self.old) { bytes = put_at place.start (T.wire content) (state_of self.old).bytes }) }
+        ensures full { (result ≡ Err EncodeError.MaxBufferSizeExceeded) ↔ ((state_of self.old).limit < place.start + T.LEN) }
+        ensures err { IfErr result (λ error. (error ≡ EncodeError.MaxBufferSizeExceeded) × (state_of self.new ≡ state_of self.old)) }
     {
         if place.start + T::LEN > self.max_size() {
             return Err(EncodeError::MaxBufferSizeExceeded);

@@ -1,4 +1,4 @@
--- How the names in record data are written (RFC 3597 section 4, RFC 4034 section 6.2).
+-- How names in record data are encoded (RFC 3597 section 4, RFC 4034 section 6.2).
 use Rattle.std.specs.Prelude.{Bool, true, false}
 use Rattle.dns_wire.specs.declared.name_encoding.NameEncoding.{NameEncoding}
 use Rattle.dns_wire.specs.declared.name_encoding.NameEncoding.TheVariants.{Uncompressed, UncompressedLowercase}
