@@ -38,8 +38,7 @@ impl Model for LowerName {
 impl LowerName {
     /// The name with its ASCII letters in lower case.
     pub fn new(name: &Name) -> Result<LowerName, AllocError>
-        ensures ok { IfOk result (λ made. made ≡ record name.now { labels = lower name.now.labels }) }
-        ensures labels { AreLabels name.now.labels }
+        ensures { IfOk result (λ made. made ≡ record name.now { labels = lower name.now.labels }) }
     {
         Ok(LowerName {
             name: name.to_lowercase()?,

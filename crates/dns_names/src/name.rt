@@ -62,16 +62,14 @@ impl Name {
 
     /// Whether it is the root.
     pub fn is_root(&self) -> bool
-        ensures value { result ≡ (self.now.is_fqdn && length self.now.labels == 0) }
-        ensures labels { AreLabels self.now.labels }
+        ensures { result ≡ (self.now.is_fqdn && length self.now.labels == 0) }
     {
         self.is_fqdn && self.label_ends.is_empty()
     }
 
     /// Whether the name is fully qualified: whether it ends at the root.
     pub fn is_fqdn(&self) -> bool
-        ensures value { result ≡ self.now.is_fqdn }
-        ensures labels { AreLabels self.now.labels }
+        ensures { result ≡ self.now.is_fqdn }
     {
         self.is_fqdn
     }
@@ -80,7 +78,6 @@ impl Name {
     pub fn clone(&self) -> Result<Self, AllocError>
         ensures ok { IfOk result (λ name. name ≡ self.now) }
         ensures inline { length self.now.labels ≤ 24 → name_len self.now.labels ≤ length self.now.labels + 33 → IsOk result }
-        ensures labels { AreLabels self.now.labels }
     {
         Ok(Name {
             is_fqdn: self.is_fqdn,
@@ -99,7 +96,6 @@ impl Name {
     pub fn to_lowercase(&self) -> Result<Self, AllocError>
         ensures ok { IfOk result (λ name. name ≡ record self.now { labels = lower self.now.labels }) }
         ensures inline { length self.now.labels ≤ 24 → name_len self.now.labels ≤ length self.now.labels + 33 → IsOk result }
-        ensures labels { AreLabels self.now.labels }
     {
         let mut name = self.clone()?;
         name.make_lowercase();

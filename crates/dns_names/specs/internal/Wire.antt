@@ -3,9 +3,9 @@ use Rattle.std.specs.Prelude.{◌≡◌, ℕ, ◌+◌, length, Result, Ok, Err, 
 use Rattle.dns_wire.specs.declared.error.DecodeError.{DecodeError}
 use Rattle.dns_names.specs.declared.name.wire.Part.{Part}
 use Rattle.dns_names.specs.declared.name.wire.Part.TheVariants.{Closing, Label, Pointer}
-use Rattle.dns_wire.specs.Encoder.{Written}
-use Rattle.dns_wire.specs.Pieces.{Piece, Plain}
-use Rattle.dns_wire.specs.Writing.{labels_form, compressed_form, remembered}
+use Rattle.dns_wire.specs.Encoder.{EncoderState}
+use Rattle.dns_wire.specs.Encodable.{Piece, Plain}
+use Rattle.dns_wire.specs.Writing.{labels_form, compressed_form, remember_labels}
 use Rattle.std.proofs.Common.{true, sym, ◌∙◌}
 use Rattle.dns_wire.specs.Reading.{ReadsName}
 use Rattle.dns_wire.proofs.ReadingLaws.{reads_same}
@@ -24,8 +24,8 @@ part_len (Label bytes) = length bytes.now + 1
 part_len (Pointer target) = 2
 
 -- the part that was read is the element, or its fault the element's
-abbrev pub Shows : Result Part DecodeError → Result wire.Element DecodeError → Type 0
-Shows read element = MatchResult read (λ part. element ≡ Ok (element_of part)) (λ error. element ≡ Err error)
+abbrev pub MatchesElement : Result Part DecodeError → Result wire.Element DecodeError → Type 0
+MatchesElement read element = MatchResult read (λ part. element ≡ Ok (element_of part)) (λ error. element ≡ Err error)
 
 -- a label: its length, and its bytes
 abbrev pub label_pieces : List ℕ → List Piece
@@ -40,15 +40,15 @@ abbrev pub whole_pieces : List (List ℕ) → List Piece
 whole_pieces labels = labels_pieces labels ++ Plain (0 ∷ []) ∷ []
 
 -- the name was written at the end, compressed
-abbrev pub after_compressed : Written → List (List ℕ) → Written
+abbrev pub after_compressed : EncoderState → List (List ℕ) → EncoderState
 after_compressed w labels = record w {
   bytes = w.bytes ++ compressed_form w.suffixes labels;
   offset = w.offset + length (compressed_form w.suffixes labels);
-  suffixes = remembered w.suffixes w.offset labels;
+  suffixes = remember_labels w.suffixes w.offset labels;
 }
 
 -- how far that reaches: its labels are written whole before a pointer takes their place
-abbrev pub compressed_reach : Written → List (List ℕ) → ℕ
+abbrev pub compressed_reach : EncoderState → List (List ℕ) → ℕ
 compressed_reach w labels = w.offset + max (length (labels_form labels)) (length (compressed_form w.suffixes labels))
 
 pub one_name : (buffer : List ℕ) (place : ℕ) (a b : DomainName) (end end' : ℕ) → ReadsName buffer place a.labels end × (a.is_fqdn ≡ true) → ReadsName buffer place b.labels end' × (b.is_fqdn ≡ true) → (a ≡ b) × (end ≡ end')

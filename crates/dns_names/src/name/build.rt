@@ -5,6 +5,7 @@ ghost use Rattle.dns_wire.specs.Name.{IsLabel, name_len, AreLabels};
 ghost use Rattle.dns_names.specs.Build.{with_label, behind_label, with_name, in_domain, with_each, root_name};
 ghost use Rattle.std.specs.Iterator.{Drains, Yields, IsFinite};
 ghost use Rattle.dns_names.specs.Build.{trimmed, base_of, wildcard_of};
+ghost use Rattle.dns_wire.specs.Error.{IsUnless};
 
 use crate::error::ParseError;
 use crate::into_label::IntoLabel;
@@ -32,8 +33,7 @@ impl Name {
 
     /// The name with a label at its right.
     pub fn append_label<L: IntoLabel>(self, label: L) -> Result<Name, ParseError>
-        ensures ok { IfOk result (λ name. with_label self (L.label label) ≡ Ok name) }
-        ensures refused { IfErr result (λ error. error ≢ ParseError.Memory → with_label self (L.label label) ≡ Err error) }
+        ensures { IsUnless ParseError.Memory (with_label self (L.label label)) result }
     {
         let label = label.into_label(self.allocator())?;
         self.append_bytes(label.as_bytes())
@@ -42,8 +42,7 @@ impl Name {
     /// The name with these bytes as a label at its right.
     fn append_bytes(mut self, label: &[u8]) -> Result<Name, ParseError>
         requires { IsLabel label.now }
-        ensures ok { IfOk result (λ name. with_label self (Ok label.now) ≡ Ok name) }
-        ensures refused { IfErr result (λ error. error ≢ ParseError.Memory → with_label self (Ok label.now) ≡ Err error) }
+        ensures { IsUnless ParseError.Memory (with_label self (Ok label.now)) result }
     {
         if self.encoded_len() + label.len() + 1 > Name::MAX_LENGTH {
             return Err(ParseError::DomainNameTooLong);
@@ -54,8 +53,7 @@ impl Name {
 
     /// The name with a label at its left.
     pub fn prepend_label<L: IntoLabel>(&self, label: L) -> Result<Name, ParseError>
-        ensures ok { IfOk result (λ name. behind_label (L.label label) self.now ≡ Ok name) }
-        ensures refused { IfErr result (λ error. error ≢ ParseError.Memory → behind_label (L.label label) self.now ≡ Err error) }
+        ensures { IsUnless ParseError.Memory (behind_label (L.label label) self.now) result }
     {
         let label = label.into_label(self.allocator())?;
         self.prepend_bytes(label.as_bytes())
@@ -64,8 +62,7 @@ impl Name {
     /// The name with these bytes as a label at its left.
     fn prepend_bytes(&self, label: &[u8]) -> Result<Name, ParseError>
         requires { IsLabel label.now }
-        ensures ok { IfOk result (λ name. behind_label (Ok label.now) self.now ≡ Ok name) }
-        ensures refused { IfErr result (λ error. error ≢ ParseError.Memory → behind_label (Ok label.now) self.now ≡ Err error) }
+        ensures { IsUnless ParseError.Memory (behind_label (Ok label.now) self.now) result }
     {
         if self.encoded_len() + label.len() + 1 > Name::MAX_LENGTH {
             return Err(ParseError::DomainNameTooLong);
@@ -79,8 +76,7 @@ impl Name {
 
     /// The name with another's labels at its right. It is fully qualified where the other one is.
     pub fn append_name(mut self, other: &Name) -> Result<Name, ParseError>
-        ensures ok { IfOk result (λ name. with_name self other.now ≡ Ok name) }
-        ensures refused { IfErr result (λ error. error ≢ ParseError.Memory → with_name self other.now ≡ Err error) }
+        ensures outcome { IsUnless ParseError.Memory (with_name self other.now) result }
         ensures fault { (error : ParseError) → with_name self other.now ≡ Err error → result ≡ Err error }
     {
         if self.encoded_len() + other.encoded_len() > Name::MAX_LENGTH + 1 {
@@ -93,8 +89,7 @@ impl Name {
 
     /// The name with a domain's labels at its right, fully qualified.
     pub fn append_domain(self, domain: &Name) -> Result<Name, ParseError>
-        ensures ok { IfOk result (λ name. in_domain self domain.now ≡ Ok name) }
-        ensures refused { IfErr result (λ error. error ≢ ParseError.Memory → in_domain self domain.now ≡ Err error) }
+        ensures outcome { IsUnless ParseError.Memory (in_domain self domain.now) result }
         ensures fault { (error : ParseError) → in_domain self domain.now ≡ Err error → result ≡ Err error }
     {
         let mut name = self.append_name(domain)?;
@@ -104,8 +99,7 @@ impl Name {
 
     /// The name above, fully qualified; a name without a label is its own.
     pub fn base_name(&self) -> Result<Name, AllocError>
-        ensures ok { IfOk result (λ name. name ≡ base_of self.now) }
-        ensures labels { AreLabels self.now.labels }
+        ensures { IfOk result (λ name. name ≡ base_of self.now) }
     {
         let count = self.label_count();
         if count == 0 {
@@ -116,8 +110,7 @@ impl Name {
 
     /// The name of so many of the last labels, fully qualified; a name of fewer labels is its own.
     pub fn trim_to(&self, num_labels: usize) -> Result<Name, AllocError>
-        ensures ok { IfOk result (λ name. name ≡ trimmed self.now num_labels) }
-        ensures labels { AreLabels self.now.labels }
+        ensures { IfOk result (λ name. name ≡ trimmed self.now num_labels) }
     {
         let count = self.label_count();
         if num_labels > count {
@@ -140,13 +133,15 @@ impl Name {
 
     /// A copy with `*` in place of the first label, where there is one.
     fn with_star(&self) -> Result<Name, AllocError>
-        requires { 0 < length self.now.labels }
+        requires some { 0 < length self.now.labels }
+        requires fits { name_len self.now.labels ≤ 255 }
         ensures { IfOk result (λ name. name ≡ wildcard_of self.now) }
     {
+        let is_fqdn = self.is_fqdn();
         let mut name = Name::new(self.allocator());
-        name.set_fqdn(self.is_fqdn());
         name.push(b"*")?;
         name.push_labels(self, 1)?;
+        name.set_fqdn(is_fqdn);
         Ok(name)
     }
 

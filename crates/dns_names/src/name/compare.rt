@@ -77,8 +77,7 @@ impl Name {
     /// Whether the name, as an origin, is at or above another: whether that one's last labels are this one's. Whether
     /// the names end at the root isn't looked at.
     pub fn zone_of(&self, name: &Name) -> bool
-        ensures value { result ≡ at_or_below self.now.labels name.now.labels }
-        ensures labels { AreLabels self.now.labels }
+        ensures { result ≡ at_or_below self.now.labels name.now.labels }
     {
         let (own, others) = (self.label_count(), name.label_count());
         own <= others && name.ends_in(others - own, self)
@@ -95,8 +94,7 @@ impl Name {
 
     /// Whether the labels are another name's; whether the names end at the root isn't looked at.
     pub fn eq_ignore_root(&self, other: &Name) -> bool
-        ensures value { result ≡ same_labels self.now.labels other.now.labels }
-        ensures labels { AreLabels self.now.labels }
+        ensures { result ≡ same_labels self.now.labels other.now.labels }
     {
         self.label_count() == other.label_count() && other.ends_in(0, self)
     }

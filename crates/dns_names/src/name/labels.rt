@@ -69,8 +69,7 @@ impl<'a> ExactSizeIterator for LabelIter<'a> {
 impl Name {
     /// The labels from left to right, or from right to left.
     pub fn iter(&self) -> LabelIter<'_>
-        ensures value { result ≡ self.now.labels }
-        ensures labels { AreLabels self.now.labels }
+        ensures { result ≡ self.now.labels }
     {
         LabelIter {
             name: self,
@@ -81,8 +80,7 @@ impl Name {
 
     /// How many labels the name has; a leading `*` isn't counted (RFC 4034 section 3.1.3).
     pub fn num_labels(&self) -> u8
-        ensures value { result ≡ labels_counted self.now.labels }
-        ensures labels { AreLabels self.now.labels }
+        ensures { result ≡ labels_counted self.now.labels }
     {
         let count = self.label_count() as u8;
         if self.is_wildcard() { count - 1 } else { count }
@@ -90,8 +88,7 @@ impl Name {
 
     /// How many bytes the labels take, each with one for its length, and 1 where there is none.
     pub fn len(&self) -> usize
-        ensures value { result ≡ labels_len self.now.labels }
-        ensures labels { AreLabels self.now.labels }
+        ensures { result ≡ labels_len self.now.labels }
     {
         if self.label_count() == 0 {
             return 1;
@@ -101,24 +98,21 @@ impl Name {
 
     /// Whether the length is 0, which it never is.
     pub fn is_empty(&self) -> bool
-        ensures value { result ≡ (labels_len self.now.labels == 0) }
-        ensures labels { AreLabels self.now.labels }
+        ensures { result ≡ (labels_len self.now.labels == 0) }
     {
         self.len() == 0
     }
 
     /// Whether the first label is `*` (RFC 4592 section 2.1.1).
     pub fn is_wildcard(&self) -> bool
-        ensures value { result ≡ begins_with_star self.now.labels }
-        ensures labels { AreLabels self.now.labels }
+        ensures { result ≡ begins_with_star self.now.labels }
     {
         self.label_count() > 0 && self.label(0) == b"*".as_slice()
     }
 
     /// Whether the last label is `localhost` (RFC 6761 section 6.3).
     pub fn is_localhost(&self) -> bool
-        ensures value { result ≡ ends_in_localhost self.now.labels }
-        ensures labels { AreLabels self.now.labels }
+        ensures { result ≡ ends_in_localhost self.now.labels }
     {
         let count = self.label_count();
         count > 0 && self.label(count - 1).eq_ignore_ascii_case(b"localhost")

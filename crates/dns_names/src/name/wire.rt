@@ -4,10 +4,10 @@ ghost use Rattle.std.specs.Prelude.{◌≡◌, ◌≢◌, ℕ, List, true, lengt
 ghost use Rattle.dns_wire.specs.Decoder.{rest, Advances};
 ghost use Rattle.dns_wire.specs.Element.{element};
 ghost use Rattle.dns_wire.specs.Reading.{ReadsName, RefusesName};
-ghost use Rattle.dns_names.specs.internal.Wire.{Shows, part_len};
-ghost use Rattle.dns_wire.specs.Encoder.{written, lender, IsAtEnd, TakesBack};
+ghost use Rattle.dns_names.specs.internal.Wire.{MatchesElement, part_len};
+ghost use Rattle.dns_wire.specs.Encoder.{state_of, IsAtEnd, CanRollBack};
 ghost use Rattle.dns_wire.specs.Name.{IsLabel, AreLabels};
-ghost use Rattle.dns_wire.specs.Pieces.{Emits};
+ghost use Rattle.dns_wire.specs.Encodable.{Emits};
 ghost use Rattle.dns_names.specs.internal.Wire.{label_pieces, labels_pieces, whole_pieces, after_compressed, compressed_reach};
 
 use crate::name::Name;
@@ -29,7 +29,7 @@ pub enum Part<'a> {
 
 /// The next part of a name.
 fn read_part<'a>(reader: &mut BinDecoder<'a>) -> Result<Part<'a>, DecodeError>
-    ensures shows { Shows result (element (rest reader.old)) }
+    ensures shows { MatchesElement result (element (rest reader.old)) }
     ensures moved { IfOk result (λ part. Advances reader.old reader.new (part_len part)) }
 {
     let code = reader.read_u8()?;
@@ -69,7 +69,7 @@ impl BinDecodable for Name {
     ghost use Rattle.dns_wire.proofs.ReadingLaws.{reads_not_refused};
     ghost use Rattle.dns_names.specs.internal.Wire.{one_name};
 
-    ghost stands = { λ bytes place name end. ReadsName bytes place name.labels end × (name.is_fqdn ≡ true) };
+    ghost decodes = { λ bytes place name end. ReadsName bytes place name.labels end × (name.is_fqdn ≡ true) };
 
     ghost refuses = { RefusesName };
 
@@ -77,9 +77,9 @@ impl BinDecodable for Name {
         Name::read(alloc, decoder)
     }
 
-    ghost one_way = { one_name };
+    ghost unambiguous = { one_name };
 
-    ghost not_refused = { λ bytes place value end error stands refused. reads_not_refused stands.0 refused };
+    ghost not_refused = { λ bytes place value end error decodes refused. reads_not_refused decodes.0 refused };
 }
 
 /// The name at the decoder's place, and where it ends.
@@ -118,7 +118,7 @@ fn read_at(alloc: Global, decoder: BinDecoder<'_>) -> Result<(Name, usize), Deco
 
 impl BinEncodable for Name {
     ghost use Rattle.std.specs.Prelude.{[], ◌∷◌};
-    ghost use Rattle.dns_wire.specs.Pieces.{Domain};
+    ghost use Rattle.dns_wire.specs.Encodable.{Domain};
 
     ghost pieces = { λ name _. Domain name.labels ∷ [] };
 
@@ -140,10 +140,9 @@ impl BinEncodable for Name {
 impl Name {
     /// Writes the name whole, as it is spelled.
     fn emit_whole(&self, encoder: &mut BinEncoder<'_>) -> Result<(), EncodeError>
-        requires { IsAtEnd (written encoder.old) }
-        ensures emits { Emits (written encoder.old) (whole_pieces self.now.labels) result (written encoder.new) }
+        requires { IsAtEnd (state_of encoder.old) }
+        ensures emits { Emits (state_of encoder.old) (whole_pieces self.now.labels) result (state_of encoder.new) }
         ensures labels { AreLabels self.now.labels }
-        ensures lender { lender encoder.new ≡ lender encoder.old }
     {
         self.emit_labels(encoder)?;
         encoder.emit_u8(0)
@@ -151,10 +150,9 @@ impl Name {
 
     /// Writes the labels, each behind its length.
     fn emit_labels(&self, encoder: &mut BinEncoder<'_>) -> Result<(), EncodeError>
-        requires { IsAtEnd (written encoder.old) }
-        ensures emits { Emits (written encoder.old) (labels_pieces self.now.labels) result (written encoder.new) }
+        requires { IsAtEnd (state_of encoder.old) }
+        ensures emits { Emits (state_of encoder.old) (labels_pieces self.now.labels) result (state_of encoder.new) }
         ensures labels { AreLabels self.now.labels }
-        ensures lender { lender encoder.new ≡ lender encoder.old }
     {
         for index in 0..self.label_count() {
             emit_label(self.label(index), encoder)?;
@@ -164,14 +162,13 @@ impl Name {
 
     /// Writes the labels, and then a pointer in the place of those that are remembered.
     fn emit_compressed(&self, encoder: &mut BinEncoder<'_>) -> Result<(), EncodeError>
-        requires { IsAtEnd (written encoder.old) }
-        ensures ok { OnOk result (written encoder.new ≡ after_compressed (written encoder.old) self.now.labels) }
-        ensures room { OnOk result (compressed_reach (written encoder.old) self.now.labels ≤ (written encoder.old).limit) }
-        ensures full { result ≡ Err EncodeError.MaxBufferSizeExceeded → (written encoder.old).limit < compressed_reach (written encoder.old) self.now.labels }
-        ensures attempts { result ≡ Err EncodeError.MaxBufferSizeExceeded → (written encoder.new).attempts ≡ (written encoder.old).attempts }
-        ensures err { OnErr result (TakesBack (written encoder.old) (written encoder.new)) }
+        requires { IsAtEnd (state_of encoder.old) }
+        ensures ok { OnOk result (state_of encoder.new ≡ after_compressed (state_of encoder.old) self.now.labels) }
+        ensures room { OnOk result (compressed_reach (state_of encoder.old) self.now.labels ≤ (state_of encoder.old).limit) }
+        ensures full { result ≡ Err EncodeError.MaxBufferSizeExceeded → (state_of encoder.old).limit < compressed_reach (state_of encoder.old) self.now.labels }
+        ensures attempts { result ≡ Err EncodeError.MaxBufferSizeExceeded → (state_of encoder.new).attempts ≡ (state_of encoder.old).attempts }
+        ensures err { OnErr result (CanRollBack (state_of encoder.old) (state_of encoder.new)) }
         ensures labels { AreLabels self.now.labels }
-        ensures lender { lender encoder.new ≡ lender encoder.old }
     {
         let mut place = encoder.offset();
         self.emit_labels(encoder)?;
@@ -191,10 +188,9 @@ impl Name {
 
 /// Writes a label behind its length.
 fn emit_label(label: &[u8], encoder: &mut BinEncoder<'_>) -> Result<(), EncodeError>
-    requires at_end { IsAtEnd (written encoder.old) }
+    requires at_end { IsAtEnd (state_of encoder.old) }
     requires is_label { IsLabel label.now }
-    ensures emits { Emits (written encoder.old) (label_pieces label.now) result (written encoder.new) }
-    ensures lender { lender encoder.new ≡ lender encoder.old }
+    ensures { Emits (state_of encoder.old) (label_pieces label.now) result (state_of encoder.new) }
 {
     encoder.emit_u8(label.len() as u8)?;
     encoder.emit_vec(label)

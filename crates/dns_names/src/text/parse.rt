@@ -3,6 +3,7 @@
 ghost use Rattle.std.specs.Prelude.{◌≡◌, ◌≢◌, ◌==◌, ◌<◌, Ok, Err, false, length, IfOk, IfErr, OnOk, drop, option_map};
 ghost use Rattle.dns_names.specs.Parse.{name_of_text, name_ended, with_symbol, with_octet, label_ended, may_stand};
 ghost use Rattle.dns_names.specs.Build.{name_at};
+ghost use Rattle.dns_wire.specs.Error.{IsUnless};
 
 use super::symbol::{Symbol, next_symbol};
 use crate::error::ParseError;
@@ -72,8 +73,7 @@ impl Begun {
 
     /// The name, at the end of the text.
     fn finish(mut self) -> Result<Name, ParseError>
-        ensures ok { IfOk result (λ name. name_ended (begun self) ≡ Ok name) }
-        ensures refused { IfErr result (λ error. error ≢ ParseError.Memory → name_ended (begun self) ≡ Err error) }
+        ensures { IsUnless ParseError.Memory (name_ended (begun self)) result }
     {
         let is_fqdn = self.label.is_empty() && self.name.label_count() > 0;
         if !self.label.is_empty() {
@@ -104,8 +104,7 @@ impl Name {
     /// not as the first, `*` as the first; any other octet is escaped, as `\.` or `\046` (RFC 1035 section 5.1).
     #[tactic(auto, unfolding(crate::specs::Parse::name_of_text))]
     pub fn from_ascii(alloc: Global, text: &str) -> Result<Name, ParseError>
-        ensures ok { IfOk result (λ name. name_of_text text.now ≡ Ok name) }
-        ensures refused { IfErr result (λ error. error ≢ ParseError.Memory → name_of_text text.now ≡ Err error) }
+        ensures { IsUnless ParseError.Memory (name_of_text text.now) result }
     {
         let bytes = text.as_bytes();
         if bytes == b".".as_slice() {
@@ -126,8 +125,8 @@ impl Name {
 
     /// Reads a name from text, as `from_ascii` does, and completes a relative one by the origin, if there is one.
     pub fn parse(alloc: Global, text: &str, origin: Option<&Name>) -> Result<Name, ParseError>
-        ensures ok { IfOk result (λ name. name_at text.now (option_map (λ o. o.now) origin.entry) ≡ Ok name) }
-        ensures refused { IfErr result (λ error. error ≢ ParseError.Memory → name_at text.now (option_map (λ o. o.now) origin.entry) ≡ Err error) }
+        ensures { IsUnless ParseError.Memory
+            (name_at text.now (option_map (λ o. o.now) origin.entry)) result }
     {
         let name = Name::from_ascii(alloc, text)?;
         match origin {
@@ -138,8 +137,7 @@ impl Name {
 
     /// Reads a name from text as `from_ascii` does, since no other text than ASCII is read.
     pub fn from_str_relaxed(alloc: Global, text: &str) -> Result<Name, ParseError>
-        ensures ok { IfOk result (λ name. name_of_text text.now ≡ Ok name) }
-        ensures refused { IfErr result (λ error. error ≢ ParseError.Memory → name_of_text text.now ≡ Err error) }
+        ensures { IsUnless ParseError.Memory (name_of_text text.now) result }
     {
         Name::from_ascii(alloc, text)
     }
