@@ -1,9 +1,11 @@
 //! The codes of DNS: types, classes and serial numbers (RFC 1035 section 3.2, RFC 1982).
 //!
-//! - `record_type`: the types of records, with their numbers both ways; `later_types`: those that came after RFC 1035;
-//! - `dns_class`: the classes, with their numbers both ways; `serial_number`: serial numbers, which lie on a circle;
-//! - `code_text`: codes in text, by a word and a number; `decimal`: numbers in text;
-//! - `laws`: each number is its code's, and serials by distance.
+//! Types and classes convert from every 16-bit number and back without loss, and are parsed and printed by name, or by
+//! number if they have none (RFC 3597). Serial numbers are compared as RFC 1982 says.
+//!
+//! - `record_type`, `later_types`: types, and the tables of those that are later than RFC 1035; `dns_class`: classes;
+//! - `serial_number`: serial numbers; `code_text`, `decimal`: types, classes and decimal numbers in text;
+//! - `laws`: the laws of conversion and comparison.
 #![tactic(auto)]
 
 mod code_text;

@@ -24,6 +24,10 @@ suffix_offset_limit = 16383
 abbrev pub max_compressed_names : ℕ
 max_compressed_names = 120
 
+-- the greatest length of character data (RFC 1035 section 3.3)
+abbrev pub max_character_data_len : ℕ
+max_character_data_len = 255
+
 -- ---- state
 
 -- a suffix of a name that was written: its offset, and its labels in uncompressed form

@@ -8,6 +8,8 @@ pub mod Encoder
 pub mod Writing
 pub mod Encodable
 pub mod NameEncoding
+pub mod ModalEncoder
+pub mod Place
 pub mod Items
 pub mod Laws
 pub mod internal

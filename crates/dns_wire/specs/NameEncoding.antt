@@ -5,7 +5,7 @@ use Rattle.dns_wire.specs.declared.name_encoding.NameEncoding.TheVariants.{Uncom
 use Rattle.dns_wire.specs.declared.name_encoding.RDataEncoding.{RDataEncoding}
 use Rattle.dns_wire.specs.declared.name_encoding.RDataEncoding.TheVariants.{StandardRecord, Canonical, Other}
 
--- by what the data asks, whether it is written in canonical form, and how names are written around it
+-- the encoding of names in record data: by its kind, whether it has its canonical form, and the encoding around it
 abbrev pub rdata_mode : RDataEncoding → Bool → NameEncoding → NameEncoding
 rdata_mode StandardRecord false around = around
 rdata_mode StandardRecord true around = UncompressedLowercase

@@ -13,11 +13,12 @@ use Rattle.dns_wire.specs.declared.error.DecodeError.TheVariants.{PointerNotPrio
 pub data Reads (buffer : List ℕ) : ℕ → ℕ → ℕ → List (List ℕ) → ℕ → Type 0 where
   at_closing : {place segment left : ℕ} → element_at buffer place ≡ Ok Closing
       → Reads buffer place segment left [] (place + 1)
-  at_label : {place segment left end : ℕ} {label : List ℕ} {labels : List (List ℕ)} → element_at buffer place ≡ Ok (Label label)
-      → length label + 1 < left → Reads buffer (place + (length label + 1)) segment (left - (length label + 1)) labels end
+  at_label : {place segment left end : ℕ} {label : List ℕ} {labels : List (List ℕ)}
+      → element_at buffer place ≡ Ok (Label label) → length label + 1 < left
+      → Reads buffer (place + (length label + 1)) segment (left - (length label + 1)) labels end
       → Reads buffer place segment left (label ∷ labels) end
-  at_pointer : {place segment left target end : ℕ} {labels : List (List ℕ)} → element_at buffer place ≡ Ok (Pointer target)
-      → target < segment → Reads buffer target target left labels end
+  at_pointer : {place segment left target end : ℕ} {labels : List (List ℕ)}
+      → element_at buffer place ≡ Ok (Pointer target) → target < segment → Reads buffer target target left labels end
       → Reads buffer place segment left labels (place + 2)
 
 -- The first fault that decoding meets.
@@ -28,8 +29,9 @@ pub data Refuses (buffer : List ℕ) : ℕ → ℕ → ℕ → DecodeError → T
       → left ≤ length label + 1 → Refuses buffer place segment left DomainNameTooLong
   at_forward_pointer : {place segment left target : ℕ} → element_at buffer place ≡ Ok (Pointer target)
       → segment ≤ target → Refuses buffer place segment left PointerNotPriorToLabel
-  past_label : {place segment left : ℕ} {error : DecodeError} {label : List ℕ} → element_at buffer place ≡ Ok (Label label)
-      → length label + 1 < left → Refuses buffer (place + (length label + 1)) segment (left - (length label + 1)) error
+  past_label : {place segment left : ℕ} {error : DecodeError} {label : List ℕ}
+      → element_at buffer place ≡ Ok (Label label) → length label + 1 < left
+      → Refuses buffer (place + (length label + 1)) segment (left - (length label + 1)) error
       → Refuses buffer place segment left error
   past_pointer : {place segment left target : ℕ} {error : DecodeError} → element_at buffer place ≡ Ok (Pointer target)
       → target < segment → Refuses buffer target target left error

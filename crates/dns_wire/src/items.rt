@@ -1,4 +1,4 @@
-//! Writing items one after another.
+//! Lists of values, written one after another.
 
 ghost use Rattle.std.specs.Prelude.{◌≡◌, [], ◌∷◌, if◌then◌else◌, length, IfOk, IfErr, IsOk, OnErr};
 ghost use Rattle.dns_wire.specs.Encoder.{state_of, IsAtEnd, CanRollBack};
@@ -15,8 +15,8 @@ impl<'a> BinEncoder<'a> {
     ghost use Rattle.std.specs.Iterator.{IsFinite, Drains};
     ghost use Rattle.std.specs.Borrow.{Bor};
 
-    /// Writes items at the end, and answers how many: all of them. One that doesn't fit is taken back, and the refusal
-    /// says how many were written before it.
+    /// Writes all items at the end, and returns their number. If one does not fit, it is rolled back, those before it
+    /// stay, and the error counts them.
     pub fn emit_all<T: BinEncodable>(&mut self, items: &[T]) -> Result<usize, ProtoError>
         requires at_end { IsAtEnd (state_of self.old) }
         requires behind { AllBehind (position_of (state_of self.old)) }
@@ -30,7 +30,11 @@ impl<'a> BinEncoder<'a> {
             → state_of self.new ≡ append_fitting T.pieces (state_of self.old) items.now }
         ensures writable { result ≢ Err ProtoError.Memory
             → AreWritable (fitting_pieces T.pieces (state_of self.old) items.now) }
-        ensures back { result ≡ Err ProtoError.Memory → CanRollBack (state_of self.old) (state_of self.new) }
+        ensures at_end { result ≢ Err ProtoError.Memory → IsAtEnd (state_of self.new) }
+        ensures behind { result ≢ Err ProtoError.Memory
+            → AllBehind (position_of (state_of self.new)) }
+        ensures back { result ≡ Err ProtoError.Memory
+            → CanRollBack (state_of self.old) (state_of self.new) }
     {
         let count = emit_fitting(items, self)?;
         if count < items.len() {
@@ -39,7 +43,7 @@ impl<'a> BinEncoder<'a> {
         Ok(count)
     }
 
-    /// Writes lent items, as `emit_all` does.
+    /// Writes items behind references, like `emit_all`.
     pub fn emit_all_refs<T: BinEncodable>(&mut self, items: &[&T]) -> Result<usize, ProtoError>
         requires at_end { IsAtEnd (state_of self.old) }
         requires behind { AllBehind (position_of (state_of self.old)) }
@@ -48,17 +52,23 @@ impl<'a> BinEncoder<'a> {
         ensures not_all { IfErr result (λ error. (error ≡ ProtoError.Memory)
             ⊎ ((error ≡ ProtoError.NotAllRecordsWritten
             (length (fitting_items (lent_pieces T.pieces) (state_of self.old) items.now)))
-            × (length (fitting_items (lent_pieces T.pieces) (state_of self.old) items.now) < length items.now))) }
+            × (length (fitting_items (lent_pieces T.pieces) (state_of self.old) items.now)
+            < length items.now))) }
         ensures wrote { result ≢ Err ProtoError.Memory
-            → state_of self.new ≡ append_fitting (lent_pieces T.pieces) (state_of self.old) items.now }
+            → state_of self.new
+            ≡ append_fitting (lent_pieces T.pieces) (state_of self.old) items.now }
         ensures writable { result ≢ Err ProtoError.Memory
             → AreWritable (fitting_pieces (lent_pieces T.pieces) (state_of self.old) items.now) }
-        ensures back { result ≡ Err ProtoError.Memory → CanRollBack (state_of self.old) (state_of self.new) }
+        ensures at_end { result ≢ Err ProtoError.Memory → IsAtEnd (state_of self.new) }
+        ensures behind { result ≢ Err ProtoError.Memory
+            → AllBehind (position_of (state_of self.new)) }
+        ensures back { result ≡ Err ProtoError.Memory
+            → CanRollBack (state_of self.old) (state_of self.new) }
     {
         self.emit_all(items)
     }
 
-    /// Writes what an iterator lends, as `emit_all` does. All of it is taken before the first is written.
+    /// Writes the items of an iterator, like `emit_all`. They are collected before the first one is written.
     pub fn emit_iter<'e, T: BinEncodable + 'e, I: Iterator<Item = &'e T> + Drop>(
         &mut self,
         alloc: Global,
@@ -78,14 +88,18 @@ impl<'a> BinEncoder<'a> {
             ⊎ ((error ≡ ProtoError.NotAllRecordsWritten
             (length (fitting_items (lent_pieces T.pieces) (state_of self.old) xs)))
             × (length (fitting_items (lent_pieces T.pieces) (state_of self.old) xs) < length xs))) }
-        ensures back { result ≡ Err ProtoError.Memory → CanRollBack (state_of self.old) (state_of self.new) }
+        ensures at_end { result ≢ Err ProtoError.Memory → IsAtEnd (state_of self.new) }
+        ensures behind { result ≢ Err ProtoError.Memory
+            → AllBehind (position_of (state_of self.new)) }
+        ensures back { result ≡ Err ProtoError.Memory
+            → CanRollBack (state_of self.old) (state_of self.new) }
     {
         let lent: Vec<&T> = items.collect(alloc)?;
         self.emit_all_refs(&lent)
     }
 }
 
-/// Writes items at the end up to the first that doesn't fit, which is taken back, and answers how many were written.
+/// Writes items at the end up to the first that does not fit, which is rolled back, and returns how many were written.
 pub fn emit_fitting<T: BinEncodable>(
     items: &[T],
     encoder: &mut BinEncoder<'_>,
@@ -126,7 +140,8 @@ pub fn emit_if_fits<T: BinEncodable>(
 ) -> Result<bool, EncodeError>
     requires at_end { IsAtEnd (state_of encoder.old) }
     requires behind { AllBehind (position_of (state_of encoder.old)) }
-    ensures fits { IfOk result (λ fits. fitting_items T.pieces (state_of encoder.old) (item.now ∷ [])
+    ensures fits { IfOk result (λ fits.
+        fitting_items T.pieces (state_of encoder.old) (item.now ∷ [])
         ≡ if fits then item.now ∷ [] else []) }
     ensures wrote { IsOk result
         → state_of encoder.new ≡ append_fitting T.pieces (state_of encoder.old) (item.now ∷ []) }

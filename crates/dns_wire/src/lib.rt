@@ -1,17 +1,13 @@
-//! The wire of DNS (RFC 1035 section 4): a reader and a writer of bytes, what they refuse, and the codes.
+//! The wire format of DNS (RFC 1035 section 4): decoding and encoding of bytes, numbers and names.
 //!
-//! What is written is a list of pieces, plain bytes and names, whose bytes depend on the place, the way names are written,
-//! the remembered suffixes and the names begun, and on no byte that was written. So what pieces were written says what
-//! stands in the buffer, what is remembered and what a later name looks like.
+//! An encoder promises what it wrote: a sequence of pieces, which are plain bytes and names. Their encoding depends on the
+//! position (the offset, the encoding of names, the remembered suffixes, the number of names that were tried), and on no
+//! byte that was written before. So the pieces tell what the buffer contains, and `laws` says that they decode again.
 //!
-//! - `decoder`: reads numbers and slices, and stays as it was where it refuses; `decodable`: what is read from the wire;
-//! - `encoder`: writes at an offset, up to a size, and says exactly what it wrote; `name_encoding`: how names are written;
-//!   `modal_encoder`: a guard that restores that; `place`: places whose value is written later;
-//! - `encodable`: what a value writes, as pieces; `items`: lists of values; `numbers`: numbers as values;
-//! - `laws`: what was written is read again, over any calls too, and stays when more is written;
-//! - `error`: the refusals, by their names.
-//!
-//! The codes are those of `dns_codes`, given on under this crate's name.
+//! - `decoder`, `decodable`: reads from the front of the unread bytes, where a failed read changes nothing;
+//! - `encoder`, `encodable`: writes at an offset, up to a greatest size; `name_encoding`, `modal_encoder`: how names are
+//!   encoded; `place`: places that are filled in later; `items`: lists of values; `numbers`: numbers as values;
+//! - `error`: the errors; `laws`: the laws of decoding and encoding. The codes are those of `dns_codes`.
 #![tactic(auto)]
 
 mod decodable;

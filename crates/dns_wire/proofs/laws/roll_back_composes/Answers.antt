@@ -7,5 +7,5 @@ returns-clause-further c = λ old middle new on first second. can_roll_back-tran
 pub returns-clause-written : goal.returns-clause-written
 returns-clause-written c = λ w ps end. can_roll_back-append w ps end
 
-pub returns-clause-gives : goal.returns-clause-gives
-returns-clause-gives c = λ old new end behind back. roll_back-restores old new end behind back
+pub returns-clause-restores : goal.returns-clause-restores
+returns-clause-restores c = λ old new end behind back. roll_back-restores old new end behind back
