@@ -12,7 +12,7 @@ use Rattle.dns_wire.specs.Writing.{labels_form, whole_form, spelling, compressed
 use Rattle.dns_wire.specs.Encodable.{Piece, Plain, Domain, Position, position_of, is_compressed, name_form, piece_reach, form, after, reach, attempts_at_limit, append_pieces, Emits}
 use Rattle.dns_wire.specs.declared.error.EncodeError.{EncodeError}
 use Rattle.dns_wire.specs.declared.error.EncodeError.TheVariants.{MaxBufferSizeExceeded}
-use Rattle.dns_wire.proofs.NameLaws.{name_len-spelled, length-labels_form, length-whole_form}
+use Rattle.dns_wire.proofs.NameLaws.{name_len-spelling, length-labels_form, length-whole_form}
 use Rattle.dns_wire.proofs.PieceLaws.{form-append, after-append, reach-append, append_pieces-end, emits_then, emits_stop}
 use Rattle.dns_names.specs.internal.Wire.{label_pieces, labels_pieces, whole_pieces, after_compressed, compressed_reach}
 
@@ -119,7 +119,7 @@ module _ (s : Position) (labels : List (List ℕ)) (whole : is_compressed s ≡ 
       ∙ ap (λ (bytes : List ℕ). record s { place = s.place + length bytes }) name_form-is
 
   reach-domain : reach s (Domain labels ∷ []) ≡ s.place + length (whole_form names)
-  reach-domain = omega (arith, ap length name_form-is, length-whole_form names, name_len-spelled s.encoding labels, length-labels_form labels)
+  reach-domain = omega (arith, ap length name_form-is, length-whole_form names, name_len-spelling s.encoding labels, length-labels_form labels)
 
   tried-domain : (limit : ℕ) → attempts_at_limit limit s (Domain labels ∷ []) ≡ s.attempts
   tried-domain limit = at (ltb limit (piece_reach s (Domain labels))) (is_compressed s) whole

@@ -134,7 +134,7 @@ impl Name {
     /// A copy with `*` in place of the first label, where there is one.
     fn with_star(&self) -> Result<Name, AllocError>
         requires some { 0 < length self.now.labels }
-        requires fits { name_len self.now.labels ≤ 255 }
+        requires labels { AreLabels self.now.labels }
         ensures { IfOk result (λ name. name ≡ wildcard_of self.now) }
     {
         let is_fqdn = self.is_fqdn();

@@ -1,10 +1,11 @@
-use Rattle.std.proofs.Common.{◌≡◌, ◌+◌, false, ◌∙◌, ap, sym, refl, cond, ltb, Bool}
+use Rattle.std.proofs.Common.{◌≡◌, ◌+◌, false, ◌∙◌, ap, sym, subst, refl, cond, ltb, Bool}
 use Rattle.std.specs.Prelude.{◌&&◌}
 use Rattle.dns_wire.specs.Encoder.{state_of}
+use Rattle.dns_wire.specs.Name.{AreLabels}
 use Rattle.dns_wire.specs.Writing.{spelling, compresses}
 use Rattle.dns_wire.specs.declared.name_encoding.NameEncoding.{NameEncoding}
 use Rattle.dns_names.specs.Name.{DomainName}
-use Rattle.dns_names.proofs.EmitLaws.{emits_spelled}
+use Rattle.dns_names.proofs.EmitLaws.{emits_spelled, lower-are_labels}
 use Rattle.dns_names.proofs.name.wire.NameBinEncodable.emit.Goals as goal
 
 pub returns-else-begin_name-clause-emits : goal.returns-else-begin_name-clause-emits
@@ -35,3 +36,8 @@ returns-in_ok-to_lowercase-in-UncompressedLowercase-clause-emits c =
     (ap (λ (n : DomainName). n.labels) c.in_ok-to_lowercase-in-UncompressedLowercase.ensures.ok ∙ ap (λ (e : NameEncoding). spelling e c.args.self.now.labels) (sym encoding))
     (ap (λ (e : NameEncoding). compresses e && ltb old.attempts 120) encoding)
     c.emit_whole-in-UncompressedLowercase-2.ensures.emits
+
+pub returns-in_ok-to_lowercase-in-UncompressedLowercase-clause-writable : goal.returns-in_ok-to_lowercase-in-UncompressedLowercase-clause-writable
+returns-in_ok-to_lowercase-in-UncompressedLowercase-clause-writable c =
+    let are = ap (λ (n : DomainName). n.labels) c.in_ok-to_lowercase-in-UncompressedLowercase.ensures.ok in
+    λ _. (lower-are_labels c.args.self.now.labels (subst AreLabels are c.emit_whole-in-UncompressedLowercase-2.ensures.labels), tt)
