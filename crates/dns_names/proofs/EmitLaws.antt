@@ -14,7 +14,7 @@ use Rattle.dns_wire.specs.declared.error.EncodeError.{EncodeError}
 use Rattle.dns_wire.specs.declared.error.EncodeError.TheVariants.{MaxBufferSizeExceeded}
 use Rattle.dns_wire.proofs.NameLaws.{name_len-spelling, length-labels_form, length-whole_form}
 use Rattle.dns_wire.proofs.PieceLaws.{form-append, after-append, reach-append, append_pieces-end, emits_then, emits_stop}
-use Rattle.dns_names.specs.internal.Wire.{label_pieces, labels_pieces, whole_pieces, after_compressed, compressed_reach}
+use Rattle.dns_names.specs.internal.Wire.{label_pieces, labels_pieces, whole_pieces, append_compressed, compressed_reach}
 
 -- ---- one label more
 
@@ -78,7 +78,7 @@ reach-whole : (s : Position) (labels : List (List ℕ)) → reach s (whole_piece
 reach-whole s labels =
     omega (arith, reach-append s (labels_pieces labels) (Plain (0 ∷ []) ∷ []), ap (λ (t : Position). t.place) (after-labels s labels), reach-labels s labels, length-append (labels_form labels) (0 ∷ []))
 
--- no name is begun
+-- no name is tried
 tried-labels : (limit : ℕ) (s : Position) (labels : List (List ℕ)) (qs : List Piece) → attempts_at_limit limit (after s (labels_pieces labels)) qs ≡ s.attempts → attempts_at_limit limit s (labels_pieces labels ++ qs) ≡ s.attempts
 tried-labels limit s [] qs more = more
 tried-labels limit s (l ∷ ls) qs more = at (ltb limit (s.place + 1)) (ltb limit (s.place + 1 + length l)) (tried-labels limit (after s (label_pieces l)) ls qs more)
@@ -149,24 +149,24 @@ emits_name old new labels r whole e =
     }
 
 -- the same for a name's labels that were spelled before, and an encoder that is as it was
-pub emits_spelled : (old begun new : EncoderState) (labels names : List (List ℕ)) (r : Result (Unit {0}) EncodeError) → begun ≡ old → names ≡ spelling old.encoding labels → is_compressed (position_of old) ≡ false
-    → Emits begun (whole_pieces names) r new → Emits old (Domain labels ∷ []) r new
-emits_spelled old begun new labels names r same are whole e =
+pub emits_spelled : (old start new : EncoderState) (labels names : List (List ℕ)) (r : Result (Unit {0}) EncodeError) → start ≡ old → names ≡ spelling old.encoding labels → is_compressed (position_of old) ≡ false
+    → Emits start (whole_pieces names) r new → Emits old (Domain labels ∷ []) r new
+emits_spelled old start new labels names r same are whole e =
     emits_name old new labels r whole (subst (λ (ns : List (List ℕ)). Emits old (whole_pieces ns) r new) are (subst (λ (w : EncoderState). Emits w (whole_pieces names) r new) same e))
 
 -- ---- a name that is written compressed
 
-pub emits_compressed : (old begun new : EncoderState) (labels : List (List ℕ)) (r : Result (Unit {0}) EncodeError) → is_compressed (position_of old) ≡ true → begun ≡ record old { attempts = old.attempts + 1 }
-    → OnOk r (new ≡ after_compressed begun labels) → OnOk r (compressed_reach begun labels ≤ begun.limit) → (r ≡ Err MaxBufferSizeExceeded → begun.limit < compressed_reach begun labels)
-    → (r ≡ Err MaxBufferSizeExceeded → new.attempts ≡ begun.attempts) → OnErr r (CanRollBack begun new) → Emits old (Domain labels ∷ []) r new
-emits_compressed old begun new labels r few is ok room full tries back =
+pub emits_compressed : (old start new : EncoderState) (labels : List (List ℕ)) (r : Result (Unit {0}) EncodeError) → is_compressed (position_of old) ≡ true → start ≡ record old { attempts = old.attempts + 1 }
+    → OnOk r (new ≡ append_compressed start labels) → OnOk r (compressed_reach start labels ≤ start.limit) → (r ≡ Err MaxBufferSizeExceeded → start.limit < compressed_reach start labels)
+    → (r ≡ Err MaxBufferSizeExceeded → new.attempts ≡ start.attempts) → OnErr r (CanRollBack start new) → Emits old (Domain labels ∷ []) r new
+emits_compressed old start new labels r few is ok room full tries back =
     let next : EncoderState = record old { attempts = old.attempts + 1 } in
-    let app : append_pieces old (Domain labels ∷ []) ≡ after_compressed next labels = rw few (rw (append-nil (compressed_form old.suffixes labels)) refl) in
+    let app : append_pieces old (Domain labels ∷ []) ≡ append_compressed next labels = rw few (rw (append-nil (compressed_form old.suffixes labels)) refl) in
     let reaches : reach (position_of old) (Domain labels ∷ []) ≡ compressed_reach next labels = rw few (omega arith) in
-    let bounds : begun.limit ≡ old.limit = ap (λ (w : EncoderState). w.limit) is in
-    let reach_is : compressed_reach begun labels ≡ reach (position_of old) (Domain labels ∷ []) = ap (λ (w : EncoderState). compressed_reach w labels) is ∙ sym reaches in
+    let bounds : start.limit ≡ old.limit = ap (λ (w : EncoderState). w.limit) is in
+    let reach_is : compressed_reach start labels ≡ reach (position_of old) (Domain labels ∷ []) = ap (λ (w : EncoderState). compressed_reach w labels) is ∙ sym reaches in
     record {
-      ok = on_ok_weaker r (λ e. e ∙ ap (λ (w : EncoderState). after_compressed w labels) is ∙ sym app) ok;
+      ok = on_ok_weaker r (λ e. e ∙ ap (λ (w : EncoderState). append_compressed w labels) is ∙ sym app) ok;
       room = on_ok_weaker r (λ fits. omega (arith, fits, reach_is, bounds)) room;
       full = λ e. omega (arith, full e, reach_is, bounds);
       tries = λ e. tries e ∙ ap (λ (w : EncoderState). w.attempts) is ∙ sym (at (ltb old.limit (piece_reach (position_of old) (Domain labels))) (is_compressed (position_of old)) few);

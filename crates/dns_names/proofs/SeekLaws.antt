@@ -10,7 +10,7 @@ use Rattle.dns_wire.specs.Encodable.{Position, position_of, append_pieces}
 use Rattle.dns_wire.specs.Writing.{labels_form, compressed_form, remember_labels, pointer_form}
 use Rattle.dns_wire.proofs.NameLaws.{length-labels_form}
 use Rattle.dns_wire.proofs.SuffixLaws.{suffixes_before-before, suffixes_before-remember, AgreeBelow, remember-agree}
-use Rattle.dns_names.specs.internal.Wire.{labels_pieces, after_compressed}
+use Rattle.dns_names.specs.internal.Wire.{labels_pieces, append_compressed}
 use Rattle.dns_names.proofs.EmitLaws.{form-labels, after-labels}
 
 -- ---- label by label
@@ -193,7 +193,7 @@ module _ {old w : EncoderState} {labels : List (List ℕ)} {i place : ℕ} (end 
         }
 
     -- they are remembered at the target, and a pointer takes their place
-    pub points : (cut new : EncoderState) (target : ℕ) → place_of w.suffixes (slice_range w.bytes place w.offset) ≡ Some target → cut ≡ trim_to_offset (record w { offset = place }) → new ≡ overwrite_at cut (pointer_form target) → new ≡ after_compressed old labels
+    pub points : (cut new : EncoderState) (target : ℕ) → place_of w.suffixes (slice_range w.bytes place w.offset) ≡ Some target → cut ≡ trim_to_offset (record w { offset = place }) → new ≡ overwrite_at cut (pointer_form target) → new ≡ append_compressed old labels
     points cut new target at is_cut is =
         let front : List ℕ = labels_form (take i labels) in
         let pointer : List ℕ = pointer_form target in
@@ -205,7 +205,7 @@ module _ {old w : EncoderState} {labels : List (List ℕ)} {i place : ℕ} (end 
         let cut_offset : cut.offset ≡ place = ap (λ (v : EncoderState). v.offset) is_cut in
         let bytes : put_at cut.offset pointer cut.bytes ≡ old.bytes ++ compressed_form old.suffixes labels =
         rw (cut_offset, cut_bytes) (put_at-end (old.bytes ++ front) pointer place (sym front_len)) ∙ append_assoc old.bytes front pointer ∙ ap (λ (xs : List ℕ). old.bytes ++ xs) whole in
-        state_is old new (after_compressed old labels).bytes (after_compressed old labels).offset (after_compressed old labels).suffixes (changed old w new _ _ _ s.same (is ∙ ap (λ (v : EncoderState). overwrite_at v pointer) is_cut))
+        state_is old new (append_compressed old labels).bytes (append_compressed old labels).offset (append_compressed old labels).suffixes (changed old w new _ _ _ s.same (is ∙ ap (λ (v : EncoderState). overwrite_at v pointer) is_cut))
         (ap (λ (v : EncoderState). v.bytes) is ∙ bytes)
         (ap (λ (v : EncoderState). v.offset) is ∙ omega (arith, cut_offset, s.place_is, ap length whole, length-append front pointer))
         (ap (λ (v : EncoderState). v.suffixes) is ∙ ap (λ (v : EncoderState). v.suffixes) is_cut ∙ sym (some_branch (place_of w.suffixes left) target (suffixes_before place w.suffixes) (remember_labels (remember w.suffixes place left) (place + (length label + 1)) rest) there) ∙ remembers)
@@ -217,7 +217,7 @@ module _ {old w : EncoderState} {labels : List (List ℕ)} {i place : ℕ} (end 
         ap (λ (v : EncoderState). v.offset) (points cut (overwrite_at cut (pointer_form target)) target at refl refl)
 
   -- no label is left, and the closing zero is written
-  pub finishes : (new : EncoderState) → length labels ≤ i → new ≡ overwrite_at w (0 ∷ []) → new ≡ after_compressed old labels
+  pub finishes : (new : EncoderState) → length labels ≤ i → new ≡ overwrite_at w (0 ∷ []) → new ≡ append_compressed old labels
   finishes new past e =
       let none : drop i labels ≡ [] = drop_all i labels past in
       let all : take i labels ≡ labels = take_all i labels past in
@@ -225,7 +225,7 @@ module _ {old w : EncoderState} {labels : List (List ℕ)} {i place : ℕ} (end 
       let suffixes : w.suffixes ≡ remember_labels old.suffixes old.offset labels = rw none at s.remembers in
       let bytes : put_at w.offset (0 ∷ []) w.bytes ≡ old.bytes ++ compressed_form old.suffixes labels =
       put_at-end w.bytes (0 ∷ []) w.offset at_end ∙ ap (λ (xs : List ℕ). xs ++ 0 ∷ []) s.bytes ∙ append_assoc old.bytes (labels_form labels) (0 ∷ []) ∙ ap (λ (xs : List ℕ). old.bytes ++ xs) form in
-      state_is old new (after_compressed old labels).bytes (after_compressed old labels).offset (after_compressed old labels).suffixes (changed old w new _ _ _ s.same e)
+      state_is old new (append_compressed old labels).bytes (append_compressed old labels).offset (append_compressed old labels).suffixes (changed old w new _ _ _ s.same e)
       (ap (λ (v : EncoderState). v.bytes) e ∙ bytes)
       (ap (λ (v : EncoderState). v.offset) e ∙ omega (arith, s.offset, ap length form, length-append (labels_form labels) (0 ∷ [])))
       (ap (λ (v : EncoderState). v.suffixes) e ∙ suffixes)

@@ -8,7 +8,17 @@ use Rattle.dns_names.specs.Compare.{same_labels}
 use Rattle.dns_codes.specs.Decimal.{is_digit, decimal_up_to}
 use Rattle.dns_names.specs.declared.reverse.AddrPrefix.{AddrPrefix}
 
--- below `in-addr.arpa.` each octet is a decimal label
+-- an address with a prefix length, and its parts
+abbrev pub addr_prefix : IpAddr → ℕ → AddrPrefix
+addr_prefix addr prefix_len = record { addr = addr; prefix_len = prefix_len }
+
+abbrev pub addr_of : AddrPrefix → IpAddr
+addr_of prefix = prefix.addr
+
+abbrev pub prefix_len_of : AddrPrefix → ℕ
+prefix_len_of prefix = prefix.prefix_len
+
+-- the zone of IPv4 addresses: below it each octet is a decimal label
 abbrev pub in_addr : List (List ℕ)
 in_addr = codes "in-addr" ∷ codes "arpa" ∷ []
 
@@ -18,28 +28,28 @@ decimal_label n =
     else if nat_lt n 100 then (48 + n / 10) ∷ (48 + n % 10) ∷ []
     else (48 + n / 100) ∷ (48 + n / 10 % 10) ∷ (48 + n % 10) ∷ []
 
--- below `ip6.arpa.` each four bits are a label of one hexadecimal digit
+-- the zone of IPv6 addresses: below it each four bits are a label of one hexadecimal digit
 abbrev pub ip6 : List (List ℕ)
 ip6 = codes "ip6" ∷ codes "arpa" ∷ []
 
 abbrev pub hex_label : ℕ → List ℕ
 hex_label n = (if nat_lt n 10 then 48 + n else 87 + n) ∷ []
 
--- the labels of a segment's four digits, the last one first
+-- the labels of a segment's four digits, the last digit first
 abbrev pub segment_labels : ℕ → List (List ℕ)
 segment_labels s = hex_label (s % 16) ∷ hex_label (s / 16 % 16) ∷ hex_label (s / 256 % 16) ∷ hex_label (s / 4096) ∷ []
 
--- the labels of numbers, those of the last one first
-abbrev pub reversed : (ℕ → List (List ℕ)) → List ℕ → List (List ℕ)
-reversed labels [] = []
-reversed labels (n ∷ ns) = reversed labels ns ++ labels n
+-- the labels of numbers, the last number first
+abbrev pub in_reverse : (ℕ → List (List ℕ)) → List ℕ → List (List ℕ)
+in_reverse labels [] = []
+in_reverse labels (n ∷ ns) = in_reverse labels ns ++ labels n
 
--- the name of an address
+-- the reverse name of an address
 abbrev pub reverse_name : IpAddr → DomainName
-reverse_name (V4 a) = record { is_fqdn = true; labels = reversed (λ n. decimal_label n ∷ []) (ipv4_octets a) ++ in_addr }
-reverse_name (V6 a) = record { is_fqdn = true; labels = reversed segment_labels (ipv6_segments a) ++ ip6 }
+reverse_name (V4 a) = record { is_fqdn = true; labels = in_reverse (λ n. decimal_label n ∷ []) (ipv4_octets a) ++ in_addr }
+reverse_name (V6 a) = record { is_fqdn = true; labels = in_reverse segment_labels (ipv6_segments a) ++ ip6 }
 
--- ---- names of addresses, read
+-- ---- parsing
 
 -- the value of a hexadecimal digit in either case
 abbrev pub hex_value : ℕ → Option ℕ
@@ -59,17 +69,17 @@ nibble (c ∷ d ∷ cs) = None
 abbrev pub number : Bool → List ℕ → Option ℕ
 number is_hex label = if is_hex then nibble label else decimal_up_to 255 label
 
-abbrev pub number_behind : Option (List ℕ) → Option ℕ → Option (List ℕ)
-number_behind None n = None
-number_behind (Some ns) None = None
-number_behind (Some ns) (Some n) = Some (ns ++ n ∷ [])
+abbrev pub append_number : Option (List ℕ) → Option ℕ → Option (List ℕ)
+append_number None n = None
+append_number (Some ns) None = None
+append_number (Some ns) (Some n) = Some (ns ++ n ∷ [])
 
--- the numbers of labels, that of the last one first
+-- the numbers of labels, the last label first
 abbrev pub numbers : Bool → List (List ℕ) → Option (List ℕ)
 numbers is_hex [] = Some []
-numbers is_hex (label ∷ labels) = number_behind (numbers is_hex labels) (number is_hex label)
+numbers is_hex (label ∷ labels) = append_number (numbers is_hex labels) (number is_hex label)
 
--- an address by its first octets or digits, the others 0, and the prefix that they are
+-- the prefix of an address whose first octets or digits are given
 abbrev pub v4_prefix : List ℕ → AddrPrefix
 v4_prefix ns = record {
   addr = V4 (record { octets = slice_index ns 0 ∷ slice_index ns 1 ∷ slice_index ns 2 ∷ slice_index ns 3 ∷ [] });
@@ -85,22 +95,23 @@ v6_prefix ns = record {
   prefix_len = 4 * length ns;
 }
 
--- whether there are labels below a zone of two, up to so many
-abbrev pub lies_under : List (List ℕ) → ℕ → List (List ℕ) → Bool
-lies_under zone most labels = nat_lt 2 (length labels) && nat_le (length labels) (most + 2) && same_labels zone (drop (length labels - 2) labels)
+-- whether there are one to `most` labels below a zone of two labels
+abbrev pub is_below_zone : List (List ℕ) → ℕ → List (List ℕ) → Bool
+is_below_zone zone most labels = nat_lt 2 (length labels) && nat_le (length labels) (most + 2) && same_labels zone (drop (length labels - 2) labels)
 
--- the labels below
-abbrev pub under : List (List ℕ) → List (List ℕ)
-under labels = take (length labels - 2) labels
+-- the labels below a zone of two labels
+abbrev pub labels_below_zone : List (List ℕ) → List (List ℕ)
+labels_below_zone labels = take (length labels - 2) labels
 
--- the prefix that a name stands for: one to four decimal labels below `in-addr.arpa.`, one to thirty-two digits below `ip6.arpa.`
+-- The prefix that a reverse name spells: one to four decimal labels below `in-addr.arpa.`, or one to 32 hexadecimal
+-- digits below `ip6.arpa.`.
 abbrev pub arpa_prefix : DomainName → Option AddrPrefix
 arpa_prefix name =
     if not name.is_fqdn then None
-    else if lies_under in_addr 4 name.labels then option_map v4_prefix (numbers false (under name.labels))
-    else if lies_under ip6 32 name.labels then option_map v6_prefix (numbers true (under name.labels))
+    else if is_below_zone in_addr 4 name.labels then option_map v4_prefix (numbers false (labels_below_zone name.labels))
+    else if is_below_zone ip6 32 name.labels then option_map v6_prefix (numbers true (labels_below_zone name.labels))
     else None
 
--- up to 32 numbers, and zeros behind them
-abbrev pub padded : List ℕ → List ℕ
-padded ns = ns ++ replicate (32 - length ns) 0
+-- up to 32 numbers, padded with zeros
+abbrev pub pad_with_zeros : List ℕ → List ℕ
+pad_with_zeros ns = ns ++ replicate (32 - length ns) 0

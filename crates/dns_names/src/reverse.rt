@@ -2,8 +2,8 @@
 
 ghost use Rattle.std.specs.Prelude.{◌≡◌, ◌+◌, ◌<◌, ◌≤◌, ◌++◌, ◌∷◌, [], Some, None, if◌then◌else◌, nat_le, length, IfOk, OnOk, ◌-◌, false, true, option_map, codes, slice_index, ℕ, IfErr, IfSome};
 ghost use Rattle.std.specs.declared.net.ip_addr.IpAddr.TheVariants.{V4, V6};
-ghost use Rattle.dns_wire.specs.Name.{IsLabel, name_len};
-ghost use Rattle.dns_names.specs.Reverse.{reverse_name, decimal_label, hex_label, segment_labels, number, numbers, nibble, under, lies_under, arpa_prefix, v4_prefix, v6_prefix, segment_at, padded};
+ghost use Rattle.dns_wire.specs.Name.{IsLabel, name_len, max_name_len};
+ghost use Rattle.dns_names.specs.Reverse.{addr_prefix, addr_of, prefix_len_of, reverse_name, decimal_label, hex_label, segment_labels, number, numbers, nibble, labels_below_zone, is_below_zone, arpa_prefix, v4_prefix, v6_prefix, segment_at, pad_with_zeros};
 ghost use Rattle.dns_names.specs.Compare.{same_labels};
 
 use crate::error::ParseError;
@@ -12,7 +12,7 @@ use dns_codes::parse_decimal;
 use std::alloc::{AllocError, Global};
 use std::net::{IpAddr, Ipv4Addr, Ipv6Addr};
 
-/// An address and how many of its first bits count.
+/// An IP address with a prefix length.
 #[derive(Clone, Copy, Debug, PartialEq, Eq)]
 pub struct AddrPrefix {
     pub(crate) addr: IpAddr,
@@ -20,10 +20,13 @@ pub struct AddrPrefix {
 }
 
 impl AddrPrefix {
-    /// The prefix, unless it is longer than the address: 32 or 128 bits.
+    /// Returns the prefix, or `None` if it is longer than the address, which has 32 or 128 bits.
     pub fn new(addr: IpAddr, prefix_len: u8) -> Option<AddrPrefix>
-        ensures v4 { (a : _) → addr ≡ V4 a → result ≡ (if nat_le prefix_len 32 then Some (record { addr = addr; prefix_len = prefix_len }) else None) }
-        ensures v6 { (a : _) → addr ≡ V6 a → result ≡ (if nat_le prefix_len 128 then Some (record { addr = addr; prefix_len = prefix_len }) else None) }
+        ensures v4 { (a : _) → addr ≡ V4 a
+            → result ≡ (if nat_le prefix_len 32 then Some (addr_prefix addr prefix_len) else None) }
+        ensures v6 { (a : _) → addr ≡ V6 a
+            → result ≡ (if nat_le prefix_len 128 then Some (addr_prefix addr prefix_len)
+            else None) }
     {
         let most = match addr {
             IpAddr::V4(_) => 32,
@@ -36,23 +39,23 @@ impl AddrPrefix {
         }
     }
 
-    /// The address.
+    /// Returns the address.
     pub fn addr(&self) -> IpAddr
-        ensures { result ≡ self.now.addr }
+        ensures { result ≡ addr_of self.now }
     {
         self.addr
     }
 
-    /// How many bits count.
+    /// Returns the prefix length in bits.
     pub fn prefix_len(&self) -> u8
-        ensures { result ≡ self.now.prefix_len }
+        ensures { result ≡ prefix_len_of self.now }
     {
         self.prefix_len
     }
 }
 
 impl Name {
-    /// The name under which an address is looked for (RFC 1035 section 3.5, RFC 3596 section 2.5).
+    /// Returns the reverse name of an address (RFC 1035 section 3.5, RFC 3596 section 2.5).
     pub fn from(alloc: Global, address: IpAddr) -> Result<Name, AllocError>
         ensures { IfOk result (λ name. name ≡ reverse_name address) }
     {
@@ -62,7 +65,7 @@ impl Name {
         }
     }
 
-    /// The name of an address of four octets.
+    /// Returns the reverse name of an IPv4 address.
     fn from_v4(alloc: Global, address: Ipv4Addr) -> Result<Name, AllocError>
         ensures { IfOk result (λ name. name ≡ reverse_name (V4 address)) }
     {
@@ -76,7 +79,7 @@ impl Name {
         Ok(name)
     }
 
-    /// The name of an address of eight segments.
+    /// Returns the reverse name of an IPv6 address.
     fn from_v6(alloc: Global, address: Ipv6Addr) -> Result<Name, AllocError>
         ensures { IfOk result (λ name. name ≡ reverse_name (V6 address)) }
     {
@@ -90,21 +93,24 @@ impl Name {
         Ok(name)
     }
 
-    /// Adds a label at the right.
+    /// Appends a label.
     fn push_short(&mut self, label: &[u8]) -> Result<(), AllocError>
         requires is_label { IsLabel label.now }
-        requires fits { name_len self.old.labels + (length label.now + 1) ≤ 255 }
-        ensures ok { OnOk result (self.new ≡ record self.old { labels = self.old.labels ++ label.now ∷ [] }) }
-        ensures len { OnOk result (name_len self.new.labels ≡ name_len self.old.labels + (length label.now + 1)) }
+        requires fits { name_len self.old.labels + (length label.now + 1) ≤ max_name_len }
+        ensures ok { OnOk result (self.new
+            ≡ record self.old { labels = self.old.labels ++ label.now ∷ [] }) }
+        ensures len { OnOk result (name_len self.new.labels
+            ≡ name_len self.old.labels + (length label.now + 1)) }
     {
         self.push(label)?;
         Ok(())
     }
 
-    /// Adds an octet's decimal label at the right.
+    /// Appends the decimal label of an octet.
     fn push_decimal(&mut self, octet: u8) -> Result<(), AllocError>
-        requires { name_len self.old.labels + 4 ≤ 255 }
-        ensures ok { OnOk result (self.new ≡ record self.old { labels = self.old.labels ++ decimal_label octet ∷ [] }) }
+        requires { name_len self.old.labels + 4 ≤ max_name_len }
+        ensures ok { OnOk result (self.new
+            ≡ record self.old { labels = self.old.labels ++ decimal_label octet ∷ [] }) }
         ensures len { OnOk result (name_len self.new.labels ≤ name_len self.old.labels + 4) }
     {
         if octet < 10 {
@@ -120,10 +126,11 @@ impl Name {
         }
     }
 
-    /// Adds the labels of a segment's four digits at the right, the last one first.
+    /// Appends the labels of a segment's four hexadecimal digits, the last digit first.
     fn push_segment(&mut self, segment: u16) -> Result<(), AllocError>
-        requires { name_len self.old.labels + 8 ≤ 255 }
-        ensures ok { OnOk result (self.new ≡ record self.old { labels = self.old.labels ++ segment_labels segment }) }
+        requires { name_len self.old.labels + 8 ≤ max_name_len }
+        ensures ok { OnOk result (self.new
+            ≡ record self.old { labels = self.old.labels ++ segment_labels segment }) }
         ensures len { OnOk result (name_len self.new.labels ≡ name_len self.old.labels + 8) }
     {
         self.push_short(&[hex_digit((segment % 16) as u8)])?;
@@ -133,7 +140,7 @@ impl Name {
     }
 }
 
-/// A hexadecimal digit in lower case.
+/// Returns a hexadecimal digit in lower case.
 fn hex_digit(number: u8) -> u8
     requires { number < 16 }
     ensures { result ∷ [] ≡ hex_label number }
@@ -146,18 +153,19 @@ fn hex_digit(number: u8) -> u8
 }
 
 impl Name {
-    /// The address, or its first bits, that a name stands for: below `in-addr.arpa.` one to four decimal labels, below
-    /// `ip6.arpa.` one to thirty-two hexadecimal digits (RFC 1035 section 3.5, RFC 3596 section 2.5). Any other name is
-    /// refused with `Text(0)`: it has no text to point into.
+    /// Parses a reverse name: one to four decimal labels below `in-addr.arpa.`, or one to 32 hexadecimal digits below
+    /// `ip6.arpa.` (RFC 1035 section 3.5, RFC 3596 section 2.5). Fewer labels are a prefix of the address. The error for
+    /// any other name is `Text(0)`.
     pub fn parse_arpa_name(&self) -> Result<AddrPrefix, ParseError>
         ensures ok { IfOk result (λ prefix. arpa_prefix self.now ≡ Some prefix) }
-        ensures refused { IfErr result (λ error. (error ≡ ParseError.Text 0) × (arpa_prefix self.now ≡ None)) }
+        ensures refused { IfErr result (λ error. (error ≡ ParseError.Text 0)
+            × (arpa_prefix self.now ≡ None)) }
     {
         let found = if !self.is_fqdn() {
             None
-        } else if self.lies_under(b"in-addr", 4) {
+        } else if self.is_below_zone(b"in-addr", 4) {
             self.v4_prefix()
-        } else if self.lies_under(b"ip6", 32) {
+        } else if self.is_below_zone(b"ip6", 32) {
             self.v6_prefix()
         } else {
             None
@@ -168,10 +176,10 @@ impl Name {
         }
     }
 
-    /// Whether there are labels below a family's zone, up to so many.
-    fn lies_under(&self, family: &[u8], most: usize) -> bool
+    /// Returns `true` if the name has one to `most` labels below the zone of an address family.
+    fn is_below_zone(&self, family: &[u8], most: usize) -> bool
         requires { most < 100 }
-        ensures { result ≡ lies_under (family.now ∷ codes "arpa" ∷ []) most self.now.labels }
+        ensures { result ≡ is_below_zone (family.now ∷ codes "arpa" ∷ []) most self.now.labels }
     {
         let count = self.label_count();
         if count <= 2 || count > most + 2 {
@@ -180,11 +188,12 @@ impl Name {
         is_zone(family, self.label(count - 2), self.label(count - 1))
     }
 
-    /// The prefix of an address of four octets.
+    /// Returns the IPv4 prefix that the labels below the zone spell.
     fn v4_prefix(&self) -> Option<AddrPrefix>
         requires some { 2 < length self.now.labels }
         requires most { length self.now.labels ≤ 6 }
-        ensures { result ≡ option_map v4_prefix (numbers false (under self.now.labels)) }
+        ensures { result ≡ option_map v4_prefix
+            (numbers false (labels_below_zone self.now.labels)) }
     {
         let octets = self.numbers(false)?;
         Some(AddrPrefix {
@@ -193,11 +202,11 @@ impl Name {
         })
     }
 
-    /// The prefix of an address of eight segments.
+    /// Returns the IPv6 prefix that the labels below the zone spell.
     fn v6_prefix(&self) -> Option<AddrPrefix>
         requires some { 2 < length self.now.labels }
         requires most { length self.now.labels ≤ 34 }
-        ensures { result ≡ option_map v6_prefix (numbers true (under self.now.labels)) }
+        ensures { result ≡ option_map v6_prefix (numbers true (labels_below_zone self.now.labels)) }
     {
         let digits = self.numbers(true)?;
         Some(AddrPrefix {
@@ -215,11 +224,12 @@ impl Name {
         })
     }
 
-    /// The numbers of the labels below a family's zone, that of the last one first, and zeros behind them.
+    /// Returns the numbers of the labels below the zone, the last label first, padded with zeros.
     fn numbers(&self, is_hex: bool) -> Option<[u8; 32]>
         requires some { 2 < length self.now.labels }
         requires most { length self.now.labels ≤ 34 }
-        ensures value { result ≡ option_map padded (numbers is_hex (under self.now.labels)) }
+        ensures value { result ≡ option_map pad_with_zeros
+            (numbers is_hex (labels_below_zone self.now.labels)) }
         ensures small { is_hex ≡ true → IfSome result (λ all. (k : ℕ) → slice_index all k < 16) }
     {
         let count = self.label_count() - 2;
@@ -231,7 +241,7 @@ impl Name {
     }
 }
 
-/// Whether two labels are those of a family's zone.
+/// Returns `true` if two labels are those of the zone of an address family.
 fn is_zone(family: &[u8], first: &[u8], last: &[u8]) -> bool
     ensures { result ≡ same_labels (family.now ∷ codes "arpa" ∷ []) (first.now ∷ last.now ∷ []) }
 {
@@ -241,7 +251,7 @@ fn is_zone(family: &[u8], first: &[u8], last: &[u8]) -> bool
     b"arpa".eq_ignore_ascii_case(last)
 }
 
-/// A label as a number: a hexadecimal digit, or a decimal number up to 255.
+/// Parses a label as a hexadecimal digit, or as a decimal number up to 255.
 fn read_number(is_hex: bool, label: &[u8]) -> Option<u8>
     ensures value { result ≡ number is_hex label.now }
     ensures small { is_hex ≡ true → IfSome result (λ n. n < 16) }
@@ -252,7 +262,7 @@ fn read_number(is_hex: bool, label: &[u8]) -> Option<u8>
     Some(parse_decimal(label, 255)? as u8)
 }
 
-/// A label of one hexadecimal digit.
+/// Parses a label of one hexadecimal digit.
 fn read_nibble(label: &[u8]) -> Option<u8>
     ensures value { result ≡ nibble label.now }
     ensures small { IfSome result (λ n. n < 16) }
@@ -268,7 +278,7 @@ fn read_nibble(label: &[u8]) -> Option<u8>
     }
 }
 
-/// The segment of the four digits at a place.
+/// Returns the segment of the four digits at a place.
 fn segment(digits: &[u8; 32], place: usize) -> u16
     requires within { place ≤ 28 }
     requires small { (k : ℕ) → slice_index digits.now k < 16 }

@@ -1,8 +1,8 @@
-//! Names and labels in text (RFC 1035 section 5.1): `parse` reads them, by the symbols of `symbol`, and `print` writes
-//! them.
+//! Names and labels in text (RFC 1035 section 5.1): `parse` reads names symbol by symbol, as `symbol` splits the text, and
+//! `print` writes names and labels.
 
 mod parse;
 mod print;
 mod symbol;
 
-pub(crate) use parse::may_stand;
+pub(crate) use parse::is_plain_octet;

@@ -1,4 +1,4 @@
--- The line of a fault in a zone's text.
+-- The line of a lexical error.
 use Rattle.std.specs.Prelude.{ℕ}
 use Rattle.dns_text.specs.declared.error.LexerError.{LexerError}
 use Rattle.dns_text.specs.declared.error.LexerError.TheVariants.{UnclosedQuotedString, UnclosedList, NestedList, UnopenedList, LoneBackslash}

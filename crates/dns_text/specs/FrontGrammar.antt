@@ -1,9 +1,9 @@
--- The grammar of what stands in front of a zone's text (RFC 1035 section 5.1).
+-- The grammar of what the text of a zone file begins with (RFC 1035 section 5.1).
 use Rattle.std.specs.Prelude.{◌≡◌, ℕ, ◌+◌, ◌≢◌, true, false, List, [], ◌∷◌, take, drop}
 use Rattle.dns_text.specs.Front.{Run, Bare, InQuotes, is_blank, stops, Front}
 use Rattle.dns_text.specs.Front as by_len
 
--- A line ends at a line feed, and at a carriage return with a line feed right behind it. The rest is the next line's.
+-- A line ends at a line feed, or at a carriage return and a line feed. The rest begins the next line.
 pub data EndsLine : List ℕ → List ℕ → Type 0 where
   feed : {rest : List ℕ} → EndsLine (10 ∷ rest) rest
   return_and_feed : {rest : List ℕ} → EndsLine (13 ∷ 10 ∷ rest) rest
@@ -13,13 +13,13 @@ pub data IsLineOver : List ℕ → Type 0 where
   by_text_end : IsLineOver []
   by_line_end : {text rest : List ℕ} → EndsLine text rest → IsLineOver text
 
--- what is left of a text where its first line is over
+-- the rest of a text after its first line
 pub data LineGoesTo : List ℕ → List ℕ → Type 0 where
   line_over : {rest : List ℕ} → IsLineOver rest → LineGoesTo rest rest
   on_line : {c : ℕ} {text rest : List ℕ} → ¬ IsLineOver (c ∷ text) → LineGoesTo text rest → LineGoesTo (c ∷ text) rest
 
--- A text, characters of a run in front of it, and the rest. A backslash keeps the character behind it on the line, so
--- that it stops no run, and both stay as written.
+-- A text, a run at its start, and the rest. A backslash escapes the next character of the line, which then does not stop
+-- the run; both belong to the run.
 pub data RunGoesTo : Run → List ℕ → List ℕ → List ℕ → Type 0 where
   no_further : {r : Run} {rest : List ℕ} → RunGoesTo r rest [] rest
   unescaped : {r : Run} {c : ℕ} {text run rest : List ℕ} → ¬ IsLineOver (c ∷ text) → stops r c ≡ false → c ≢ 92
@@ -27,12 +27,12 @@ pub data RunGoesTo : Run → List ℕ → List ℕ → List ℕ → Type 0 where
   escaped : {r : Run} {c : ℕ} {text run rest : List ℕ} → ¬ IsLineOver (c ∷ text)
       → RunGoesTo r text run rest → RunGoesTo r (92 ∷ c ∷ text) (92 ∷ c ∷ run) rest
 
--- a run is over with its line, and at a character that stops it
+-- a run is over at the end of its line, and at a character that stops it
 pub data IsRunOver : Run → List ℕ → Type 0 where
   by_line : {r : Run} {rest : List ℕ} → IsLineOver rest → IsRunOver r rest
   by_stop : {r : Run} {c : ℕ} {rest : List ℕ} → stops r c ≡ true → IsRunOver r (c ∷ rest)
 
--- What stands in front of a text, and the rest behind it. A quoted string comes without its quotes.
+-- What a text begins with, and the rest after it. A quoted string comes without its quotes.
 pub data FrontItem : Type 0 where
   TextEnd : FrontItem
   LineEnd : List ℕ → FrontItem
@@ -49,20 +49,20 @@ pub data IsInFront : List ℕ → FrontItem → Type 0 where
   text_end : IsInFront [] TextEnd
   line_end : {text rest : List ℕ} → EndsLine text rest → IsInFront text (LineEnd rest)
   blank : {c : ℕ} {rest : List ℕ} → is_blank c ≡ true → IsInFront (c ∷ rest) (Blank rest)
-  -- a comment leaves its line's end, as that may end an entry
+  -- a comment leaves the end of its line, which may end an entry
   comment : {text rest : List ℕ} → LineGoesTo text rest → IsInFront (59 ∷ text) (Comment rest)
   opening : {rest : List ℕ} → IsInFront (40 ∷ rest) (Open rest)
   closing : {rest : List ℕ} → IsInFront (41 ∷ rest) (Close rest)
   quoted_string : {text string rest : List ℕ} → RunGoesTo InQuotes text string (34 ∷ rest) → IsInFront (34 ∷ text) (Quoted string rest)
-  -- a word has a character at least
+  -- a word has at least one character
   word : {c : ℕ} {text run rest : List ℕ} → RunGoesTo Bare text (c ∷ run) rest → IsRunOver Bare rest → IsInFront text (Word (c ∷ run) rest)
   -- the line is over before a quoted string is closed
   unclosed : {text string rest : List ℕ} → RunGoesTo InQuotes text string rest → IsLineOver rest → IsInFront (34 ∷ text) Unclosed
-  -- the line is over right behind a backslash, which has nothing to keep
+  -- the line is over right after a backslash, which has nothing to escape
   broken_string : {text string rest : List ℕ} → RunGoesTo InQuotes text string (92 ∷ rest) → IsLineOver rest → IsInFront (34 ∷ text) Broken
   broken_word : {text run rest : List ℕ} → RunGoesTo Bare text run (92 ∷ rest) → IsLineOver rest → IsInFront text Broken
 
--- what is counted in front of a text, as what it takes of it and leaves
+-- the item of a text that `front` finds, with the rest of the text
 abbrev pub front_item : Front → List ℕ → FrontItem
 front_item by_len.TextEnd text = TextEnd
 front_item (by_len.LineEnd n) text = LineEnd (drop n text)

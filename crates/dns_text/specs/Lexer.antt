@@ -1,12 +1,12 @@
--- The tokens of a zone's text (RFC 1035 section 5.1).
+-- The tokens of a zone file (RFC 1035 section 5.1).
 use Rattle.std.specs.Prelude.{◌≡◌, ℕ, ◌+◌, ◌==◌, ◌&&◌, ◌||◌, not, if◌then◌else◌, Bool, true, false, List, [], ◌∷◌, take, drop, codes, Option, Some, None, Result, Ok, Err}
 use Rattle.std.specs.Str.{bytes_eq}
 use Rattle.dns_text.specs.declared.error.LexerError.{LexerError}
 use Rattle.dns_text.specs.declared.error.LexerError.TheVariants as fault
 use Rattle.dns_text.specs.Front.{Front, TextEnd, LineEnd, Gap, Comment, Open, Close, Quoted, Word, Unclosed, Broken, front}
 
--- blanks in front of an entry, a word or a quoted string with its escapes as written, `@`, a directive in front of an
--- entry, or the entry's end
+-- blanks at the start of an entry, a word or a quoted string with its escapes, `@`, a directive at the start of an entry,
+-- or the end of an entry
 pub data Lexeme : Type 0 where
   Blank : Lexeme
   CharData : List ℕ → Lexeme
@@ -26,8 +26,8 @@ word_token is_front text =
     else if bytes_eq text (codes "$TTL") then Ttl
     else CharData text
 
--- where a text is being read: what is left of it, its line, the line on which the entry began, whether a parenthesis is
--- open, and whether nothing of the entry has come
+-- the state of lexing: the rest of the text, its line, the first line of the entry, whether a parenthesis is open, and
+-- whether the lexer is at the start of an entry
 pub record Place : Type 0 where
   pub text : List ℕ
   pub line : ℕ
@@ -38,18 +38,18 @@ pub record Place : Type 0 where
 abbrev pub start : List ℕ → Place
 start text = record { text = text; line = 1; entry = 1; is_open = false; is_front = true }
 
--- past so many characters of an entry
+-- the state after `n` characters of an entry
 abbrev pub past : ℕ → Place → Place
 past n p = record p { text = drop n p.text; is_front = false }
 
--- what a look at the front gives: nothing yet, a token, the end, or a fault
+-- the outcome of scanning one item: no token, a token, the end, or a fault
 pub data Step : Type 0 where
   Skips : Place → Step
   Yields : Lexeme → Place → Step
   Ends : Step
   Refuses : LexerError → Step
 
--- an entry goes on past a line's end while a parenthesis is open, and parentheses don't nest
+-- an entry continues after the end of a line while a parenthesis is open, and parentheses do not nest
 abbrev pub step_past : Front → Place → Step
 step_past TextEnd p = if p.is_open then Refuses (fault.UnclosedList p.entry) else Ends
 step_past (LineEnd n) p =
@@ -67,8 +67,8 @@ step_past Broken p = Refuses (fault.LoneBackslash p.line)
 abbrev pub step : Place → Step
 step p = step_past (front p.text) p
 
--- The next token from a place on, or none at the text's end, or the first fault; and the place behind it. At the end
--- and at a fault the reading stays.
+-- The next token from a state on, or none at the end of the text, or the first fault, with the state after it. The end and
+-- a fault leave the state as it is.
 pub data NextToken : Place → Result (Option Lexeme) LexerError → Place → Type 0 where
   past_nothing : {p next end : Place} {found : Result (Option Lexeme) LexerError} → step p ≡ Skips next → NextToken next found end → NextToken p found end
   at_token : {p next : Place} {token : Lexeme} → step p ≡ Yields token next → NextToken p (Ok (Some token)) next

@@ -1,4 +1,4 @@
--- What contracts see of a `Token`.
+-- The value of a `Token` in contracts.
 use Rattle.std.specs.Prelude.{Option, Some, None, Result, Ok, Err}
 use Rattle.dns_text.specs.Lexer as text
 use Rattle.dns_text.specs.declared.error.LexerError.{LexerError}
@@ -15,7 +15,7 @@ lexeme Origin = text.Origin
 lexeme Ttl = text.Ttl
 lexeme EOL = text.EntryEnd
 
--- what a call for the next token answers
+-- the result of `next_token` in contracts
 abbrev pub answer : Result (Option Token) LexerError → Result (Option text.Lexeme) LexerError
 answer (Ok None) = Ok None
 answer (Ok (Some token)) = Ok (Some (lexeme token))

@@ -1,4 +1,4 @@
-//! The tokens of a zone's text, one after another (RFC 1035 section 5.1).
+//! The lexer of zone files (RFC 1035 section 5.1).
 
 ghost use Rattle.std.specs.Prelude.{◌≡◌, ◌+◌, ◌<◌, ◌≤◌, Ok, Err, true, false, drop, take, length};
 ghost use Rattle.dns_text.specs.Front.{front};
@@ -13,18 +13,18 @@ use crate::front::{Front, find_front};
 use crate::token::{Token, token_of_word};
 use std::marker::Model;
 
-/// What a look at the front of the text gives.
+/// The outcome of scanning one item of the text.
 #[derive(Clone, Copy)]
 enum Scan<'a> {
-    /// Nothing that makes a token.
+    /// No token, as for a comment.
     Nothing,
     Found(Token<'a>),
     AtEnd,
 }
 
-/// A reader of the tokens of a zone's text, which is lent. Entries end at a line's end outside of parentheses, `;` begins
-/// a comment, a backslash keeps the character behind it, and a quoted string may hold blanks and `;` (RFC 1035
-/// section 5.1). A line ends at a line feed, or at a carriage return with a line feed right behind it.
+/// A lexer over the borrowed text of a zone file. An entry ends at the end of a line outside parentheses, `;` begins a
+/// comment, a backslash escapes the next character, and a quoted string may contain blanks and `;` (RFC 1035 section 5.1).
+/// A line ends at a line feed, or at a carriage return and a line feed.
 #[derive(Drop)]
 pub struct Lexer<'a> {
     text: &'a [u8],
@@ -40,13 +40,19 @@ impl<'a> Model for Lexer<'a> {
 
     ghost Value = { Place };
 
-    ghost view = { λ l. record { text = l.text.now; line = l.line; entry = l.entry; is_open = l.is_open; is_front = l.is_front } };
+    ghost view = { λ l. record {
+      text = l.text.now;
+      line = l.line;
+      entry = l.entry;
+      is_open = l.is_open;
+      is_front = l.is_front;
+    } };
 
     ghost invariant = { λ l. l.line + length l.text.now < 2 ^ 64 };
 }
 
 impl<'a> Lexer<'a> {
-    /// A reader at the front of a text.
+    /// Creates a lexer at the start of a text.
     pub fn new(text: &'a str) -> Self
         ensures { result ≡ start text.now }
     {
@@ -59,8 +65,7 @@ impl<'a> Lexer<'a> {
         }
     }
 
-    /// The next token, or none at the text's end. At a fault the reader stays there, and each further call gives it
-    /// again.
+    /// Returns the next token, or `None` at the end of the text. After an error each further call returns it again.
     pub fn next_token(&mut self) -> Result<Option<Token<'a>>, LexerError>
         ensures { NextToken self.old (answer result) self.new }
     {
@@ -73,21 +78,21 @@ impl<'a> Lexer<'a> {
         }
     }
 
-    /// The line at which the reader stands, counted from 1. Inside a parenthesis the next token may stand further on.
+    /// Returns the current line, from 1. Inside parentheses the next token may be on a later line.
     pub fn line(&self) -> usize
         ensures { result ≡ self.now.line }
     {
         self.line
     }
 
-    /// The line on which the entry began that is being read, counted from 1.
+    /// Returns the line on which the current entry begins, from 1.
     pub fn entry_line(&self) -> usize
         ensures { result ≡ self.now.entry }
     {
         self.entry
     }
 
-    /// Takes what stands in front.
+    /// Scans the first item of the text.
     fn scan(&mut self) -> Result<Scan<'a>, LexerError>
         ensures steps { step self.old ≡ step_of result self.new }
         ensures stays { Stays result self.old self.new }
@@ -110,7 +115,7 @@ impl<'a> Lexer<'a> {
         }
     }
 
-    /// Ends the text, which may not leave a parenthesis open.
+    /// Ends the text, unless a parenthesis is open.
     fn end_text(&mut self) -> Result<Scan<'a>, LexerError>
         ensures steps { step_past (front_of Front.TextEnd) self.old ≡ step_of result self.new }
         ensures stays { self.new ≡ self.old }
@@ -121,11 +126,12 @@ impl<'a> Lexer<'a> {
         Ok(Scan::AtEnd)
     }
 
-    /// Ends a line, and the entry with it, unless a parenthesis is open.
+    /// Ends a line, and the entry unless a parenthesis is open.
     fn end_line(&mut self, len: usize) -> Scan<'a>
         requires some { 0 < len }
         requires within { len ≤ length self.old.text }
-        ensures steps { step_past (front_of (Front.LineEnd len)) self.old ≡ step_of (Ok result) self.new }
+        ensures steps { step_past (front_of (Front.LineEnd len)) self.old
+            ≡ step_of (Ok result) self.new }
         ensures moved { self.new.text ≡ drop len self.old.text }
         ensures stays { Stays (Ok result) self.old self.new }
     {
@@ -139,7 +145,7 @@ impl<'a> Lexer<'a> {
         Scan::Found(Token::EOL)
     }
 
-    /// Takes a blank.
+    /// Consumes a blank.
     fn take_gap(&mut self) -> Scan<'a>
         requires { 0 < length self.old.text }
         ensures steps { step_past (front_of Front.Gap) self.old ≡ step_of (Ok result) self.new }
@@ -185,27 +191,29 @@ impl<'a> Lexer<'a> {
         Ok(Scan::Nothing)
     }
 
-    /// Takes a quoted string.
+    /// Consumes a quoted string.
     fn take_quoted(&mut self, len: usize) -> Token<'a>
         requires { len + 2 ≤ length self.old.text }
-        ensures { step_past (front_of (Front.Quoted len)) self.old ≡ step_of (Ok (Scan.Found result)) self.new }
+        ensures { step_past (front_of (Front.Quoted len)) self.old
+            ≡ step_of (Ok (Scan.Found result)) self.new }
     {
         let string = &self.text[1..len + 1];
         self.advance(len + 2);
         Token::Quoted(string)
     }
 
-    /// Takes a word.
+    /// Consumes a word.
     fn take_word(&mut self, len: usize) -> Token<'a>
         requires { len ≤ length self.old.text }
-        ensures { step_past (front_of (Front.Word len)) self.old ≡ step_of (Ok (Scan.Found result)) self.new }
+        ensures { step_past (front_of (Front.Word len)) self.old
+            ≡ step_of (Ok (Scan.Found result)) self.new }
     {
         let token = token_of_word(self.is_front, &self.text[..len]);
         self.advance(len);
         token
     }
 
-    /// Goes past so many characters of an entry.
+    /// Consumes `len` characters of an entry.
     fn advance(&mut self, len: usize)
         requires { len ≤ length self.old.text }
         ensures { self.new ≡ past len self.old }

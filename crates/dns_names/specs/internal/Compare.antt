@@ -43,7 +43,7 @@ name_total bytes t = then_total (on_total (λ (n : DomainName). n.is_fqdn) bool_
 pub name_cmp-total : IsTotalOrder name_cmp
 name_cmp-total = name_total lower_cmp lower_cmp-total
 
--- ---- the order up to case is that of what is in lower case
+-- ---- the order ignoring case is the order in lower case
 
 pub through : (f : ℕ → ℕ) (R : ℕ → ℕ → Ordering) (x y : List ℕ) → slice_cmp (on f R) x y ≡ slice_cmp R (map f x) (map f y)
 through f R [] [] = refl

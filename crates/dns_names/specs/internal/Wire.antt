@@ -1,4 +1,4 @@
--- What the code reads as a part of a name and the pieces that it writes for one, and that a name is read in one way.
+-- The elements that the code decodes and the pieces that it writes for a name, and that decoding a name is unambiguous.
 use Rattle.std.specs.Prelude.{◌≡◌, ℕ, ◌+◌, length, Result, Ok, Err, MatchResult, List, [], ◌∷◌, ◌++◌, max}
 use Rattle.dns_wire.specs.declared.error.DecodeError.{DecodeError}
 use Rattle.dns_names.specs.declared.name.wire.Part.{Part}
@@ -17,13 +17,13 @@ element_of Closing = wire.Closing
 element_of (Label bytes) = wire.Label bytes.now
 element_of (Pointer target) = wire.Pointer target
 
--- how many bytes it takes
+-- how many bytes a part takes
 abbrev pub part_len : Part → ℕ
 part_len Closing = 1
 part_len (Label bytes) = length bytes.now + 1
 part_len (Pointer target) = 2
 
--- the part that was read is the element, or its fault the element's
+-- the part that is decoded is the element, or has the element's fault
 abbrev pub MatchesElement : Result Part DecodeError → Result wire.Element DecodeError → Type 0
 MatchesElement read element = MatchResult read (λ part. element ≡ Ok (element_of part)) (λ error. element ≡ Err error)
 
@@ -35,19 +35,19 @@ abbrev pub labels_pieces : List (List ℕ) → List Piece
 labels_pieces [] = []
 labels_pieces (label ∷ labels) = label_pieces label ++ labels_pieces labels
 
--- the labels, and the closing zero
+-- the labels and the root's zero byte
 abbrev pub whole_pieces : List (List ℕ) → List Piece
 whole_pieces labels = labels_pieces labels ++ Plain (0 ∷ []) ∷ []
 
--- the name was written at the end, compressed
-abbrev pub after_compressed : EncoderState → List (List ℕ) → EncoderState
-after_compressed w labels = record w {
+-- the state after a compressed name was written at the end
+abbrev pub append_compressed : EncoderState → List (List ℕ) → EncoderState
+append_compressed w labels = record w {
   bytes = w.bytes ++ compressed_form w.suffixes labels;
   offset = w.offset + length (compressed_form w.suffixes labels);
   suffixes = remember_labels w.suffixes w.offset labels;
 }
 
--- how far that reaches: its labels are written whole before a pointer takes their place
+-- how far the writing reaches: the labels are written before a pointer replaces them
 abbrev pub compressed_reach : EncoderState → List (List ℕ) → ℕ
 compressed_reach w labels = w.offset + max (length (labels_form labels)) (length (compressed_form w.suffixes labels))
 

@@ -25,12 +25,12 @@ pub trait LabelCmp {
 
     ghost total: { IsTotalOrder byte_order };
 
-    /// How two bytes stand to each other.
+    /// Compares two bytes.
     fn cmp_u8(l: u8, r: u8) -> Ordering
         ensures { result ≡ byte_order l r };
 }
 
-/// The order of the bytes as they are.
+/// Compares bytes by value.
 pub struct CaseSensitive;
 
 impl LabelCmp for CaseSensitive {
@@ -43,7 +43,7 @@ impl LabelCmp for CaseSensitive {
     }
 }
 
-/// The order of the bytes with their ASCII letters in lower case (RFC 4343).
+/// Compares bytes with ASCII letters in lower case (RFC 4343).
 pub struct CaseInsensitive;
 
 impl LabelCmp for CaseInsensitive {
@@ -57,7 +57,7 @@ impl LabelCmp for CaseInsensitive {
 }
 
 impl Label {
-    /// How the labels stand to each other: by the first bytes that differ, and a label before those that it begins.
+    /// Compares labels byte by byte; a label that is a prefix of another comes first.
     pub fn cmp_with_f<F: LabelCmp>(&self, other: &Label) -> Ordering
         ensures { result ≡ slice_cmp F.byte_order self.now other.now }
     {
@@ -113,7 +113,7 @@ impl Hash for Label {
     }
 }
 
-/// How the bytes of two labels stand to each other.
+/// Compares the bytes of two labels.
 pub(crate) fn cmp_bytes<F: LabelCmp>(own: &[u8], other: &[u8]) -> Ordering
     ensures { result ≡ slice_cmp F.byte_order own.now other.now }
 {
@@ -127,7 +127,7 @@ pub(crate) fn cmp_bytes<F: LabelCmp>(own: &[u8], other: &[u8]) -> Ordering
     own.len().cmp(&other.len())
 }
 
-/// Hashes a label up to ASCII case: its length, and its bytes in lower case.
+/// Hashes a label, ignoring ASCII case: its length, and its bytes in lower case.
 pub(crate) fn hash_label<H: Hasher>(label: &[u8], state: &mut H)
     requires { IsLabel label.now }
     ensures { state.new ≡ fold H.write state.old (label_writes (str_to_ascii_lowercase label.now)) }

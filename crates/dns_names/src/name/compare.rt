@@ -1,4 +1,4 @@
-//! Equality, order and hash of names, and zones: up to ASCII case (RFC 1035 section 2.3.3, RFC 4034 section 6.1,
+//! Equality, order and hash of names, and zones, ignoring ASCII case (RFC 1035 section 2.3.3, RFC 4034 section 6.1,
 //! RFC 4343).
 
 ghost use Rattle.std.specs.Prelude.{◌≡◌, ◌+◌, drop, length, ◌↔◌, ◌++◌, ◌==◌, ◌<◌, List, ℕ};
@@ -74,8 +74,8 @@ impl Hash for Name {
 }
 
 impl Name {
-    /// Whether the name, as an origin, is at or above another: whether that one's last labels are this one's. Whether
-    /// the names end at the root isn't looked at.
+    /// Returns `true` if `name` is at or below this name: if its last labels are this name's, ignoring ASCII case and
+    /// whether the names are fully qualified.
     pub fn zone_of(&self, name: &Name) -> bool
         ensures { result ≡ at_or_below self.now.labels name.now.labels }
     {
@@ -83,44 +83,44 @@ impl Name {
         own <= others && name.ends_in(others - own, self)
     }
 
-    /// Whether the name, as an origin, is at or above another, case and all: whether that one's last labels are this
-    /// one's.
+    /// Returns `true` if `name` is at or below this name, comparing case: if its last labels are this name's.
     pub fn zone_of_case(&self, name: &Name) -> bool
-        ensures { IsTrue result ↔ ((front : List (List ℕ)) × (name.now.labels ≡ front ++ self.now.labels)) }
+        ensures { IsTrue result ↔
+            ((front : List (List ℕ)) × (name.now.labels ≡ front ++ self.now.labels)) }
     {
         let (own, others) = (self.label_count(), name.label_count());
         own <= others && name.ends_in_case(others - own, self)
     }
 
-    /// Whether the labels are another name's; whether the names end at the root isn't looked at.
+    /// Returns `true` if the labels are equal, ignoring ASCII case and whether the names are fully qualified.
     pub fn eq_ignore_root(&self, other: &Name) -> bool
         ensures { result ≡ same_labels self.now.labels other.now.labels }
     {
         self.label_count() == other.label_count() && other.ends_in(0, self)
     }
 
-    /// Whether the labels are another name's, case and all; whether the names end at the root isn't looked at.
+    /// Returns `true` if the labels are equal, comparing case, whether or not the names are fully qualified.
     pub fn eq_ignore_root_case(&self, other: &Name) -> bool
         ensures { IsTrue result ↔ (self.now.labels ≡ other.now.labels) }
     {
         self.cmp_labels::<CaseSensitive>(other).is_eq()
     }
 
-    /// Whether the names are equal, case and all.
+    /// Returns `true` if the names are equal, comparing case.
     pub fn eq_case(&self, other: &Name) -> bool
         ensures { IsTrue result ↔ (self.now ≡ other.now) }
     {
         self.cmp_case(other).is_eq()
     }
 
-    /// How the names stand to each other, their ASCII letters by their case.
+    /// Compares the names, with case.
     pub fn cmp_case(&self, other: &Name) -> Ordering
         ensures { result ≡ name_order nat_cmp self.now other.now }
     {
         self.cmp_with_f::<CaseSensitive>(other)
     }
 
-    /// How the names stand to each other, by an order of bytes.
+    /// Compares the names by an order of bytes.
     pub(crate) fn cmp_with_f<F: LabelCmp>(&self, other: &Name) -> Ordering
         ensures { result ≡ name_order F.byte_order self.now other.now }
     {
@@ -129,7 +129,7 @@ impl Name {
             .then(self.cmp_labels::<F>(other))
     }
 
-    /// How the labels stand to each other, from the right.
+    /// Compares the labels from right to left.
     fn cmp_labels<F: LabelCmp>(&self, other: &Name) -> Ordering
         ensures { result ≡ labels_order F.byte_order self.now.labels other.now.labels }
     {
@@ -148,7 +148,7 @@ impl Name {
         own.cmp(&others)
     }
 
-    /// Whether the labels from a place on are another name's.
+    /// Returns `true` if the labels after the first `skipped` are another name's, ignoring ASCII case.
     fn ends_in(&self, skipped: usize, other: &Name) -> bool
         requires { length self.now.labels ≡ skipped + length other.now.labels }
         ensures { result ≡ same_labels other.now.labels (drop skipped self.now.labels) }
@@ -164,7 +164,7 @@ impl Name {
         true
     }
 
-    /// Whether the labels from a place on are another name's, case and all.
+    /// Returns `true` if the labels after the first `skipped` are another name's, comparing case.
     fn ends_in_case(&self, skipped: usize, other: &Name) -> bool
         requires { length self.now.labels ≡ skipped + length other.now.labels }
         ensures { IsTrue result ↔ (drop skipped self.now.labels ≡ other.now.labels) }

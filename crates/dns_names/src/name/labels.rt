@@ -1,15 +1,15 @@
-//! The labels of a name: an iterator, counts, and what the first and the last label say (RFC 1035 section 3.1,
+//! The labels of a name: an iterator, counts, wildcards and `localhost` (RFC 1035 section 3.1,
 //! RFC 4592 section 2.1.1, RFC 6761 section 6.3).
 
 ghost use Rattle.std.specs.Prelude.{◌≡◌, ◌==◌, ◌+◌, ◌<◌, List, ℕ, length};
 ghost use Rattle.std.specs.Iterator.{YieldsFirstBy, YieldsLastBy, item_count};
 ghost use Rattle.dns_wire.specs.Name.{AreLabels};
-ghost use Rattle.dns_names.specs.Labels.{begins_with_star, labels_counted, labels_len, ends_in_localhost};
+ghost use Rattle.dns_names.specs.Labels.{begins_with_star, num_labels, labels_len, ends_in_localhost};
 
 use crate::name::Name;
 use std::marker::Model;
 
-/// The labels of a name that are left, from either end.
+/// A double-ended iterator over the labels of a name.
 #[derive(Drop)]
 pub struct LabelIter<'a> {
     name: &'a Name,
@@ -67,7 +67,7 @@ impl<'a> ExactSizeIterator for LabelIter<'a> {
 }
 
 impl Name {
-    /// The labels from left to right, or from right to left.
+    /// Iterates over the labels from left to right.
     pub fn iter(&self) -> LabelIter<'_>
         ensures { result ≡ self.now.labels }
     {
@@ -78,15 +78,15 @@ impl Name {
         }
     }
 
-    /// How many labels the name has; a leading `*` isn't counted (RFC 4034 section 3.1.3).
+    /// Returns the number of labels, not counting a leading `*` (RFC 4034 section 3.1.3).
     pub fn num_labels(&self) -> u8
-        ensures { result ≡ labels_counted self.now.labels }
+        ensures { result ≡ num_labels self.now.labels }
     {
         let count = self.label_count() as u8;
         if self.is_wildcard() { count - 1 } else { count }
     }
 
-    /// How many bytes the labels take, each with one for its length, and 1 where there is none.
+    /// Returns the length of the labels with their length bytes, or 1 for a name without labels.
     pub fn len(&self) -> usize
         ensures { result ≡ labels_len self.now.labels }
     {
@@ -96,21 +96,21 @@ impl Name {
         self.encoded_len() - 1
     }
 
-    /// Whether the length is 0, which it never is.
+    /// Returns `false`: the length is at least 1.
     pub fn is_empty(&self) -> bool
         ensures { result ≡ (labels_len self.now.labels == 0) }
     {
         self.len() == 0
     }
 
-    /// Whether the first label is `*` (RFC 4592 section 2.1.1).
+    /// Returns `true` if the first label is `*` (RFC 4592 section 2.1.1).
     pub fn is_wildcard(&self) -> bool
         ensures { result ≡ begins_with_star self.now.labels }
     {
         self.label_count() > 0 && self.label(0) == b"*".as_slice()
     }
 
-    /// Whether the last label is `localhost` (RFC 6761 section 6.3).
+    /// Returns `true` if the last label is `localhost`, in any case (RFC 6761 section 6.3).
     pub fn is_localhost(&self) -> bool
         ensures { result ≡ ends_in_localhost self.now.labels }
     {

@@ -8,7 +8,7 @@ ghost use Rattle.dns_names.specs.internal.Wire.{MatchesElement, part_len};
 ghost use Rattle.dns_wire.specs.Encoder.{state_of, IsAtEnd, CanRollBack};
 ghost use Rattle.dns_wire.specs.Name.{IsLabel, AreLabels};
 ghost use Rattle.dns_wire.specs.Encodable.{Emits};
-ghost use Rattle.dns_names.specs.internal.Wire.{label_pieces, labels_pieces, whole_pieces, after_compressed, compressed_reach};
+ghost use Rattle.dns_names.specs.internal.Wire.{label_pieces, labels_pieces, whole_pieces, append_compressed, compressed_reach};
 
 use crate::name::Name;
 use dns_wire::{
@@ -16,18 +16,18 @@ use dns_wire::{
 };
 use std::alloc::Global;
 
-/// A part of a written name.
+/// An element of an encoded name.
 #[derive(Clone, Copy)]
 pub enum Part<'a> {
-    /// The zero byte at the end.
+    /// The root's zero byte, which ends the name.
     Closing,
-    /// A label, lent and not copied.
+    /// A label, borrowed from the buffer.
     Label(&'a [u8]),
-    /// A pointer, with the place that it leads to.
+    /// A compression pointer, with its target offset.
     Pointer(usize),
 }
 
-/// The next part of a name.
+/// Reads the next element of a name.
 fn read_part<'a>(reader: &mut BinDecoder<'a>) -> Result<Part<'a>, DecodeError>
     ensures shows { MatchesElement result (element (rest reader.old)) }
     ensures moved { IfOk result (λ part. Advances reader.old reader.new (part_len part)) }
@@ -45,16 +45,20 @@ fn read_part<'a>(reader: &mut BinDecoder<'a>) -> Result<Part<'a>, DecodeError>
 }
 
 impl Name {
-    /// Reads a name, and goes on behind it. A refusal leaves the decoder as it was (RFC 1035 section 4.1.4).
+    /// Decodes a name and advances past it. On an error the decoder is unchanged (RFC 1035 section 4.1.4).
     pub fn read(alloc: Global, decoder: &mut BinDecoder<'_>) -> Result<Name, DecodeError>
-        // What is read stands there, and the decoder goes to its end.
-        ensures read { IfOk result (λ name. ReadsName decoder.old.bytes decoder.old.index name.labels decoder.new.index) }
+        // The bytes encode the name that is returned, and the decoder advances to its end.
+        ensures read { IfOk result
+            (λ name. ReadsName decoder.old.bytes decoder.old.index name.labels decoder.new.index) }
         ensures fqdn { IfOk result (λ name. name.is_fqdn ≡ true) }
-        // What stands there is read, unless memory runs out.
-        ensures only { (labels : List (List ℕ)) (end : ℕ) → ReadsName decoder.old.bytes decoder.old.index labels end
-            → MatchResult result (λ name. (name.labels ≡ labels) × (decoder.new.index ≡ end)) (λ error. error ≡ DecodeError.Memory) }
-        // Which refusal it is.
-        ensures refused { IfErr result (λ error. error ≢ DecodeError.Memory → RefusesName decoder.old.bytes decoder.old.index error) }
+        // An encoded name is decoded, unless memory runs out.
+        ensures only { (labels : List (List ℕ)) (end : ℕ)
+            → ReadsName decoder.old.bytes decoder.old.index labels end
+            → MatchResult result (λ name. (name.labels ≡ labels) × (decoder.new.index ≡ end))
+            (λ error. error ≡ DecodeError.Memory) }
+        // The error is the first fault of the bytes.
+        ensures refused { IfErr result (λ error. error ≢ DecodeError.Memory
+            → RefusesName decoder.old.bytes decoder.old.index error) }
         ensures bytes { decoder.new.bytes ≡ decoder.old.bytes }
         ensures err { OnErr result (decoder.new ≡ decoder.old) }
     {
@@ -69,7 +73,8 @@ impl BinDecodable for Name {
     ghost use Rattle.dns_wire.proofs.ReadingLaws.{reads_not_refused};
     ghost use Rattle.dns_names.specs.internal.Wire.{one_name};
 
-    ghost decodes = { λ bytes place name end. ReadsName bytes place name.labels end × (name.is_fqdn ≡ true) };
+    ghost decodes = { λ bytes place name end. ReadsName bytes place name.labels end
+        × (name.is_fqdn ≡ true) };
 
     ghost refuses = { RefusesName };
 
@@ -79,20 +84,23 @@ impl BinDecodable for Name {
 
     ghost unambiguous = { one_name };
 
-    ghost not_refused = { λ bytes place value end error decodes refused. reads_not_refused decodes.0 refused };
+    ghost not_refused = { λ bytes place value end error decodes refused.
+        reads_not_refused decodes.0 refused };
 }
 
-/// The name at the decoder's place, and where it ends.
+/// Decodes the name at the decoder's offset, and returns the offset of its end too.
 fn read_at(alloc: Global, decoder: BinDecoder<'_>) -> Result<(Name, usize), DecodeError>
-    ensures read { IfOk result (λ found. ReadsName decoder.entry.bytes decoder.entry.index found.0.labels found.1) }
+    ensures read { IfOk result
+        (λ found. ReadsName decoder.entry.bytes decoder.entry.index found.0.labels found.1) }
     ensures fqdn { IfOk result (λ found. found.0.is_fqdn ≡ true) }
     ensures end { IfOk result (λ found. found.1 ≤ length decoder.entry.bytes) }
-    ensures refused { IfErr result (λ error. error ≢ DecodeError.Memory → RefusesName decoder.entry.bytes decoder.entry.index error) }
+    ensures refused { IfErr result (λ error. error ≢ DecodeError.Memory
+        → RefusesName decoder.entry.bytes decoder.entry.index error) }
 {
     let mut name = Name::root(alloc);
     let mut segment = decoder.index();
     let mut reader = decoder;
-    // Where the name ends, once a pointer was followed.
+    // The end of the name, once a pointer was followed.
     let mut end = None;
     loop {
         match read_part(&mut reader)? {
@@ -138,20 +146,22 @@ impl BinEncodable for Name {
 }
 
 impl Name {
-    /// Writes the name whole, as it is spelled.
+    /// Encodes the name without compression, with the case that it has.
     fn emit_whole(&self, encoder: &mut BinEncoder<'_>) -> Result<(), EncodeError>
         requires { IsAtEnd (state_of encoder.old) }
-        ensures emits { Emits (state_of encoder.old) (whole_pieces self.now.labels) result (state_of encoder.new) }
+        ensures emits { Emits (state_of encoder.old) (whole_pieces self.now.labels) result
+            (state_of encoder.new) }
         ensures labels { AreLabels self.now.labels }
     {
         self.emit_labels(encoder)?;
         encoder.emit_u8(0)
     }
 
-    /// Writes the labels, each behind its length.
+    /// Writes each label after a length byte.
     fn emit_labels(&self, encoder: &mut BinEncoder<'_>) -> Result<(), EncodeError>
         requires { IsAtEnd (state_of encoder.old) }
-        ensures emits { Emits (state_of encoder.old) (labels_pieces self.now.labels) result (state_of encoder.new) }
+        ensures emits { Emits (state_of encoder.old) (labels_pieces self.now.labels) result
+            (state_of encoder.new) }
         ensures labels { AreLabels self.now.labels }
     {
         for index in 0..self.label_count() {
@@ -160,13 +170,18 @@ impl Name {
         Ok(())
     }
 
-    /// Writes the labels, and then a pointer in the place of those that are remembered.
+    /// Encodes the name, and replaces its longest remembered suffix by a compression pointer.
     fn emit_compressed(&self, encoder: &mut BinEncoder<'_>) -> Result<(), EncodeError>
         requires { IsAtEnd (state_of encoder.old) }
-        ensures ok { OnOk result (state_of encoder.new ≡ after_compressed (state_of encoder.old) self.now.labels) }
-        ensures room { OnOk result (compressed_reach (state_of encoder.old) self.now.labels ≤ (state_of encoder.old).limit) }
-        ensures full { result ≡ Err EncodeError.MaxBufferSizeExceeded → (state_of encoder.old).limit < compressed_reach (state_of encoder.old) self.now.labels }
-        ensures attempts { result ≡ Err EncodeError.MaxBufferSizeExceeded → (state_of encoder.new).attempts ≡ (state_of encoder.old).attempts }
+        ensures ok { OnOk result (state_of encoder.new
+            ≡ append_compressed (state_of encoder.old) self.now.labels) }
+        ensures room { OnOk result (compressed_reach (state_of encoder.old) self.now.labels
+            ≤ (state_of encoder.old).limit) }
+        ensures full { result ≡ Err EncodeError.MaxBufferSizeExceeded
+            → (state_of encoder.old).limit
+            < compressed_reach (state_of encoder.old) self.now.labels }
+        ensures attempts { result ≡ Err EncodeError.MaxBufferSizeExceeded
+            → (state_of encoder.new).attempts ≡ (state_of encoder.old).attempts }
         ensures err { OnErr result (CanRollBack (state_of encoder.old) (state_of encoder.new)) }
         ensures labels { AreLabels self.now.labels }
     {
@@ -186,7 +201,7 @@ impl Name {
     }
 }
 
-/// Writes a label behind its length.
+/// Writes a label after its length byte.
 fn emit_label(label: &[u8], encoder: &mut BinEncoder<'_>) -> Result<(), EncodeError>
     requires at_end { IsAtEnd (state_of encoder.old) }
     requires is_label { IsLabel label.now }

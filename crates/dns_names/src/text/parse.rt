@@ -1,64 +1,72 @@
 //! Names from text (RFC 1035 section 5.1).
 
 ghost use Rattle.std.specs.Prelude.{◌≡◌, ◌≢◌, ◌==◌, ◌<◌, Ok, Err, false, length, IfOk, IfErr, OnOk, drop, option_map};
-ghost use Rattle.dns_names.specs.Parse.{name_of_text, name_ended, with_symbol, with_octet, label_ended, may_stand};
-ghost use Rattle.dns_names.specs.Build.{name_at};
+ghost use Rattle.dns_names.specs.Parse.{name_of_text, finish, push_symbol, push_octet, end_label, is_plain_octet};
+ghost use Rattle.dns_names.specs.Build.{parse_name};
 ghost use Rattle.dns_wire.specs.Error.{IsUnless};
 
 use super::symbol::{Symbol, next_symbol};
 use crate::error::ParseError;
+use crate::label::Label;
 use crate::name::Name;
 use smallvec::SmallVec;
 use std::alloc::Global;
 
-/// A name that is being read: the labels that have ended, and the octets of the one that has begun.
+/// A partly parsed name: its complete labels, and the octets of the current label.
 #[derive(Drop)]
-struct Begun {
+struct PartialName {
     name: Name,
     label: SmallVec<u8, 63>,
     ghost relative: { name.is_fqdn ≡ false },
     ghost short: { length label.items < 64 },
 }
 
-impl Begun {
-    ghost use Rattle.dns_names.specs.internal.Parse.{begun};
+impl PartialName {
+    ghost use Rattle.dns_names.specs.internal.Parse.{partial_name_of};
     ghost use Rattle.dns_names.specs.internal.Symbol.{symbol_of};
 
-    /// Takes a symbol that stands at a place of the text.
-    fn take(&mut self, place: usize, symbol: Symbol) -> Result<(), ParseError>
-        ensures ok { OnOk result (with_symbol (begun self.old) (record { place = place; symbol = symbol_of symbol }) ≡ Ok (begun self.new)) }
-        ensures refused { IfErr result (λ error. error ≢ ParseError.Memory → with_symbol (begun self.old) (record { place = place; symbol = symbol_of symbol }) ≡ Err error) }
+    /// Adds the symbol at a place of the text.
+    fn push_symbol(&mut self, place: usize, symbol: Symbol) -> Result<(), ParseError>
+        ensures ok { OnOk result (push_symbol (partial_name_of self.old)
+            (record { place = place; symbol = symbol_of symbol }) ≡ Ok (partial_name_of self.new)) }
+        ensures refused { IfErr result (λ error. error ≢ ParseError.Memory
+            → push_symbol (partial_name_of self.old)
+            (record { place = place; symbol = symbol_of symbol }) ≡ Err error) }
     {
         match symbol {
             Symbol::Dot => self.end_label(),
             Symbol::Plain(byte) => {
-                if may_stand(self.label.is_empty(), byte) {
-                    self.take_octet(byte)
+                if is_plain_octet(self.label.is_empty(), byte) {
+                    self.push_octet(byte)
                 } else {
                     Err(ParseError::Text(place))
                 }
             }
-            Symbol::Escaped(byte) => self.take_octet(byte),
+            Symbol::Escaped(byte) => self.push_octet(byte),
             Symbol::Broken => Err(ParseError::Text(place)),
         }
     }
 
-    /// Adds an octet to the label that has begun.
-    fn take_octet(&mut self, byte: u8) -> Result<(), ParseError>
-        ensures ok { OnOk result (with_octet (begun self.old) byte ≡ Ok (begun self.new)) }
-        ensures refused { IfErr result (λ error. error ≢ ParseError.Memory → with_octet (begun self.old) byte ≡ Err error) }
+    /// Adds an octet to the current label.
+    fn push_octet(&mut self, byte: u8) -> Result<(), ParseError>
+        ensures ok { OnOk result (push_octet (partial_name_of self.old) byte
+            ≡ Ok (partial_name_of self.new)) }
+        ensures refused { IfErr result (λ error. error ≢ ParseError.Memory
+            → push_octet (partial_name_of self.old) byte ≡ Err error) }
     {
-        if self.label.len() >= 63 {
+        if self.label.len() >= Label::MAX_LENGTH {
             return Err(ParseError::LabelBytesTooLong);
         }
         self.label.push(byte)?;
         Ok(())
     }
 
-    /// Ends the label that has begun.
+    /// Ends the current label.
     fn end_label(&mut self) -> Result<(), ParseError>
-        ensures ok { OnOk result (label_ended (begun self.old) ≡ Ok (begun self.new)) }
-        ensures refused { IfErr result (λ error. error ≢ ParseError.Memory → label_ended (begun self.old) ≡ Err error) }
+        ensures ok { OnOk result (end_label (partial_name_of self.old)
+            ≡ Ok (partial_name_of self.new)) }
+        ensures refused { IfErr result (λ error. error ≢ ParseError.Memory
+            → end_label (partial_name_of self.old) ≡ Err error) }
     {
         if self.label.is_empty() {
             return Err(ParseError::EmptyLabel);
@@ -71,24 +79,24 @@ impl Begun {
         Ok(())
     }
 
-    /// The name, at the end of the text.
+    /// Returns the name at the end of the text.
     fn finish(mut self) -> Result<Name, ParseError>
-        ensures { IsUnless ParseError.Memory (name_ended (begun self)) result }
+        ensures { IsUnless ParseError.Memory (finish (partial_name_of self)) result }
     {
         let is_fqdn = self.label.is_empty() && self.name.label_count() > 0;
         if !self.label.is_empty() {
             self.end_label()?;
         }
-        let Begun { mut name, label } = self;
+        let PartialName { mut name, label } = self;
         drop(label);
         name.set_fqdn(is_fqdn);
         Ok(name)
     }
 }
 
-/// Whether a character may stand in a label unescaped.
-pub(crate) fn may_stand(is_first: bool, byte: u8) -> bool
-    ensures { result ≡ may_stand is_first byte }
+/// Returns `true` if a label may contain the character unescaped.
+pub(crate) fn is_plain_octet(is_first: bool, byte: u8) -> bool
+    ensures { result ≡ is_plain_octet is_first byte }
 {
     match byte {
         b'a'..=b'z' | b'A'..=b'Z' | b'0'..=b'9' | b'_' => true,
@@ -99,9 +107,9 @@ pub(crate) fn may_stand(is_first: bool, byte: u8) -> bool
 }
 
 impl Name {
-    /// Reads a name from text: labels joined by dots, and a dot at the end of a fully qualified one; `.` is the root
-    /// and the empty text the relative name without a label. In a label stand ASCII letters, digits and `_`, `-` but
-    /// not as the first, `*` as the first; any other octet is escaped, as `\.` or `\046` (RFC 1035 section 5.1).
+    /// Parses a name: labels separated by dots, with a trailing dot if it is fully qualified. `.` is the root, and the
+    /// empty text is the relative name without labels. A label may contain ASCII letters, digits and `_`, `-` except
+    /// first, and `*` only first; any other octet must be escaped, as in `\.` or `\046` (RFC 1035 section 5.1).
     #[tactic(auto, unfolding(crate::specs::Parse::name_of_text))]
     pub fn from_ascii(alloc: Global, text: &str) -> Result<Name, ParseError>
         ensures { IsUnless ParseError.Memory (name_of_text text.now) result }
@@ -110,23 +118,23 @@ impl Name {
         if bytes == b".".as_slice() {
             return Ok(Name::root(alloc));
         }
-        let mut begun = Begun {
+        let mut partial = PartialName {
             name: Name::new(alloc),
             label: SmallVec::new(alloc),
         };
         let mut place = 0;
         while place < bytes.len() {
             let (symbol, more) = next_symbol(&bytes[place..]);
-            begun.take(place, symbol)?;
+            partial.push_symbol(place, symbol)?;
             place += 1 + more;
         }
-        begun.finish()
+        partial.finish()
     }
 
-    /// Reads a name from text, as `from_ascii` does, and completes a relative one by the origin, if there is one.
+    /// Parses a name as `from_ascii` does, and appends the origin, if there is one, to a relative name.
     pub fn parse(alloc: Global, text: &str, origin: Option<&Name>) -> Result<Name, ParseError>
         ensures { IsUnless ParseError.Memory
-            (name_at text.now (option_map (λ o. o.now) origin.entry)) result }
+            (parse_name text.now (option_map (λ o. o.now) origin.entry)) result }
     {
         let name = Name::from_ascii(alloc, text)?;
         match origin {
@@ -135,7 +143,7 @@ impl Name {
         }
     }
 
-    /// Reads a name from text as `from_ascii` does, since no other text than ASCII is read.
+    /// Parses a name as `from_ascii` does: text that is not ASCII is refused.
     pub fn from_str_relaxed(alloc: Global, text: &str) -> Result<Name, ParseError>
         ensures { IsUnless ParseError.Memory (name_of_text text.now) result }
     {

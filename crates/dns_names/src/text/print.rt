@@ -2,11 +2,11 @@
 
 ghost use Rattle.std.specs.Prelude.{◌≡◌, ◌∷◌, Some, drop, ◌<◌, ◌++◌, Ok, IfOk, OnOk, string_bytes};
 ghost use Rattle.std.specs.Fmt.{WritesOnOk};
-ghost use Rattle.dns_names.specs.Print.{octet_text, escaped, octets_text, label_text, labels_behind, text_of_name, AreOctets};
+ghost use Rattle.dns_names.specs.Print.{octet_text, escape_sequence, octets_text, label_text, dotted_labels, text_of_name, AreOctets};
 ghost use Rattle.std.specs.List.{AllByRecursion};
 ghost use Rattle.dns_names.specs.Parse.{name_of_text};
 
-use super::may_stand;
+use super::is_plain_octet;
 use crate::label::Label;
 use crate::lower_name::LowerName;
 use crate::name::Name;
@@ -19,7 +19,7 @@ impl fmt::Display for Name {
     fn fmt<W: fmt::Write>(&self, f: &mut fmt::Formatter<W>) -> fmt::Result {
         if self.label_count() > 0 {
             write_octets(true, self.label(0), f)?;
-            write_behind(self, f)?;
+            write_dotted_labels(self, f)?;
         }
         if self.is_fqdn() {
             f.write_char('.')?;
@@ -63,7 +63,7 @@ impl fmt::Debug for Label {
 }
 
 impl Label {
-    /// Writes the label in text, as `to_ascii` gives it.
+    /// Writes the label as text, as `to_ascii` returns it.
     pub fn write_ascii<W: fmt::Write>(&self, f: &mut fmt::Formatter<W>) -> fmt::Result
         ensures { WritesOnOk W.write_str_gives f.old result (label_text self.now) f.new }
     {
@@ -72,7 +72,7 @@ impl Label {
 }
 
 impl Name {
-    /// The name in text, which `from_ascii` reads as this name again.
+    /// Returns the name as text, which `from_ascii` parses back to this name.
     pub fn to_ascii(&self) -> Result<String, AllocError>
         ensures text { IfOk result (λ text. string_bytes text ≡ text_of_name self.now) }
         ensures read { IfOk result (λ text. name_of_text (string_bytes text) ≡ Ok self.now) }
@@ -84,7 +84,7 @@ impl Name {
 }
 
 impl Label {
-    /// The label in text: an octet as itself where it may stand unescaped at its place, else by its number.
+    /// Returns the label as text: each octet as itself if it needs no escape, and else as `\DDD`.
     pub fn to_ascii(&self) -> Result<String, AllocError>
         ensures { IfOk result (λ text. string_bytes text ≡ label_text self.now) }
     {
@@ -94,9 +94,10 @@ impl Label {
     }
 }
 
-/// The labels after the first, each behind a dot.
-fn write_behind<W: fmt::Write>(name: &Name, f: &mut fmt::Formatter<W>) -> fmt::Result
-    ensures { WritesOnOk W.write_str_gives f.old result (labels_behind (drop 1 name.now.labels)) f.new }
+/// Writes the labels after the first, each after a dot.
+fn write_dotted_labels<W: fmt::Write>(name: &Name, f: &mut fmt::Formatter<W>) -> fmt::Result
+    ensures { WritesOnOk W.write_str_gives f.old result
+        (dotted_labels (drop 1 name.now.labels)) f.new }
 {
     for index in 1..name.label_count() {
         write_after_dot(name.label(index), f)?;
@@ -104,7 +105,7 @@ fn write_behind<W: fmt::Write>(name: &Name, f: &mut fmt::Formatter<W>) -> fmt::R
     Ok(())
 }
 
-/// A dot, and a label behind it.
+/// Writes a dot and a label.
 fn write_after_dot<W: fmt::Write>(label: &[u8], f: &mut fmt::Formatter<W>) -> fmt::Result
     ensures { WritesOnOk W.write_str_gives f.old result (46 ∷ label_text label.now) f.new }
 {
@@ -112,7 +113,7 @@ fn write_after_dot<W: fmt::Write>(label: &[u8], f: &mut fmt::Formatter<W>) -> fm
     write_octets(true, label, f)
 }
 
-/// The octets of a label, the first of which may be its first.
+/// Writes octets of a label, of which the first may be the label's first.
 fn write_octets<W: fmt::Write>(
     is_first: bool,
     octets: &[u8],
@@ -128,19 +129,19 @@ fn write_octets<W: fmt::Write>(
     Ok(())
 }
 
-/// An octet as itself where it may stand so, and else by its number.
+/// Writes an octet as itself if it needs no escape, and else as `\DDD`.
 fn write_octet<W: fmt::Write>(is_first: bool, octet: u8, f: &mut fmt::Formatter<W>) -> fmt::Result
     ensures { WritesOnOk W.write_str_gives f.old result (octet_text is_first octet) f.new }
 {
-    if may_stand(is_first, octet) {
+    if is_plain_octet(is_first, octet) {
         return f.write_char(octet as char);
     }
-    write_escaped(octet, f)
+    write_escape(octet, f)
 }
 
-/// An octet as a backslash and three digits.
-fn write_escaped<W: fmt::Write>(octet: u8, f: &mut fmt::Formatter<W>) -> fmt::Result
-    ensures { WritesOnOk W.write_str_gives f.old result (escaped octet) f.new }
+/// Writes an octet as a backslash and three digits.
+fn write_escape<W: fmt::Write>(octet: u8, f: &mut fmt::Formatter<W>) -> fmt::Result
+    ensures { WritesOnOk W.write_str_gives f.old result (escape_sequence octet) f.new }
 {
     f.write_char('\\')?;
     f.write_char((b'0' + octet / 100) as char)?;
@@ -148,14 +149,15 @@ fn write_escaped<W: fmt::Write>(octet: u8, f: &mut fmt::Formatter<W>) -> fmt::Re
     f.write_char((b'0' + octet % 10) as char)
 }
 
-/// Adds a name.
+/// Appends a name.
 fn push_name(name: &Name, text: &mut String) -> Result<(), AllocError>
-    ensures text { OnOk result (string_bytes text.new ≡ string_bytes text.old ++ text_of_name name.now) }
+    ensures text { OnOk result (string_bytes text.new ≡ string_bytes text.old
+        ++ text_of_name name.now) }
     ensures octets { OnOk result (AllByRecursion AreOctets name.now.labels) }
 {
     if name.label_count() > 0 {
         push_label(name.label(0), text)?;
-        push_behind(name, text)?;
+        push_dotted_labels(name, text)?;
     }
     if name.is_fqdn() {
         text.push('.')?;
@@ -163,9 +165,10 @@ fn push_name(name: &Name, text: &mut String) -> Result<(), AllocError>
     Ok(())
 }
 
-/// Adds the labels after the first, each behind a dot.
-fn push_behind(name: &Name, text: &mut String) -> Result<(), AllocError>
-    ensures text { OnOk result (string_bytes text.new ≡ string_bytes text.old ++ labels_behind (drop 1 name.now.labels)) }
+/// Appends the labels after the first, each after a dot.
+fn push_dotted_labels(name: &Name, text: &mut String) -> Result<(), AllocError>
+    ensures text { OnOk result (string_bytes text.new ≡ string_bytes text.old
+        ++ dotted_labels (drop 1 name.now.labels)) }
     ensures octets { OnOk result (AllByRecursion AreOctets (drop 1 name.now.labels)) }
 {
     for index in 1..name.label_count() {
@@ -174,18 +177,20 @@ fn push_behind(name: &Name, text: &mut String) -> Result<(), AllocError>
     Ok(())
 }
 
-/// Adds a dot, and a label behind it.
+/// Appends a dot and a label.
 fn push_after_dot(label: &[u8], text: &mut String) -> Result<(), AllocError>
-    ensures text { OnOk result (string_bytes text.new ≡ string_bytes text.old ++ (46 ∷ label_text label.now)) }
+    ensures text { OnOk result (string_bytes text.new ≡ string_bytes text.old
+        ++ (46 ∷ label_text label.now)) }
     ensures octets { OnOk result (AreOctets label.now) }
 {
     text.push('.')?;
     push_label(label, text)
 }
 
-/// Adds a label.
+/// Appends a label.
 fn push_label(label: &[u8], text: &mut String) -> Result<(), AllocError>
-    ensures text { OnOk result (string_bytes text.new ≡ string_bytes text.old ++ label_text label.now) }
+    ensures text { OnOk result (string_bytes text.new ≡ string_bytes text.old
+        ++ label_text label.now) }
     ensures octets { OnOk result (AreOctets label.now) }
 {
     let mut is_first = true;
@@ -196,20 +201,21 @@ fn push_label(label: &[u8], text: &mut String) -> Result<(), AllocError>
     Ok(())
 }
 
-/// Adds an octet as itself where it may stand so, and else by its number.
+/// Appends an octet as itself if it needs no escape, and else as `\DDD`.
 fn push_octet(is_first: bool, octet: u8, text: &mut String) -> Result<(), AllocError>
-    ensures text { OnOk result (string_bytes text.new ≡ string_bytes text.old ++ octet_text is_first octet) }
+    ensures text { OnOk result (string_bytes text.new ≡ string_bytes text.old
+        ++ octet_text is_first octet) }
     ensures small { octet < 256 }
 {
-    if may_stand(is_first, octet) {
+    if is_plain_octet(is_first, octet) {
         return text.push(octet as char);
     }
-    push_escaped(octet, text)
+    push_escape(octet, text)
 }
 
-/// Adds an octet as a backslash and three digits.
-fn push_escaped(octet: u8, text: &mut String) -> Result<(), AllocError>
-    ensures { OnOk result (string_bytes text.new ≡ string_bytes text.old ++ escaped octet) }
+/// Appends an octet as a backslash and three digits.
+fn push_escape(octet: u8, text: &mut String) -> Result<(), AllocError>
+    ensures { OnOk result (string_bytes text.new ≡ string_bytes text.old ++ escape_sequence octet) }
 {
     text.push('\\')?;
     text.push((b'0' + octet / 100) as char)?;

@@ -11,15 +11,15 @@ use dns_codes::parse_decimal;
 pub enum Symbol {
     /// A dot between labels.
     Dot,
-    /// An octet as it stands.
+    /// An unescaped octet.
     Plain(u8),
-    /// An octet behind a backslash.
+    /// An escaped octet.
     Escaped(u8),
-    /// A backslash that escapes nothing.
+    /// A backslash without a valid escape.
     Broken,
 }
 
-/// The symbol in front of a text, and how many characters it takes behind its first.
+/// Returns the first symbol of a text, and how many characters it takes after its first.
 pub fn next_symbol(text: &[u8]) -> (Symbol, usize)
     requires { 0 < length text.now }
     ensures symbol { symbol_of result.0 ≡ symbol text.now }
@@ -28,13 +28,13 @@ pub fn next_symbol(text: &[u8]) -> (Symbol, usize)
 {
     match text[0] {
         b'.' => (Symbol::Dot, 0),
-        b'\\' => escaped(&text[1..]),
+        b'\\' => escape(&text[1..]),
         byte => (Symbol::Plain(byte), 0),
     }
 }
 
-/// What a backslash makes of the text behind it.
-fn escaped(text: &[u8]) -> (Symbol, usize)
+/// Returns the symbol of an escape, from the text after its backslash, and the length of that text.
+fn escape(text: &[u8]) -> (Symbol, usize)
     ensures symbol { symbol_of result.0 ≡ escape text.now }
     ensures more { result.1 ≡ escape_len text.now }
     ensures small { result.1 ≤ 3 }
@@ -49,7 +49,7 @@ fn escaped(text: &[u8]) -> (Symbol, usize)
     }
 }
 
-/// The octet that three decimal digits spell.
+/// Returns the octet that three decimal digits spell.
 fn octet(text: &[u8]) -> Symbol
     ensures { symbol_of result ≡ decimal_octet text.now }
 {

@@ -35,7 +35,7 @@ front_len (Word n) = n
 front_len Unclosed = 0
 front_len Broken = 0
 
--- a line's end and a comment have a character at least
+-- the end of a line and a comment have at least one character
 abbrev pub HasSome : Front → Type 0
 HasSome (LineEnd n) = 0 < n
 HasSome (Comment n) = 0 < n

@@ -1,4 +1,4 @@
--- The code's look at the front of a text as a step. No public clause cites this module.
+-- What the code scans, as a step of the definition.
 use Rattle.std.specs.Prelude.{◌≡◌, Result, Ok, Err}
 use Rattle.dns_text.specs.Lexer as text
 use Rattle.dns_text.specs.Token.{lexeme}
@@ -6,14 +6,14 @@ use Rattle.dns_text.specs.declared.error.LexerError.{LexerError}
 use Rattle.dns_text.specs.declared.lexer.Scan.{Scan}
 use Rattle.dns_text.specs.declared.lexer.Scan.TheVariants.{Nothing, Found, AtEnd}
 
--- what was found, with the place behind it
+-- what was scanned, with the state after it
 abbrev pub step_of : Result Scan LexerError → text.Place → text.Step
 step_of (Ok Nothing) next = text.Skips next
 step_of (Ok (Found token)) next = text.Yields (lexeme token) next
 step_of (Ok AtEnd) next = text.Ends
 step_of (Err error) next = text.Refuses error
 
--- at the end and at a fault the reading stays
+-- the end and a fault leave the state as it is
 abbrev pub Stays : Result Scan LexerError → text.Place → text.Place → Type 0
 Stays (Ok Nothing) old new = Unit {0}
 Stays (Ok (Found token)) old new = Unit {0}

@@ -1,5 +1,5 @@
 use Rattle.dns_names.proofs.SubtreeLaws.{begins_with, stands_between}
-use Rattle.dns_names.proofs.laws.names_below_stand_together.Goals as goal
+use Rattle.dns_names.proofs.laws.subtrees_are_contiguous.Goals as goal
 
 pub returns-clause-begins : goal.returns-clause-begins
 returns-clause-begins c = begins_with

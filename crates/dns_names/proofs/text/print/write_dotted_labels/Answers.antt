@@ -2,7 +2,7 @@ use Rattle.std.proofs.Common.{◌∷◌, ◌++◌, rules}
 use Rattle.std.proofs.Output.{has_written_append}
 use Rattle.dns_names.specs.Print.{label_text}
 use Rattle.dns_names.proofs.PrintingLaws.{label_behind}
-use Rattle.dns_names.proofs.text.print.write_behind.Goals as goal
+use Rattle.dns_names.proofs.text.print.write_dotted_labels.Goals as goal
 
 pub loop-index-preserved : goal.loop-index-preserved
 loop-index-preserved g c = λ plain.

@@ -1,5 +1,5 @@
 use Rattle.dns_names.proofs.ArpaRoundTrip.{v4_back, v6_back}
-use Rattle.dns_names.proofs.laws.names_of_addresses_are_read.Goals as goal
+use Rattle.dns_names.proofs.laws.reverse_names_parse_back.Goals as goal
 
 pub returns-clause-v4 : goal.returns-clause-v4
 returns-clause-v4 c = v4_back

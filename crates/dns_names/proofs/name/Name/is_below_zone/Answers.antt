@@ -3,7 +3,7 @@ use Rattle.std.specs.Prelude.{slice_get, nat_lt, nat_le, codes}
 use Rattle.std.proofs.lemmas.Bool.Decides.{nat_tests}
 use Rattle.dns_names.specs.Compare.{same_labels}
 use Rattle.dns_names.proofs.ArpaLaws.{last_two}
-use Rattle.dns_names.proofs.name.Name.lies_under.Goals as goal
+use Rattle.dns_names.proofs.name.Name.is_below_zone.Goals as goal
 
 pub returns : goal.returns
 returns c =

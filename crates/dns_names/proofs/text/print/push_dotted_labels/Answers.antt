@@ -3,7 +3,7 @@ use Rattle.std.specs.List.{AllByRecursion}
 use Rattle.dns_names.specs.Print.{AreOctets}
 use Rattle.dns_names.proofs.IterLaws.{drop-at}
 use Rattle.dns_names.proofs.PrintingLaws.{label_behind}
-use Rattle.dns_names.proofs.text.print.push_behind.Goals as goal
+use Rattle.dns_names.proofs.text.print.push_dotted_labels.Goals as goal
 
 pub loop-index-preserved : goal.loop-index-preserved
 loop-index-preserved c =
