@@ -1,9 +1,8 @@
 -- Seeking a pointer for the labels of a name, after they were written.
-use Rattle.std.proofs.Common.{◌≡◌, ℕ, zero, suc, ◌+◌, ◌-◌, ◌≤◌, Bool, List, [], ◌∷◌, ◌++◌, length, take, drop, Option, Some, None, refl, sym, ap, ◌∙◌, append_assoc, arith, length-append, add-one}
+use Rattle.std.proofs.Common.{◌≡◌, ℕ, zero, suc, ◌+◌, ◌-◌, ◌≤◌, List, [], ◌∷◌, ◌++◌, length, take, drop, Option, Some, None, refl, sym, ap, ◌∙◌, append_assoc, arith, length-append, add-one}
 use Rattle.std.specs.Prelude.{slice_get, slice_range, is_some, if◌then◌else◌}
 use Rattle.std.specs.Option.{option_map_or}
 use Rattle.std.proofs.lemmas.List.{append-nil, take-append-le, drop_at, take_at, take_all, drop_all}
-use Rattle.dns_wire.specs.declared.name_encoding.NameEncoding.{NameEncoding}
 use Rattle.dns_wire.specs.Encoder.{Suffix, EncoderState, overwrite_at, put_at, place_of, remember, suffixes_before, trim_to_offset, CanRollBack, IsAtEnd}
 use Rattle.dns_wire.specs.Name.{name_len}
 use Rattle.dns_wire.specs.Encodable.{Position, position_of, append_pieces}

@@ -1,11 +1,10 @@
 -- Names built from labels and other names (RFC 1035 sections 2.3.4 and 3.1, RFC 4592 section 2.1.1).
-use Rattle.std.specs.Prelude.{ℕ, nat_lt, if◌then◌else◌, true, List, [], ◌∷◌, ◌++◌, Option, Some, None, Result, Ok, Err, ◌-◌, Bool, false, length, drop}
+use Rattle.std.specs.Prelude.{ℕ, nat_lt, if◌then◌else◌, true, List, [], ◌∷◌, ◌++◌, Option, Some, None, Result, Ok, Err, ◌-◌, length, drop}
 use Rattle.dns_wire.specs.Name.{max_name_len, name_len}
 use Rattle.dns_names.specs.Name.{DomainName}
 use Rattle.dns_names.specs.Parse.{name_of_text}
 use Rattle.dns_names.specs.declared.error.ParseError.{ParseError}
 use Rattle.dns_names.specs.declared.error.ParseError.TheVariants.{DomainNameTooLong}
-use Rattle.std.specs.Str.{bytes_eq, str_eq_ignore_ascii_case}
 
 -- the name with labels appended, which may be at most 255 bytes long
 abbrev pub append_labels : DomainName → List (List ℕ) → Result DomainName ParseError

@@ -1,5 +1,5 @@
 -- Equality, zones, order and hash of names, ignoring ASCII case (RFC 1035 section 2.3.3, RFC 4034 section 6.1, RFC 4343).
-use Rattle.std.specs.Prelude.{◌||◌, Bool, List, [], ◌∷◌, ℕ, map, ◌&&◌, ◌++◌, length, reverse}
+use Rattle.std.specs.Prelude.{◌||◌, Bool, List, [], ◌∷◌, ℕ, map, ◌&&◌, ◌++◌, reverse}
 use Rattle.std.specs.Str.{str_to_ascii_lowercase, str_eq_ignore_ascii_case}
 use Rattle.std.specs.Ordering.{on, eq_of_both, bool_cmp, then_cmp}
 use Rattle.std.specs.Cmp.Lexicographic.{pointwise, slice_cmp}

@@ -1,9 +1,8 @@
 -- Counts of labels, wildcards and `localhost` (RFC 1035 section 3.1, RFC 4592 section 2.1.1,
 -- RFC 6761 section 6.3).
-use Rattle.std.specs.Prelude.{ℕ, ◌-◌, nat_lt, if◌then◌else◌, Bool, true, false, List, [], ◌∷◌, length, drop}
+use Rattle.std.specs.Prelude.{ℕ, ◌-◌, if◌then◌else◌, Bool, false, List, [], ◌∷◌, length}
 use Rattle.std.specs.Str.{bytes_eq, str_eq_ignore_ascii_case}
 use Rattle.dns_wire.specs.Name.{name_len}
-use Rattle.dns_names.specs.Name.{DomainName}
 use Rattle.dns_names.specs.Build.{star}
 
 -- whether the first label is `*`

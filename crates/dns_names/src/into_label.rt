@@ -1,6 +1,6 @@
 //! Conversion into labels.
 
-ghost use Rattle.std.specs.Prelude.{◌≡◌, ◌≢◌, ℕ, List, Result, Ok, Err, IfOk, IfErr, string_bytes};
+ghost use Rattle.std.specs.Prelude.{ℕ, List, Result, Ok, string_bytes};
 ghost use Rattle.dns_names.specs.Label.{label_of_bytes, label_of_text};
 ghost use Rattle.dns_names.specs.declared.error.ParseError.{ParseError};
 ghost use Rattle.dns_wire.specs.Error.{IsUnless};

@@ -1,6 +1,6 @@
 //! Labels (RFC 1035 sections 2.3.1 and 2.3.4).
 
-ghost use Rattle.std.specs.Prelude.{◌≡◌, ◌≢◌, ◌==◌, ◌≤◌, [], ◌∷◌, Ok, Err, length, IsOk, IfOk, IfErr};
+ghost use Rattle.std.specs.Prelude.{◌≡◌, ◌≢◌, ◌==◌, ◌≤◌, [], ◌∷◌, Err, length, IsOk, IfOk, IfErr};
 ghost use Rattle.std.specs.Str.{str_to_ascii_lowercase, str_eq_ignore_ascii_case, bytes_eq};
 ghost use Rattle.dns_wire.specs.Name.{IsLabel};
 ghost use Rattle.dns_names.specs.Label.{label_of_bytes, label_of_text, refused_from};

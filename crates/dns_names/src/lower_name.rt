@@ -3,7 +3,6 @@
 ghost use Rattle.std.specs.Prelude.{◌≡◌, ◌==◌, ◌&&◌, length, IfOk};
 ghost use Rattle.std.specs.Ordering.{as_partial_cmp};
 ghost use Rattle.std.proofs.Common.{refl};
-ghost use Rattle.dns_wire.specs.Name.{AreLabels};
 ghost use Rattle.dns_names.specs.Compare.{lower, at_or_below, same_name};
 ghost use Rattle.dns_names.specs.internal.Compare.{same_name-partial, same_name-equivalence};
 ghost use Rattle.dns_names.specs.Compare.{name_cmp, name_writes};

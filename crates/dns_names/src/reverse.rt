@@ -1,6 +1,6 @@
 //! Names of addresses (RFC 1035 section 3.5, RFC 3596 section 2.5).
 
-ghost use Rattle.std.specs.Prelude.{◌≡◌, ◌+◌, ◌<◌, ◌≤◌, ◌++◌, ◌∷◌, [], Some, None, if◌then◌else◌, nat_le, length, IfOk, OnOk, ◌-◌, false, true, option_map, codes, slice_index, ℕ, IfErr, IfSome};
+ghost use Rattle.std.specs.Prelude.{◌≡◌, ◌+◌, ◌<◌, ◌≤◌, ◌++◌, ◌∷◌, [], Some, None, if◌then◌else◌, nat_le, length, IfOk, OnOk, false, true, option_map, codes, slice_index, ℕ, IfErr, IfSome};
 ghost use Rattle.std.specs.declared.net.ip_addr.IpAddr.TheVariants.{V4, V6};
 ghost use Rattle.dns_wire.specs.Name.{IsLabel, name_len, max_name_len};
 ghost use Rattle.dns_names.specs.Reverse.{addr_prefix, addr_of, prefix_len_of, reverse_name, decimal_label, hex_label, segment_labels, number, numbers, nibble, labels_below_zone, is_below_zone, arpa_prefix, v4_prefix, v6_prefix, segment_at, pad_with_zeros};

@@ -1,5 +1,5 @@
 -- The tokens of a zone file (RFC 1035 section 5.1).
-use Rattle.std.specs.Prelude.{◌≡◌, ℕ, ◌+◌, ◌==◌, ◌&&◌, ◌||◌, not, if◌then◌else◌, Bool, true, false, List, [], ◌∷◌, take, drop, codes, Option, Some, None, Result, Ok, Err}
+use Rattle.std.specs.Prelude.{◌≡◌, ℕ, ◌+◌, not, if◌then◌else◌, Bool, true, false, List, take, drop, codes, Option, Some, None, Result, Ok, Err}
 use Rattle.std.specs.Str.{bytes_eq}
 use Rattle.dns_text.specs.declared.error.LexerError.{LexerError}
 use Rattle.dns_text.specs.declared.error.LexerError.TheVariants as fault
@@ -28,29 +28,29 @@ word_token is_front text =
 
 -- the state of lexing: the rest of the text, its line, the first line of the entry, whether a parenthesis is open, and
 -- whether the lexer is at the start of an entry
-pub record Place : Type 0 where
+pub record LexerState : Type 0 where
   pub text : List ℕ
   pub line : ℕ
   pub entry : ℕ
   pub is_open : Bool
   pub is_front : Bool
 
-abbrev pub start : List ℕ → Place
+abbrev pub start : List ℕ → LexerState
 start text = record { text = text; line = 1; entry = 1; is_open = false; is_front = true }
 
 -- the state after `n` characters of an entry
-abbrev pub past : ℕ → Place → Place
+abbrev pub past : ℕ → LexerState → LexerState
 past n p = record p { text = drop n p.text; is_front = false }
 
 -- the outcome of scanning one item: no token, a token, the end, or a fault
 pub data Step : Type 0 where
-  Skips : Place → Step
-  Yields : Lexeme → Place → Step
+  Skips : LexerState → Step
+  Yields : Lexeme → LexerState → Step
   Ends : Step
   Refuses : LexerError → Step
 
 -- an entry continues after the end of a line while a parenthesis is open, and parentheses do not nest
-abbrev pub step_past : Front → Place → Step
+abbrev pub step_past : Front → LexerState → Step
 step_past TextEnd p = if p.is_open then Refuses (fault.UnclosedList p.entry) else Ends
 step_past (LineEnd n) p =
     if p.is_open then Skips (record p { text = drop n p.text; line = p.line + 1 })
@@ -64,13 +64,13 @@ step_past (Word n) p = Yields (word_token p.is_front (take n p.text)) (past n p)
 step_past Unclosed p = Refuses (fault.UnclosedQuotedString p.line)
 step_past Broken p = Refuses (fault.LoneBackslash p.line)
 
-abbrev pub step : Place → Step
+abbrev pub step : LexerState → Step
 step p = step_past (front p.text) p
 
 -- The next token from a state on, or none at the end of the text, or the first fault, with the state after it. The end and
 -- a fault leave the state as it is.
-pub data NextToken : Place → Result (Option Lexeme) LexerError → Place → Type 0 where
-  past_nothing : {p next end : Place} {found : Result (Option Lexeme) LexerError} → step p ≡ Skips next → NextToken next found end → NextToken p found end
-  at_token : {p next : Place} {token : Lexeme} → step p ≡ Yields token next → NextToken p (Ok (Some token)) next
-  at_end : {p : Place} → step p ≡ Ends → NextToken p (Ok None) p
-  at_fault : {p : Place} {error : LexerError} → step p ≡ Refuses error → NextToken p (Err error) p
+pub data NextToken : LexerState → Result (Option Lexeme) LexerError → LexerState → Type 0 where
+  past_nothing : {p next end : LexerState} {found : Result (Option Lexeme) LexerError} → step p ≡ Skips next → NextToken next found end → NextToken p found end
+  at_token : {p next : LexerState} {token : Lexeme} → step p ≡ Yields token next → NextToken p (Ok (Some token)) next
+  at_end : {p : LexerState} → step p ≡ Ends → NextToken p (Ok None) p
+  at_fault : {p : LexerState} {error : LexerError} → step p ≡ Refuses error → NextToken p (Err error) p

@@ -1,13 +1,13 @@
 //! What the text of a zone file begins with (RFC 1035 section 5.1).
 
-ghost use Rattle.std.specs.Prelude.{◌≡◌, ◌+◌, ◌<◌, ◌≤◌, ◌==◌, ◌&&◌, not, length, false, IfSome};
-ghost use Rattle.dns_text.specs.Front.{front, line_end, line_from, is_blank, stops, ends_run, run_from, quoted, word};
+ghost use Rattle.std.specs.Prelude.{◌≡◌, ◌+◌, ◌≤◌, ◌==◌, ◌&&◌, not, length, false, IfSome};
+ghost use Rattle.dns_text.specs.Front.{front, line_end, line_from, stops, ends_run, run_from, quoted, word};
 ghost use Rattle.dns_text.specs.internal.Front.{front_len, HasSome};
 ghost use Rattle.dns_text.specs.internal.Front.{front_of, run_of};
 
 /// What a text begins with.
 #[derive(Clone, Copy)]
-pub enum Front {
+pub(crate) enum Front {
     /// Nothing: the text is empty.
     TextEnd,
     /// The end of a line, with its length.
@@ -32,7 +32,7 @@ pub enum Front {
 
 /// The kind of a run of characters, in which a backslash escapes the next one.
 #[derive(Clone, Copy)]
-pub enum Run {
+enum Run {
     /// A word outside quotes.
     Bare,
     /// A string between quotes.
@@ -40,7 +40,7 @@ pub enum Run {
 }
 
 /// Returns what a text begins with.
-pub fn find_front(text: &[u8]) -> Front
+pub(crate) fn find_front(text: &[u8]) -> Front
     ensures front { front_of result ≡ front text.now }
     ensures within { front_len result ≤ length text.now }
     ensures some { HasSome result }

@@ -1,6 +1,6 @@
 //! Conversion into names.
 
-ghost use Rattle.std.specs.Prelude.{◌≡◌, ◌≢◌, Result, Option, Ok, Err, Some, None, IfOk, IfErr, string_bytes, List, ℕ};
+ghost use Rattle.std.specs.Prelude.{◌≡◌, Result, Option, Ok, None, string_bytes};
 ghost use Rattle.dns_wire.specs.Error.{IsUnless};
 ghost use Rattle.std.specs.declared.net.ip_addr.IpAddr.{IpAddr};
 ghost use Rattle.dns_text.specs.IntoName.{IsTextOf};

@@ -3,7 +3,7 @@
 ghost use Rattle.std.specs.Prelude.{◌≡◌, ◌<◌, ◌++◌, ℕ, List, Result, Ok, Err, Option, Some, None, length};
 ghost use Rattle.dns_text.specs.declared.error.LexerError.{LexerError};
 ghost use Rattle.dns_text.specs.Front.{front};
-ghost use Rattle.dns_text.specs.Lexer.{Place, Lexeme, NextToken};
+ghost use Rattle.dns_text.specs.Lexer.{LexerState, Lexeme, NextToken};
 ghost use Rattle.dns_text.specs.FrontGrammar.{FrontItem, IsInFront, front_item};
 ghost use Rattle.dns_text.specs.Ttl.{time};
 
@@ -15,16 +15,16 @@ pub fn lexing_is_unambiguous()
 
 /// Each token consumes part of the text, so lexing ends.
 pub fn each_token_consumes_text()
-    ensures { (p next : Place) (token : Lexeme) → NextToken p (Ok (Some token)) next
+    ensures { (p next : LexerState) (token : Lexeme) → NextToken p (Ok (Some token)) next
         → length next.text < length p.text }
 {}
 
 /// Lexing has one outcome, and repeats the end of the text or the first fault on each further call.
 pub fn lexing_is_deterministic()
-    ensures same { (p q r : Place) (a b : Result (Option Lexeme) LexerError) → NextToken p a q
+    ensures same { (p q r : LexerState) (a b : Result (Option Lexeme) LexerError) → NextToken p a q
         → NextToken p b r → (a ≡ b) × (q ≡ r) }
-    ensures end_stays { (p end : Place) → NextToken p (Ok None) end → NextToken end (Ok None) end }
-    ensures fault_stays { (p end : Place) (error : LexerError) → NextToken p (Err error) end
+    ensures end_stays { (p end : LexerState) → NextToken p (Ok None) end → NextToken end (Ok None) end }
+    ensures fault_stays { (p end : LexerState) (error : LexerError) → NextToken p (Err error) end
         → NextToken end (Err error) end }
 {}
 

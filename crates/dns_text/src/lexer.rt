@@ -1,10 +1,8 @@
 //! The lexer of zone files (RFC 1035 section 5.1).
 
-ghost use Rattle.std.specs.Prelude.{◌≡◌, ◌+◌, ◌<◌, ◌≤◌, Ok, Err, true, false, drop, take, length};
-ghost use Rattle.dns_text.specs.Front.{front};
+ghost use Rattle.std.specs.Prelude.{◌≡◌, ◌+◌, ◌<◌, ◌≤◌, Ok, drop, length};
 ghost use Rattle.dns_text.specs.Lexer.{NextToken, start, step, step_past, past};
-ghost use Rattle.dns_text.specs.Token.{answer, lexeme};
-ghost use Rattle.dns_text.specs.internal.Front.{front_len, HasSome};
+ghost use Rattle.dns_text.specs.Token.{answer};
 ghost use Rattle.dns_text.specs.internal.Front.{front_of};
 ghost use Rattle.dns_text.specs.internal.Lexer.{step_of, Stays};
 
@@ -36,9 +34,9 @@ pub struct Lexer<'a> {
 
 impl<'a> Model for Lexer<'a> {
     ghost use Rattle.std.specs.Prelude.{◌+◌, ◌<◌, ◌^◌, length};
-    ghost use Rattle.dns_text.specs.Lexer.{Place};
+    ghost use Rattle.dns_text.specs.Lexer.{LexerState};
 
-    ghost Value = { Place };
+    ghost Value = { LexerState };
 
     ghost view = { λ l. record {
       text = l.text.now;

@@ -1,6 +1,6 @@
 //! Times to live as text (RFC 1035 section 5.1).
 
-ghost use Rattle.std.specs.Prelude.{◌≡◌, ◌≤◌, Ok, Err, IfOk, IfErr, IfSome};
+ghost use Rattle.std.specs.Prelude.{◌≡◌, ◌≤◌, IfSome};
 ghost use Rattle.dns_text.specs.Ttl.{unit_seconds, ttl_of_text};
 ghost use Rattle.dns_text.specs.internal.Ttl.{add_character, total};
 
@@ -21,8 +21,7 @@ struct TtlSum {
 /// seconds. The error has the place of the first character up to which the text is not a time of 32 bits, and 0 for the
 /// empty text.
 pub fn parse_ttl(text: &str) -> Result<u32, ParseError>
-    ensures ok { IfOk result (λ seconds. ttl_of_text text.now ≡ Ok seconds) }
-    ensures refused { IfErr result (λ error. ttl_of_text text.now ≡ Err error) }
+    ensures { result ≡ ttl_of_text text.now }
 {
     let bytes = text.as_bytes();
     if bytes.is_empty() {

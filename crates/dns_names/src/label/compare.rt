@@ -1,6 +1,6 @@
 //! Order, equality and hash of labels (RFC 4034 section 6.1, RFC 4343).
 
-ghost use Rattle.std.specs.Prelude.{◌≡◌, ℕ, ◌+◌, length};
+ghost use Rattle.std.specs.Prelude.{◌≡◌, ℕ};
 ghost use Rattle.std.specs.Ordering.{nat_cmp, as_partial_cmp};
 ghost use Rattle.std.specs.Cmp.{IsTotalOrder};
 ghost use Rattle.std.specs.Cmp.Lexicographic.{slice_cmp};

@@ -1,6 +1,6 @@
 //! Names built from labels and other names (RFC 1035 sections 2.3.4 and 3.1).
 
-ghost use Rattle.std.specs.Prelude.{◌≡◌, ◌≢◌, ◌≤◌, ◌++◌, Ok, Err, drop, IfOk, IfErr, OnOk, List, ◌==◌, ◌+◌, ◌<◌, length};
+ghost use Rattle.std.specs.Prelude.{◌≡◌, ◌≢◌, ◌≤◌, ◌++◌, Ok, Err, drop, IfOk, IfErr, OnOk, List, ◌+◌, ◌<◌, length};
 ghost use Rattle.dns_wire.specs.Name.{IsLabel, name_len, AreLabels, max_name_len};
 ghost use Rattle.dns_names.specs.Build.{append_label, prepend_label, append_name, append_domain, append_each, root_name};
 ghost use Rattle.std.specs.Iterator.{Drains, Yields, IsFinite};

@@ -1,8 +1,7 @@
 //! Equality, order and hash of names, and zones, ignoring ASCII case (RFC 1035 section 2.3.3, RFC 4034 section 6.1,
 //! RFC 4343).
 
-ghost use Rattle.std.specs.Prelude.{◌≡◌, ◌+◌, drop, length, ◌↔◌, ◌++◌, ◌==◌, ◌<◌, List, ℕ};
-ghost use Rattle.dns_wire.specs.Name.{AreLabels};
+ghost use Rattle.std.specs.Prelude.{◌≡◌, ◌+◌, drop, length, ◌↔◌, ◌++◌, List, ℕ};
 ghost use Rattle.dns_names.specs.Compare.{same_labels, at_or_below};
 ghost use Rattle.std.specs.Ordering.{nat_cmp, as_partial_cmp};
 ghost use Rattle.std.specs.Bool.{IsTrue};

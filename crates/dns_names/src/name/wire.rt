@@ -18,7 +18,7 @@ use std::alloc::Global;
 
 /// An element of an encoded name.
 #[derive(Clone, Copy)]
-pub enum Part<'a> {
+enum Part<'a> {
     /// The root's zero byte, which ends the name.
     Closing,
     /// A label, borrowed from the buffer.

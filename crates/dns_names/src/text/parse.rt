@@ -1,6 +1,6 @@
 //! Names from text (RFC 1035 section 5.1).
 
-ghost use Rattle.std.specs.Prelude.{◌≡◌, ◌≢◌, ◌==◌, ◌<◌, Ok, Err, false, length, IfOk, IfErr, OnOk, drop, option_map};
+ghost use Rattle.std.specs.Prelude.{◌≡◌, ◌≢◌, ◌<◌, Ok, Err, false, length, IfErr, OnOk, option_map};
 ghost use Rattle.dns_names.specs.Parse.{name_of_text, finish, push_symbol, push_octet, end_label, is_plain_octet};
 ghost use Rattle.dns_names.specs.Build.{parse_name};
 ghost use Rattle.dns_wire.specs.Error.{IsUnless};

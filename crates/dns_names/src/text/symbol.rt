@@ -1,6 +1,6 @@
 //! The symbols of a name in text (RFC 1035 section 5.1).
 
-ghost use Rattle.std.specs.Prelude.{◌≡◌, ◌+◌, ◌<◌, ◌≤◌, length};
+ghost use Rattle.std.specs.Prelude.{◌≡◌, ◌<◌, ◌≤◌, length};
 ghost use Rattle.dns_names.specs.Parse.{symbol, more_len, escape, escape_len, decimal_octet};
 ghost use Rattle.dns_names.specs.internal.Symbol.{symbol_of};
 
@@ -8,7 +8,7 @@ use dns_codes::parse_decimal;
 
 /// A symbol of a name in text.
 #[derive(Clone, Copy)]
-pub enum Symbol {
+pub(super) enum Symbol {
     /// A dot between labels.
     Dot,
     /// An unescaped octet.
@@ -20,7 +20,7 @@ pub enum Symbol {
 }
 
 /// Returns the first symbol of a text, and how many characters it takes after its first.
-pub fn next_symbol(text: &[u8]) -> (Symbol, usize)
+pub(super) fn next_symbol(text: &[u8]) -> (Symbol, usize)
     requires { 0 < length text.now }
     ensures symbol { symbol_of result.0 ≡ symbol text.now }
     ensures more { result.1 ≡ more_len text.now }

@@ -1,4 +1,4 @@
-use Rattle.std.proofs.Common.{◌≡◌, take, Ok}
+use Rattle.std.proofs.Common.{take, Ok}
 use Rattle.dns_wire.specs.Encoder.{state_of}
 use Rattle.dns_wire.specs.Encodable.{Emits}
 use Rattle.dns_names.specs.internal.Wire.{labels_pieces}
