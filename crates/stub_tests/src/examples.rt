@@ -1,4 +1,4 @@
-//! The examples of the README: a name server for tests, and a reader of messages.
+//! The examples of the README: a name server for tests, and the answers of a message.
 
 use dns_messages::Message;
 use dns_wire::DecodeError;
@@ -7,7 +7,7 @@ use std::alloc::Global;
 use std::fmt::Write;
 use std::test::Fail;
 
-/// Replies to a request as a name server with a small zone. Bytes that are not such a request get no reply.
+/// Returns the reply of a name server with a small zone, or `None` if it does not serve the request.
 fn reply_to(alloc: Global, request: &[u8]) -> Result<Option<Vec<u8>>, ZoneFault> {
     let text = "t. 60 IN SOA ns.t. h.t. 1 3600 600 86400 30\n\
                 a.t. 60 IN A 10.0.0.1\n";
@@ -15,7 +15,7 @@ fn reply_to(alloc: Global, request: &[u8]) -> Result<Option<Vec<u8>>, ZoneFault>
     Ok(zone.serve(request, Road::Stream)?)
 }
 
-/// Decodes a message, and formats each record of its answer section on a line.
+/// Decodes a message and formats the records of its answer section, one per line.
 fn answer_lines(alloc: Global, message: &[u8]) -> Result<String, DecodeError> {
     let message = Message::from_vec(alloc, message)?;
     let mut lines = String::new(alloc);
@@ -43,7 +43,7 @@ fn the_server_replies_with_the_address(rt: HostRuntime) -> Result<(), Fail> {
 }
 
 #[test]
-fn the_server_ignores_a_cut_request(rt: HostRuntime) -> Result<(), Fail> {
+fn the_server_ignores_a_truncated_request(rt: HostRuntime) -> Result<(), Fail> {
     let reply = reply_to(rt.alloc(), &REQUEST[..20])?;
     assert!(rt; reply.is_none());
     Ok(())
