@@ -4,7 +4,7 @@ use Rattle.std.specs.Prelude.{nat_lt, nat_le, if◌then◌else◌, option_map}
 use Rattle.std.proofs.lemmas.Bool.Decides.{nat_tests}
 use Rattle.std.specs.declared.net.ip_addr.IpAddr.TheVariants.{V4, V6}
 use Rattle.dns_codes.specs.Decimal.{decimal_up_to}
-use Rattle.dns_names.specs.Arpa.{decimal_label, hex_label, hex_value, nibble, number_behind, v4_prefix, v6_prefix, reverse_name, arpa_prefix}
+use Rattle.dns_names.specs.Reverse.{decimal_label, hex_label, hex_value, nibble, append_number, v4_prefix, v6_prefix, reverse_name, arpa_prefix}
 use Rattle.dns_names.proofs.RoundTrip.{digit, three_digits}
 
 -- ---- one label
@@ -75,10 +75,10 @@ whole s small = omega arith
 
 pub v4_back : (a b c d : ℕ) → a < 256 → b < 256 → c < 256 → d < 256
     → arpa_prefix (reverse_name (V4 (record { octets = a ∷ b ∷ c ∷ d ∷ [] }))) ≡ Some (record { addr = V4 (record { octets = a ∷ b ∷ c ∷ d ∷ [] }); prefix_len = 32 })
-v4_back a b c d p q r s = λ i. option_map v4_prefix (number_behind (number_behind (number_behind (number_behind (Some []) (decimal_back a p i)) (decimal_back b q i)) (decimal_back c r i)) (decimal_back d s i))
+v4_back a b c d p q r s = λ i. option_map v4_prefix (append_number (append_number (append_number (append_number (Some []) (decimal_back a p i)) (decimal_back b q i)) (decimal_back c r i)) (decimal_back d s i))
 
 pub v6_back : (a b c d e f g h : ℕ) → a < 65536 → b < 65536 → c < 65536 → d < 65536 → e < 65536 → f < 65536 → g < 65536 → h < 65536
     → arpa_prefix (reverse_name (V6 (record { segments = a ∷ b ∷ c ∷ d ∷ e ∷ f ∷ g ∷ h ∷ [] }))) ≡ Some (record { addr = V6 (record { segments = a ∷ b ∷ c ∷ d ∷ e ∷ f ∷ g ∷ h ∷ [] }); prefix_len = 128 })
 v6_back a b c d e f g h la lb lc ld le lf lg lh =
-    (λ i. option_map v6_prefix (number_behind (number_behind (number_behind (number_behind (number_behind (number_behind (number_behind (number_behind (number_behind (number_behind (number_behind (number_behind (number_behind (number_behind (number_behind (number_behind (number_behind (number_behind (number_behind (number_behind (number_behind (number_behind (number_behind (number_behind (number_behind (number_behind (number_behind (number_behind (number_behind (number_behind (number_behind (number_behind (Some []) (hex_0 a la i)) (hex_1 a la i)) (hex_2 a la i)) (hex_3 a la i)) (hex_0 b lb i)) (hex_1 b lb i)) (hex_2 b lb i)) (hex_3 b lb i)) (hex_0 c lc i)) (hex_1 c lc i)) (hex_2 c lc i)) (hex_3 c lc i)) (hex_0 d ld i)) (hex_1 d ld i)) (hex_2 d ld i)) (hex_3 d ld i)) (hex_0 e le i)) (hex_1 e le i)) (hex_2 e le i)) (hex_3 e le i)) (hex_0 f lf i)) (hex_1 f lf i)) (hex_2 f lf i)) (hex_3 f lf i)) (hex_0 g lg i)) (hex_1 g lg i)) (hex_2 g lg i)) (hex_3 g lg i)) (hex_0 h lh i)) (hex_1 h lh i)) (hex_2 h lh i)) (hex_3 h lh i)))
+    (λ i. option_map v6_prefix (append_number (append_number (append_number (append_number (append_number (append_number (append_number (append_number (append_number (append_number (append_number (append_number (append_number (append_number (append_number (append_number (append_number (append_number (append_number (append_number (append_number (append_number (append_number (append_number (append_number (append_number (append_number (append_number (append_number (append_number (append_number (append_number (Some []) (hex_0 a la i)) (hex_1 a la i)) (hex_2 a la i)) (hex_3 a la i)) (hex_0 b lb i)) (hex_1 b lb i)) (hex_2 b lb i)) (hex_3 b lb i)) (hex_0 c lc i)) (hex_1 c lc i)) (hex_2 c lc i)) (hex_3 c lc i)) (hex_0 d ld i)) (hex_1 d ld i)) (hex_2 d ld i)) (hex_3 d ld i)) (hex_0 e le i)) (hex_1 e le i)) (hex_2 e le i)) (hex_3 e le i)) (hex_0 f lf i)) (hex_1 f lf i)) (hex_2 f lf i)) (hex_3 f lf i)) (hex_0 g lg i)) (hex_1 g lg i)) (hex_2 g lg i)) (hex_3 g lg i)) (hex_0 h lh i)) (hex_1 h lh i)) (hex_2 h lh i)) (hex_3 h lh i)))
     ∙ (λ i. Some (record { addr = V6 (record { segments = whole a la i ∷ whole b lb i ∷ whole c lc i ∷ whole d ld i ∷ whole e le i ∷ whole f lf i ∷ whole g lg i ∷ whole h lh i ∷ [] }); prefix_len = 128 }))

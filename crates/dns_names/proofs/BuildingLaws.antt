@@ -3,8 +3,8 @@ use Rattle.std.proofs.Common.{◌≡◌, ℕ, suc, ◌+◌, ◌<◌, ◌≤◌, 
 use Rattle.std.specs.Prelude.{nat_lt, slice_get, Some}
 use Rattle.std.proofs.lemmas.Bool.Decides.{nat_tests}
 use Rattle.dns_wire.specs.Name.{name_len}
-use Rattle.dns_names.specs.DomainName.{DomainName}
-use Rattle.dns_names.specs.Building.{with_labels, with_label, behind_label}
+use Rattle.dns_names.specs.Name.{DomainName}
+use Rattle.dns_names.specs.Build.{append_labels, append_label, prepend_label}
 use Rattle.dns_names.specs.declared.error.ParseError.{ParseError}
 use Rattle.dns_names.specs.declared.error.ParseError.TheVariants.{DomainNameTooLong}
 use Rattle.dns_names.proofs.IterLaws.{drop-at}
@@ -17,28 +17,28 @@ pub name_len-some : (a : List (List ℕ)) → 0 < name_len a
 name_len-some [] = omega arith
 name_len-some (x ∷ a) = omega arith
 
-pub fits : (name : DomainName) (labels : List (List ℕ)) → name_len (name.labels ++ labels) ≤ 255 → with_labels name labels ≡ Ok (record name { labels = name.labels ++ labels })
+pub fits : (name : DomainName) (labels : List (List ℕ)) → name_len (name.labels ++ labels) ≤ 255 → append_labels name labels ≡ Ok (record name { labels = name.labels ++ labels })
 fits name labels room = let short : nat_lt 255 (name_len (name.labels ++ labels)) ≡ false = grind (arith, nat_tests) in rw short refl
 
-pub not_refused : (name : DomainName) (labels : List (List ℕ)) (error : ParseError) → name_len (name.labels ++ labels) ≤ 255 → with_labels name labels ≡ Err error → ⊥
+pub not_refused : (name : DomainName) (labels : List (List ℕ)) (error : ParseError) → name_len (name.labels ++ labels) ≤ 255 → append_labels name labels ≡ Err error → ⊥
 not_refused name labels error room refused =
     let clash : Ok (record name { labels = name.labels ++ labels }) ≡ Err error = sym (fits name labels room) ∙ refused in
     absurd (cc)
 
-pub overflows : (name : DomainName) (labels : List (List ℕ)) → 255 < name_len (name.labels ++ labels) → with_labels name labels ≡ Err DomainNameTooLong
+pub overflows : (name : DomainName) (labels : List (List ℕ)) → 255 < name_len (name.labels ++ labels) → append_labels name labels ≡ Err DomainNameTooLong
 overflows name labels over = let long : nat_lt 255 (name_len (name.labels ++ labels)) ≡ true = grind (arith, nat_tests) in rw long refl
 
-pub label_fits : (name : DomainName) (made : Result (List ℕ) ParseError) (label : List ℕ) → made ≡ Ok label → name_len name.labels + (length label + 1) ≤ 255 → with_label name made ≡ Ok (record name { labels = name.labels ++ label ∷ [] })
-label_fits name made label e room = ap (with_label name) e ∙ fits name (label ∷ []) (omega (arith, name_len-append name.labels (label ∷ [])))
+pub label_fits : (name : DomainName) (made : Result (List ℕ) ParseError) (label : List ℕ) → made ≡ Ok label → name_len name.labels + (length label + 1) ≤ 255 → append_label name made ≡ Ok (record name { labels = name.labels ++ label ∷ [] })
+label_fits name made label e room = ap (append_label name) e ∙ fits name (label ∷ []) (omega (arith, name_len-append name.labels (label ∷ [])))
 
-pub label_overflows : (name : DomainName) (made : Result (List ℕ) ParseError) (label : List ℕ) → made ≡ Ok label → 255 < name_len name.labels + (length label + 1) → with_label name made ≡ Err DomainNameTooLong
-label_overflows name made label e over = ap (with_label name) e ∙ overflows name (label ∷ []) (omega (arith, name_len-append name.labels (label ∷ [])))
+pub label_overflows : (name : DomainName) (made : Result (List ℕ) ParseError) (label : List ℕ) → made ≡ Ok label → 255 < name_len name.labels + (length label + 1) → append_label name made ≡ Err DomainNameTooLong
+label_overflows name made label e over = ap (append_label name) e ∙ overflows name (label ∷ []) (omega (arith, name_len-append name.labels (label ∷ [])))
 
-pub front_fits : (name : DomainName) (made : Result (List ℕ) ParseError) (label : List ℕ) → made ≡ Ok label → name_len name.labels + (length label + 1) ≤ 255 → behind_label made name ≡ Ok (record { is_fqdn = name.is_fqdn; labels = label ∷ name.labels })
-front_fits name made label e room = ap (λ (r : Result (List ℕ) ParseError). behind_label r name) e ∙ fits (record { is_fqdn = name.is_fqdn; labels = label ∷ [] }) name.labels (omega arith)
+pub front_fits : (name : DomainName) (made : Result (List ℕ) ParseError) (label : List ℕ) → made ≡ Ok label → name_len name.labels + (length label + 1) ≤ 255 → prepend_label made name ≡ Ok (record { is_fqdn = name.is_fqdn; labels = label ∷ name.labels })
+front_fits name made label e room = ap (λ (r : Result (List ℕ) ParseError). prepend_label r name) e ∙ fits (record { is_fqdn = name.is_fqdn; labels = label ∷ [] }) name.labels (omega arith)
 
-pub front_overflows : (name : DomainName) (made : Result (List ℕ) ParseError) (label : List ℕ) → made ≡ Ok label → 255 < name_len name.labels + (length label + 1) → behind_label made name ≡ Err DomainNameTooLong
-front_overflows name made label e over = ap (λ (r : Result (List ℕ) ParseError). behind_label r name) e ∙ overflows (record { is_fqdn = name.is_fqdn; labels = label ∷ [] }) name.labels (omega arith)
+pub front_overflows : (name : DomainName) (made : Result (List ℕ) ParseError) (label : List ℕ) → made ≡ Ok label → 255 < name_len name.labels + (length label + 1) → prepend_label made name ≡ Err DomainNameTooLong
+front_overflows name made label e over = ap (λ (r : Result (List ℕ) ParseError). prepend_label r name) e ∙ overflows (record { is_fqdn = name.is_fqdn; labels = label ∷ [] }) name.labels (omega arith)
 
 -- ---- label by label
 

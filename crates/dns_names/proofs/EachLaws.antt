@@ -1,8 +1,8 @@
 -- Labels that are added one after another.
 use Rattle.std.proofs.Common.{◌≡◌, ℕ, List, [], ◌∷◌, ◌++◌, Option, Some, Result, Ok, Err, refl, sym, ap, subst, ◌∙◌}
 use Rattle.std.specs.Iterator.{Yields}
-use Rattle.dns_names.specs.DomainName.{DomainName}
-use Rattle.dns_names.specs.Building.{with_label, with_each}
+use Rattle.dns_names.specs.Name.{DomainName}
+use Rattle.dns_names.specs.Build.{append_label, append_each}
 use Rattle.dns_names.specs.declared.error.ParseError.{ParseError}
 
 module _ {A : Type 0} (label : A → Result (List ℕ) ParseError) where
@@ -10,14 +10,14 @@ module _ {A : Type 0} (label : A → Result (List ℕ) ParseError) where
   itself (Ok next) = refl
   itself (Err error) = refl
 
-  pub one_more : (name made : DomainName) (xs : List A) (x : A) → with_each label name xs ≡ Ok made → with_each label name (xs ++ x ∷ []) ≡ with_label made (label x)
-  one_more name made [] x e = let same : name ≡ made = cc in itself (with_label name (label x)) ∙ ap (λ (n : DomainName). with_label n (label x)) same
-  one_more name made (y ∷ ys) x e = by (with_label name (label y)) e (λ next. one_more next made ys x)
+  pub one_more : (name made : DomainName) (xs : List A) (x : A) → append_each label name xs ≡ Ok made → append_each label name (xs ++ x ∷ []) ≡ append_label made (label x)
+  one_more name made [] x e = let same : name ≡ made = cc in itself (append_label name (label x)) ∙ ap (λ (n : DomainName). append_label n (label x)) same
+  one_more name made (y ∷ ys) x e = by (append_label name (label y)) e (λ next. one_more next made ys x)
     where
       by : (r : Result DomainName ParseError)
-          → elim r as (λ _. Result DomainName ParseError) [ Ok next ↦ with_each label next ys | Err error ↦ Err error ] ≡ Ok made
-          → ((next : DomainName) → with_each label next ys ≡ Ok made → with_each label next (ys ++ x ∷ []) ≡ with_label made (label x))
-          → elim r as (λ _. Result DomainName ParseError) [ Ok next ↦ with_each label next (ys ++ x ∷ []) | Err error ↦ Err error ] ≡ with_label made (label x)
+          → elim r as (λ _. Result DomainName ParseError) [ Ok next ↦ append_each label next ys | Err error ↦ Err error ] ≡ Ok made
+          → ((next : DomainName) → append_each label next ys ≡ Ok made → append_each label next (ys ++ x ∷ []) ≡ append_label made (label x))
+          → elim r as (λ _. Result DomainName ParseError) [ Ok next ↦ append_each label next (ys ++ x ∷ []) | Err error ↦ Err error ] ≡ append_label made (label x)
       by (Ok next) q more = more next q
       by (Err error) q more = absurd (cc)
 

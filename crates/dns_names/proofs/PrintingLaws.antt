@@ -2,7 +2,7 @@
 use Rattle.std.proofs.Common.{◌≡◌, ℕ, suc, ◌+◌, ◌<◌, Bool, false, List, ◌∷◌, ◌++◌, length, drop, get_or, sym, ap, ◌∙◌, append_assoc, arith}
 use Rattle.std.specs.Prelude.{slice_get, Some}
 use Rattle.std.proofs.Math.Seq.{drop-cons}
-use Rattle.dns_names.specs.Printed.{octet_text, octets_text, label_text, labels_behind}
+use Rattle.dns_names.specs.Print.{octet_text, octets_text, label_text, dotted_labels}
 use Rattle.dns_names.proofs.IterLaws.{drop-at}
 
 pub octet_more : (b : Bool) (xs : List ℕ) (i : ℕ) (done all : List ℕ) → i < length xs → done ++ octets_text b (drop i xs) ≡ all
@@ -13,10 +13,10 @@ octet_more b xs i done all lt e =
     ∙ ap (λ (n : ℕ). done ++ (octet_text b (get_or xs i 0) ++ octets_text false (drop n xs))) next
     ∙ ap (λ (l : List ℕ). done ++ octets_text b l) (sym (drop-cons xs i 0 lt)) ∙ e
 
-pub label_behind : (labels : List (List ℕ)) (i : ℕ) (label done all : List ℕ) → slice_get labels i ≡ Some label → done ++ labels_behind (drop i labels) ≡ all
-    → (done ++ (46 ∷ label_text label)) ++ labels_behind (drop (i + 1) labels) ≡ all
+pub label_behind : (labels : List (List ℕ)) (i : ℕ) (label done all : List ℕ) → slice_get labels i ≡ Some label → done ++ dotted_labels (drop i labels) ≡ all
+    → (done ++ (46 ∷ label_text label)) ++ dotted_labels (drop (i + 1) labels) ≡ all
 label_behind labels i label done all at e =
     let next : i + 1 ≡ suc i = omega arith in
-    append_assoc done (46 ∷ label_text label) (labels_behind (drop (i + 1) labels))
-    ∙ ap (λ (n : ℕ). done ++ ((46 ∷ label_text label) ++ labels_behind (drop n labels))) next
-    ∙ ap (λ (l : List (List ℕ)). done ++ labels_behind l) (sym (drop-at labels i label at)) ∙ e
+    append_assoc done (46 ∷ label_text label) (dotted_labels (drop (i + 1) labels))
+    ∙ ap (λ (n : ℕ). done ++ ((46 ∷ label_text label) ++ dotted_labels (drop n labels))) next
+    ∙ ap (λ (l : List (List ℕ)). done ++ dotted_labels l) (sym (drop-at labels i label at)) ∙ e

@@ -8,12 +8,12 @@ use Rattle.std.specs.Cmp.{IsTotalOrder, tied_itself, tied_back, nat_cmp_total, f
 use Rattle.std.specs.Cmp.Lexicographic.{slice_cmp, lists_total}
 use Rattle.std.specs.Str.{str_to_ascii_lowercase}
 use Rattle.std.proofs.lemmas.List.{reverse-append, reverse-reverse}
-use Rattle.dns_names.specs.Comparison.{lower, same_labels, at_or_below}
-use Rattle.dns_names.specs.DomainName.{DomainName}
-use Rattle.dns_names.specs.LabelCmp.{lower_cmp}
-use Rattle.dns_names.specs.Order.{labels_order, name_cmp}
-use Rattle.dns_names.specs.OrderAgreement.{order_lower, bytes_equal}
-use Rattle.dns_names.specs.Subtree.{lies_below}
+use Rattle.dns_names.specs.Compare.{lower, same_labels, at_or_below}
+use Rattle.dns_names.specs.Name.{DomainName}
+use Rattle.dns_names.specs.LabelCompare.{lower_cmp}
+use Rattle.dns_names.specs.Compare.{labels_order, name_cmp}
+use Rattle.dns_names.specs.internal.Compare.{order_lower, bytes_equal}
+use Rattle.dns_names.specs.Compare.{is_in_subtree}
 use Rattle.dns_names.proofs.ComparisonLaws.{same_labels-true, lower-same}
 
 -- ---- lists that begin alike
@@ -106,7 +106,7 @@ flags_begin true false r e g = absurd (cc)
 flags_begin false true r e g = refl
 flags_begin false false r e g = g
 
-pub begins_with : (origin name : DomainName) → lies_below origin name ≡ true → is_gt (name_cmp origin name) ≡ false
+pub begins_with : (origin name : DomainName) → is_in_subtree origin name ≡ true → is_gt (name_cmp origin name) ≡ false
 begins_with origin name e =
     flags_begin origin.is_fqdn name.is_fqdn (labels_order lower_cmp origin.labels name.labels)
     (first_so (beq origin.is_fqdn name.is_fqdn) (at_or_below origin.labels name.labels) e)
@@ -126,7 +126,7 @@ both : (p q : Bool) → p ≡ true → q ≡ true → (p && q) ≡ true
 both true q e f = f
 both false q e f = e
 
-pub stands_between : (origin name other : DomainName) → lies_below origin name ≡ true → is_gt (name_cmp origin other) ≡ false → is_gt (name_cmp other name) ≡ false → lies_below origin other ≡ true
+pub stands_between : (origin name other : DomainName) → is_in_subtree origin name ≡ true → is_gt (name_cmp origin other) ≡ false → is_gt (name_cmp other name) ≡ false → is_in_subtree origin other ≡ true
 stands_between origin name other e g h =
     let flags = flags_between origin.is_fqdn name.is_fqdn other.is_fqdn (labels_order lower_cmp origin.labels other.labels) (labels_order lower_cmp other.labels name.labels)
     (first_so (beq origin.is_fqdn name.is_fqdn) (at_or_below origin.labels name.labels) e) g h in

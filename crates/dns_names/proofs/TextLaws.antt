@@ -6,14 +6,14 @@ use Rattle.std.proofs.lemmas.Bool.Decides.{nat_tests}
 use Rattle.dns_wire.specs.Name.{name_len}
 use Rattle.dns_names.proofs.Underway.{name_len-push}
 use Rattle.dns_names.specs.declared.error.ParseError.TheVariants.{DomainNameTooLong}
-use Rattle.dns_names.specs.Text.{Symbol, Begun, Placed, label_ended, with_symbol, name_from, symbols_from, symbol, more_len}
+use Rattle.dns_names.specs.Parse.{Symbol, PartialName, SymbolAt, end_label, push_symbol, name_of_symbols, symbols_from, symbol, more_len}
 
-pub ends_too_long : (b : Begun) → (length b.label == 0) ≡ false → 255 < name_len b.labels + (length b.label + 1) → label_ended b ≡ Err DomainNameTooLong
+pub ends_too_long : (b : PartialName) → (length b.label == 0) ≡ false → 255 < name_len b.labels + (length b.label + 1) → end_label b ≡ Err DomainNameTooLong
 ends_too_long b some over =
     let long : nat_lt 255 (name_len (b.labels ++ b.label ∷ [])) ≡ true = let len = name_len-push b.labels b.label in grind (arith, nat_tests) in
     rw (some, long) refl
 
-pub ends_well : (b next : Begun) → (length b.label == 0) ≡ false → name_len b.labels + (length b.label + 1) ≤ 255 → next ≡ record { labels = b.labels ++ b.label ∷ []; label = [] } → label_ended b ≡ Ok next
+pub ends_well : (b next : PartialName) → (length b.label == 0) ≡ false → name_len b.labels + (length b.label + 1) ≤ 255 → next ≡ record { labels = b.labels ++ b.label ∷ []; label = [] } → end_label b ≡ Ok next
 ends_well b next some room is =
     let short : nat_lt 255 (name_len (b.labels ++ b.label ∷ [])) ≡ false = let len = name_len-push b.labels b.label in grind (arith, nat_tests) in
     rw (some, short, is) refl
@@ -29,9 +29,9 @@ symbols-past (suc past) place (c ∷ cs) = symbols-past past (place + 1) cs ∙ 
 -- the symbols from a place on: the one that stands there, and those behind it
 symbols-at : (place : ℕ) (rest : List ℕ) → 0 < length rest → symbols_from 0 place rest ≡ record { place = place; symbol = symbol rest } ∷ symbols_from 0 (place + 1 + more_len rest) (drop (suc (more_len rest)) rest)
 symbols-at place [] some = absurd (omega arith)
-symbols-at place (c ∷ cs) some = ap (λ (ps : List Placed). record { place = place; symbol = symbol (c ∷ cs) } ∷ ps) (symbols-past (more_len (c ∷ cs)) (place + 1) cs)
+symbols-at place (c ∷ cs) some = ap (λ (ps : List SymbolAt). record { place = place; symbol = symbol (c ∷ cs) } ∷ ps) (symbols-past (more_len (c ∷ cs)) (place + 1) cs)
 
-pub begun_is : (b : Begun) (labels : List (List ℕ)) (label : List ℕ) → b.labels ≡ labels → b.label ≡ label → b ≡ record { labels = labels; label = label }
+pub begun_is : (b : PartialName) (labels : List (List ℕ)) (label : List ℕ) → b.labels ≡ labels → b.label ≡ label → b ≡ record { labels = labels; label = label }
 begun_is b labels label p q = ap (λ (ls : List (List ℕ)). record { labels = ls; label = b.label }) p ∙ ap (λ (l : List ℕ). record { labels = labels; label = l }) q
 
 symbols-next : (place : ℕ) (text : List ℕ) → place < length text → symbols_from 0 place (drop place text)
@@ -44,12 +44,12 @@ symbols-next place text within =
     ∙ ap (λ (n : ℕ). record { place = place; symbol = symbol (drop place text) } ∷ symbols_from 0 n (drop (suc more) (drop place text))) there
     ∙ ap (λ (cs : List ℕ). record { place = place; symbol = symbol (drop place text) } ∷ symbols_from 0 (place + (1 + more)) cs) rest
 
-pub taken : (b next : Begun) (p : Placed) (ps : List Placed) → with_symbol b p ≡ Ok next → name_from b (p ∷ ps) ≡ name_from next ps
-taken b next p ps e = rw (e, name_from) refl
+pub taken : (b next : PartialName) (p : SymbolAt) (ps : List SymbolAt) → push_symbol b p ≡ Ok next → name_of_symbols b (p ∷ ps) ≡ name_of_symbols next ps
+taken b next p ps e = rw (e, name_of_symbols) refl
 
 -- a symbol that is taken, and the text behind it
-pub goes_on : (b next : Begun) (place : ℕ) (text : List ℕ) (s : Symbol) (more : ℕ) → place < length text → s ≡ symbol (drop place text) → more ≡ more_len (drop place text)
-    → with_symbol b (record { place = place; symbol = s }) ≡ Ok next → name_from b (symbols_from 0 place (drop place text)) ≡ name_from next (symbols_from 0 (place + (1 + more)) (drop (place + (1 + more)) text))
+pub goes_on : (b next : PartialName) (place : ℕ) (text : List ℕ) (s : Symbol) (more : ℕ) → place < length text → s ≡ symbol (drop place text) → more ≡ more_len (drop place text)
+    → push_symbol b (record { place = place; symbol = s }) ≡ Ok next → name_of_symbols b (symbols_from 0 place (drop place text)) ≡ name_of_symbols next (symbols_from 0 (place + (1 + more)) (drop (place + (1 + more)) text))
 goes_on b next place text s more within is len accepted =
-    let rest : List Placed = symbols_from 0 (place + (1 + more_len (drop place text))) (drop (place + (1 + more_len (drop place text))) text) in
-    rw len (ap (name_from b) (symbols-next place text within) ∙ taken b next (record { place = place; symbol = symbol (drop place text) }) rest (rw is at accepted))
+    let rest : List SymbolAt = symbols_from 0 (place + (1 + more_len (drop place text))) (drop (place + (1 + more_len (drop place text))) text) in
+    rw len (ap (name_of_symbols b) (symbols-next place text within) ∙ taken b next (record { place = place; symbol = symbol (drop place text) }) rest (rw is at accepted))

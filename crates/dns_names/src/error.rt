@@ -1,25 +1,25 @@
-//! Why a text is no name.
+//! Errors of labels and names.
 
 use std::alloc::{AllocError, AllocFailed};
 use thiserror::Error;
 
-/// Why a text is no name.
+/// The error of building or parsing a label or a name.
 #[derive(Debug, Drop, Error)]
 pub enum ParseError {
-    /// A label of more than 63 bytes (RFC 1035 section 2.3.4).
-    #[error("a label of more than 63 bytes")]
+    /// A label is longer than 63 bytes (RFC 1035 section 2.3.4).
+    #[error("label is longer than 63 bytes")]
     LabelBytesTooLong,
-    /// A label without a byte; in text two dots with nothing between them, or a dot in front.
-    #[error("an empty label")]
+    /// A label is empty; in text, two dots follow one another or a dot comes first.
+    #[error("empty label")]
     EmptyLabel,
-    /// A name that takes more than 255 bytes (RFC 1035 section 2.3.4).
-    #[error("a name of more than 255 bytes")]
+    /// The encoded name is longer than 255 bytes (RFC 1035 section 2.3.4).
+    #[error("name is longer than 255 bytes")]
     DomainNameTooLong,
-    /// A character that may not stand at this place, counted in bytes from 0, or a backslash that escapes nothing; of a
-    /// time in text also the character with which it is too great, and 0 of a name that is no address.
-    #[error("a character that may not stand at byte {0}")]
+    /// The character at this byte offset is not allowed there, or is a backslash without a valid escape. For a time in
+    /// text it may also be the character that makes the time too great; for a name that is not a reverse name it is 0.
+    #[error("invalid character at byte {0}")]
     Text(usize),
-    /// Memory was refused.
+    /// Memory could not be allocated.
     #[error("out of memory")]
     Memory,
 }

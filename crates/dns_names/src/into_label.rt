@@ -1,21 +1,21 @@
-//! What labels are made of.
+//! Conversion into labels.
 
-ghost use Rattle.std.specs.Prelude.{◌≡◌, ◌≢◌, ℕ, List, Result, Ok, Err, IfOk, IfErr, string_bytes};
+ghost use Rattle.std.specs.Prelude.{ℕ, List, Result, Ok, string_bytes};
 ghost use Rattle.dns_names.specs.Label.{label_of_bytes, label_of_text};
 ghost use Rattle.dns_names.specs.declared.error.ParseError.{ParseError};
+ghost use Rattle.dns_wire.specs.Error.{IsUnless};
 
 use crate::error::ParseError;
 use crate::label::Label;
 use std::alloc::Global;
 
-/// What a label can be made of: bytes as they are, or text without escapes.
+/// A value that converts into a label: arbitrary bytes, or text without escapes.
 pub trait IntoLabel: Sized {
     ghost label: { Self → Result (List ℕ) ParseError };
 
-    /// The label.
+    /// Converts the value into a label.
     fn into_label(self, alloc: Global) -> Result<Label, ParseError>
-        ensures ok { IfOk result (λ made. label self ≡ Ok made) }
-        ensures refused { IfErr result (λ error. error ≢ ParseError.Memory → label self ≡ Err error) };
+        ensures { IsUnless ParseError.Memory (label self) result };
 }
 
 impl IntoLabel for Label {

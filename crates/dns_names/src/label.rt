@@ -1,17 +1,21 @@
 //! Labels (RFC 1035 sections 2.3.1 and 2.3.4).
 
-ghost use Rattle.std.specs.Prelude.{◌≡◌, ◌≢◌, ◌==◌, ◌≤◌, [], ◌∷◌, Ok, Err, length, IsOk, IfOk, IfErr};
+ghost use Rattle.std.specs.Prelude.{◌≡◌, ◌≢◌, ◌==◌, ◌≤◌, [], ◌∷◌, Err, length, IsOk, IfOk, IfErr};
 ghost use Rattle.std.specs.Str.{str_to_ascii_lowercase, str_eq_ignore_ascii_case, bytes_eq};
 ghost use Rattle.dns_wire.specs.Name.{IsLabel};
 ghost use Rattle.dns_names.specs.Label.{label_of_bytes, label_of_text, refused_from};
 
+pub(crate) mod compare;
+
+ghost use Rattle.dns_wire.specs.Error.{IsUnless};
+
 use crate::error::ParseError;
-use crate::text::may_stand;
+use crate::text::is_plain_octet;
 use smallvec::SmallVec;
 use std::alloc::{AllocError, Global};
 use std::marker::Model;
 
-/// A label of 1 to 63 bytes (RFC 1035 section 2.3.4, RFC 2181 section 11). Up to 24 bytes take no memory.
+/// A label of 1 to 63 bytes (RFC 1035 section 2.3.4, RFC 2181 section 11). Up to 24 bytes are stored inline.
 #[derive(Drop)]
 pub struct Label {
     bytes: SmallVec<u8, 24>,
@@ -29,17 +33,20 @@ impl Model for Label {
 }
 
 impl Label {
-    /// The label of these bytes, whatever they are.
+    /// The maximum length of a label in bytes (RFC 1035 section 2.3.4).
+    pub const MAX_LENGTH: usize = 63;
+
+    /// Creates a label from arbitrary bytes.
     pub fn from_raw_bytes(alloc: Global, bytes: &[u8]) -> Result<Label, ParseError>
-        ensures ok { IfOk result (λ label. label_of_bytes bytes.now ≡ Ok label) }
-        ensures refused { IfErr result (λ error. error ≢ ParseError.Memory → label_of_bytes bytes.now ≡ Err error) }
-        ensures fault { (error : ParseError) → label_of_bytes bytes.now ≡ Err error → result ≡ Err error }
+        ensures outcome { IsUnless ParseError.Memory (label_of_bytes bytes.now) result }
+        ensures fault { (error : ParseError) → label_of_bytes bytes.now ≡ Err error
+            → result ≡ Err error }
         ensures inline { length bytes.now ≤ 24 → IfErr result (λ error. error ≢ ParseError.Memory) }
     {
         if bytes.is_empty() {
             return Err(ParseError::EmptyLabel);
         }
-        if bytes.len() > 63 {
+        if bytes.len() > Label::MAX_LENGTH {
             return Err(ParseError::LabelBytesTooLong);
         }
         Ok(Label {
@@ -47,11 +54,10 @@ impl Label {
         })
     }
 
-    /// The label that a text without escapes spells: ASCII letters, digits and `_`, `-` but not as the first, `*` as
-    /// the first. A dot ends a label, so none may stand in it (RFC 1035 section 5.1).
+    /// Creates a label from text without escapes: ASCII letters, digits and `_`, `-` except first, and `*` only first.
+    /// A dot separates labels, so it is not allowed (RFC 1035 section 5.1).
     pub fn from_ascii(alloc: Global, text: &str) -> Result<Label, ParseError>
-        ensures ok { IfOk result (λ label. label_of_text text.now ≡ Ok label) }
-        ensures refused { IfErr result (λ error. error ≢ ParseError.Memory → label_of_text text.now ≡ Err error) }
+        ensures outcome { IsUnless ParseError.Memory (label_of_text text.now) result }
         ensures inline { length text.now ≤ 24 → IfErr result (λ error. error ≢ ParseError.Memory) }
     {
         let label = Label::from_raw_bytes(alloc, text.as_bytes())?;
@@ -61,7 +67,7 @@ impl Label {
         }
     }
 
-    /// The label `*` (RFC 4592 section 2.1.1).
+    /// Creates the label `*` (RFC 4592 section 2.1.1).
     pub fn wildcard(alloc: Global) -> Label
         ensures { result ≡ 42 ∷ [] }
     {
@@ -70,65 +76,60 @@ impl Label {
         Label { bytes }
     }
 
-    /// A copy of the label.
+    /// Returns a copy of the label.
     pub fn clone(&self) -> Result<Label, AllocError>
         ensures ok { IfOk result (λ label. label ≡ self.now) }
         ensures inline { length self.now ≤ 24 → IsOk result }
-        ensures is_label { IsLabel self.now }
     {
         Ok(Label {
             bytes: SmallVec::from_slice(*self.bytes.allocator(), self.bytes.as_slice())?,
         })
     }
 
-    /// The label with its ASCII letters in lower case.
+    /// Returns the label with its ASCII letters in lower case.
     pub fn to_lowercase(&self) -> Result<Label, AllocError>
         ensures ok { IfOk result (λ label. label ≡ str_to_ascii_lowercase self.now) }
         ensures inline { length self.now ≤ 24 → IsOk result }
-        ensures is_label { IsLabel self.now }
     {
         let mut label = self.clone()?;
         label.make_lowercase();
         Ok(label)
     }
 
-    /// The allocator that the label was made with.
+    /// Returns the label's allocator.
     pub(crate) fn allocator(&self) -> Global {
         *self.bytes.allocator()
     }
 
-    /// Puts the ASCII letters into lower case.
+    /// Converts ASCII letters to lower case in place.
     fn make_lowercase(&mut self)
         ensures { self.new ≡ str_to_ascii_lowercase self.old }
     {
         self.bytes.as_mut_slice().make_ascii_lowercase();
     }
 
-    /// Whether it is the label `*` (RFC 4592 section 2.1.1).
+    /// Returns `true` if the label is `*` (RFC 4592 section 2.1.1).
     pub fn is_wildcard(&self) -> bool
-        ensures value { result ≡ bytes_eq self.now (42 ∷ []) }
-        ensures is_label { IsLabel self.now }
+        ensures { result ≡ bytes_eq self.now (42 ∷ []) }
     {
         self.as_bytes() == b"*".as_slice()
     }
 
-    /// How many bytes the label has.
+    /// Returns the number of bytes.
     pub fn len(&self) -> usize
-        ensures value { result ≡ length self.now }
-        ensures is_label { IsLabel self.now }
+        ensures { result ≡ length self.now }
     {
         self.bytes.len()
     }
 
-    /// Whether the label has no byte, which none is.
+    /// Returns `false`: a label has at least one byte.
     pub fn is_empty(&self) -> bool
-        ensures value { result ≡ (length self.now == 0) }
-        ensures is_label { IsLabel self.now }
+        ensures { result ≡ (length self.now == 0) }
     {
         self.bytes.is_empty()
     }
 
-    /// The label's bytes.
+    /// Returns the label's bytes.
     pub fn as_bytes(&self) -> &[u8]
         ensures value { result.now ≡ self.now }
         ensures is_label { IsLabel self.now }
@@ -136,10 +137,9 @@ impl Label {
         self.bytes.as_slice()
     }
 
-    /// Whether the labels are the same up to ASCII case (RFC 4343).
+    /// Returns `true` if the labels are equal, ignoring ASCII case (RFC 4343).
     pub fn eq_ignore_ascii_case(&self, other: &Label) -> bool
-        ensures value { result ≡ str_eq_ignore_ascii_case self.now other.now }
-        ensures is_label { IsLabel self.now }
+        ensures { result ≡ str_eq_ignore_ascii_case self.now other.now }
     {
         self.as_bytes().eq_ignore_ascii_case(other.as_bytes())
     }
@@ -153,12 +153,12 @@ impl Clone for Label {
     }
 }
 
-/// The first place at which a character may not stand unescaped.
+/// Returns the place of the first character that needs an escape.
 fn first_refused(text: &[u8]) -> Option<usize>
     ensures { result ≡ refused_from 0 text.now }
 {
     for place in 0..text.len() {
-        if !may_stand(place == 0, text[place]) {
+        if !is_plain_octet(place == 0, text[place]) {
             return Some(place);
         }
     }

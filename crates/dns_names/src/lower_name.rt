@@ -3,12 +3,12 @@
 ghost use Rattle.std.specs.Prelude.{◌≡◌, ◌==◌, ◌&&◌, length, IfOk};
 ghost use Rattle.std.specs.Ordering.{as_partial_cmp};
 ghost use Rattle.std.proofs.Common.{refl};
-ghost use Rattle.dns_wire.specs.Name.{AreLabels};
-ghost use Rattle.dns_names.specs.Comparison.{lower, at_or_below, same_name};
-ghost use Rattle.dns_names.specs.ComparisonEquivalence.{same_name-partial, same_name-equivalence};
-ghost use Rattle.dns_names.specs.Order.{name_cmp, name_writes};
-ghost use Rattle.dns_names.specs.OrderAgreement.{name_cmp-total, name_cmp-partial, names_agree, hashed_alike};
-ghost use Rattle.dns_names.specs.Parts.{begins_with_star, labels_counted, labels_len, base_of, wildcard_of};
+ghost use Rattle.dns_names.specs.Compare.{lower, at_or_below, same_name};
+ghost use Rattle.dns_names.specs.internal.Compare.{same_name-partial, same_name-equivalence};
+ghost use Rattle.dns_names.specs.Compare.{name_cmp, name_writes};
+ghost use Rattle.dns_names.specs.internal.Compare.{name_cmp-total, name_cmp-partial, names_agree, hashed_alike};
+ghost use Rattle.dns_names.specs.Labels.{begins_with_star, num_labels, labels_len};
+ghost use Rattle.dns_names.specs.Build.{base_name, into_wildcard};
 
 use crate::name::Name;
 use std::alloc::AllocError;
@@ -16,7 +16,7 @@ use std::cmp::Ordering;
 use std::hash::{Hash, Hasher};
 use std::marker::Model;
 
-/// A name without an ASCII capital, as a key (RFC 4343).
+/// A name without ASCII capital letters, for use as a key (RFC 4343).
 #[derive(Drop)]
 pub struct LowerName {
     name: Name,
@@ -24,8 +24,8 @@ pub struct LowerName {
 
 impl Model for LowerName {
     ghost use Rattle.std.specs.Prelude.{◌≡◌};
-    ghost use Rattle.dns_names.specs.Comparison.{lower};
-    ghost use Rattle.dns_names.specs.DomainName.{DomainName};
+    ghost use Rattle.dns_names.specs.Compare.{lower};
+    ghost use Rattle.dns_names.specs.Name.{DomainName};
 
     ghost Value = { DomainName };
 
@@ -35,17 +35,16 @@ impl Model for LowerName {
 }
 
 impl LowerName {
-    /// The name with its ASCII letters in lower case.
+    /// Creates a copy of the name with its ASCII letters in lower case.
     pub fn new(name: &Name) -> Result<LowerName, AllocError>
-        ensures ok { IfOk result (λ made. made ≡ record name.now { labels = lower name.now.labels }) }
-        ensures labels { AreLabels name.now.labels }
+        ensures { IfOk result (λ made. made ≡ record name.now { labels = lower name.now.labels }) }
     {
         Ok(LowerName {
             name: name.to_lowercase()?,
         })
     }
 
-    /// The name as a plain one.
+    /// Returns the name as a `Name`.
     pub fn as_name(&self) -> &Name
         ensures value { result.now ≡ self.now }
         ensures is_lower { lower self.now.labels ≡ self.now.labels }
@@ -53,67 +52,67 @@ impl LowerName {
         &self.name
     }
 
-    /// Whether it is the root.
+    /// Returns `true` for the root.
     pub fn is_root(&self) -> bool
         ensures { result ≡ (self.now.is_fqdn && length self.now.labels == 0) }
     {
         self.name.is_root()
     }
 
-    /// Whether the name is fully qualified.
+    /// Returns `true` if the name is fully qualified.
     pub fn is_fqdn(&self) -> bool
         ensures { result ≡ self.now.is_fqdn }
     {
         self.name.is_fqdn()
     }
 
-    /// The name above, fully qualified; a name without a label is its own.
+    /// Returns the parent name, fully qualified, or a copy of a name without labels.
     pub fn base_name(&self) -> Result<LowerName, AllocError>
-        ensures { IfOk result (λ name. name ≡ base_of self.now) }
+        ensures { IfOk result (λ name. name ≡ base_name self.now) }
     {
         Ok(LowerName {
             name: self.name.base_name()?,
         })
     }
 
-    /// Whether the name, as an origin, is at or above another.
+    /// Returns `true` if `name` is at or below this name.
     pub fn zone_of(&self, name: &LowerName) -> bool
         ensures { result ≡ at_or_below self.now.labels name.now.labels }
     {
         self.name.zone_of(&name.name)
     }
 
-    /// How many labels the name has; a leading `*` isn't counted.
+    /// Returns the number of labels, not counting a leading `*`.
     pub fn num_labels(&self) -> u8
-        ensures { result ≡ labels_counted self.now.labels }
+        ensures { result ≡ num_labels self.now.labels }
     {
         self.name.num_labels()
     }
 
-    /// How many bytes the labels take, each with one for its length, and 1 where there is none.
+    /// Returns the length of the labels with their length bytes, or 1 for a name without labels.
     pub fn len(&self) -> usize
         ensures { result ≡ labels_len self.now.labels }
     {
         self.name.len()
     }
 
-    /// Whether the length is 0, which it never is.
+    /// Returns `false`: the length is at least 1.
     pub fn is_empty(&self) -> bool
         ensures { result ≡ (labels_len self.now.labels == 0) }
     {
         self.name.is_empty()
     }
 
-    /// Whether the first label is `*`.
+    /// Returns `true` if the first label is `*`.
     pub fn is_wildcard(&self) -> bool
         ensures { result ≡ begins_with_star self.now.labels }
     {
         self.name.is_wildcard()
     }
 
-    /// The name with `*` in place of its first label.
+    /// Replaces the first label by `*`. A name without labels stays as it is.
     pub fn into_wildcard(self) -> Result<LowerName, AllocError>
-        ensures { IfOk result (λ name. name ≡ wildcard_of self) }
+        ensures { IfOk result (λ name. name ≡ into_wildcard self) }
     {
         let LowerName { name } = self;
         Ok(LowerName {
@@ -121,7 +120,7 @@ impl LowerName {
         })
     }
 
-    /// A copy of the name.
+    /// Returns a copy of the name.
     pub fn clone(&self) -> Result<LowerName, AllocError>
         ensures { IfOk result (λ name. name ≡ self.now) }
     {

@@ -1,15 +1,21 @@
 //! Domain names.
 
 ghost use Rattle.std.specs.Prelude.{◌≡◌, ◌==◌, ◌+◌, ◌<◌, ◌≤◌, ◌&&◌, [], ◌∷◌, ◌++◌, false, true, length, slice_get, slice_index_or, IfOk, IsOk, OnOk, OnErr};
-ghost use Rattle.dns_wire.specs.Name.{IsLabel, AreLabels, name_len};
-ghost use Rattle.dns_names.specs.Comparison.{lower};
-ghost use Rattle.dns_names.specs.Cut.{CutsFrom, labels_from};
+ghost use Rattle.dns_wire.specs.Name.{IsLabel, AreLabels, name_len, max_name_len};
+ghost use Rattle.dns_names.specs.Compare.{lower};
+ghost use Rattle.dns_names.specs.internal.Name.{CutsFrom, labels_from};
 
+mod build;
+mod compare;
+mod labels;
+mod wire;
+
+pub use labels::LabelIter;
 use smallvec::SmallVec;
 use std::alloc::{AllocError, Global};
 use std::marker::Model;
 
-/// A domain name (RFC 1035 section 3.1), which may be relative.
+/// A domain name (RFC 1035 section 3.1), fully qualified or relative.
 #[derive(Drop)]
 pub struct Name {
     is_fqdn: bool,
@@ -18,21 +24,22 @@ pub struct Name {
 }
 
 impl Model for Name {
-    ghost use Rattle.dns_names.specs.DomainName.{DomainName};
-    ghost use Rattle.dns_names.specs.Cut.{labels_from, IsCut};
+    ghost use Rattle.dns_names.specs.Name.{DomainName};
+    ghost use Rattle.dns_names.specs.internal.Name.{labels_from, IsCut};
 
     ghost Value = { DomainName };
 
-    ghost view = { λ n. record { is_fqdn = n.is_fqdn; labels = labels_from 0 n.label_data.items n.label_ends.items } };
+    ghost view = { λ n. record
+        { is_fqdn = n.is_fqdn; labels = labels_from 0 n.label_data.items n.label_ends.items } };
 
     ghost invariant = { λ n. IsCut n.label_data.items n.label_ends.items };
 }
 
 impl Name {
-    /// How many bytes a name may take, written whole (RFC 1035 section 2.3.4).
+    /// The maximum length of an encoded name in bytes (RFC 1035 section 2.3.4).
     pub const MAX_LENGTH: usize = 255;
 
-    /// The relative name without a label.
+    /// Creates the relative name without labels.
     pub fn new(alloc: Global) -> Self
         ensures { result ≡ record { is_fqdn = false; labels = [] } }
     {
@@ -43,7 +50,7 @@ impl Name {
         }
     }
 
-    /// The root, the fully qualified name without a label.
+    /// Creates the root, the fully qualified name without labels.
     pub fn root(alloc: Global) -> Self
         ensures { result ≡ record { is_fqdn = true; labels = [] } }
     {
@@ -54,27 +61,25 @@ impl Name {
         }
     }
 
-    /// Whether it is the root.
+    /// Returns `true` for the root.
     pub fn is_root(&self) -> bool
-        ensures value { result ≡ (self.now.is_fqdn && length self.now.labels == 0) }
-        ensures labels { AreLabels self.now.labels }
+        ensures { result ≡ (self.now.is_fqdn && length self.now.labels == 0) }
     {
         self.is_fqdn && self.label_ends.is_empty()
     }
 
-    /// Whether the name is fully qualified: whether it ends at the root.
+    /// Returns `true` if the name is fully qualified, that is, ends at the root.
     pub fn is_fqdn(&self) -> bool
-        ensures value { result ≡ self.now.is_fqdn }
-        ensures labels { AreLabels self.now.labels }
+        ensures { result ≡ self.now.is_fqdn }
     {
         self.is_fqdn
     }
 
-    /// A copy of the name. Up to 24 labels of up to 32 bytes together take no memory.
+    /// Returns a copy of the name. Up to 24 labels of up to 32 bytes in all are stored inline.
     pub fn clone(&self) -> Result<Self, AllocError>
         ensures ok { IfOk result (λ name. name ≡ self.now) }
-        ensures inline { length self.now.labels ≤ 24 → name_len self.now.labels ≤ length self.now.labels + 33 → IsOk result }
-        ensures labels { AreLabels self.now.labels }
+        ensures inline { length self.now.labels ≤ 24
+            → name_len self.now.labels ≤ length self.now.labels + 33 → IsOk result }
     {
         Ok(Name {
             is_fqdn: self.is_fqdn,
@@ -89,23 +94,24 @@ impl Name {
         })
     }
 
-    /// The name with its ASCII letters in lower case.
+    /// Returns the name with its ASCII letters in lower case.
     pub fn to_lowercase(&self) -> Result<Self, AllocError>
-        ensures ok { IfOk result (λ name. name ≡ record self.now { labels = lower self.now.labels }) }
-        ensures inline { length self.now.labels ≤ 24 → name_len self.now.labels ≤ length self.now.labels + 33 → IsOk result }
-        ensures labels { AreLabels self.now.labels }
+        ensures ok { IfOk result (λ name. name
+            ≡ record self.now { labels = lower self.now.labels }) }
+        ensures inline { length self.now.labels ≤ 24
+            → name_len self.now.labels ≤ length self.now.labels + 33 → IsOk result }
     {
         let mut name = self.clone()?;
         name.make_lowercase();
         Ok(name)
     }
 
-    /// The allocator that the name was made with.
+    /// Returns the name's allocator.
     pub(crate) fn allocator(&self) -> Global {
         *self.label_data.allocator()
     }
 
-    /// How many labels the name has, a leading `*` among them.
+    /// Returns the number of labels, with a leading `*`.
     pub(crate) fn label_count(&self) -> usize
         ensures value { result ≡ length self.now.labels }
         ensures labels { AreLabels self.now.labels }
@@ -113,7 +119,7 @@ impl Name {
         self.label_ends.len()
     }
 
-    /// How many bytes the name takes, written whole.
+    /// Returns the length of the name's uncompressed encoding.
     pub fn encoded_len(&self) -> usize
         ensures value { result ≡ name_len self.now.labels }
         ensures labels { AreLabels self.now.labels }
@@ -121,7 +127,7 @@ impl Name {
         self.label_data.len() + self.label_ends.len() + 1
     }
 
-    /// The label at a place, counted from the left.
+    /// Returns the label at an index, from the left.
     pub(crate) fn label(&self, index: usize) -> &[u8]
         requires { index < length self.now.labels }
         ensures value { slice_get self.now.labels index ≡ Some result.now }
@@ -134,11 +140,12 @@ impl Name {
         )
     }
 
-    /// Adds a label at the right.
+    /// Appends a label.
     pub(crate) fn push(&mut self, label: &[u8]) -> Result<(), AllocError>
         requires is_label { IsLabel label.now }
-        requires fits { name_len self.old.labels + (length label.now + 1) ≤ 255 }
-        ensures ok { OnOk result (self.new ≡ record self.old { labels = self.old.labels ++ label.now ∷ [] }) }
+        requires fits { name_len self.old.labels + (length label.now + 1) ≤ max_name_len }
+        ensures ok { OnOk result (self.new
+            ≡ record self.old { labels = self.old.labels ++ label.now ∷ [] }) }
         ensures err { OnErr result (self.new ≡ self.old) }
     {
         self.label_data.reserve(label.len())?;
@@ -148,14 +155,14 @@ impl Name {
         Ok(())
     }
 
-    /// Makes the name fully qualified, or relative.
+    /// Makes the name fully qualified or relative.
     pub fn set_fqdn(&mut self, is_fqdn: bool)
         ensures { self.new ≡ record self.old { is_fqdn = is_fqdn } }
     {
         self.is_fqdn = is_fqdn;
     }
 
-    /// Puts the ASCII letters into lower case.
+    /// Converts ASCII letters to lower case in place.
     fn make_lowercase(&mut self)
         ensures { self.new ≡ record self.old { labels = lower self.old.labels } }
     {
@@ -171,7 +178,7 @@ impl Clone for Name {
     }
 }
 
-/// The label at a place, cut from the bytes.
+/// Returns the label at an index, cut from the bytes.
 fn label_at<'a>(bytes: &'a [u8], ends: &[u8], index: usize) -> &'a [u8]
     requires cuts { CutsFrom 0 bytes.now ends.now }
     requires in_range { index < length ends.now }

@@ -3,7 +3,8 @@ use Rattle.std.proofs.Common.{◌≡◌, ℕ, ◌+◌, ◌<◌, ◌≤◌, Bool,
 use Rattle.std.specs.Prelude.{◌==◌, not, if◌then◌else◌}
 use Rattle.std.proofs.lemmas.Bool.Decides.{nat_tests}
 use Rattle.dns_text.specs.declared.error.LexerError.{LexerError}
-use Rattle.dns_text.specs.Tokens.{Run, Bare, InQuotes, Front, TextEnd, LineEnd, Gap, Comment, Open, Close, Quoted, Word, Unclosed, Broken, line_end, is_blank, ends_run, run_from, quoted, word, front, Place, Lexeme, Step, Skips, Gives, step_past, step, NextToken, past_nothing, at_token, at_end, at_fault}
+use Rattle.dns_text.specs.Front.{Run, Bare, InQuotes, Front, TextEnd, LineEnd, Gap, Comment, Open, Close, Quoted, Word, Unclosed, Broken, line_end, is_blank, ends_run, run_from, quoted, word, front}
+use Rattle.dns_text.specs.Lexer.{LexerState, Lexeme, Step, Skips, Yields, step_past, step, NextToken, past_nothing, at_token, at_end, at_fault}
 
 -- ---- what stands in front has a character
 
@@ -13,21 +14,21 @@ Takes (LineEnd n) = 0 < n
 Takes (Word n) = 0 < n
 Takes _ = Unit {0}
 
-run_least : (r : Run) (kept : Bool) (place : ℕ) (cs : List ℕ) (n : ℕ) → run_from r kept place cs ≡ Some n → place ≤ n
-run_least r kept place [] n e = at kept e
+run_least : (r : Run) (is_escaped : Bool) (place : ℕ) (cs : List ℕ) (n : ℕ) → run_from r is_escaped place cs ≡ Some n → place ≤ n
+run_least r is_escaped place [] n e = at is_escaped e
   where
     at : (b : Bool) → (if b then None else Some place) ≡ Some n → place ≤ n
     at true q = absurd (cc)
     at false q = let is : place ≡ n = cc in omega arith
-run_least r kept place (c ∷ cs) n e = at (ends_run r kept (c ∷ cs)) e (run_least r (not kept && c == 92) (place + 1) cs n)
+run_least r is_escaped place (c ∷ cs) n e = at (ends_run r is_escaped (c ∷ cs)) e (run_least r (not is_escaped && c == 92) (place + 1) cs n)
   where
     stop : (b : Bool) → (if b then None else Some place) ≡ Some n → place ≤ n
     stop true q = absurd (cc)
     stop false q = let is : place ≡ n = cc in omega arith
 
-    at : (b : Bool) → (if b then (if kept then None else Some place) else run_from r (not kept && c == 92) (place + 1) cs) ≡ Some n
-        → (run_from r (not kept && c == 92) (place + 1) cs ≡ Some n → place + 1 ≤ n) → place ≤ n
-    at true q more = stop kept q
+    at : (b : Bool) → (if b then (if is_escaped then None else Some place) else run_from r (not is_escaped && c == 92) (place + 1) cs) ≡ Some n
+        → (run_from r (not is_escaped && c == 92) (place + 1) cs ≡ Some n → place + 1 ≤ n) → place ≤ n
+    at true q more = stop is_escaped q
     at false q more = omega (arith, more q)
 
 -- where nothing stops it, a run has a character
@@ -76,7 +77,7 @@ takes_front c cs =
 -- with a token less is left, and without one no more
 abbrev Forward : ℕ → Step → Type 0
 Forward n (Skips next) = length next.text ≤ n
-Forward n (Gives token next) = length next.text < n
+Forward n (Yields token next) = length next.text < n
 Forward n _ = Unit {0}
 
 by_flag : (t : Bool) (n : ℕ) (x y : Step) → Forward n x → Forward n y → Forward n (if t then x else y)
@@ -89,7 +90,7 @@ no_more n text = omega (arith, length-drop n text)
 less : (n : ℕ) (text : List ℕ) → 0 < n → 0 < length text → length (drop n text) < length text
 less n text some has = omega (arith, length-drop n text)
 
-past_front : (f : Front) (p : Place) → Takes f → 0 < length p.text → Forward (length p.text) (step_past f p)
+past_front : (f : Front) (p : LexerState) → Takes f → 0 < length p.text → Forward (length p.text) (step_past f p)
 past_front TextEnd p some has = by_flag p.is_open (length p.text) _ _ tt tt
 past_front (LineEnd n) p some has = by_flag p.is_open (length p.text) _ _ (no_more n p.text) (less n p.text some has)
 past_front Gap p some has = by_flag p.is_front (length p.text) _ _ (less 1 p.text (omega arith) has) (no_more 1 p.text)
@@ -101,7 +102,7 @@ past_front (Word n) p some has = less n p.text some has
 past_front Unclosed p some has = tt
 past_front Broken p some has = tt
 
-forward : (p : Place) → Forward (length p.text) (step p)
+forward : (p : LexerState) → Forward (length p.text) (step p)
 forward p = at p.text refl
   where
     at : (text : List ℕ) → p.text ≡ text → Forward (length p.text) (step_past (front text) p)
@@ -110,7 +111,7 @@ forward p = at p.text refl
 
 -- ---- the next token
 
-shorter : {p end : Place} {found : Result (Option Lexeme) LexerError} (token : Lexeme) → NextToken p found end → found ≡ Ok (Some token) → length end.text < length p.text
+shorter : {p end : LexerState} {found : Result (Option Lexeme) LexerError} (token : Lexeme) → NextToken p found end → found ≡ Ok (Some token) → length end.text < length p.text
 shorter {p} token (past_nothing {next = next} e more) is =
     let first : length next.text ≤ length p.text = subst (Forward (length p.text)) e (forward p) in
     omega (arith, shorter token more is)
@@ -118,13 +119,13 @@ shorter {p} {end} token (at_token {token = token'} e) is = subst (Forward (lengt
 shorter token (at_end e) is = absurd (cc)
 shorter token (at_fault e) is = absurd (cc)
 
-pub each_shortens : (p next : Place) (token : Lexeme) → NextToken p (Ok (Some token)) next → length next.text < length p.text
+pub each_shortens : (p next : LexerState) (token : Lexeme) → NextToken p (Ok (Some token)) next → length next.text < length p.text
 each_shortens p next token read = shorter token read refl
 
-one_outcome : {p q r : Place} {a b : Result (Option Lexeme) LexerError} → NextToken p a q → NextToken p b r → (a ≡ b) × (q ≡ r)
+one_outcome : {p q r : LexerState} {a b : Result (Option Lexeme) LexerError} → NextToken p a q → NextToken p b r → (a ≡ b) × (q ≡ r)
 one_outcome {r = r} {b = b} (past_nothing {next = next} e more) (past_nothing {next = next'} e' more') =
     let same : next' ≡ next = cc in
-    one_outcome more (subst (λ (x : Place). NextToken x b r) same more')
+    one_outcome more (subst (λ (x : LexerState). NextToken x b r) same more')
 one_outcome (past_nothing e more) (at_token e') = absurd (cc)
 one_outcome (past_nothing e more) (at_end e') = absurd (cc)
 one_outcome (past_nothing e more) (at_fault e') = absurd (cc)
@@ -143,24 +144,24 @@ one_outcome (at_fault e) (at_end e') = absurd (cc)
 one_outcome (at_fault {error = error} e) (at_fault {error = error'} e') =
     let same : error ≡ error' = cc in (ap (λ (x : LexerError). Err x) same, refl)
 
-pub same_outcome : (p q r : Place) (a b : Result (Option Lexeme) LexerError) → NextToken p a q → NextToken p b r → (a ≡ b) × (q ≡ r)
+pub same_outcome : (p q r : LexerState) (a b : Result (Option Lexeme) LexerError) → NextToken p a q → NextToken p b r → (a ≡ b) × (q ≡ r)
 same_outcome p q r a b one other = one_outcome one other
 
 -- the end and a fault are read again
-again_at_end : {p end : Place} {found : Result (Option Lexeme) LexerError} → NextToken p found end → found ≡ Ok None → NextToken end (Ok None) end
+again_at_end : {p end : LexerState} {found : Result (Option Lexeme) LexerError} → NextToken p found end → found ≡ Ok None → NextToken end (Ok None) end
 again_at_end (past_nothing e more) is = again_at_end more is
 again_at_end (at_token e) is = absurd (cc)
 again_at_end (at_end e) is = at_end e
 again_at_end (at_fault e) is = absurd (cc)
 
-again_at_fault : {p end : Place} {found : Result (Option Lexeme) LexerError} (error : LexerError) → NextToken p found end → found ≡ Err error → NextToken end (Err error) end
+again_at_fault : {p end : LexerState} {found : Result (Option Lexeme) LexerError} (error : LexerError) → NextToken p found end → found ≡ Err error → NextToken end (Err error) end
 again_at_fault error (past_nothing e more) is = again_at_fault error more is
 again_at_fault error (at_token e) is = absurd (cc)
 again_at_fault error (at_end e) is = absurd (cc)
 again_at_fault {p} error (at_fault {error = error'} e) is = let same : error' ≡ error = cc in subst (λ (x : LexerError). NextToken p (Err x) p) same (at_fault e)
 
-pub end_stays : (p end : Place) → NextToken p (Ok None) end → NextToken end (Ok None) end
+pub end_stays : (p end : LexerState) → NextToken p (Ok None) end → NextToken end (Ok None) end
 end_stays p end read = again_at_end read refl
 
-pub fault_stays : (p end : Place) (error : LexerError) → NextToken p (Err error) end → NextToken end (Err error) end
+pub fault_stays : (p end : LexerState) (error : LexerError) → NextToken p (Err error) end → NextToken end (Err error) end
 fault_stays p end error read = again_at_fault error read refl

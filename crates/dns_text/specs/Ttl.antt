@@ -5,7 +5,7 @@ use Rattle.dns_codes.specs.Decimal.{is_digit, decimal, at_most}
 use Rattle.dns_names.specs.declared.error.ParseError.{ParseError}
 use Rattle.dns_names.specs.declared.error.ParseError.TheVariants.{Text}
 
--- how many seconds a unit has: s, m, h, d or w in any case
+-- the seconds of a unit: s, m, h, d or w in any case
 abbrev pub unit_seconds : ℕ → Option ℕ
 unit_seconds c =
     if to_ascii_lowercase c == 115 then Some 1
@@ -20,7 +20,7 @@ pub record Run : Type 0 where
   pub digits : List ℕ
   pub unit : Option ℕ
 
--- runs with a digit more in front
+-- the runs with one more digit at the front
 abbrev pub with_digit : ℕ → List Run → List Run
 with_digit c [] = record { digits = c ∷ []; unit = None } ∷ []
 with_digit c (r ∷ rs) = record { digits = c ∷ r.digits; unit = r.unit } ∷ rs
@@ -35,7 +35,7 @@ abbrev pub scale : Option ℕ → Option ℕ
 scale None = Some 1
 scale (Some c) = unit_seconds c
 
--- of two numbers, where there are two
+-- the product of two numbers, if there are two
 abbrev pub product : Option ℕ → Option ℕ → Option ℕ
 product (Some a) (Some b) = Some (a * b)
 product _ _ = None
@@ -53,16 +53,16 @@ abbrev pub seconds : List Run → Option ℕ
 seconds [] = Some 0
 seconds (r ∷ rs) = sum_of (run_seconds r) (seconds rs)
 
--- the time that a text spells, which has one run at least, up to 4,294,967,295 seconds (RFC 1035 section 3.2.1)
+-- the time that a text spells, with at least one run and up to 4,294,967,295 seconds (RFC 1035 section 3.2.1)
 abbrev pub time : List ℕ → Option ℕ
 time [] = None
 time (c ∷ cs) = at_most 4294967295 (seconds (runs (c ∷ cs)))
 
--- the place of the first character with which what was read spells no time, by what was read before it
+-- the place of the first character up to which the text is not a time, after the characters before it
 abbrev pub fault_from : List ℕ → List ℕ → ℕ
 fault_from read [] = length read
 fault_from read (c ∷ cs) = elim (time (read ++ (c ∷ []))) [ None ↦ length read | Some n ↦ fault_from (read ++ (c ∷ [])) cs ]
 
--- a text's time, or the place of its first fault, which is 0 for the empty text
+-- the time of a text, or the place of its first fault, which is 0 for the empty text
 abbrev pub ttl_of_text : List ℕ → Result ℕ ParseError
 ttl_of_text text = elim (time text) [ None ↦ Err (Text (fault_from [] text)) | Some n ↦ Ok n ]

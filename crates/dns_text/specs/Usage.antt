@@ -1,10 +1,18 @@
--- Names that are used in a way of their own (RFC 6761).
+-- Special-use names (RFC 6761).
 use Rattle.std.specs.Prelude.{true, List, ℕ, [], ◌∷◌, codes}
 use Rattle.std.specs.declared.net.ip_addr.IpAddr.TheVariants.{V6}
-use Rattle.dns_names.specs.Arpa.{reverse_name}
+use Rattle.dns_names.specs.Name.{DomainName}
+use Rattle.dns_names.specs.Reverse.{reverse_name}
 use Rattle.dns_text.specs.declared.usage.ZoneUsage.{ZoneUsage}
 use Rattle.dns_text.specs.declared.usage.ResolverUsage.{ResolverUsage}
 use Rattle.dns_text.specs.declared.usage.ResolverUsage.TheVariants.{Normal, Loopback, LinkLocal, NxDomain}
+
+-- the zone's name, and how a resolver treats its names
+abbrev pub zone_name : ZoneUsage → DomainName
+zone_name usage = usage.name
+
+abbrev pub resolver_usage : ZoneUsage → ResolverUsage
+resolver_usage usage = usage.resolver
 
 abbrev pub zone_at : List (List ℕ) → ResolverUsage → ZoneUsage
 zone_at labels resolver = record { name = record { is_fqdn = true; labels = labels }; resolver = resolver }

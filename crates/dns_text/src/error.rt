@@ -1,32 +1,32 @@
-//! Why a text has no more tokens.
+//! Lexical errors.
 
 use thiserror::Error;
 
-/// Why a zone's text has no more tokens, with the line on which it stands, counted from 1.
+/// A lexical error of a zone file, with its line, from 1.
 #[derive(Clone, Copy, Debug, PartialEq, Eq, Error)]
 pub enum LexerError {
-    /// A quoted string has to end on its line here, though RFC 1035 section 5.1 lets a line's end stand in it.
-    #[error("line {0}: a quoted string that does not end on its line")]
+    /// A quoted string does not end on its line, which RFC 1035 section 5.1 would allow.
+    #[error("line {0}: quoted string does not end on its line")]
     UnclosedQuotedString(usize),
-    /// The text ends in an entry whose parenthesis is open. The line is the entry's first.
-    #[error("line {0}: a parenthesis that is not closed")]
+    /// The text ends while a parenthesis is open. The line is the first of the entry.
+    #[error("line {0}: parenthesis is not closed")]
     UnclosedList(usize),
-    /// Parentheses don't nest here; RFC 1035 section 5.1 says nothing of it.
-    #[error("line {0}: a parenthesis inside of parentheses")]
+    /// Parentheses are nested, about which RFC 1035 section 5.1 says nothing.
+    #[error("line {0}: nested parentheses")]
     NestedList(usize),
-    /// A parenthesis is closed that was not opened.
-    #[error("line {0}: a closing parenthesis without an open one")]
+    /// A parenthesis is closed without being open.
+    #[error("line {0}: closing parenthesis without an open one")]
     UnopenedList(usize),
-    /// A backslash at the end of a line, or of the text.
-    #[error("line {0}: a backslash with nothing behind it")]
+    /// A backslash ends a line or the text.
+    #[error("line {0}: nothing follows the backslash")]
     LoneBackslash(usize),
 }
 
 impl LexerError {
     ghost use Rattle.std.specs.Prelude.{◌≡◌};
-    ghost use Rattle.dns_text.specs.FaultLine.{line_of};
+    ghost use Rattle.dns_text.specs.Error.{line_of};
 
-    /// The line of the fault, counted from 1.
+    /// Returns the line of the error, from 1.
     pub fn line(&self) -> usize
         ensures { result ≡ line_of self.now }
     {

@@ -1,46 +1,46 @@
-//! What stands in front of a zone's text (RFC 1035 section 5.1).
+//! What the text of a zone file begins with (RFC 1035 section 5.1).
 
-ghost use Rattle.std.specs.Prelude.{◌≡◌, ◌+◌, ◌<◌, ◌≤◌, ◌==◌, ◌&&◌, not, length, false, IfSome};
-ghost use Rattle.dns_text.specs.Tokens.{front, line_end, line_from, is_blank, stops, ends_run, run_from, quoted, word};
-ghost use Rattle.dns_text.specs.FrontLen.{front_len, HasSome};
-ghost use Rattle.dns_text.specs.FrontShown.{front_of, run_of};
+ghost use Rattle.std.specs.Prelude.{◌≡◌, ◌+◌, ◌≤◌, ◌==◌, ◌&&◌, not, length, false, IfSome};
+ghost use Rattle.dns_text.specs.Front.{front, line_end, line_from, stops, ends_run, run_from, quoted, word};
+ghost use Rattle.dns_text.specs.internal.Front.{front_len, HasSome};
+ghost use Rattle.dns_text.specs.internal.Front.{front_of, run_of};
 
-/// What stands in front of a text.
+/// What a text begins with.
 #[derive(Clone, Copy)]
-pub enum Front {
-    /// Nothing: the text has ended.
+pub(crate) enum Front {
+    /// Nothing: the text is empty.
     TextEnd,
-    /// The end of a line, of so many characters.
+    /// The end of a line, with its length.
     LineEnd(usize),
     /// A blank.
     Gap,
-    /// A comment of so many characters.
+    /// A comment, with its length.
     Comment(usize),
     /// An opening parenthesis.
     Open,
     /// A closing parenthesis.
     Close,
-    /// A quoted string of so many characters, without its quotes.
+    /// A quoted string, with its length without the quotes.
     Quoted(usize),
-    /// A word of so many characters.
+    /// A word, with its length.
     Word(usize),
-    /// A quoted string that doesn't end on its line.
+    /// A quoted string that does not end on its line.
     Unclosed,
-    /// A backslash with nothing behind it.
+    /// A run that ends in a backslash with nothing to escape.
     Broken,
 }
 
-/// A run of characters, in which a backslash keeps the one behind it.
+/// The kind of a run of characters, in which a backslash escapes the next one.
 #[derive(Clone, Copy)]
-pub enum Run {
-    /// A word outside of quotes.
+enum Run {
+    /// A word outside quotes.
     Bare,
-    /// What stands between quotes.
+    /// A string between quotes.
     InQuotes,
 }
 
-/// What stands in front of a text.
-pub fn find_front(text: &[u8]) -> Front
+/// Returns what a text begins with.
+pub(crate) fn find_front(text: &[u8]) -> Front
     ensures front { front_of result ≡ front text.now }
     ensures within { front_len result ≤ length text.now }
     ensures some { HasSome result }
@@ -62,9 +62,10 @@ pub fn find_front(text: &[u8]) -> Front
     }
 }
 
-/// A quoted string, by the text behind its first quote.
+/// Returns the item of a quoted string, from the text after its opening quote.
 fn quoted_front(text: &[u8]) -> Front
-    ensures front { front_of result ≡ quoted (run_from (run_of Run.InQuotes) false 0 text.now) text.now }
+    ensures front { front_of result
+        ≡ quoted (run_from (run_of Run.InQuotes) false 0 text.now) text.now }
     ensures some { HasSome result }
     ensures within { front_len result ≤ length text.now + 1 }
 {
@@ -75,7 +76,7 @@ fn quoted_front(text: &[u8]) -> Front
     }
 }
 
-/// A word, by the text that begins with it.
+/// Returns the item of a word at the start of a text.
 fn word_front(text: &[u8]) -> Front
     ensures front { front_of result ≡ word (run_from (run_of Run.Bare) false 0 text.now) }
     ensures some { HasSome result }
@@ -87,36 +88,36 @@ fn word_front(text: &[u8]) -> Front
     }
 }
 
-/// How many characters a run has, unless it ends in a backslash with nothing behind it.
+/// Returns the length of a run, unless it ends in a backslash with nothing to escape.
 fn run_len(run: Run, text: &[u8]) -> Option<usize>
     ensures value { result ≡ run_from (run_of run) false 0 text.now }
     ensures within { IfSome result (λ len. len ≤ length text.now) }
 {
-    let mut kept = false;
+    let mut is_escaped = false;
     for place in 0..text.len() {
-        if is_end_of_run(run, kept, &text[place..]) {
-            return if kept { None } else { Some(place) };
+        if is_end_of_run(run, is_escaped, &text[place..]) {
+            return if is_escaped { None } else { Some(place) };
         }
-        kept = keeps_next(kept, text[place]);
+        is_escaped = escapes_next(is_escaped, text[place]);
     }
-    if kept { None } else { Some(text.len()) }
+    if is_escaped { None } else { Some(text.len()) }
 }
 
-/// Whether a run ends in front of a text: at a line's end, and where a character stops it that no backslash keeps.
-fn is_end_of_run(run: Run, kept: bool, text: &[u8]) -> bool
-    ensures { result ≡ ends_run (run_of run) kept text.now }
+/// Returns `true` if a run ends at the start of a text: at the end of a line, or at an unescaped character that stops it.
+fn is_end_of_run(run: Run, is_escaped: bool, text: &[u8]) -> bool
+    ensures { result ≡ ends_run (run_of run) is_escaped text.now }
 {
-    text.is_empty() || line_ending(text) > 0 || !kept && is_stop(run, text[0])
+    text.is_empty() || line_ending(text) > 0 || !is_escaped && is_stop(run, text[0])
 }
 
-/// Whether a character is a backslash that keeps the one behind it, by whether it is kept itself.
-fn keeps_next(kept: bool, character: u8) -> bool
-    ensures { result ≡ (not kept && character == 92) }
+/// Returns `true` if a character is a backslash that escapes the next one, given whether it is escaped itself.
+fn escapes_next(is_escaped: bool, character: u8) -> bool
+    ensures { result ≡ (not is_escaped && character == 92) }
 {
-    !kept && character == b'\\'
+    !is_escaped && character == b'\\'
 }
 
-/// Whether a character stops a run.
+/// Returns `true` if a character stops a run.
 fn is_stop(run: Run, character: u8) -> bool
     ensures { result ≡ stops (run_of run) character }
 {
@@ -126,7 +127,7 @@ fn is_stop(run: Run, character: u8) -> bool
     }
 }
 
-/// How many characters stand before the line's end.
+/// Returns the number of characters before the end of the line.
 fn line_len(text: &[u8]) -> usize
     ensures value { result ≡ line_from 0 text.now }
     ensures within { result ≤ length text.now }
@@ -139,7 +140,7 @@ fn line_len(text: &[u8]) -> usize
     text.len()
 }
 
-/// How many characters in front end a line: a line feed, and a carriage return right before it.
+/// Returns the length of the line ending at the start of a text: a line feed, or a carriage return and a line feed.
 fn line_ending(text: &[u8]) -> usize
     ensures value { result ≡ line_end text.now }
     ensures within { result ≤ length text.now }

@@ -1,28 +1,28 @@
-//! What names are made of.
+//! Conversion into names.
 
-ghost use Rattle.std.specs.Prelude.{◌≡◌, ◌≢◌, Result, Option, Ok, Err, Some, None, IfOk, IfErr, string_bytes, List, ℕ};
+ghost use Rattle.std.specs.Prelude.{◌≡◌, Result, Option, Ok, None, string_bytes};
+ghost use Rattle.dns_wire.specs.Error.{IsUnless};
 ghost use Rattle.std.specs.declared.net.ip_addr.IpAddr.{IpAddr};
-ghost use Rattle.dns_text.specs.AddressText.{IsTextOf};
-ghost use Rattle.dns_names.specs.DomainName.{DomainName};
-ghost use Rattle.dns_names.specs.Text.{name_of_text};
+ghost use Rattle.dns_text.specs.IntoName.{IsTextOf};
+ghost use Rattle.dns_names.specs.Name.{DomainName};
+ghost use Rattle.dns_names.specs.Parse.{name_of_text};
 ghost use Rattle.dns_names.specs.declared.error.ParseError.{ParseError};
 
 use dns_names::{Name, ParseError};
 use std::alloc::Global;
 use std::net::IpAddr;
 
-/// What a name can be made of: a name, or text. A text may be that of an address.
+/// A value that converts into a name: a name, or text, which may also spell an address.
 pub trait IntoName: Sized {
     ghost name: { Self → Result DomainName ParseError };
 
     ghost is_ip: { Self → Option IpAddr → Type 0 };
 
-    /// The name.
+    /// Converts the value into a name.
     fn into_name(self, alloc: Global) -> Result<Name, ParseError>
-        ensures ok { IfOk result (λ made. name self ≡ Ok made) }
-        ensures refused { IfErr result (λ error. error ≢ ParseError.Memory → name self ≡ Err error) };
+        ensures { IsUnless ParseError.Memory (name self) result };
 
-    /// The address that the text is, if it is one.
+    /// Returns the address that the text spells, if it spells one.
     fn to_ip(&self) -> Option<IpAddr>
         ensures { is_ip self.now result };
 }
@@ -83,7 +83,7 @@ impl IntoName for String {
     }
 }
 
-/// The address that a text is, if it is one.
+/// Returns the address that a text spells, if it spells one.
 fn ip_of(text: &str) -> Option<IpAddr>
     ensures { IsTextOf text.now result }
 {

@@ -1,29 +1,28 @@
-//! The tokens of a zone's text, one after another (RFC 1035 section 5.1).
+//! The lexer of zone files (RFC 1035 section 5.1).
 
-ghost use Rattle.std.specs.Prelude.{◌≡◌, ◌+◌, ◌<◌, ◌≤◌, Ok, Err, true, false, drop, take, length};
-ghost use Rattle.dns_text.specs.Tokens.{NextToken, start, step, step_past, front, past};
-ghost use Rattle.dns_text.specs.TokenShown.{answer, lexeme};
-ghost use Rattle.dns_text.specs.FrontLen.{front_len, HasSome};
-ghost use Rattle.dns_text.specs.FrontShown.{front_of};
-ghost use Rattle.dns_text.specs.Looked.{step_of, Stays};
+ghost use Rattle.std.specs.Prelude.{◌≡◌, ◌+◌, ◌<◌, ◌≤◌, Ok, drop, length};
+ghost use Rattle.dns_text.specs.Lexer.{NextToken, start, step, step_past, past};
+ghost use Rattle.dns_text.specs.Token.{answer};
+ghost use Rattle.dns_text.specs.internal.Front.{front_of};
+ghost use Rattle.dns_text.specs.internal.Lexer.{step_of, Stays};
 
 use crate::error::LexerError;
 use crate::front::{Front, find_front};
 use crate::token::{Token, token_of_word};
 use std::marker::Model;
 
-/// What a look at the front of the text gives.
+/// The outcome of scanning one item of the text.
 #[derive(Clone, Copy)]
-enum Look<'a> {
-    /// Nothing that makes a token.
+enum Scan<'a> {
+    /// No token, as for a comment.
     Nothing,
     Found(Token<'a>),
     AtEnd,
 }
 
-/// A reader of the tokens of a zone's text, which is lent. Entries end at a line's end outside of parentheses, `;` begins
-/// a comment, a backslash keeps the character behind it, and a quoted string may hold blanks and `;` (RFC 1035
-/// section 5.1). A line ends at a line feed, or at a carriage return with a line feed right behind it.
+/// A lexer over the borrowed text of a zone file. An entry ends at the end of a line outside parentheses, `;` begins a
+/// comment, a backslash escapes the next character, and a quoted string may contain blanks and `;` (RFC 1035 section 5.1).
+/// A line ends at a line feed, or at a carriage return and a line feed.
 #[derive(Drop)]
 pub struct Lexer<'a> {
     text: &'a [u8],
@@ -35,17 +34,23 @@ pub struct Lexer<'a> {
 
 impl<'a> Model for Lexer<'a> {
     ghost use Rattle.std.specs.Prelude.{◌+◌, ◌<◌, ◌^◌, length};
-    ghost use Rattle.dns_text.specs.Tokens.{Place};
+    ghost use Rattle.dns_text.specs.Lexer.{LexerState};
 
-    ghost Value = { Place };
+    ghost Value = { LexerState };
 
-    ghost view = { λ l. record { text = l.text.now; line = l.line; entry = l.entry; is_open = l.is_open; is_front = l.is_front } };
+    ghost view = { λ l. record {
+      text = l.text.now;
+      line = l.line;
+      entry = l.entry;
+      is_open = l.is_open;
+      is_front = l.is_front;
+    } };
 
     ghost invariant = { λ l. l.line + length l.text.now < 2 ^ 64 };
 }
 
 impl<'a> Lexer<'a> {
-    /// A reader at the front of a text.
+    /// Creates a lexer at the start of a text.
     pub fn new(text: &'a str) -> Self
         ensures { result ≡ start text.now }
     {
@@ -58,39 +63,38 @@ impl<'a> Lexer<'a> {
         }
     }
 
-    /// The next token, or none at the text's end. At a fault the reader stays there, and each further call gives it
-    /// again.
+    /// Returns the next token, or `None` at the end of the text. After an error each further call returns it again.
     pub fn next_token(&mut self) -> Result<Option<Token<'a>>, LexerError>
         ensures { NextToken self.old (answer result) self.new }
     {
         loop {
-            match self.look()? {
-                Look::Nothing => {}
-                Look::Found(token) => return Ok(Some(token)),
-                Look::AtEnd => return Ok(None),
+            match self.scan()? {
+                Scan::Nothing => {}
+                Scan::Found(token) => return Ok(Some(token)),
+                Scan::AtEnd => return Ok(None),
             }
         }
     }
 
-    /// The line at which the reader stands, counted from 1. Inside a parenthesis the next token may stand further on.
+    /// Returns the current line, from 1. Inside parentheses the next token may be on a later line.
     pub fn line(&self) -> usize
         ensures { result ≡ self.now.line }
     {
         self.line
     }
 
-    /// The line on which the entry began that is being read, counted from 1.
+    /// Returns the line on which the current entry begins, from 1.
     pub fn entry_line(&self) -> usize
         ensures { result ≡ self.now.entry }
     {
         self.entry
     }
 
-    /// Takes what stands in front.
-    fn look(&mut self) -> Result<Look<'a>, LexerError>
-        ensures looked { step self.old ≡ step_of result self.new }
+    /// Scans the first item of the text.
+    fn scan(&mut self) -> Result<Scan<'a>, LexerError>
+        ensures steps { step self.old ≡ step_of result self.new }
         ensures stays { Stays result self.old self.new }
-        ensures moves { result ≡ Ok Look.Nothing → length self.new.text < length self.old.text }
+        ensures moves { result ≡ Ok Scan.Nothing → length self.new.text < length self.old.text }
     {
         match find_front(self.text) {
             Front::TextEnd => self.end_text(),
@@ -98,113 +102,116 @@ impl<'a> Lexer<'a> {
             Front::Gap => Ok(self.take_gap()),
             Front::Comment(len) => {
                 self.text = &self.text[len..];
-                Ok(Look::Nothing)
+                Ok(Scan::Nothing)
             }
             Front::Open => self.open_list(),
             Front::Close => self.close_list(),
-            Front::Quoted(len) => Ok(Look::Found(self.take_quoted(len))),
-            Front::Word(len) => Ok(Look::Found(self.take_word(len))),
+            Front::Quoted(len) => Ok(Scan::Found(self.take_quoted(len))),
+            Front::Word(len) => Ok(Scan::Found(self.take_word(len))),
             Front::Unclosed => Err(LexerError::UnclosedQuotedString(self.line)),
             Front::Broken => Err(LexerError::LoneBackslash(self.line)),
         }
     }
 
-    /// Ends the text, which may not leave a parenthesis open.
-    fn end_text(&mut self) -> Result<Look<'a>, LexerError>
-        ensures looked { step_past (front_of Front.TextEnd) self.old ≡ step_of result self.new }
+    /// Ends the text, unless a parenthesis is open.
+    fn end_text(&mut self) -> Result<Scan<'a>, LexerError>
+        ensures steps { step_past (front_of Front.TextEnd) self.old ≡ step_of result self.new }
         ensures stays { self.new ≡ self.old }
     {
         if self.is_open {
             return Err(LexerError::UnclosedList(self.entry));
         }
-        Ok(Look::AtEnd)
+        Ok(Scan::AtEnd)
     }
 
-    /// Ends a line, and the entry with it, unless a parenthesis is open.
-    fn end_line(&mut self, len: usize) -> Look<'a>
+    /// Ends a line, and the entry unless a parenthesis is open.
+    fn end_line(&mut self, len: usize) -> Scan<'a>
         requires some { 0 < len }
         requires within { len ≤ length self.old.text }
-        ensures looked { step_past (front_of (Front.LineEnd len)) self.old ≡ step_of (Ok result) self.new }
+        ensures steps { step_past (front_of (Front.LineEnd len)) self.old
+            ≡ step_of (Ok result) self.new }
         ensures moved { self.new.text ≡ drop len self.old.text }
         ensures stays { Stays (Ok result) self.old self.new }
     {
         self.text = &self.text[len..];
         self.line += 1;
         if self.is_open {
-            return Look::Nothing;
+            return Scan::Nothing;
         }
         self.entry = self.line;
         self.is_front = true;
-        Look::Found(Token::EOL)
+        Scan::Found(Token::EOL)
     }
 
-    /// Takes a blank.
-    fn take_gap(&mut self) -> Look<'a>
+    /// Consumes a blank.
+    fn take_gap(&mut self) -> Scan<'a>
         requires { 0 < length self.old.text }
-        ensures looked { step_past (front_of Front.Gap) self.old ≡ step_of (Ok result) self.new }
+        ensures steps { step_past (front_of Front.Gap) self.old ≡ step_of (Ok result) self.new }
         ensures moved { self.new.text ≡ drop 1 self.old.text }
         ensures stays { Stays (Ok result) self.old self.new }
     {
         let is_front = self.is_front;
         self.advance(1);
         if is_front {
-            Look::Found(Token::Blank)
+            Scan::Found(Token::Blank)
         } else {
-            Look::Nothing
+            Scan::Nothing
         }
     }
 
     /// Opens a parenthesis.
-    fn open_list(&mut self) -> Result<Look<'a>, LexerError>
+    fn open_list(&mut self) -> Result<Scan<'a>, LexerError>
         requires { 0 < length self.old.text }
-        ensures looked { step_past (front_of Front.Open) self.old ≡ step_of result self.new }
+        ensures steps { step_past (front_of Front.Open) self.old ≡ step_of result self.new }
         ensures stays { Stays result self.old self.new }
-        ensures moves { result ≡ Ok Look.Nothing → length self.new.text < length self.old.text }
+        ensures moves { result ≡ Ok Scan.Nothing → length self.new.text < length self.old.text }
     {
         if self.is_open {
             return Err(LexerError::NestedList(self.line));
         }
         self.advance(1);
         self.is_open = true;
-        Ok(Look::Nothing)
+        Ok(Scan::Nothing)
     }
 
     /// Closes a parenthesis.
-    fn close_list(&mut self) -> Result<Look<'a>, LexerError>
+    fn close_list(&mut self) -> Result<Scan<'a>, LexerError>
         requires { 0 < length self.old.text }
-        ensures looked { step_past (front_of Front.Close) self.old ≡ step_of result self.new }
+        ensures steps { step_past (front_of Front.Close) self.old ≡ step_of result self.new }
         ensures stays { Stays result self.old self.new }
-        ensures moves { result ≡ Ok Look.Nothing → length self.new.text < length self.old.text }
+        ensures moves { result ≡ Ok Scan.Nothing → length self.new.text < length self.old.text }
     {
         if !self.is_open {
             return Err(LexerError::UnopenedList(self.line));
         }
         self.advance(1);
         self.is_open = false;
-        Ok(Look::Nothing)
+        Ok(Scan::Nothing)
     }
 
-    /// Takes a quoted string.
+    /// Consumes a quoted string.
     fn take_quoted(&mut self, len: usize) -> Token<'a>
         requires { len + 2 ≤ length self.old.text }
-        ensures { step_past (front_of (Front.Quoted len)) self.old ≡ step_of (Ok (Look.Found result)) self.new }
+        ensures { step_past (front_of (Front.Quoted len)) self.old
+            ≡ step_of (Ok (Scan.Found result)) self.new }
     {
         let string = &self.text[1..len + 1];
         self.advance(len + 2);
         Token::Quoted(string)
     }
 
-    /// Takes a word.
+    /// Consumes a word.
     fn take_word(&mut self, len: usize) -> Token<'a>
         requires { len ≤ length self.old.text }
-        ensures { step_past (front_of (Front.Word len)) self.old ≡ step_of (Ok (Look.Found result)) self.new }
+        ensures { step_past (front_of (Front.Word len)) self.old
+            ≡ step_of (Ok (Scan.Found result)) self.new }
     {
         let token = token_of_word(self.is_front, &self.text[..len]);
         self.advance(len);
         token
     }
 
-    /// Goes past so many characters of an entry.
+    /// Consumes `len` characters of an entry.
     fn advance(&mut self, len: usize)
         requires { len ≤ length self.old.text }
         ensures { self.new ≡ past len self.old }

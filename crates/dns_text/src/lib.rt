@@ -1,16 +1,18 @@
-//! What stands on names: how some are used (RFC 6761), what they are made of, and the tokens and times of a zone's text
-//! (RFC 1035 section 5.1).
+//! Names and zone files as text: tokens and times (RFC 1035 section 5.1), special-use names (RFC 6761), and conversion into
+//! names.
 //!
-//! - `usage`: zones whose names a resolver treats in a way of their own; `into_name`: what a name is made of;
-//! - `token`, `lexer`: the tokens of a zone's text; `front`: what stands in front of one; `error`: why there are no more;
-//! - `ttl`: times to live in text;
-//! - `laws`: what these mean together, for the crates above.
+//! The lexer yields exactly the tokens that the definitions derive from the text, or its first fault with its line. A time
+//! parses to the sum of its runs, or fails at the first character that no time can have there.
+//!
+//! - `lexer`: the tokens of a zone file; `token`: their type; `front`: what a text begins with; `error`: lexical errors
+//! - `ttl`: times to live; `into_name`: what converts into a name; `usage`: zones of special-use names
+//! - `laws`: theorems about these definitions
 #![tactic(auto)]
 
 mod error;
 mod front;
 mod into_name;
-mod laws;
+pub mod laws;
 mod lexer;
 mod token;
 mod ttl;
@@ -18,10 +20,6 @@ pub mod usage;
 
 pub use error::LexerError;
 pub use into_name::IntoName;
-pub use laws::{
-    each_token_shortens_the_text, readings_have_one_outcome, what_begins_a_time_is_one,
-    what_stands_in_front_is_one_thing,
-};
 pub use lexer::Lexer;
 pub use token::Token;
 pub use ttl::parse_ttl;

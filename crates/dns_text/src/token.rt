@@ -1,31 +1,31 @@
-//! Tokens of a zone's text (RFC 1035 section 5.1).
+//! Tokens of zone files (RFC 1035 section 5.1).
 
 ghost use Rattle.std.specs.Prelude.{◌≡◌};
-ghost use Rattle.dns_text.specs.Tokens.{word_token};
-ghost use Rattle.dns_text.specs.TokenShown.{lexeme};
+ghost use Rattle.dns_text.specs.Lexer.{word_token};
+ghost use Rattle.dns_text.specs.Token.{lexeme};
 
-/// A token of a zone's text. Words and strings are lent, with their escapes as they are written.
+/// A token of a zone file. Words and strings are borrowed, with their escapes.
 #[derive(Clone, Copy, Debug, PartialEq, Eq)]
 pub enum Token<'a> {
-    /// Blanks in front of an entry: its owner is the one before.
+    /// Blanks at the start of an entry, which has the owner of the entry before.
     Blank,
     /// A word.
     CharData(&'a [u8]),
-    /// What stands between quotes.
+    /// A quoted string, without its quotes.
     Quoted(&'a [u8]),
-    /// The word `@`, which stands for the origin.
+    /// The word `@`, which denotes the origin.
     At,
-    /// `$INCLUDE` in front of an entry.
+    /// `$INCLUDE` at the start of an entry.
     Include,
-    /// `$ORIGIN` in front of an entry.
+    /// `$ORIGIN` at the start of an entry.
     Origin,
-    /// `$TTL` in front of an entry (RFC 2308 section 4).
+    /// `$TTL` at the start of an entry (RFC 2308 section 4).
     Ttl,
-    /// The end of an entry: that of a line outside of parentheses.
+    /// The end of an entry, at the end of a line outside parentheses.
     EOL,
 }
 
-/// The token of a word.
+/// Returns the token of a word.
 pub(crate) fn token_of_word(is_front: bool, text: &[u8]) -> Token<'_>
     ensures { lexeme result ≡ word_token is_front text.now }
 {

@@ -1,28 +1,28 @@
-//! Names that are used in a way of their own (RFC 6761).
+//! Special-use names (RFC 6761).
 
-ghost use Rattle.std.specs.Prelude.{◌≡◌, ◌+◌, ◌≤◌, ◌++◌, ◌∷◌, [], length, IfOk};
-ghost use Rattle.dns_wire.specs.Name.{IsLabel, name_len};
-ghost use Rattle.dns_names.specs.Comparison.{at_or_below};
-ghost use Rattle.dns_text.specs.Usage.{localhost_zone, in_addr_arpa_127_zone, ip6_arpa_1_zone, local_zone, invalid_zone, onion_zone, root_zone};
+ghost use Rattle.std.specs.Prelude.{◌≡◌, ◌+◌, ◌≤◌, ◌++◌, ◌∷◌, [], IfOk};
+ghost use Rattle.dns_wire.specs.Name.{IsLabel, name_len, max_name_len};
+ghost use Rattle.dns_names.specs.Compare.{at_or_below};
+ghost use Rattle.dns_text.specs.Usage.{zone_name, resolver_usage, localhost_zone, in_addr_arpa_127_zone, ip6_arpa_1_zone, local_zone, invalid_zone, onion_zone, root_zone};
 
 use dns_names::Name;
 use std::alloc::{AllocError, Global};
 use std::net::{IpAddr, Ipv6Addr};
 
-/// What a resolver does with names of a zone (RFC 6761 section 5).
+/// How a resolver treats the names of a zone (RFC 6761 section 5).
 #[derive(Clone, Copy, Debug, PartialEq, Eq)]
 pub enum ResolverUsage {
-    /// They are asked as any other.
+    /// It queries them as any other name.
     Normal,
-    /// They are the own host's.
+    /// They denote the local host.
     Loopback,
-    /// They are the own link's.
+    /// They belong to the local link.
     LinkLocal,
-    /// There are none.
+    /// They do not exist.
     NxDomain,
 }
 
-/// A zone, and how its names are used.
+/// A zone of special-use names.
 #[derive(Drop)]
 pub struct ZoneUsage {
     name: Name,
@@ -30,23 +30,23 @@ pub struct ZoneUsage {
 }
 
 impl ZoneUsage {
-    /// The zone's name.
+    /// Returns the zone's name.
     pub fn name(&self) -> &Name
-        ensures { result.now ≡ self.now.name }
+        ensures { result.now ≡ zone_name self.now }
     {
         &self.name
     }
 
-    /// Whether a name lies at or below the zone.
+    /// Returns `true` if a name is at or below the zone.
     pub fn zone_of(&self, name: &Name) -> bool
-        ensures { result ≡ at_or_below self.now.name.labels name.now.labels }
+        ensures { result ≡ at_or_below (zone_name self.now).labels name.now.labels }
     {
         self.name.zone_of(name)
     }
 
-    /// What a resolver does with the zone's names.
+    /// Returns how a resolver treats the zone's names.
     pub fn resolver(&self) -> ResolverUsage
-        ensures { result ≡ self.now.resolver }
+        ensures { result ≡ resolver_usage self.now }
     {
         self.resolver
     }
@@ -62,7 +62,7 @@ pub fn localhost(alloc: Global) -> Result<ZoneUsage, AllocError>
     })
 }
 
-/// `127.in-addr.arpa.`, the addresses of the own host (RFC 6303 section 4.2).
+/// `127.in-addr.arpa.`, the loopback addresses (RFC 6303 section 4.2).
 pub fn in_addr_arpa_127(alloc: Global) -> Result<ZoneUsage, AllocError>
     ensures { IfOk result (λ usage. usage ≡ in_addr_arpa_127_zone) }
 {
@@ -74,7 +74,7 @@ pub fn in_addr_arpa_127(alloc: Global) -> Result<ZoneUsage, AllocError>
     })
 }
 
-/// The name of `::1`, the address of the own host (RFC 6303 section 4.3).
+/// The name of `::1`, the loopback address (RFC 6303 section 4.3).
 pub fn ip6_arpa_1(alloc: Global) -> Result<ZoneUsage, AllocError>
     ensures { IfOk result (λ usage. usage ≡ ip6_arpa_1_zone) }
 {
@@ -84,7 +84,7 @@ pub fn ip6_arpa_1(alloc: Global) -> Result<ZoneUsage, AllocError>
     })
 }
 
-/// `local.`, the own link's names (RFC 6762 section 3).
+/// `local.`, the names of the local link (RFC 6762 section 3).
 pub fn local(alloc: Global) -> Result<ZoneUsage, AllocError>
     ensures { IfOk result (λ usage. usage ≡ local_zone) }
 {
@@ -124,14 +124,15 @@ pub fn default(alloc: Global) -> ZoneUsage
     }
 }
 
-/// A name with a label at its right, which is one and fits. So only memory can be refused.
+/// Appends a label that fits, so the only possible error is that of memory.
 fn with_label(name: Name, label: &[u8]) -> Result<Name, AllocError>
     requires is_label { IsLabel label.now }
-    requires fits { name_len (name.labels ++ label.now ∷ []) ≤ 255 }
+    requires fits { name_len (name.labels ++ label.now ∷ []) ≤ max_name_len }
     ensures { IfOk result (λ made. made ≡ record name { labels = name.labels ++ label.now ∷ [] }) }
 {
     match name.append_label(label) {
         Ok(made) => Ok(made),
+        // The label is valid and fits, so the only error left is that of memory.
         Err(_) => Err(AllocError),
     }
 }

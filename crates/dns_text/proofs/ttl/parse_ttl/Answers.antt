@@ -3,15 +3,15 @@ use Rattle.std.proofs.lemmas.Bool.Decides.{nat_tests}
 use Rattle.dns_text.proofs.TtlLaws.{looked_at, one_further, refused_for_character, refused_for_size, read_whole}
 use Rattle.dns_text.proofs.ttl.parse_ttl.Goals as goal
 
-pub returns-in_default-clause-refused : goal.returns-in_default-clause-refused
-returns-in_default-clause-refused c =
-    refused_for_size c.args.text.now c.loop-place.so_far c.in-Some.next c.loop-place.place c.loop-place.invariant.so_far (omega (arith, c.as_bytes-bytes.ensures.len))
-    (looked_at c.loop-place.so_far c.args.text.now c.as_bytes-bytes.result.now c.loop-place.place (Some c.in-Some.next) c.as_bytes-bytes.ensures.value (sym c.with_character.ensures.value ∙ c.in-Some.is)) (omega arith)
+pub returns-in_default : goal.returns-in_default
+returns-in_default c =
+    sym (refused_for_size c.args.text.now c.loop-place.so_far c.in-Some.next c.loop-place.place c.loop-place.invariant.so_far (omega (arith, c.as_bytes-bytes.ensures.len))
+    (looked_at c.loop-place.so_far c.args.text.now c.as_bytes-bytes.result.now c.loop-place.place (Some c.in-Some.next) c.as_bytes-bytes.ensures.value (sym c.with_character.ensures.value ∙ c.in-Some.is)) (omega arith))
 
-pub returns-in_default-2-clause-refused : goal.returns-in_default-2-clause-refused
-returns-in_default-2-clause-refused c =
-    refused_for_character c.args.text.now c.loop-place.so_far c.loop-place.place c.loop-place.invariant.so_far (omega (arith, c.as_bytes-bytes.ensures.len))
-    (looked_at c.loop-place.so_far c.args.text.now c.as_bytes-bytes.result.now c.loop-place.place None c.as_bytes-bytes.ensures.value (sym c.with_character.ensures.value ∙ c.in_default.is))
+pub returns-in_default-2 : goal.returns-in_default-2
+returns-in_default-2 c =
+    sym (refused_for_character c.args.text.now c.loop-place.so_far c.loop-place.place c.loop-place.invariant.so_far (omega (arith, c.as_bytes-bytes.ensures.len))
+    (looked_at c.loop-place.so_far c.args.text.now c.as_bytes-bytes.result.now c.loop-place.place None c.as_bytes-bytes.ensures.value (sym c.with_character.ensures.value ∙ c.in_default.is)))
 
 pub loop-place-preserved : goal.loop-place-preserved
 loop-place-preserved c = record {
@@ -20,8 +20,8 @@ loop-place-preserved c = record {
   small = omega arith;
 }
 
-pub returns-clause-ok : goal.returns-clause-ok
-returns-clause-ok c =
+pub returns : goal.returns
+returns c =
     let some : 0 < length c.args.text.now = grind (arith, nat_tests, c.if-is_empty.ensures, c.as_bytes-bytes.ensures.len) in
-    read_whole c.args.text.now c.loop-place.so_far c.loop-place.place c.loop-place.invariant.so_far some (omega (arith, c.as_bytes-bytes.ensures.len)) (omega arith)
-    ∙ ap (λ (n : ℕ). Ok n) (sym c.total_of-2.ensures)
+    sym (read_whole c.args.text.now c.loop-place.so_far c.loop-place.place c.loop-place.invariant.so_far some (omega (arith, c.as_bytes-bytes.ensures.len)) (omega arith)
+    ∙ ap (λ (n : ℕ). Ok n) (sym c.total_of-2.ensures))

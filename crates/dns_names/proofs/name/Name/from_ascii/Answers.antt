@@ -1,8 +1,8 @@
 use Rattle.std.proofs.Common.{◌≡◌, ◌-◌, ◌<◌, ◌∙◌, List, ℕ, length, take, drop, ap, length-drop, arith}
 use Rattle.std.proofs.lemmas.List.{take_all}
-use Rattle.dns_names.specs.BegunText.{begun}
-use Rattle.dns_names.specs.SymbolShown.{symbol_of}
-use Rattle.dns_names.specs.Text.{symbol, more_len}
+use Rattle.dns_names.specs.internal.Parse.{partial_name_of}
+use Rattle.dns_names.specs.internal.Symbol.{symbol_of}
+use Rattle.dns_names.specs.Parse.{symbol, more_len}
 use Rattle.dns_names.proofs.TextLaws.{goes_on}
 use Rattle.dns_names.proofs.name.Name.from_ascii.Goals as goal
 
@@ -19,5 +19,5 @@ loop-place-preserved c =
     let len : c.next_symbol-symbol.result.1 ≡ more_len (drop c.loop-place.place c.args.text.now) = c.next_symbol-symbol.ensures.more ∙ ap more_len slice in
     record {
       same_text = inv.same_text;
-      completes = inv.completes ∙ goes_on (begun c.loop-place.begun) (begun c.take.new.self) c.loop-place.place c.args.text.now (symbol_of c.next_symbol-symbol.result.0) c.next_symbol-symbol.result.1 within is len c.in_ok-take.ensures.ok;
+      completes = inv.completes ∙ goes_on (partial_name_of c.loop-place.partial) (partial_name_of c.push_symbol.new.self) c.loop-place.place c.args.text.now (symbol_of c.next_symbol-symbol.result.0) c.next_symbol-symbol.result.1 within is len c.in_ok-push_symbol.ensures.ok;
     }

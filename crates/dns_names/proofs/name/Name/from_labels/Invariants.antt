@@ -1,5 +1,5 @@
 use Rattle.std.proofs.Common.{◌≡◌, Ok}
-use Rattle.dns_names.specs.Building.{with_each, root_name}
+use Rattle.dns_names.specs.Build.{append_each, root_name}
 use Rattle.dns_names.proofs.name.Name.from_labels.Given as goal
 
 -- the labels so far
@@ -7,4 +7,4 @@ abbrev pub invariant-loop-label : goal.invariant-loop-label
 invariant-loop-label g l =
     (goal.iterator-loop-label g).can_next l.label-iterator
     × (goal.iterator-loop-label g).is_finite l.label-iterator
-    × (with_each g.L.IntoLabel.label root_name l.yielded ≡ Ok l.name)
+    × (append_each g.L.IntoLabel.label root_name l.yielded ≡ Ok l.name)

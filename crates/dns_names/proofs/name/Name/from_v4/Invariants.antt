@@ -1,12 +1,12 @@
 use Rattle.std.proofs.Common.{◌≡◌, ◌≤◌, ◌+◌, ◌-◌, ◌*◌, ◌∷◌, [], true, drop}
 use Rattle.dns_wire.specs.Name.{name_len}
-use Rattle.dns_names.specs.Arpa.{reversed, decimal_label}
+use Rattle.dns_names.specs.Reverse.{in_reverse, decimal_label}
 use Rattle.dns_names.proofs.name.Name.from_v4.Given as goal
 
 -- the labels of the last octets
 abbrev pub invariant-loop-index : goal.invariant-loop-index
 invariant-loop-index l = record {
-  labels : l.name.labels ≡ reversed (λ n. decimal_label n ∷ []) (drop (4 - l.index) l.octets);
+  labels : l.name.labels ≡ in_reverse (λ n. decimal_label n ∷ []) (drop (4 - l.index) l.octets);
   is_fqdn : l.name.is_fqdn ≡ true;
   short : name_len l.name.labels ≤ 1 + 4 * l.index;
 }

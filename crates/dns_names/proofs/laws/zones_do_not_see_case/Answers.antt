@@ -1,5 +1,0 @@
-use Rattle.dns_names.proofs.ComparisonLaws.{at_or_below-lower}
-use Rattle.dns_names.proofs.laws.zones_do_not_see_case.Goals as goal
-
-pub returns : goal.returns
-returns c = at_or_below-lower

@@ -1,0 +1,152 @@
+//! Names from text (RFC 1035 section 5.1).
+
+ghost use Rattle.std.specs.Prelude.{◌≡◌, ◌≢◌, ◌<◌, Ok, Err, false, length, IfErr, OnOk, option_map};
+ghost use Rattle.dns_names.specs.Parse.{name_of_text, finish, push_symbol, push_octet, end_label, is_plain_octet};
+ghost use Rattle.dns_names.specs.Build.{parse_name};
+ghost use Rattle.dns_wire.specs.Error.{IsUnless};
+
+use super::symbol::{Symbol, next_symbol};
+use crate::error::ParseError;
+use crate::label::Label;
+use crate::name::Name;
+use smallvec::SmallVec;
+use std::alloc::Global;
+
+/// A partly parsed name: its complete labels, and the octets of the current label.
+#[derive(Drop)]
+struct PartialName {
+    name: Name,
+    label: SmallVec<u8, 63>,
+    ghost relative: { name.is_fqdn ≡ false },
+    ghost short: { length label.items < 64 },
+}
+
+impl PartialName {
+    ghost use Rattle.dns_names.specs.internal.Parse.{partial_name_of};
+    ghost use Rattle.dns_names.specs.internal.Symbol.{symbol_of};
+
+    /// Adds the symbol at a place of the text.
+    fn push_symbol(&mut self, place: usize, symbol: Symbol) -> Result<(), ParseError>
+        ensures ok { OnOk result (push_symbol (partial_name_of self.old)
+            (record { place = place; symbol = symbol_of symbol }) ≡ Ok (partial_name_of self.new)) }
+        ensures refused { IfErr result (λ error. error ≢ ParseError.Memory
+            → push_symbol (partial_name_of self.old)
+            (record { place = place; symbol = symbol_of symbol }) ≡ Err error) }
+    {
+        match symbol {
+            Symbol::Dot => self.end_label(),
+            Symbol::Plain(byte) => {
+                if is_plain_octet(self.label.is_empty(), byte) {
+                    self.push_octet(byte)
+                } else {
+                    Err(ParseError::Text(place))
+                }
+            }
+            Symbol::Escaped(byte) => self.push_octet(byte),
+            Symbol::Broken => Err(ParseError::Text(place)),
+        }
+    }
+
+    /// Adds an octet to the current label.
+    fn push_octet(&mut self, byte: u8) -> Result<(), ParseError>
+        ensures ok { OnOk result (push_octet (partial_name_of self.old) byte
+            ≡ Ok (partial_name_of self.new)) }
+        ensures refused { IfErr result (λ error. error ≢ ParseError.Memory
+            → push_octet (partial_name_of self.old) byte ≡ Err error) }
+    {
+        if self.label.len() >= Label::MAX_LENGTH {
+            return Err(ParseError::LabelBytesTooLong);
+        }
+        self.label.push(byte)?;
+        Ok(())
+    }
+
+    /// Ends the current label.
+    fn end_label(&mut self) -> Result<(), ParseError>
+        ensures ok { OnOk result (end_label (partial_name_of self.old)
+            ≡ Ok (partial_name_of self.new)) }
+        ensures refused { IfErr result (λ error. error ≢ ParseError.Memory
+            → end_label (partial_name_of self.old) ≡ Err error) }
+    {
+        if self.label.is_empty() {
+            return Err(ParseError::EmptyLabel);
+        }
+        if self.name.encoded_len() + self.label.len() + 1 > Name::MAX_LENGTH {
+            return Err(ParseError::DomainNameTooLong);
+        }
+        self.name.push(self.label.as_slice())?;
+        self.label.clear();
+        Ok(())
+    }
+
+    /// Returns the name at the end of the text.
+    fn finish(mut self) -> Result<Name, ParseError>
+        ensures { IsUnless ParseError.Memory (finish (partial_name_of self)) result }
+    {
+        let is_fqdn = self.label.is_empty() && self.name.label_count() > 0;
+        if !self.label.is_empty() {
+            self.end_label()?;
+        }
+        let PartialName { mut name, label } = self;
+        drop(label);
+        name.set_fqdn(is_fqdn);
+        Ok(name)
+    }
+}
+
+/// Returns `true` if a label may contain the character unescaped.
+pub(crate) fn is_plain_octet(is_first: bool, byte: u8) -> bool
+    ensures { result ≡ is_plain_octet is_first byte }
+{
+    match byte {
+        b'a'..=b'z' | b'A'..=b'Z' | b'0'..=b'9' | b'_' => true,
+        b'*' => is_first,
+        b'-' => !is_first,
+        _ => false,
+    }
+}
+
+impl Name {
+    /// Parses a name: labels separated by dots, with a trailing dot if it is fully qualified. `.` is the root, and the
+    /// empty text is the relative name without labels. A label may contain ASCII letters, digits and `_`, `-` except
+    /// first, and `*` only first; any other octet must be escaped, as in `\.` or `\046` (RFC 1035 section 5.1).
+    #[tactic(auto, unfolding(crate::specs::Parse::name_of_text))]
+    pub fn from_ascii(alloc: Global, text: &str) -> Result<Name, ParseError>
+        ensures { IsUnless ParseError.Memory (name_of_text text.now) result }
+    {
+        let bytes = text.as_bytes();
+        if bytes == b".".as_slice() {
+            return Ok(Name::root(alloc));
+        }
+        let mut partial = PartialName {
+            name: Name::new(alloc),
+            label: SmallVec::new(alloc),
+        };
+        let mut place = 0;
+        while place < bytes.len() {
+            let (symbol, more) = next_symbol(&bytes[place..]);
+            partial.push_symbol(place, symbol)?;
+            place += 1 + more;
+        }
+        partial.finish()
+    }
+
+    /// Parses a name as `from_ascii` does, and appends the origin, if there is one, to a relative name.
+    pub fn parse(alloc: Global, text: &str, origin: Option<&Name>) -> Result<Name, ParseError>
+        ensures { IsUnless ParseError.Memory
+            (parse_name text.now (option_map (λ o. o.now) origin.entry)) result }
+    {
+        let name = Name::from_ascii(alloc, text)?;
+        match origin {
+            Some(origin) if !name.is_fqdn() => name.append_domain(origin),
+            _ => Ok(name),
+        }
+    }
+
+    /// Parses a name as `from_ascii` does: text that is not ASCII is refused.
+    pub fn from_str_relaxed(alloc: Global, text: &str) -> Result<Name, ParseError>
+        ensures { IsUnless ParseError.Memory (name_of_text text.now) result }
+    {
+        Name::from_ascii(alloc, text)
+    }
+}
