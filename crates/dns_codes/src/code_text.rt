@@ -16,7 +16,7 @@ pub enum CodeTextError {
 }
 
 /// Parses a word, in any case, and the 16-bit number that follows it.
-pub fn numbered(word: &str, text: &str) -> Option<u16>
+pub fn parse_numbered(word: &str, text: &str) -> Option<u16>
     ensures { result ≡ numbered_text word.now text.now }
 {
     let bytes = text.as_bytes();

@@ -3,7 +3,8 @@
 ghost use Rattle.std.specs.Prelude.{◌≡◌, ◌+◌, ◌*◌, ◌-◌, ◌≤◌, [], ◌∷◌, IfSome};
 ghost use Rattle.dns_codes.specs.Decimal.{decimal_up_to, at_most, digits_from};
 
-/// Parses a decimal number that is at most `greatest`. There is no sign and at least one digit; leading zeros are allowed.
+/// Parses a decimal number that is at most `greatest`. There is no sign and at least one digit. Leading zeros are
+/// allowed.
 #[tactic(auto, unfolding(crate::specs::Decimal::decimal_up_to))]
 pub fn parse_decimal(text: &[u8], greatest: u64) -> Option<u64>
     ensures value { result ≡ decimal_up_to greatest text.now }

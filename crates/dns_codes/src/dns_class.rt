@@ -4,7 +4,7 @@ ghost use Rattle.std.specs.Prelude.{◌≡◌, Some, find};
 ghost use Rattle.std.specs.Str.{str_eq_ignore_ascii_case};
 ghost use Rattle.dns_codes.specs.CodeText.{class_name, class_text};
 
-use crate::code_text::{CodeTextError, numbered};
+use crate::code_text::{CodeTextError, parse_numbered};
 use std::fmt;
 use std::str::FromStr;
 
@@ -125,7 +125,7 @@ impl FromStr for DNSClass {
         if let Some(class) = find_named(&NAMED, text) {
             return Ok(class);
         }
-        match numbered("CLASS", text) {
+        match parse_numbered("CLASS", text) {
             Some(number) => Ok(DNSClass::from(number)),
             None => Err(CodeTextError::UnknownName),
         }

@@ -4,7 +4,7 @@ ghost use Rattle.std.specs.Prelude.{◌≡◌, Some, find};
 ghost use Rattle.std.specs.Str.{str_eq_ignore_ascii_case};
 ghost use Rattle.dns_codes.specs.CodeText.{type_name, type_text, type_of_text};
 
-use crate::code_text::{CodeTextError, numbered};
+use crate::code_text::{CodeTextError, parse_numbered};
 use crate::later_types::{later_name, later_number, later_type};
 use std::fmt;
 use std::str::FromStr;
@@ -315,7 +315,7 @@ impl FromStr for RecordType {
         if let Some(kind) = find_named(&NAMED, text) {
             return Ok(kind);
         }
-        match numbered("TYPE", text) {
+        match parse_numbered("TYPE", text) {
             Some(number) => Ok(RecordType::from(number)),
             None => Err(CodeTextError::UnknownName),
         }

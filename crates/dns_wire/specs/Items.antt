@@ -27,7 +27,7 @@ attempts_after pieces limit s (x ∷ xs) =
 abbrev pub fitting_form : {X : Type 0} → (X → Position → List Piece) → ℕ → Position → List X → List ℕ
 fitting_form pieces limit s xs = form s (all_pieces pieces s (fitting_prefix pieces limit s xs))
 
--- The position behind the items that fit. The names of the item that was dropped count as tried, and none of its suffixes
+-- The position after the items that fit. The names of the item that was dropped count as tried, and none of its suffixes
 -- is remembered.
 abbrev pub position_behind : {X : Type 0} → (X → Position → List Piece) → ℕ → Position → List X → Position
 position_behind pieces limit s xs =
@@ -37,7 +37,7 @@ position_behind pieces limit s xs =
 
 -- ---- written by an encoder
 
--- the items that fit behind a state
+-- the items that fit when they are written in a state
 abbrev pub fitting_items : {X : Type 0} → (X → Position → List Piece) → EncoderState → List X → List X
 fitting_items pieces w xs = fitting_prefix pieces w.limit (position_of w) xs
 

@@ -242,7 +242,8 @@ impl<'a> BinEncoder<'a> {
             ((state_of self.old).offset + 1 + length bytes.now ≤ (state_of self.old).limit) }
         ensures full { (result ≡ Err EncodeError.MaxBufferSizeExceeded)
             ↔ ((state_of self.old).limit < (state_of self.old).offset + 1 + length bytes.now) }
-        ensures no_room { (state_of self.old).limit < (state_of self.old).offset + 1 + length bytes.now
+        ensures no_room { (state_of self.old).limit
+            < (state_of self.old).offset + 1 + length bytes.now
             → state_of self.new ≡ state_of self.old }
         // If memory runs out, the length byte may remain.
         ensures err { OnErr result ((state_of self.new ≡ state_of self.old)
@@ -273,7 +274,8 @@ impl<'a> BinEncoder<'a> {
         ensures only { IfErr result (λ error. (error ≡ ProtoError.Memory)
             ⊎ (error ≡ ProtoError.MaxBufferSizeExceeded)
             ⊎ (error ≡ ProtoError.CharacterDataTooLong (length bytes.now))) }
-        ensures no_room { (state_of self.old).limit < (state_of self.old).offset + 1 + length bytes.now
+        ensures no_room { (state_of self.old).limit
+            < (state_of self.old).offset + 1 + length bytes.now
             → state_of self.new ≡ state_of self.old }
         ensures err { OnErr result ((state_of self.new ≡ state_of self.old)
             ⊎ (state_of self.new ≡ overwrite_at (state_of self.old) (length bytes.now ∷ []))) }

@@ -12,8 +12,8 @@ pub use dns_codes::laws::{
     class_number_round_trips, serials_compare_by_distance, type_number_round_trips,
 };
 
-/// Pieces that are written at the end decode as they were written, if every remembered suffix is the target of a pointer;
-/// and every remembered suffix is one afterwards (RFC 1035 section 4.1.4).
+/// Pieces that are written at the end decode as they were written, if a pointer can refer to every remembered suffix.
+/// Afterwards a pointer can refer to every remembered suffix again (RFC 1035 section 4.1.4).
 pub fn pieces_decode_as_written()
     ensures { (w : EncoderState) (ps : List Piece)
         → IsAtEnd w → ArePointerTargets w.bytes w.suffixes → AreWritable ps
@@ -22,7 +22,7 @@ pub fn pieces_decode_as_written()
 {}
 
 /// After any sequence of calls, each piece that was written decodes, unless it was truncated or refers to what was
-/// truncated. Every remembered suffix that was not truncated is the target of a pointer (RFC 1035 section 4.1.4).
+/// truncated. A pointer can refer to every remembered suffix that was not truncated (RFC 1035 section 4.1.4).
 ///
 /// The calls are writes at the end, refused writes that are rolled back, setting the offset back and trimming, filling
 /// places, and setting modes and the greatest size.
@@ -60,8 +60,8 @@ pub fn whole_encodings_write_whole_names()
         (record new { encoding = old.encoding }) }
 {}
 
-/// A write that can be rolled back can be rolled back together with those before it. Rolling back restores the state, but
-/// for the number of names that were tried, if every remembered suffix starts before the offset.
+/// A write that can be rolled back can be rolled back together with those before it. Rolling back restores the state,
+/// except for the number of names that were tried, if every remembered suffix starts before the offset.
 pub fn roll_back_composes()
     ensures further { (old middle new : EncoderState) → old.offset ≤ middle.offset
         → CanRollBack old middle → CanRollBack middle new → CanRollBack old new }
@@ -73,7 +73,7 @@ pub fn roll_back_composes()
         ≡ record old { attempts = new.attempts } }
 {}
 
-/// Every remembered suffix starts before the offset, if each is the target of a pointer; and so it is after each write.
+/// Every remembered suffix starts before the offset, if a pointer can refer to each of them, and still does after a write.
 pub fn suffixes_start_before_the_offset()
     ensures targets { (w : EncoderState)
         → IsAtEnd w → ArePointerTargets w.bytes w.suffixes → AllBehind (position_of w) }

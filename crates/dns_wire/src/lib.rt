@@ -1,8 +1,8 @@
 //! The wire format of DNS (RFC 1035 section 4): decoding and encoding of bytes, numbers and names.
 //!
-//! An encoder promises what it wrote: a sequence of pieces, which are plain bytes and names. Their encoding depends on the
-//! position (the offset, the encoding of names, the remembered suffixes, the number of names that were tried), and on no
-//! byte that was written before. So the pieces tell what the buffer contains, and `laws` says that they decode again.
+//! An encoder promises what it wrote: a sequence of pieces, which are plain bytes and names. Their encoding depends on
+//! the position (the offset, the encoding of names, the remembered suffixes, the number of names that were tried), and
+//! on no byte that was written before. So the pieces tell what the buffer contains; `laws` says that they decode again.
 //!
 //! - `decoder`, `decodable`: reads from the front of the unread bytes, where a failed read changes nothing;
 //! - `encoder`, `encodable`: writes at an offset, up to a greatest size; `name_encoding`, `modal_encoder`: how names are

@@ -1,4 +1,4 @@
--- What stands at a place is one number, and is not refused.
+-- Bytes at a place decode to one number, and are not refused.
 use Rattle.std.proofs.Common.{◌≡◌, ℕ, ◌<◌, ◌^◌, List, [], ◌∷◌, length, take, drop, refl, sym, ap, ◌∙◌, arith, length-drop}
 use Rattle.std.proofs.lemmas.Int.{to_z-of_z}
 use Rattle.std.proofs.lemmas.Nat.{from_be_bytes-to_be_bytes_2, from_be_bytes-to_be_bytes_4}
@@ -15,7 +15,7 @@ same_number_2 a b fits fits' e = sym (from_be_bytes-to_be_bytes_2 a fits) ∙ ap
 pub same_number_4 : (a b : ℕ) → a < 2 ^ 32 → b < 2 ^ 32 → to_be_bytes w32 a ≡ to_be_bytes w32 b → a ≡ b
 same_number_4 a b fits fits' e = sym (from_be_bytes-to_be_bytes_4 a fits) ∙ ap (from_be_bytes w32) e ∙ from_be_bytes-to_be_bytes_4 b fits'
 
--- ---- what stands at a place
+-- ---- bytes at a place
 
 -- as many bytes at one place are the same, up to the same end
 pub same_bytes : (buffer : List ℕ) (place : ℕ) (a b : List ℕ) (end end' : ℕ) → length a ≡ length b → BytesAt buffer place a end → BytesAt buffer place b end' → (a ≡ b) × (end ≡ end')
@@ -47,6 +47,6 @@ one_signed buffer place a b end end' s t =
     let same = one_of_four buffer place (cast_unsigned w32 a) (cast_unsigned w32 b) end end' (s.0, bits_fit a s.1) (t.0, bits_fit b t.1) in
     (sym (to_z-of_z w32 a s.1) ∙ ap (cast_signed w32) same.0 ∙ to_z-of_z w32 b t.1, same.1)
 
--- where bytes stand, as many are left
+-- as many bytes are unread where bytes are found
 pub not_short : (buffer : List ℕ) (place : ℕ) (bytes : List ℕ) (end : ℕ) → BytesAt buffer place bytes end → length (drop place buffer) < length bytes → ⊥
 not_short buffer place bytes end s short = omega (arith, s.ends, s.within, length-drop place buffer)

@@ -3,7 +3,7 @@ use Rattle.std.specs.Str.{str_to_ascii_lowercase, str_eq_ignore_ascii_case}
 use Rattle.std.proofs.lemmas.List.{take_all}
 use Rattle.std.proofs.lemmas.Slice.Eq.{bytes_eq-Decides}
 use Rattle.dns_codes.specs.Decimal.{decimal_up_to}
-use Rattle.dns_codes.proofs.code_text.numbered.Goals as goal
+use Rattle.dns_codes.proofs.code_text.parse_numbered.Goals as goal
 
 pub returns-then-eq_ignore_ascii_case : goal.returns-then-eq_ignore_ascii_case
 returns-then-eq_ignore_ascii_case c =
