@@ -36,6 +36,19 @@ fn lowered_ttl(row: &Row) -> u32
     }
 }
 
+/// A row as a record with this owner and this TTL.
+fn record_with_ttl(owner: &Name, ttl: u32, row: &Row) -> Result<Record, AllocError>
+    ensures { IfOk result (λ r. r ≡ record_of owner.now (record row.now { ttl = ttl })) }
+{
+    let rdata = row.rdata.clone()?;
+    Ok(Record {
+        name: owner.clone()?,
+        dns_class: DNSClass::IN,
+        ttl,
+        rdata,
+    })
+}
+
 /// Rows as records with this owner.
 fn records_at(alloc: Global, owner: &Name, rows: &[Row]) -> Result<Section<Record>, AllocError>
     ensures records { IfOk result (λ records. records ≡ map (record_of owner.now) rows.now) }
@@ -43,12 +56,7 @@ fn records_at(alloc: Global, owner: &Name, rows: &[Row]) -> Result<Section<Recor
 {
     let mut records = Section::new(alloc);
     for row in rows {
-        records.push(Record {
-            name: owner.clone()?,
-            dns_class: DNSClass::IN,
-            ttl: row.ttl,
-            rdata: row.rdata.clone()?,
-        })?;
+        records.push(record_with_ttl(owner, row.ttl, row)?)?;
     }
     Ok(records)
 }
@@ -64,12 +72,7 @@ fn authority_records(
 {
     let mut records = Section::new(alloc);
     for row in rows {
-        records.push(Record {
-            name: origin.clone()?,
-            dns_class: DNSClass::IN,
-            ttl: lowered_ttl(row),
-            rdata: row.rdata.clone()?,
-        })?;
+        records.push(record_with_ttl(origin, lowered_ttl(row), row)?)?;
     }
     Ok(records)
 }
@@ -90,10 +93,11 @@ fn negative_answer(
         ResponseCode::NXDomain
     };
     let rows = rows_of(sets, origin, RecordType::SOA);
+    let authorities = authority_records(alloc, origin, rows)?;
     Ok(Answer {
         code,
         answers: Section::new(alloc),
-        authorities: authority_records(alloc, origin, rows)?,
+        authorities,
     })
 }
 

@@ -126,8 +126,7 @@ pub fn add_row(
     if place < sets.len() {
         return join(&mut sets[place].rows, row);
     }
-    let mut rows = Vec::new(alloc);
-    rows.push(row)?;
+    let rows = Vec::from_array(alloc, [row])?;
     sets.push(RecordSet {
         name: owner,
         record_type,

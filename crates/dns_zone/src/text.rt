@@ -205,10 +205,10 @@ fn parse_entry(alloc: Global, words: &[Vec<u8>]) -> Result<LineContent, AllocErr
     if class.as_slice() != b"IN".as_slice() {
         return Ok(LineContent::Unreadable);
     }
-    let Some(owner) = parse_name(alloc, owner)? else {
+    let Some(ttl) = parse_number(ttl) else {
         return Ok(LineContent::Unreadable);
     };
-    let Some(ttl) = parse_number(ttl) else {
+    let Some(owner) = parse_name(alloc, owner)? else {
         return Ok(LineContent::Unreadable);
     };
     let Some(rdata) = parse_rdata(alloc, record_type, data_words)? else {

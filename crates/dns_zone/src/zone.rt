@@ -3,7 +3,7 @@
 ghost use Rattle.std.specs.Prelude.{◌≡◌, ◌≢◌, IfOk, IfErr, Ok, Err, option_map};
 
 use crate::answer::{Answer, answer_from};
-use crate::entries::{first_soa_owner, has_owner_outside, has_soa_elsewhere, sets_of};
+use crate::entries::{origin_of, sets_of};
 use crate::road::Road;
 use crate::rows::RecordSet;
 use crate::serve::{limit_of, metadata_of_reply, served_question};
@@ -77,16 +77,7 @@ impl Zone {
         ensures refused { IfErr result (λ fault. fault ≢ ZoneFault.Memory → zone_of_text text.now ≡ Err fault) }
     {
         let entries = read_entries(alloc, text)?;
-        let Some(owner) = first_soa_owner(entries.as_slice()) else {
-            return Err(ZoneFault::NoSoa);
-        };
-        let origin = owner.clone()?;
-        if has_owner_outside(&origin, entries.as_slice()) {
-            return Err(ZoneFault::OutsideOrigin);
-        }
-        if has_soa_elsewhere(&origin, entries.as_slice()) {
-            return Err(ZoneFault::SoaElsewhere);
-        }
+        let origin = origin_of(entries.as_slice())?;
         let sets = sets_of(alloc, entries)?;
         Ok(Zone {
             origin,
@@ -116,8 +107,7 @@ impl Zone {
         ensures sound { IfOk result (λ _. query.name.is_fqdn ≡ true → IsSoundAnswer (answer self.now query)) }
     {
         let answer = self.answer(&query)?;
-        let mut queries = Section::new(self.alloc);
-        queries.push(query)?;
+        let queries = Section::from_vec(Vec::from_array(self.alloc, [query])?);
         Ok(Message {
             metadata: metadata_of_reply(request, answer.code),
             queries,
