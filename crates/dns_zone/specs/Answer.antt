@@ -55,6 +55,12 @@ found zone q (row ∷ rows) = record { code = NoError; answers = map (record_of 
 abbrev pub refusal : ResponseCode → Answer
 refusal code = record { code = code; answers = []; authorities = [] }
 
+-- whether a question is refused by its type, its class or its name
+abbrev pub is_refused : ZoneContent → Query → Bool
+is_refused zone q =
+    is_no_row_type (type_number q.query_type)
+    || (not (class_number q.query_class == 1) || not (at_or_below zone.origin.labels q.name.labels))
+
 -- The first case that applies.
 abbrev pub answer : ZoneContent → Query → Answer
 answer zone q =

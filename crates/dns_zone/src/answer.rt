@@ -1,9 +1,9 @@
 //! The answer of a zone to a question (RFC 1034 section 4.3.2, RFC 2308 sections 2 and 3).
 
-ghost use Rattle.std.specs.Prelude.{◌≡◌, true, map, IfOk};
+ghost use Rattle.std.specs.Prelude.{◌≡◌, true, map, IfOk, IsOk};
 ghost use Rattle.dns_codes.specs.RecordType.{type_number};
 ghost use Rattle.dns_zone.specs.Rows.{rows_of_sets, AreSoundRows, AreSoundSets};
-ghost use Rattle.dns_zone.specs.Answer.{answer, authority, authority_row, found, is_no_row_type, negative, negative_ttl, record_of, refusal, AreSoundRecords, IsSoundAnswer};
+ghost use Rattle.dns_zone.specs.Answer.{answer, authority, authority_row, found, is_no_row_type, is_refused, negative, negative_ttl, record_of, refusal, AreSoundRecords, IsSoundAnswer};
 
 use crate::rows::{RecordSet, Row, has_row_below, rows_of};
 use dns_messages::{Query, RData, Record, ResponseCode, Section};
@@ -112,7 +112,7 @@ fn bare_answer(alloc: Global, code: ResponseCode) -> Answer
     }
 }
 
-/// The answer of the zone with this origin and these sets.
+/// The answer of the zone with this origin and these sets. A refusal takes no memory.
 pub fn answer_from(
     alloc: Global,
     origin: &Name,
@@ -121,6 +121,8 @@ pub fn answer_from(
 ) -> Result<Answer, AllocError>
     ensures answer { IfOk result (λ a. a ≡ answer (record { origin = origin.now; rows = rows_of_sets sets.now }) query.now) }
     ensures sound { IfOk result (λ a. origin.now.is_fqdn ≡ true → AreSoundSets sets.now → query.now.name.is_fqdn ≡ true → IsSoundAnswer a) }
+    ensures refused { is_refused (record { origin = origin.now; rows = rows_of_sets sets.now }) query.now ≡ true
+        → IsOk result }
 {
     if is_without_rows(query.query_type) {
         return Ok(bare_answer(alloc, ResponseCode::NotImp));
