@@ -8,7 +8,7 @@ use Rattle.std.proofs.lemmas.List.{get_or-take, drop-take}
 use Rattle.std.proofs.Common.{leb-true, lit<}
 use Rattle.std.proofs.lemmas.Bool.{le-leb}
 use Rattle.dns_wire.specs.Name.{name_len}
-use Rattle.dns_wire.specs.Pieces.{Piece, Plain, Domain, Sofar, name_form, form, after, piece_form, piece_next, labels_form, whole_form}
+use Rattle.dns_wire.specs.Encodable.{Piece, Plain, Domain, Position, name_form, form, after, piece_form, piece_next, labels_form, whole_form}
 use Rattle.dns_wire.proofs.PieceLaws.{name_form-some}
 use Rattle.std.specs.Int.{w16, w32, to_be_bytes}
 use Rattle.dns_codes.specs.RecordType.{type_number}
@@ -30,7 +30,8 @@ use Rattle.dns_messages.specs.Data.{data_type, data_pieces}
 use Rattle.dns_messages.specs.Record.{data_len, record_pieces}
 use Rattle.dns_messages.specs.Message.{beginning, records_pieces, front_pieces, message_form, cut, cut_off}
 use Rattle.dns_messages.specs.Sound.{IsSound, IsSoundQuery, IsSoundMetadata}
-use Rattle.dns_messages.specs.Grammar.{ReadsMessage, ReadsHeader, ReadsQuestion, Follow}
+use Rattle.dns_messages.specs.Grammar.{ReadsMessage, ReadsHeader, ReadsQuestion}
+use Rattle.dns_wire.specs.Decodable.{Follow}
 use Rattle.dns_zone.specs.Answer.{answer, IsSoundAnswer, AreSoundRecords}
 use Rattle.dns_zone.specs.Serving.{has_request_header, IsServed, IsRequest, Serves, reply, reply_to, reply_limit, sent_reply}
 
@@ -104,7 +105,7 @@ not_read bytes error only not m q request = not (only m request.reads)
 
 -- ---- how long a message is
 
-form_append : (s : Sofar) (ps qs : List Piece) → form s (ps ++ qs) ≡ form s ps ++ form (after s ps) qs
+form_append : (s : Position) (ps qs : List Piece) → form s (ps ++ qs) ≡ form s ps ++ form (after s ps) qs
 form_append s [] qs = refl
 form_append s (p ∷ ps) qs = ap (λ more. piece_form s p ++ more) (form_append (piece_next s p) ps qs) ∙ sym (append_assoc (piece_form s p) (form (piece_next s p) ps) (form (after (piece_next s p) ps) qs))
 
@@ -112,10 +113,10 @@ name_long : (labels : List (List ℕ)) → length (whole_form labels) ≡ name_l
 name_long [] = refl
 name_long (label ∷ labels) = omega (arith, name_long labels, length-append label (labels_form labels), length-append (labels_form labels) (0 ∷ []), ap length (append_assoc label (labels_form labels) (0 ∷ [])), length-append label (labels_form labels ++ 0 ∷ []))
 
-record_long : (s : Sofar) (r : Record) → 0 < length (form s (record_pieces s r))
+record_long : (s : Position) (r : Record) → 0 < length (form s (record_pieces s r))
 record_long s r = omega (arith, name_form-some s r.name.labels, length-append (name_form s r.name.labels) (form (piece_next s (Domain r.name.labels)) (Plain (to_be_bytes w16 (type_number (data_type r.rdata))) ∷ Plain (to_be_bytes w16 (class_number r.dns_class)) ∷ Plain (to_be_bytes w32 r.ttl) ∷ Plain (to_be_bytes w16 (data_len s r)) ∷ data_pieces r.rdata)))
 
-records_long : (s : Sofar) (rs : List Record) → length rs ≤ length (form s (records_pieces s rs))
+records_long : (s : Position) (rs : List Record) → length rs ≤ length (form s (records_pieces s rs))
 records_long s [] = omega arith
 records_long s (r ∷ rs) =
     let t = after s (record_pieces s r) in

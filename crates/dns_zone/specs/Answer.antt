@@ -4,8 +4,8 @@ use Rattle.dns_codes.specs.RecordType.{type_number}
 use Rattle.dns_codes.specs.DNSClass.{class_number}
 use Rattle.dns_codes.specs.declared.dns_class.DNSClass.TheVariants.{IN}
 use Rattle.dns_codes.specs.declared.record_type.RecordType.TheVariants as types
-use Rattle.dns_names.specs.DomainName.{DomainName}
-use Rattle.dns_names.specs.Comparison.{at_or_below}
+use Rattle.dns_names.specs.Name.{DomainName}
+use Rattle.dns_names.specs.Compare.{at_or_below}
 use Rattle.dns_messages.specs.declared.header.ResponseCode.{ResponseCode}
 use Rattle.dns_messages.specs.declared.header.ResponseCode.TheVariants.{NoError, NXDomain, NotImp, Refused}
 use Rattle.dns_zone.specs.declared.answer.Answer.{Answer}

@@ -1,5 +1,5 @@
 -- The rows of a zone: a finite map from an owner, up to ASCII case, and a type to data with TTLs, in their order.
-use Rattle.std.specs.Prelude.{◌≢◌, ◌<◌, ◌^◌, ◌++◌, nat_lt, length, map, Option, Some, Bool, true, false, List, [], ◌∷◌, ℕ, if◌then◌else◌, unwrap_or}
+use Rattle.std.specs.Prelude.{◌≢◌, ◌<◌, ◌^◌, ◌++◌, nat_lt, length, map, Some, Bool, true, false, List, [], ◌∷◌, ℕ, if◌then◌else◌, unwrap_or}
 use Rattle.std.specs.List.{list_any, AllByRecursion}
 use Rattle.std.specs.declared.cmp.Ordering.{Ordering}
 use Rattle.std.specs.Ordering.{nat_cmp, ordering_then}
@@ -7,8 +7,8 @@ use Rattle.std.specs.Cmp.Lexicographic.{slice_cmp}
 use Rattle.std.specs.FinMap as rows_map
 use Rattle.dns_codes.specs.declared.record_type.RecordType.{RecordType}
 use Rattle.dns_codes.specs.RecordType.{type_number}
-use Rattle.dns_names.specs.DomainName.{DomainName}
-use Rattle.dns_names.specs.Comparison.{lower, at_or_below}
+use Rattle.dns_names.specs.Name.{DomainName}
+use Rattle.dns_names.specs.Compare.{lower, at_or_below}
 use Rattle.dns_messages.specs.declared.rdata.RData.{RData}
 use Rattle.dns_messages.specs.declared.rdata.RData.TheVariants as of
 use Rattle.dns_zone.specs.declared.rows.Row.{Row}

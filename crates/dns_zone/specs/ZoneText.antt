@@ -5,9 +5,9 @@ use Rattle.std.specs.List.{list_any, list_all, AllByRecursion}
 use Rattle.std.specs.Str.{bytes_eq}
 use Rattle.std.specs.Str.Lines.{lines}
 use Rattle.std.specs.FinMap as map
-use Rattle.dns_names.specs.DomainName.{DomainName}
-use Rattle.dns_names.specs.Comparison.{at_or_below, same_labels}
-use Rattle.dns_names.specs.Text.{name_of_text}
+use Rattle.dns_names.specs.Name.{DomainName}
+use Rattle.dns_names.specs.Compare.{at_or_below, same_labels}
+use Rattle.dns_names.specs.Parse.{name_of_text}
 use Rattle.dns_codes.specs.Decimal.{decimal_up_to}
 use Rattle.dns_names.specs.declared.error.ParseError.{ParseError}
 use Rattle.dns_messages.specs.declared.rdata.RData.{RData}

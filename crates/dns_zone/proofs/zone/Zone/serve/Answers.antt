@@ -1,4 +1,4 @@
-use Rattle.std.proofs.Common.{◌≡◌, ◌<◌, sym, ap, ◌∙◌, subst, refl, length, arith, Err}
+use Rattle.std.proofs.Common.{◌≡◌, ◌<◌, sym, ap, ◌∙◌, subst, length, arith, Err}
 use Rattle.dns_messages.specs.Message.{message_form, cut_off}
 use Rattle.dns_zone.specs.Serving.{IsServed, reply_to}
 use Rattle.dns_zone.proofs.ServingLaws.{no_request, not_read, serves, question_fits}
