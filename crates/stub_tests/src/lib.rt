@@ -1,17 +1,14 @@
-//! Tests of the client, its link and the program, on what no contract says: rows of the standard and of worked examples,
-//! printed texts, and that each call which takes memory succeeds where there is enough.
+//! Tests of the client and of whole runs, on what neither a contract nor a row of data can say. The rows of `zone_rows`
+//! and `stub_rows` have the rest.
 //!
-//! - `calls`: calls that may want memory, each made once;
-//! - `runs`: asking over any link, and runs over the honest one;
-//! - `plays`: the program's words, scripts, and what is printed;
-//! - `texts`: what is printed of faults.
+//! - `calls`: room for ids, which a program may make before it asks;
+//! - `plays`: a writer that fails in the middle of a report;
+//! - `examples`: the examples of the README.
 #![tactic(auto)]
 
 #[cfg(test)]
 mod calls;
 #[cfg(test)]
+mod examples;
+#[cfg(test)]
 mod plays;
-#[cfg(test)]
-mod runs;
-#[cfg(test)]
-mod texts;
