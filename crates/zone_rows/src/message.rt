@@ -5,7 +5,7 @@ use crate::hex::{bytes_of, digits_of};
 use crate::operation::lacks;
 use crate::question::question_text;
 use dns_messages::{A, Message, Query, Record, Section};
-use dns_wire::{BinDecoder, DecodeError};
+use dns_wire::{BinDecodable, BinDecoder, DecodeError};
 use std::alloc::{AllocError, Global};
 use std::net::Ipv4Addr;
 

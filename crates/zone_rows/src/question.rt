@@ -4,7 +4,7 @@ use crate::hex::bytes_of;
 use crate::operation::lacks;
 use dns_messages::Query;
 use dns_names::Name;
-use dns_wire::{BinDecoder, DNSClass, DecodeError, RecordType};
+use dns_wire::{BinDecodable, BinDecoder, DNSClass, DecodeError, RecordType};
 use std::alloc::{AllocError, Global};
 
 /// A question as a zone's text has it.
