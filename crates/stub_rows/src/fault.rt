@@ -23,6 +23,7 @@ pub(crate) fn link_fault(alloc: Global, name: &str) -> Result<String, AllocError
 /// `script-fault NAME`: the text of a script's fault. `Line NUMBER` is a line's.
 pub(crate) fn script_fault(alloc: Global, name: &str) -> Result<String, AllocError> {
     let fault = match (name, line_of(name)) {
+        // A row may ask for the text of want of memory.
         ("Memory", _) => ScriptFault::Memory,
         (_, Some(line)) => ScriptFault::Line(line),
         _ => return lacks(alloc, "a fault"),
@@ -42,11 +43,13 @@ fn line_of(name: &str) -> Option<usize> {
 /// `play-fault NAME`: the line that a run ends with, where this is its fault.
 pub(crate) fn play_fault(alloc: Global, name: &str) -> Result<String, AllocError> {
     let fault = match (name, line_of(name)) {
+        // A row may ask for the text of want of memory.
         ("Memory", _) => PlayFault::Memory,
         ("Write", _) => PlayFault::Write,
         ("Zone OutsideOrigin", _) => PlayFault::Zone(ZoneFault::OutsideOrigin),
         ("Zone NoSoa", _) => PlayFault::Zone(ZoneFault::NoSoa),
         ("Zone SoaElsewhere", _) => PlayFault::Zone(ZoneFault::SoaElsewhere),
+        // A row may ask for the text of want of memory in a zone.
         ("Zone Memory", _) => PlayFault::Zone(ZoneFault::Memory),
         (_, Some(line)) => PlayFault::Script(line),
         _ => return lacks(alloc, "a fault"),

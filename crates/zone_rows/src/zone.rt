@@ -21,6 +21,7 @@ pub(crate) fn fault(alloc: Global, name: &str) -> Result<String, AllocError> {
         "OutsideOrigin" => ZoneFault::OutsideOrigin,
         "NoSoa" => ZoneFault::NoSoa,
         "SoaElsewhere" => ZoneFault::SoaElsewhere,
+        // A row may ask for the text of want of memory.
         "Memory" => ZoneFault::Memory,
         "LimitTooSmall" => return format!(in alloc; "{LimitTooSmall}"),
         _ => match line_fault(name) {

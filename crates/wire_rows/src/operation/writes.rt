@@ -1,7 +1,7 @@
 //! Scripts of an encoder: writes one after another, into the same buffer.
 
 ghost use Rattle.std.specs.Prelude.{◌≤◌, length, IfOk};
-ghost use Rattle.dns_wire.specs.Encoder.{written};
+ghost use Rattle.dns_wire.specs.Encoder.{state_of};
 
 use super::names::name_of;
 use crate::answer::{Answer, made_or_none, named, shown};
@@ -202,7 +202,8 @@ fn go_to(encoder: &mut BinEncoder<'_>, place: usize) -> Result<(), RowFault> {
 
 /// The start and the end of a range of the buffer.
 fn range_of(encoder: &BinEncoder<'_>, input: &str) -> Result<(usize, usize), RowFault>
-    ensures { IfOk result (λ range. (range.0 ≤ range.1) × (range.1 ≤ length (written encoder.now).bytes)) }
+    ensures { IfOk result (λ range. (range.0 ≤ range.1)
+        × (range.1 ≤ length (state_of encoder.now).bytes)) }
 {
     let (start, end) = two_words(input)?;
     let (start, end) = (parsed::<usize>(start)?, parsed::<usize>(end)?);
