@@ -1,4 +1,4 @@
--- Classes and their numbers (RFC 1035 section 3.2.4, RFC 2136 section 1.3).
+-- Classes and their numbers (RFC 1035 sections 3.2.4 and 3.2.5, RFC 2136 section 1.3).
 use Rattle.std.specs.Prelude.{ℕ, ◌==◌, if◌then◌else◌}
 use Rattle.dns_codes.specs.declared.dns_class.DNSClass.{DNSClass}
 use Rattle.dns_codes.specs.declared.dns_class.DNSClass.TheVariants.{IN, CH, HS, NONE, ANY, OPT, Unknown}

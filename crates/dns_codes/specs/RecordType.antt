@@ -1,4 +1,4 @@
--- Types and their numbers (RFC 1035 section 3.2.2, and later types of the IANA registry).
+-- Types and their numbers (RFC 1035 sections 3.2.2 and 3.2.3, and later types of the IANA registry).
 use Rattle.std.specs.Prelude.{ℕ, ◌==◌, if◌then◌else◌, Bool, true, false}
 use Rattle.dns_codes.specs.declared.record_type.RecordType.{RecordType}
 use Rattle.dns_codes.specs.declared.record_type.RecordType.TheVariants.{A, NS, CNAME, SOA, NULL, PTR, HINFO, MX, TXT, SIG, KEY, AAAA, SRV, NAPTR, CERT, DNAME, OPT, DS, SSHFP, RRSIG, NSEC, DNSKEY, NSEC3, NSEC3PARAM, TLSA, SMIMEA, CDS, CDNSKEY, OPENPGPKEY, CSYNC, SVCB, HTTPS, TSIG, IXFR, AXFR, ANY, CAA, ZERO, Unknown}
@@ -97,7 +97,7 @@ type_of number =
     else if number == 255 then ANY
     else later_type_of number
 
--- the types of DNSSEC, which an answer contains only on request (RFC 4035 section 3.2.1)
+-- the types of DNSSEC
 abbrev pub is_dnssec_type : RecordType → Bool
 is_dnssec_type SIG = true
 is_dnssec_type KEY = true

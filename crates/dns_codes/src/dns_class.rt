@@ -1,4 +1,4 @@
-//! Classes of records (RFC 1035 section 3.2.4, RFC 2136 section 1.3).
+//! Classes of records and questions (RFC 1035 sections 3.2.4 and 3.2.5, RFC 2136 section 1.3).
 
 ghost use Rattle.std.specs.Prelude.{◌≡◌, Some, find};
 ghost use Rattle.std.specs.Str.{str_eq_ignore_ascii_case};
@@ -19,7 +19,7 @@ pub enum DNSClass {
     HS,
     /// No class, 254 (RFC 2136 section 2.4).
     NONE,
-    /// Any class, 255.
+    /// Any class, 255 (RFC 1035 section 3.2.5).
     ANY,
     /// The payload size, which an OPT record has in place of a class (RFC 6891 section 6.1.2).
     OPT(u16),
@@ -44,7 +44,8 @@ impl DNSClass {
         }
     }
 
-    /// Returns the class of an OPT record with this payload size, which is at least 512 (RFC 6891 section 6.2.3).
+    /// Returns the class of an OPT record that announces this payload size; a size below 512 becomes 512 (RFC 6891
+    /// section 6.2.3).
     pub fn for_opt(payload: u16) -> Self
         ensures { result ≡ DNSClass.OPT (max payload 512) }
     {

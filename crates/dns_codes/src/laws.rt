@@ -1,4 +1,4 @@
-//! Laws of the codes. Each is a function without a body, whose contract is the law.
+//! Laws of the codes, as functions with empty bodies.
 
 ghost use Rattle.std.specs.Prelude.{◌≡◌, ◌<◌, ◌↔◌, ◌^◌, ◌-◌, ◌⊎◌, ℕ};
 ghost use Rattle.dns_codes.specs.DNSClass.{class_number, class_of};
@@ -6,12 +6,12 @@ ghost use Rattle.dns_codes.specs.RecordType.{type_number, type_of};
 ghost use Rattle.dns_codes.specs.SerialNumber.{serial_order, steps_up};
 ghost use Rattle.dns_codes.specs.declared.serial_number.SerialOrder.TheVariants.{Less, Undecided};
 
-/// Every 16-bit code round-trips through `RecordType` (RFC 3597 section 2).
+/// Every 16-bit code round-trips through `RecordType` (RFC 3597 section 3).
 pub fn type_number_round_trips()
     ensures { (number : ℕ) → type_number (type_of number) ≡ number }
 {}
 
-/// Every 16-bit code round-trips through `DNSClass` (RFC 3597 section 2).
+/// Every 16-bit code round-trips through `DNSClass` (RFC 3597 section 3).
 pub fn class_number_round_trips()
     ensures { (number : ℕ) → class_number (class_of number) ≡ number }
 {}

@@ -1,4 +1,4 @@
-//! Types of records (RFC 1035 section 3.2.2, and later types of the IANA registry).
+//! Types of records and questions (RFC 1035 sections 3.2.2 and 3.2.3, and later types of the IANA registry).
 
 ghost use Rattle.std.specs.Prelude.{◌≡◌, Some, find};
 ghost use Rattle.std.specs.Str.{str_eq_ignore_ascii_case};
@@ -42,7 +42,7 @@ pub enum RecordType {
     NAPTR,
     /// A certificate (RFC 4398), 37.
     CERT,
-    /// An alias for a whole subtree (RFC 6672), 39.
+    /// A redirection of all names below a name (RFC 6672), 39.
     DNAME,
     /// The extension of a message (RFC 6891), 41.
     OPT,
@@ -116,70 +116,70 @@ impl RecordType {
         }
     }
 
-    /// Returns true for `ANY`.
+    /// Returns `true` for `ANY`.
     pub fn is_any(self) -> bool
         ensures { IsTrue result ↔ (self ≡ RecordType.ANY) }
     {
         matches!(self, RecordType::ANY)
     }
 
-    /// Returns true for `CERT`.
+    /// Returns `true` for `CERT`.
     pub fn is_cert(self) -> bool
         ensures { IsTrue result ↔ (self ≡ RecordType.CERT) }
     {
         matches!(self, RecordType::CERT)
     }
 
-    /// Returns true for `CNAME`.
+    /// Returns `true` for `CNAME`.
     pub fn is_cname(self) -> bool
         ensures { IsTrue result ↔ (self ≡ RecordType.CNAME) }
     {
         matches!(self, RecordType::CNAME)
     }
 
-    /// Returns true for `NS`.
+    /// Returns `true` for `NS`.
     pub fn is_ns(self) -> bool
         ensures { IsTrue result ↔ (self ≡ RecordType.NS) }
     {
         matches!(self, RecordType::NS)
     }
 
-    /// Returns true for `SOA`.
+    /// Returns `true` for `SOA`.
     pub fn is_soa(self) -> bool
         ensures { IsTrue result ↔ (self ≡ RecordType.SOA) }
     {
         matches!(self, RecordType::SOA)
     }
 
-    /// Returns true for `SRV`.
+    /// Returns `true` for `SRV`.
     pub fn is_srv(self) -> bool
         ensures { IsTrue result ↔ (self ≡ RecordType.SRV) }
     {
         matches!(self, RecordType::SRV)
     }
 
-    /// Returns true for `RRSIG`.
+    /// Returns `true` for `RRSIG`.
     pub fn is_rrsig(self) -> bool
         ensures { IsTrue result ↔ (self ≡ RecordType.RRSIG) }
     {
         matches!(self, RecordType::RRSIG)
     }
 
-    /// Returns true for `ZERO`.
+    /// Returns `true` for `ZERO`.
     pub fn is_zero(self) -> bool
         ensures { IsTrue result ↔ (self ≡ RecordType.ZERO) }
     {
         matches!(self, RecordType::ZERO)
     }
 
-    /// Returns true for `A` and `AAAA`.
+    /// Returns `true` for `A` and `AAAA`.
     pub fn is_ip_addr(self) -> bool
         ensures { IsTrue result ↔ ((self ≡ RecordType.A) ⊎ (self ≡ RecordType.AAAA)) }
     {
         matches!(self, RecordType::A | RecordType::AAAA)
     }
 
-    /// Whether records of this type belong to DNSSEC (RFC 2535, RFC 4034, RFC 5155, RFC 7344).
+    /// Returns `true` if records of this type belong to DNSSEC (RFC 2535, RFC 4034, RFC 5155, RFC 7344).
     pub fn is_dnssec(self) -> bool
         ensures { result ≡ is_dnssec_type self }
     {

@@ -7,8 +7,11 @@ pub struct SerialNumber(u32);
 /// The order of two serial numbers (RFC 1982 section 3.2).
 #[derive(Clone, Copy, Debug, PartialEq, Eq)]
 pub enum SerialOrder {
+    /// The first is less: 1 to 2^31 - 1 increments lead from it to the second.
     Less,
+    /// They are equal.
     Equal,
+    /// The first is greater: 1 to 2^31 - 1 increments lead from the second to it.
     Greater,
     /// They differ by 2^31, so neither is less.
     Undecided,
@@ -32,7 +35,7 @@ impl SerialNumber {
         self.0
     }
 
-    /// Compares it with another (RFC 1982 section 3.2).
+    /// Compares this serial number with another (RFC 1982 section 3.2).
     pub fn compare(self, other: Self) -> SerialOrder
         ensures { result ≡ serial_order (serial_value self) (serial_value other) }
     {

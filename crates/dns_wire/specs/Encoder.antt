@@ -16,7 +16,7 @@ max_message_len = 65535
 abbrev pub max_suffixes : ℕ
 max_suffixes = 64
 
--- Suffixes are remembered below this offset. A pointer has 14 bits for its target (RFC 1035 section 4.1.4).
+-- Suffixes are remembered below this offset, the greatest that a pointer's 14 bits can hold (RFC 1035 section 4.1.4).
 abbrev pub suffix_offset_limit : ℕ
 suffix_offset_limit = 16383
 
@@ -89,8 +89,8 @@ place_of [] bytes = None
 place_of (suffix ∷ suffixes) bytes =
     if bytes_eq suffix.bytes bytes then Some suffix.start else place_of suffixes bytes
 
--- The suffixes after remembering bytes at an offset. Nothing changes if the bytes are remembered already, no pointer
--- could reach the offset, or the list is full.
+-- The suffixes after remembering bytes at an offset. Nothing changes if the bytes are remembered already, if they start
+-- at 0x3FFF or later, or if the list is full.
 abbrev pub remember : List Suffix → ℕ → List ℕ → List Suffix
 remember suffixes start bytes =
     if nat_lt start suffix_offset_limit
@@ -107,7 +107,8 @@ trim_to_offset w = record w {
   suffixes = suffixes_before w.offset w.suffixes;
 }
 
--- A refused write can be rolled back: returning to the old offset and trimming restores what was there before.
+-- A refused write can be rolled back: returning to the old offset and trimming leaves the bytes and suffixes that were
+-- before it.
 pub record CanRollBack (old new : EncoderState) : Type 0 where
   pub bytes : take old.offset new.bytes ≡ take old.offset old.bytes
   pub within : old.offset ≤ length new.bytes

@@ -10,8 +10,8 @@ use Rattle.dns_wire.specs.Writing.{IsPointerTarget}
 
 -- ---- the parts of a buffer
 
--- A part of the buffer: a piece, with the encoding of names and the number of attempts when it was written; or lost bytes,
--- of which nothing is promised, with the suffixes that are remembered after them.
+-- A part of the buffer: a piece, with the encoding of names and the number of attempts when it was written; or lost
+-- bytes, of which nothing is promised, with the suffixes that are remembered after them.
 pub data Part : Type 0 where
   Surviving : NameEncoding → ℕ → Piece → Part
   Lost : List ℕ → List Suffix → Part
@@ -78,8 +78,8 @@ push_pieces w (piece ∷ pieces) parts =
 -- Calls old parts new: calls lead from one state to another, and the buffer then consists of these parts, the latest of
 -- which comes first.
 --
--- No suffix is stored by hand, and an offset that is set back is followed by a trim before the next write. A piece that is
--- truncated in part, or that refers to what was truncated, is lost.
+-- No suffix is stored by hand, and an offset that is set back is followed by a trim before the next write. A piece that
+-- is truncated in part, or that refers to what was truncated, is lost.
 pub data Calls (old : EncoderState) : List Part → EncoderState → Type 0 where
   no_call : Calls old [] old
   call_write : {parts : List Part} {w new : EncoderState} (pieces : List Piece)
@@ -124,7 +124,7 @@ SurvivorsDecode old (Surviving encoding attempts piece ∷ earlier) bytes =
     × SurvivorsDecode old earlier bytes
 SurvivorsDecode old (Lost lost suffixes ∷ earlier) bytes = SurvivorsDecode old earlier bytes
 
--- each remembered suffix that is not lost is the target of a pointer
+-- each remembered suffix that is not lost can be the target of a pointer
 abbrev pub ArePointerTargetsUnlessLost : (ℕ → Type 0) → List ℕ → List Suffix → Type 0
 ArePointerTargetsUnlessLost lost buffer suffixes =
     AllByRecursion (λ s. lost s.start ⊎ IsPointerTarget buffer s) suffixes

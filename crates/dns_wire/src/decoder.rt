@@ -34,7 +34,7 @@ impl<'a> BinDecoder<'a> {
         BinDecoder { buffer, index: 0 }
     }
 
-    /// Returns a decoder over the same bytes, at another index.
+    /// Returns a decoder over the same bytes, at another index, which must not be past their end.
     pub fn clone(&self, index_at: usize) -> BinDecoder<'a>
         requires { index_at ≤ length self.now.bytes }
         ensures { result ≡ record self.now { index = index_at } }
@@ -60,7 +60,7 @@ impl<'a> BinDecoder<'a> {
         self.buffer.len() - self.index
     }
 
-    /// Returns true if no byte is unread.
+    /// Returns `true` if no byte is unread.
     pub fn is_empty(&self) -> bool
         ensures { IsTrue result ↔ (rest self.now ≡ []) }
     {
@@ -190,7 +190,7 @@ impl<'a> BinDecoder<'a> {
         Ok(bytes)
     }
 
-    /// Returns the bytes from an earlier index up to the next one.
+    /// Returns the bytes from `index` up to the decoder's index, which `index` must not be past.
     pub fn slice_from(&self, index: usize) -> &'a [u8]
         requires { index ≤ self.now.index }
         ensures { result.now ≡ slice_range self.now.bytes index self.now.index }

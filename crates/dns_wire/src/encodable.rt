@@ -66,8 +66,9 @@ pub trait EncodedSize: BinEncodable {
     ghost is_plain: { (value : Self) (s : Position)
         → Self.pieces value s ≡ Plain (wire value) ∷ [] };
 
-    /// The encoding has that length, which is positive.
+    /// The encoding has that length.
     ghost has_len: { (value : Self) → length (wire value) ≡ LEN };
 
+    /// The length is positive.
     ghost some: { 0 < LEN };
 }

@@ -13,7 +13,7 @@ const MAX_MESSAGE_LEN: usize = 65_535;
 /// How many suffixes an encoder remembers.
 const MAX_SUFFIXES: usize = 64;
 
-/// Suffixes are remembered below this offset: a pointer has 14 bits for its target (RFC 1035 section 4.1.4).
+/// Suffixes are remembered below this offset, the greatest that a pointer's 14 bits can hold (RFC 1035 section 4.1.4).
 const SUFFIX_OFFSET_LIMIT: usize = 0x3FFF;
 
 /// How many names an encoder tries to compress.
@@ -69,6 +69,7 @@ impl<'a> BinEncoder<'a> {
     }
 
     /// Creates an encoder at an offset of the buffer, with this encoding of names and a greatest size of 65,535 bytes.
+    /// The offset must not be past the end of the buffer.
     pub fn with_offset(
         alloc: Global,
         buffer: &'a mut Vec<u8>,
@@ -132,14 +133,14 @@ impl<'a> BinEncoder<'a> {
         self.buffer.len()
     }
 
-    /// Returns true if the buffer is empty.
+    /// Returns `true` if the buffer is empty.
     pub fn is_empty(&self) -> bool
         ensures { IsTrue result ↔ ((state_of self.now).bytes ≡ []) }
     {
         self.buffer.is_empty()
     }
 
-    /// Sets the offset of the next byte.
+    /// Sets the offset of the next byte, which must not be past the end of the buffer.
     pub fn set_offset(&mut self, offset: usize)
         requires { offset ≤ length (state_of self.old).bytes }
         ensures { state_of self.new ≡ record (state_of self.old) { offset = offset } }
@@ -168,7 +169,7 @@ impl<'a> BinEncoder<'a> {
         self.name_encoding = encoding;
     }
 
-    /// Returns true if record data is written in canonical form (RFC 4034 section 6.2).
+    /// Returns `true` if record data is written in canonical form (RFC 4034 section 6.2).
     pub fn is_canonical_form(&self) -> bool
         ensures { result ≡ (state_of self.now).canonical }
     {
@@ -292,7 +293,7 @@ impl<'a> BinEncoder<'a> {
         Ok(())
     }
 
-    /// Returns true if `len` bytes at the offset are within the greatest size.
+    /// Returns `true` if `len` bytes at the offset are within the greatest size.
     fn has_room(&self, len: usize) -> bool
         ensures { IsTrue result ↔ ((state_of self.now).offset + len ≤ (state_of self.now).limit) }
     {
@@ -327,7 +328,7 @@ impl<'a> BinEncoder<'a> {
         value.fill(&mut self.buffer[start..start + T::LEN]);
     }
 
-    /// Returns a range of the buffer.
+    /// Returns a range of the buffer. It must be within the buffer, with `start <= end`.
     pub fn slice_of(&self, start: usize, end: usize) -> &[u8]
         requires order { start ≤ end }
         requires within { end ≤ length (state_of self.now).bytes }
@@ -336,7 +337,8 @@ impl<'a> BinEncoder<'a> {
         &self.buffer[start..end]
     }
 
-    /// Returns the offset of the first remembered suffix that equals a range of the buffer.
+    /// Returns the offset of the first remembered suffix that equals a range of the buffer. The range must be within
+    /// the buffer, with `start <= end`.
     pub fn get_label_pointer(&self, start: usize, end: usize) -> Option<u16>
         requires order { start ≤ end }
         requires within { end ≤ length (state_of self.now).bytes }
@@ -352,8 +354,8 @@ impl<'a> BinEncoder<'a> {
         None
     }
 
-    /// Remembers a range of the buffer as a suffix. Does nothing if it is remembered already, if no pointer could reach
-    /// it, or if 64 suffixes are remembered.
+    /// Remembers a range of the buffer as a suffix. Does nothing if it is remembered already, if it starts at 0x3FFF or
+    /// later, or if 64 suffixes are remembered. The range must be within the buffer, with `start <= end`.
     pub fn store_label_pointer(&mut self, start: usize, end: usize) -> Result<(), AllocError>
         requires order { start ≤ end }
         requires within { end ≤ length (state_of self.old).bytes }

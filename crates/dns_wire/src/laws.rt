@@ -1,4 +1,4 @@
-//! Laws: what the definitions of this crate imply. Each is a function without a body, whose contract is the law.
+//! Laws: what the definitions of this crate imply, as functions with empty bodies.
 
 ghost use Rattle.std.specs.Prelude.{◌≡◌, ◌+◌, ◌≤◌, List, ℕ, [], ◌∷◌, ◌++◌, length, Result, Ok, Err};
 ghost use Rattle.dns_wire.specs.Laws.{Part, state_after, IsLost, Calls, SurvivorsDecode, ArePointerTargetsUnlessLost};
@@ -12,8 +12,9 @@ pub use dns_codes::laws::{
     class_number_round_trips, serials_compare_by_distance, type_number_round_trips,
 };
 
-/// Pieces that are written at the end decode as they were written, if a pointer can refer to every remembered suffix.
-/// Afterwards a pointer can refer to every remembered suffix again (RFC 1035 section 4.1.4).
+/// Pieces that are written at the end decode as they were written, if every remembered suffix can be the target of a
+/// pointer, and the pieces' names are names. Afterwards every remembered suffix can be the target of a pointer again
+/// (RFC 1035 section 4.1.4).
 pub fn pieces_decode_as_written()
     ensures { (w : EncoderState) (ps : List Piece)
         → IsAtEnd w → ArePointerTargets w.bytes w.suffixes → AreWritable ps
@@ -22,10 +23,10 @@ pub fn pieces_decode_as_written()
 {}
 
 /// After any sequence of calls, each piece that was written decodes, unless it was truncated or refers to what was
-/// truncated. A pointer can refer to every remembered suffix that was not truncated (RFC 1035 section 4.1.4).
+/// truncated. Every remembered suffix that was not truncated can be the target of a pointer (RFC 1035 section 4.1.4).
 ///
 /// The calls are writes at the end, refused writes that are rolled back, setting the offset back and trimming, filling
-/// places, and setting modes and the greatest size.
+/// places, and setting modes and the greatest size. No suffix is stored by hand.
 pub fn surviving_writes_decode()
     ensures { (old w : EncoderState) (parts : List Part)
         → IsAtEnd old → ArePointerTargets old.bytes old.suffixes → Calls old parts w
@@ -73,7 +74,8 @@ pub fn roll_back_composes()
         ≡ record old { attempts = new.attempts } }
 {}
 
-/// Every remembered suffix starts before the offset, if a pointer can refer to each of them, and still does after a write.
+/// Every remembered suffix starts before the offset, if each can be the target of a pointer, and still does after a
+/// write.
 pub fn suffixes_start_before_the_offset()
     ensures targets { (w : EncoderState)
         → IsAtEnd w → ArePointerTargets w.bytes w.suffixes → AllBehind (position_of w) }

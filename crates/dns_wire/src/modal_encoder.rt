@@ -1,4 +1,4 @@
-//! A guard that sets the encoding of names, and restores it when it is dropped.
+//! A guard that restores the encoding of names when it is dropped.
 
 ghost use Rattle.std.specs.Prelude.{◌≡◌};
 
@@ -7,7 +7,8 @@ use crate::name_encoding::{NameEncoding, RDataEncoding};
 
 /// An encoder with an encoding of names that lasts until this guard is dropped.
 ///
-/// While a `ModalEncoder` is alive, names use its encoding. Dropping it restores the encoding that it saved.
+/// Names use the encoding that it was created with, unless its encoder's is set. Dropping it sets the encoding that it
+/// holds.
 pub struct ModalEncoder<'a, 'e> {
     previous: NameEncoding,
     encoder: &'e mut BinEncoder<'a>,
@@ -29,7 +30,7 @@ impl Drop for ModalEncoder<'_, '_> {
     ghost use Rattle.dns_wire.specs.Encoder.{state_of};
     ghost use Rattle.dns_wire.specs.ModalEncoder.{modal_state, saved_encoding};
 
-    /// Restores the encoding that was saved.
+    /// Sets the encoding that the guard holds.
     fn drop(self)
         ensures { state_of self.exit.1.0.now
             ≡ record (modal_state self.entry) { encoding = saved_encoding self.entry } }

@@ -14,7 +14,8 @@ pub enum NameEncoding {
 /// How record data encodes the names in it.
 #[derive(Clone, Copy, Debug, PartialEq, Eq)]
 pub enum RDataEncoding {
-    /// A type of RFC 1035, whose names may be compressed (RFC 3597 section 4).
+    /// A type of RFC 1035, whose names may be compressed (RFC 3597 section 4): they are encoded in the encoder's mode,
+    /// and whole and in lower case in canonical form (RFC 4034 section 6.2).
     StandardRecord,
     /// A type whose names are never compressed, and have lower case in canonical form (RFC 4034 section 6.2).
     Canonical,

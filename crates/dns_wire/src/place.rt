@@ -19,7 +19,7 @@ pub struct Place<T> {
 impl<T: EncodedSize + Drop> Place<T> {
     ghost use Rattle.dns_wire.specs.Place.{place_start};
 
-    /// Writes the value at its place, without moving the offset of the encoder.
+    /// Writes the value at its place, without moving the offset of the encoder. The place must be within the buffer.
     pub fn replace(self, encoder: &mut BinEncoder<'_>, content: T) -> Result<(), EncodeError>
         requires { place_start self + T.LEN ≤ length (state_of encoder.old).bytes }
         ensures ok { OnOk result (state_of encoder.new ≡ record (state_of encoder.old) {
@@ -51,7 +51,7 @@ impl<'a> BinEncoder<'a> {
         })
     }
 
-    /// Returns the number of bytes between the place and the offset.
+    /// Returns the number of bytes between the place and the offset, which must not be before the end of the place.
     pub fn len_since_place<T: EncodedSize>(&self, place: &Place<T>) -> usize
         requires { place_start place.now + T.LEN ≤ (state_of self.now).offset }
         ensures value { place_start place.now + T.LEN + result ≡ (state_of self.now).offset }
@@ -60,7 +60,7 @@ impl<'a> BinEncoder<'a> {
         self.offset() - place.start - T::LEN
     }
 
-    /// Writes a value at its place, without moving the offset.
+    /// Writes a value at its place, without moving the offset. The place must be within the buffer.
     pub fn emit_at<T: EncodedSize + Drop>(
         &mut self,
         place: Place<T>,
