@@ -20,6 +20,6 @@ label_writes label = flat_map fed.u8 (length label ∷ label)
 abbrev pub label_cmp : List ℕ → List ℕ → Ordering
 label_cmp = slice_cmp lower_cmp
 
--- what a label feeds a hasher: its bytes in lower case
+-- what a label feeds a hasher: its length, and its bytes in lower case
 abbrev pub label_hash : List ℕ → fed.HashWrites
 label_hash label = label_writes (str_to_ascii_lowercase label)

@@ -3,20 +3,21 @@
 use std::alloc::{AllocError, AllocFailed};
 use thiserror::Error;
 
-/// The error of building or parsing a label or a name.
+/// An error of building or parsing a label or a name, or of parsing a time.
 #[derive(Debug, Drop, Error)]
 pub enum ParseError {
     /// A label is longer than 63 bytes (RFC 1035 section 2.3.4).
     #[error("label is longer than 63 bytes")]
     LabelBytesTooLong,
-    /// A label is empty; in text, two dots follow one another or a dot comes first.
+    /// A label is empty; in a name's text, two dots follow one another, or a dot comes first and is not the whole text.
     #[error("empty label")]
     EmptyLabel,
     /// The encoded name is longer than 255 bytes (RFC 1035 section 2.3.4).
     #[error("name is longer than 255 bytes")]
     DomainNameTooLong,
-    /// The character at this byte offset is not allowed there, or is a backslash without a valid escape. For a time in
-    /// text it may also be the character that makes the time too great; for a name that is not a reverse name it is 0.
+    /// The character at this byte offset is not allowed there, or is a backslash without a valid escape. In a time it
+    /// is the first character such that the text up to and including it is not a time of 32 bits, or 0 if the text is
+    /// empty. For a name that is not a reverse name it is 0.
     #[error("invalid character at byte {0}")]
     Text(usize),
     /// Memory could not be allocated.

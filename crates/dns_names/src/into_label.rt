@@ -11,6 +11,7 @@ use std::alloc::Global;
 
 /// A value that converts into a label: arbitrary bytes, or text without escapes.
 pub trait IntoLabel: Sized {
+    /// The label, or why there is none.
     ghost label: { Self → Result (List ℕ) ParseError };
 
     /// Converts the value into a label.

@@ -76,7 +76,7 @@ impl Label {
         Label { bytes }
     }
 
-    /// Returns a copy of the label.
+    /// Returns a copy of the label. It does not fail if there are at most 24 bytes, which are stored inline.
     pub fn clone(&self) -> Result<Label, AllocError>
         ensures ok { IfOk result (λ label. label ≡ self.now) }
         ensures inline { length self.now ≤ 24 → IsOk result }
@@ -86,7 +86,8 @@ impl Label {
         })
     }
 
-    /// Returns the label with its ASCII letters in lower case.
+    /// Returns the label with its ASCII letters in lower case. It does not fail if there are at most 24 bytes, which
+    /// are stored inline.
     pub fn to_lowercase(&self) -> Result<Label, AllocError>
         ensures ok { IfOk result (λ label. label ≡ str_to_ascii_lowercase self.now) }
         ensures inline { length self.now ≤ 24 → IsOk result }

@@ -39,8 +39,8 @@ pub fn case_sensitive_order_is_total()
     ensures equal { (a b : DomainName) → IsTrue (is_eq (name_order nat_cmp a b)) ↔ (a ≡ b) }
 {}
 
-/// The names at or below a name are contiguous in the order and begin with that name: none of them comes before it, and
-/// any name between it and one of them is one of them.
+/// The names that have a name's flag and are at or below it are contiguous in the order and begin with that name: none
+/// of them comes before it, and any name between it and one of them is one of them.
 pub fn subtrees_are_contiguous()
     ensures begins { (origin name : DomainName) → is_in_subtree origin name ≡ true
         → is_gt (name_cmp origin name) ≡ false }

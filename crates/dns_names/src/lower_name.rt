@@ -75,7 +75,7 @@ impl LowerName {
         })
     }
 
-    /// Returns `true` if `name` is at or below this name.
+    /// Returns `true` if `name` is at or below this name, whether or not the names are fully qualified.
     pub fn zone_of(&self, name: &LowerName) -> bool
         ensures { result ≡ at_or_below self.now.labels name.now.labels }
     {

@@ -75,7 +75,8 @@ impl Name {
         self.is_fqdn
     }
 
-    /// Returns a copy of the name. Up to 24 labels of up to 32 bytes in all are stored inline.
+    /// Returns a copy of the name. It does not fail if there are at most 24 labels of at most 32 bytes in all, which
+    /// are stored inline.
     pub fn clone(&self) -> Result<Self, AllocError>
         ensures ok { IfOk result (λ name. name ≡ self.now) }
         ensures inline { length self.now.labels ≤ 24
@@ -94,7 +95,8 @@ impl Name {
         })
     }
 
-    /// Returns the name with its ASCII letters in lower case.
+    /// Returns the name with its ASCII letters in lower case. It does not fail if there are at most 24 labels of at
+    /// most 32 bytes in all, which are stored inline.
     pub fn to_lowercase(&self) -> Result<Self, AllocError>
         ensures ok { IfOk result (λ name. name
             ≡ record self.now { labels = lower self.now.labels }) }

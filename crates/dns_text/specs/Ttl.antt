@@ -53,7 +53,7 @@ abbrev pub seconds : List Run → Option ℕ
 seconds [] = Some 0
 seconds (r ∷ rs) = sum_of (run_seconds r) (seconds rs)
 
--- the time that a text spells, with at least one run and up to 4,294,967,295 seconds (RFC 1035 section 3.2.1)
+-- the time that a text spells, with at least one run and up to 4,294,967,295 seconds (RFC 1035 section 4.1.3)
 abbrev pub time : List ℕ → Option ℕ
 time [] = None
 time (c ∷ cs) = at_most 4294967295 (seconds (runs (c ∷ cs)))

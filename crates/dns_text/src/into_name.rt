@@ -14,8 +14,10 @@ use std::net::IpAddr;
 
 /// A value that converts into a name: a name, or text, which may also spell an address.
 pub trait IntoName: Sized {
+    /// The name, or why there is none.
     ghost name: { Self → Result DomainName ParseError };
 
+    /// Whether this is the address that the value spells, or `None` if it spells none.
     ghost is_ip: { Self → Option IpAddr → Type 0 };
 
     /// Converts the value into a name.

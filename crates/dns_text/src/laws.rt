@@ -28,7 +28,7 @@ pub fn lexing_is_deterministic()
         → NextToken end (Err error) end }
 {}
 
-/// A nonempty prefix of a time is a time. So a text that is not a time begins no time.
+/// A nonempty prefix of a time is a time. So a nonempty text that is not a time is the beginning of none.
 pub fn prefixes_of_times_are_times()
     ensures { (read rest : List ℕ) → 0 < length read → time read ≡ None
         → time (read ++ rest) ≡ None }

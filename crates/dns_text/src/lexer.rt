@@ -21,8 +21,8 @@ enum Scan<'a> {
 }
 
 /// A lexer over the borrowed text of a zone file. An entry ends at the end of a line outside parentheses, `;` begins a
-/// comment, a backslash escapes the next character, and a quoted string may contain blanks and `;` (RFC 1035 section 5.1).
-/// A line ends at a line feed, or at a carriage return and a line feed.
+/// comment, a backslash escapes the next character, and a quoted string may contain blanks and `;` (RFC 1035 section
+/// 5.1). A line ends at a line feed, or at a carriage return and a line feed.
 #[derive(Drop)]
 pub struct Lexer<'a> {
     text: &'a [u8],
@@ -76,7 +76,8 @@ impl<'a> Lexer<'a> {
         }
     }
 
-    /// Returns the current line, from 1. Inside parentheses the next token may be on a later line.
+    /// Returns the line that the rest of the text begins on, from 1. Inside parentheses the next token may be on a
+    /// later line.
     pub fn line(&self) -> usize
         ensures { result ≡ self.now.line }
     {

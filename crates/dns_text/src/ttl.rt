@@ -6,7 +6,7 @@ ghost use Rattle.dns_text.specs.internal.Ttl.{add_character, total};
 
 use dns_names::ParseError;
 
-/// The greatest time to live: RFC 1035 section 3.2.1 has 32 bits for it.
+/// The greatest time to live: it has 32 bits, without a sign (RFC 1035 section 4.1.3).
 const GREATEST: u64 = 4_294_967_295;
 
 /// The sum of the complete runs in seconds, and the number of the current run, if there is one.
@@ -17,9 +17,9 @@ struct TtlSum {
 }
 
 /// Parses a time to live in seconds: runs of digits, each followed by a unit of seconds, minutes, hours, days or weeks
-/// (`s`, `m`, `h`, `d`, `w` in any case); the unit of the last run may be missing and is then seconds. So `1h30` is 3,630
-/// seconds. The error has the place of the first character up to which the text is not a time of 32 bits, and 0 for the
-/// empty text.
+/// (`s`, `m`, `h`, `d`, `w` in any case); the unit of the last run may be missing and is then seconds. So `1h30` is
+/// 3,630 seconds. The error has the position of the first character such that the text up to and including it is not a
+/// time of 32 bits, or 0 if the text is empty.
 pub fn parse_ttl(text: &str) -> Result<u32, ParseError>
     ensures { result ≡ ttl_of_text text.now }
 {

@@ -52,7 +52,7 @@ impl ZoneUsage {
     }
 }
 
-/// `localhost.` (RFC 6761 section 6.3).
+/// Returns the zone `localhost.`, whose names denote the local host (RFC 6761 section 6.3).
 pub fn localhost(alloc: Global) -> Result<ZoneUsage, AllocError>
     ensures { IfOk result (λ usage. usage ≡ localhost_zone) }
 {
@@ -62,7 +62,7 @@ pub fn localhost(alloc: Global) -> Result<ZoneUsage, AllocError>
     })
 }
 
-/// `127.in-addr.arpa.`, the loopback addresses (RFC 6303 section 4.2).
+/// Returns the zone `127.in-addr.arpa.`, whose names are those of the loopback addresses (RFC 6303 section 4.2).
 pub fn in_addr_arpa_127(alloc: Global) -> Result<ZoneUsage, AllocError>
     ensures { IfOk result (λ usage. usage ≡ in_addr_arpa_127_zone) }
 {
@@ -74,7 +74,7 @@ pub fn in_addr_arpa_127(alloc: Global) -> Result<ZoneUsage, AllocError>
     })
 }
 
-/// The name of `::1`, the loopback address (RFC 6303 section 4.3).
+/// Returns the zone at the name of `::1`, the loopback address (RFC 6303 section 4.3).
 pub fn ip6_arpa_1(alloc: Global) -> Result<ZoneUsage, AllocError>
     ensures { IfOk result (λ usage. usage ≡ ip6_arpa_1_zone) }
 {
@@ -84,7 +84,7 @@ pub fn ip6_arpa_1(alloc: Global) -> Result<ZoneUsage, AllocError>
     })
 }
 
-/// `local.`, the names of the local link (RFC 6762 section 3).
+/// Returns the zone `local.`, whose names belong to the local link (RFC 6762 section 3).
 pub fn local(alloc: Global) -> Result<ZoneUsage, AllocError>
     ensures { IfOk result (λ usage. usage ≡ local_zone) }
 {
@@ -94,7 +94,7 @@ pub fn local(alloc: Global) -> Result<ZoneUsage, AllocError>
     })
 }
 
-/// `invalid.` (RFC 6761 section 6.4).
+/// Returns the zone `invalid.`, whose names do not exist (RFC 6761 section 6.4).
 pub fn invalid(alloc: Global) -> Result<ZoneUsage, AllocError>
     ensures { IfOk result (λ usage. usage ≡ invalid_zone) }
 {
@@ -104,7 +104,7 @@ pub fn invalid(alloc: Global) -> Result<ZoneUsage, AllocError>
     })
 }
 
-/// `onion.` (RFC 7686 section 2).
+/// Returns the zone `onion.`, whose names do not exist in the DNS (RFC 7686 section 2).
 pub fn onion(alloc: Global) -> Result<ZoneUsage, AllocError>
     ensures { IfOk result (λ usage. usage ≡ onion_zone) }
 {
@@ -114,7 +114,7 @@ pub fn onion(alloc: Global) -> Result<ZoneUsage, AllocError>
     })
 }
 
-/// Any other name.
+/// Returns the usage of any other name: the zone is the root, whose names a resolver queries normally.
 pub fn default(alloc: Global) -> ZoneUsage
     ensures { result ≡ root_zone }
 {

@@ -21,8 +21,10 @@ use std::hash::{Hash, Hasher};
 
 /// An order of the bytes of labels.
 pub trait LabelCmp {
+    /// The order of two bytes.
     ghost byte_order: { ℕ → ℕ → Ordering };
 
+    /// The order is total.
     ghost total: { IsTotalOrder byte_order };
 
     /// Compares two bytes.

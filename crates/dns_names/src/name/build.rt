@@ -13,7 +13,7 @@ use crate::name::Name;
 use std::alloc::{AllocError, Global};
 
 impl Name {
-    /// Builds a fully qualified name from labels, left to right, and stops at the first error.
+    /// Builds a fully qualified name from labels, left to right. The error is that of the first label that is refused.
     pub fn from_labels<I: IntoIterator<Item = L>, L: IntoLabel + Drop>(
         alloc: Global,
         labels: I,

@@ -112,7 +112,7 @@ impl Name {
         self.cmp_case(other).is_eq()
     }
 
-    /// Compares the names, with case.
+    /// Compares the names, comparing case: relative names come first, then labels are compared from right to left.
     pub fn cmp_case(&self, other: &Name) -> Ordering
         ensures { result ≡ name_order nat_cmp self.now other.now }
     {

@@ -124,6 +124,7 @@ fn read_at(alloc: Global, decoder: BinDecoder<'_>) -> Result<(Name, usize), Deco
     Ok((name, end.unwrap_or(reader.index())))
 }
 
+/// A relative name is encoded like the fully qualified name with the same labels.
 impl BinEncodable for Name {
     ghost use Rattle.std.specs.Prelude.{[], ◌∷◌};
     ghost use Rattle.dns_wire.specs.Encodable.{Domain};

@@ -131,7 +131,8 @@ impl Name {
         partial.finish()
     }
 
-    /// Parses a name as `from_ascii` does, and appends the origin, if there is one, to a relative name.
+    /// Parses a name as `from_ascii` does, and appends the origin, if there is one, to a relative name. The result is
+    /// then fully qualified.
     pub fn parse(alloc: Global, text: &str, origin: Option<&Name>) -> Result<Name, ParseError>
         ensures { IsUnless ParseError.Memory
             (parse_name text.now (option_map (λ o. o.now) origin.entry)) result }
