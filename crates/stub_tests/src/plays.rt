@@ -108,14 +108,14 @@ fn script_faults(rt: HostRuntime) -> Result<(), AllocError> {
         ("x lookup a.t. A", "script line 1\n"),
         ("-1 lookup a.t. A", "script line 1\n"),
         ("18446744073709551616 lookup a.t. A", "script line 1\n"),
-        // A semicolon, and a comment that doesn't begin its line.
+        // A link script, and a comment that doesn't begin its line.
         ("0 lookup a.t. A ; c", "script line 1\n"),
-        (" # c", "script line 1\n"),
+        ("0 lookup a.t. A # c", "script line 1\n"),
         // A moment past 2^62, and one that goes back.
         ("4611686018427387905 lookup a.t. A", "script line 1\n"),
         ("5 lookup a.t. A\n3 lookup a.t. A", "script line 2\n"),
         (
-            "# c\n\n5 lookup a.t. A\r\n \t\n3 lookup a.t. A\n",
+            " # c\n\n5 lookup a.t. A\r\n \t\n3 lookup a.t. A\n",
             "script line 5\n",
         ),
         // The lines are looked at before the moments.
