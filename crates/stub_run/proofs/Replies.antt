@@ -78,7 +78,7 @@ took-ends one_way id q old mid new bytes dropped total next outcome reads b t =
       | inl u ↦ (at_taken (subst (Becomes old []) (sym u.4) b) (u.3 ∙ ap accepted (one_way bytes u.0 (reply-over old id q) u.1 reads)), u.5)
       | inr u ↦ elim u [
         | inl v ↦ absurd (true≢false (sym (reply-matches old.zone old.limit id q) ∙ v.0 (reply-over old id q) reads))
-        | inr v ↦ (at_wanting (subst (Becomes old []) (sym v.1) b) v.0, v.2)
+        | inr v ↦ (at_wanting (subst (Becomes old []) (sym v.2) b) v.1, v.3)
       ]
     ]
 

@@ -4,7 +4,7 @@ use dns_names::Name;
 use dns_zone::{DatagramLimit, Zone};
 use std::alloc::Global;
 use std::test::Fail;
-use stub_run::{Link, ScriptedLink, WireHandle, read_script, read_words};
+use stub_run::{Link, ScriptedLink, read_script, read_words};
 
 /// A link to a zone of no address.
 fn link(alloc: Global) -> Result<ScriptedLink, Fail> {
@@ -39,14 +39,6 @@ fn a_link_brings_a_reply(rt: HostRuntime) -> Result<(), Fail> {
     ];
     let found = reply_over(rt.alloc(), &request)?;
     assert_eq!(rt; found.as_slice(), want.as_slice());
-    Ok(())
-}
-
-#[test]
-fn a_handle_makes_room(rt: HostRuntime) -> Result<(), Fail> {
-    let mut handle = WireHandle::new(rt.alloc(), link(rt.alloc())?, Vec::new(rt.alloc()));
-    handle.reserve(2)?;
-    assert_eq!(rt; handle.dropped(), 0);
     Ok(())
 }
 
