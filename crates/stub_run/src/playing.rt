@@ -123,7 +123,8 @@ fn play_script<W: io::Write>(
     writer: &mut W,
 ) -> Result<(), PlayFault>
     ensures { (zone_text : List ℕ) → zone_of_text zone_text ≡ Ok zone
-        → IsPlayed zone_text text.now (writer.new ≡ writer.old) (W.contents writer.old) (W.contents writer.new) result }
+        → IsPlayed zone_text text.now (writer.new ≡ writer.old)
+        (W.contents writer.old) (W.contents writer.new) result }
 {
     let script = read_script(alloc, text, zone.origin())?;
     play_events(alloc, zone, &script, writer)
@@ -139,7 +140,8 @@ fn play_events<W: io::Write>(
     requires { length script.now.lines.items ≡ length script.now.events.items }
     ensures { (zone_text text : List ℕ) → zone_of_text zone_text ≡ Ok zone
         → script_of_text text ≡ Ok (side_by_side script.now.lines.items script.now.events.items)
-        → IsPlayed zone_text text (writer.new ≡ writer.old) (W.contents writer.old) (W.contents writer.new) result }
+        → IsPlayed zone_text text (writer.new ≡ writer.old)
+        (W.contents writer.old) (W.contents writer.new) result }
 {
     let world = new_world(alloc, zone)?;
     match run(world, script.events.as_slice()) {

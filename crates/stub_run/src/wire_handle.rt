@@ -79,7 +79,8 @@ impl<L: Link> WireHandle<L> {
     /// Asks a question: the message that replies to it, whatever its code.
     pub fn send(&mut self, query: &Query) -> Result<Message, NetError>
         ensures asks { Asks L.sends L.receives self.old query.now result self.new }
-        ensures failed { FailsByLink result (L.failure_count (link_of self.old)) (L.failure_count (link_of self.new)) }
+        ensures failed { FailsByLink result
+            (L.failure_count (link_of self.old)) (L.failure_count (link_of self.new)) }
     {
         self.ask(query).outcome
     }
