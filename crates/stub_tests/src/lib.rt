@@ -4,11 +4,14 @@
 //! - `calls`: calls that may want memory, each made once;
 //! - `runs`: asking over any link, and runs over the honest one;
 //! - `plays`: the program's words, scripts, and what is printed;
-//! - `texts`: what is printed of faults.
+//! - `texts`: what is printed of faults;
+//! - `examples`: the examples of the README.
 #![tactic(auto)]
 
 #[cfg(test)]
 mod calls;
+#[cfg(test)]
+mod examples;
 #[cfg(test)]
 mod plays;
 #[cfg(test)]

@@ -1,0 +1,50 @@
+//! The examples of the README: a name server for tests, and a reader of messages.
+
+use dns_messages::Message;
+use dns_wire::DecodeError;
+use dns_zone::{Road, Zone, ZoneFault};
+use std::alloc::Global;
+use std::fmt::Write;
+use std::test::Fail;
+
+/// Replies to a request as a name server with a small zone. Bytes that are not such a request get no reply.
+fn reply_to(alloc: Global, request: &[u8]) -> Result<Option<Vec<u8>>, ZoneFault> {
+    let text = "t. 60 IN SOA ns.t. h.t. 1 3600 600 86400 30\n\
+                a.t. 60 IN A 10.0.0.1\n";
+    let mut zone = Zone::from_text(alloc, text, &[], None)?;
+    Ok(zone.serve(request, Road::Stream)?)
+}
+
+/// Decodes a message, and formats each record of its answer section on a line.
+fn answer_lines(alloc: Global, message: &[u8]) -> Result<String, DecodeError> {
+    let message = Message::from_vec(alloc, message)?;
+    let mut lines = String::new(alloc);
+    for record in message.answers.as_slice() {
+        let rtype = record.rdata.record_type();
+        let (name, ttl, rdata) = (&record.name, record.ttl, &record.rdata);
+        writeln!(lines, "{name} {ttl} IN {rtype} {rdata}")?;
+    }
+    Ok(lines)
+}
+
+/// A request for `a.t. A` with the id 1 and RD (RFC 1035 section 4.1).
+const REQUEST: [u8; 21] = [
+    0, 1, 1, 0, 0, 1, 0, 0, 0, 0, 0, 0, 1, b'a', 1, b't', 0, 0, 1, 0, 1,
+];
+
+#[test]
+fn the_server_replies_with_the_address(rt: HostRuntime) -> Result<(), Fail> {
+    let Some(reply) = reply_to(rt.alloc(), &REQUEST)? else {
+        return Err(Fail::new("no reply"));
+    };
+    let lines = answer_lines(rt.alloc(), reply.as_slice())?;
+    assert_eq!(rt; lines.as_str(), "a.t. 60 IN A 10.0.0.1\n");
+    Ok(())
+}
+
+#[test]
+fn the_server_ignores_a_cut_request(rt: HostRuntime) -> Result<(), Fail> {
+    let reply = reply_to(rt.alloc(), &REQUEST[..20])?;
+    assert!(rt; reply.is_none());
+    Ok(())
+}
