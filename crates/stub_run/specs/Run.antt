@@ -1,7 +1,9 @@
 -- What happens in a world, event by event.
-use Rattle.std.specs.Prelude.{◌≡◌, ◌≤◌, ◌^◌, true, false, List, [], ◌∷◌, ◌++◌, ℕ, length, slice_get, Option, Some, None, Result, Ok, Err, if◌then◌else◌}
+use Rattle.std.specs.Prelude.{◌≡◌, ◌≤◌, ◌+◌, ◌^◌, true, false, List, [], ◌∷◌, ◌++◌, ℕ, length, slice_get, Option, Some, None, Result, Ok, Err, if◌then◌else◌}
 use Rattle.dns_codes.specs.RecordType.{type_number, type_of}
 use Rattle.dns_codes.specs.declared.dns_class.DNSClass.TheVariants.{IN}
+use Rattle.dns_wire.specs.Name.{name_len}
+use Rattle.dns_names.specs.DomainName.{DomainName}
 use Rattle.dns_messages.specs.declared.query.Query.{Query}
 use Rattle.dns_messages.specs.declared.message.Message.{Message}
 use Rattle.dns_zone.specs.declared.road.Road.TheVariants.{Datagram}
@@ -32,6 +34,10 @@ InOrder last (e ∷ events) = (last ≤ moment_of e) × (moment_of e ≤ 2 ^ 62)
 -- what a lookup asks: its type is taken by its number
 abbrev pub question_of : Event → Query
 question_of (event.Lookup at name rtype script) = record { name = name; query_type = type_of (type_number rtype); query_class = IN }
+
+-- a name that is copied without memory: up to 24 labels, with up to 32 bytes together
+abbrev pub IsInline : DomainName → Type 0
+IsInline name = (length name.labels ≤ 24) × (name_len name.labels ≤ length name.labels + 33)
 
 -- what is left, under the datagram's limit, of the zone's answer to the question
 abbrev pub reply_to : WorldContent → ℕ → Query → Message

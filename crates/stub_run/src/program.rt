@@ -16,22 +16,22 @@ pub enum InputFile {
     Script,
 }
 
-/// Why the program ends with another status than 0.
+/// Why the program exits with a status other than 0.
 #[derive(Debug, Drop)]
 pub enum Ending {
-    /// The arguments are not as they should be, or ask for help. The error's text says so.
+    /// The arguments are invalid, or ask for help. The error's text says which.
     Arguments(clap::Error),
     /// An argument is not valid UTF-8.
     NotUtf8,
-    /// A file can't be read: its path, as it was given.
+    /// A file could not be read, or is not valid UTF-8: its path, as given.
     CannotRead(String),
-    /// The run came to no end.
+    /// The zone, the script or the output is at fault.
     Fault(PlayFault),
-    /// Memory was refused.
+    /// Out of memory.
     Memory,
 }
 
-/// The files in the order in which they are read.
+/// The files, in the order in which the program reads them.
 pub fn reading_order() -> [InputFile; 2]
     ensures { result ≡ InputFile.Zone ∷ InputFile.Script ∷ [] }
 {
@@ -39,7 +39,7 @@ pub fn reading_order() -> [InputFile; 2]
 }
 
 impl Words {
-    /// The path of a file, as it was given.
+    /// The path of a file, as given.
     pub fn path(&self, file: InputFile) -> &str
         ensures { result.now ≡ string_bytes (path_of self.now file) }
     {
@@ -49,7 +49,7 @@ impl Words {
         }
     }
 
-    /// How the program ends where a file can't be read: `error` says whether memory was refused.
+    /// How the program ends if reading a file fails with `error`.
     pub fn unread(self, file: InputFile, error: &io::Error) -> Ending
         ensures { result ≡ unread_file (path_of self file) (error_kind error.now) }
     {
@@ -65,7 +65,7 @@ impl Words {
 }
 
 impl PlayInput {
-    /// An input without texts.
+    /// An input whose texts are empty.
     pub fn new(alloc: Global) -> Self
         ensures zone { string_bytes result.zone ≡ [] }
         ensures script { string_bytes result.script ≡ [] }
@@ -87,7 +87,7 @@ impl PlayInput {
     }
 }
 
-/// How the program ends where its arguments can't be had: `error` says whether memory was refused.
+/// How the program ends if reading its arguments fails with `error`.
 pub fn unread_arguments(error: &io::Error) -> Ending
     ensures { result ≡ unread_arguments (error_kind error.now) }
 {
@@ -132,7 +132,7 @@ impl From<PlayFault> for Ending {
 }
 
 impl Ending {
-    /// The program's exit status: 2 where the arguments are at fault, and else 1.
+    /// The exit status: 2 if the arguments are at fault, otherwise 1.
     pub fn status(&self) -> u8
         ensures { result ≡ status_of self.now }
     {
@@ -146,10 +146,10 @@ impl Ending {
 impl fmt::Display for Ending {
     ghost output = { ending_text };
 
-    /// What the program writes to standard error, its line's end included.
+    /// What the program writes to standard error, including the line break.
     fn fmt<W: fmt::Write>(&self, f: &mut fmt::Formatter<W>) -> fmt::Result {
         match self {
-            // Clap's text ends its lines itself.
+            // Clap's text ends with a line break.
             Ending::Arguments(error) => write!(f, "{error}"),
             Ending::NotUtf8 => f.write_str("arguments are not valid UTF-8\n"),
             Ending::CannotRead(path) => writeln!(f, "cannot read {path}"),

@@ -1,6 +1,6 @@
 //! A world, what happens in it, and the report of that.
 
-ghost use Rattle.std.specs.Prelude.{◌≡◌, ◌≤◌, ◌<◌, ◌+◌, ◌++◌, ◌∷◌, ◌↔◌, IfOk, IfSome, IsTrue, true, [], ℕ, length, take, vec_len, vec_capacity, Err};
+ghost use Rattle.std.specs.Prelude.{◌≡◌, ◌≤◌, ◌<◌, ◌+◌, ◌++◌, ◌∷◌, ◌↔◌, IfOk, IfSome, IsOk, IsTrue, true, [], ℕ, length, take, vec_len, vec_capacity, Err};
 
 use crate::event::Event;
 use crate::link::Link;
@@ -84,7 +84,7 @@ impl World {
 }
 
 ghost use Rattle.dns_messages.specs.Sound.{IsSoundQuery};
-ghost use Rattle.stub_run.specs.Run.{Runs, Step, InOrder, question_of, refusal_of, found_by, told, memory_report};
+ghost use Rattle.stub_run.specs.Run.{Runs, Step, InOrder, IsInline, question_of, refusal_of, found_by, told, memory_report};
 ghost use Rattle.stub_run.specs.World.{content, IsQuiet};
 
 /// Whether the moments don't go back, and none passes 2^62.
@@ -102,10 +102,11 @@ fn is_in_order(events: &[Event]) -> bool
     true
 }
 
-/// What a lookup asks.
+/// What a lookup asks. A short name, of up to 24 labels with 32 bytes together, takes no memory.
 fn question(event: &Event) -> Result<Query, AllocError>
     ensures asks { IfOk result (λ query. query ≡ question_of event.now) }
     ensures sound { IfOk result (λ query. query.name.is_fqdn ≡ true → IsSoundQuery query) }
+    ensures inline { IsInline (question_of event.now).name → IsOk result }
 {
     every_type_number_comes_back();
     match event {
