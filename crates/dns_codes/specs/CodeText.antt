@@ -12,7 +12,7 @@ use Rattle.dns_codes.specs.declared.dns_class.DNSClass.TheVariants as class
 
 -- ---- names
 
--- types of RFC 1035, and later ones of IANA's list, with none for any other
+-- the name of a type, empty for a type without one; types later than RFC 1035 first
 
 abbrev pub later_type_name : RecordType → List ℕ
 later_type_name SIG = codes "SIG"
@@ -73,43 +73,47 @@ class_name (class.Unknown number) = []
 abbrev pub named_classes : List DNSClass
 named_classes = class.IN ∷ class.CH ∷ class.HS ∷ class.NONE ∷ class.ANY ∷ []
 
--- a type is printed by its name, or as TYPE and its number
+-- the text of a type: its name, or TYPE and its number
 abbrev pub type_text : RecordType → List ℕ
 type_text (Unknown number) = codes "TYPE" ++ decimal number
 type_text kind = type_name kind
 
--- a class is printed by its name, or as CLASS and its number
+-- the text of a class: its name, or CLASS and its number
 abbrev pub class_text : DNSClass → List ℕ
 class_text (class.OPT payload) = codes "CLASS" ++ decimal payload
 class_text (class.Unknown number) = codes "CLASS" ++ decimal number
 class_text class = class_name class
 
--- ---- numbers behind a word
+-- ---- numbers after a word
 
--- a word in any case, and behind it the digits of a number of at most 16 bits
+-- the 16-bit number in a text, after a word in any case
 abbrev pub numbered_text : List ℕ → List ℕ → Option ℕ
 numbered_text word text =
     if nat_lt (length text) (length word) then None
     else if str_eq_ignore_ascii_case (take (length word) text) word then decimal_up_to 65535 (drop (length word) text)
     else None
 
-abbrev pub typed : Option ℕ → Option RecordType
-typed None = None
-typed (Some number) = Some (type_of number)
+abbrev pub numbered_type : Option ℕ → Option RecordType
+numbered_type None = None
+numbered_type (Some number) = Some (type_of number)
 
--- the first that gives something
+-- the first value, or else the other
 abbrev pub or_else : {X : Type 0} → Option X → Option X → Option X
 or_else (Some x) other = Some x
 or_else None other = other
 
--- the type that a text names in any case, or gives by its number behind TYPE
+-- the type in a text: a name in any case, or TYPE and a number
 abbrev pub type_of_text : List ℕ → Option RecordType
-type_of_text text = or_else (find (λ kind. str_eq_ignore_ascii_case (type_name kind) text) named_types) (typed (numbered_text (codes "TYPE") text))
+type_of_text text =
+    or_else (find (λ kind. str_eq_ignore_ascii_case (type_name kind) text) named_types)
+    (numbered_type (numbered_text (codes "TYPE") text))
 
-abbrev pub classed : Option ℕ → Option DNSClass
-classed None = None
-classed (Some number) = Some (class_of number)
+abbrev pub numbered_class : Option ℕ → Option DNSClass
+numbered_class None = None
+numbered_class (Some number) = Some (class_of number)
 
--- the class that a text names in any case, or gives by its number behind CLASS
+-- the class in a text: a name in any case, or CLASS and a number
 abbrev pub class_of_text : List ℕ → Option DNSClass
-class_of_text text = or_else (find (λ class. str_eq_ignore_ascii_case (class_name class) text) named_classes) (classed (numbered_text (codes "CLASS") text))
+class_of_text text =
+    or_else (find (λ class. str_eq_ignore_ascii_case (class_name class) text) named_classes)
+    (numbered_class (numbered_text (codes "CLASS") text))

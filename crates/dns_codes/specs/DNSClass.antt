@@ -12,7 +12,7 @@ class_number ANY = 255
 class_number (OPT payload) = payload
 class_number (Unknown number) = number
 
--- the class that a number is read as
+-- the class with a number
 abbrev pub class_of : ℕ → DNSClass
 class_of number =
     if number == 1 then IN

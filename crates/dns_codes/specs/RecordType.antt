@@ -1,9 +1,9 @@
--- Types and their numbers (RFC 1035 section 3.2.2; of its types those that are named here, and later ones of IANA's list).
+-- Types and their numbers (RFC 1035 section 3.2.2, and later types of the IANA registry).
 use Rattle.std.specs.Prelude.{ℕ, ◌==◌, if◌then◌else◌, Bool, true, false}
 use Rattle.dns_codes.specs.declared.record_type.RecordType.{RecordType}
 use Rattle.dns_codes.specs.declared.record_type.RecordType.TheVariants.{A, NS, CNAME, SOA, NULL, PTR, HINFO, MX, TXT, SIG, KEY, AAAA, SRV, NAPTR, CERT, DNAME, OPT, DS, SSHFP, RRSIG, NSEC, DNSKEY, NSEC3, NSEC3PARAM, TLSA, SMIMEA, CDS, CDNSKEY, OPENPGPKEY, CSYNC, SVCB, HTTPS, TSIG, IXFR, AXFR, ANY, CAA, ZERO, Unknown}
 
--- ---- types of RFC 1035, and later ones of IANA's list, with 0 for any other
+-- ---- numbers: types of RFC 1035, and later ones, with 0 for any other
 
 abbrev pub later_type_number : RecordType → ℕ
 later_type_number SIG = 24
@@ -49,7 +49,7 @@ type_number AXFR = 252
 type_number ANY = 255
 type_number kind = later_type_number kind
 
--- ---- the type that a number is read as
+-- ---- the type with a number
 
 abbrev pub later_type_of : ℕ → RecordType
 later_type_of number =
@@ -97,7 +97,7 @@ type_of number =
     else if number == 255 then ANY
     else later_type_of number
 
--- the types that are left out of an answer, unless they or all with signatures are asked for (RFC 4035 section 3.2.1)
+-- the types of DNSSEC, which an answer contains only on request (RFC 4035 section 3.2.1)
 abbrev pub is_dnssec_type : RecordType → Bool
 is_dnssec_type SIG = true
 is_dnssec_type KEY = true

@@ -1,4 +1,4 @@
-//! Codes in text (RFC 3597 section 5).
+//! Types and classes in text, by number (RFC 3597 section 5).
 
 ghost use Rattle.std.specs.Prelude.{◌≡◌};
 ghost use Rattle.dns_codes.specs.CodeText.{numbered_text};
@@ -7,15 +7,15 @@ ghost use Rattle.dns_codes.specs.Decimal.{decimal_up_to};
 use crate::decimal::parse_decimal;
 use thiserror::Error;
 
-/// Why a text is no code.
+/// An error of parsing a type or a class.
 #[derive(Debug, Drop, Error)]
 pub enum CodeTextError {
-    /// No code has this name, and it isn't the code's number behind its word.
+    /// The text is neither a name nor a number after the word `TYPE` or `CLASS`.
     #[error("no such code")]
     UnknownName,
 }
 
-/// The number of at most 16 bits behind a word, which may be in any case.
+/// Parses a word, in any case, and the 16-bit number that follows it.
 pub fn numbered(word: &str, text: &str) -> Option<u16>
     ensures { result ≡ numbered_text word.now text.now }
 {
@@ -30,7 +30,7 @@ pub fn numbered(word: &str, text: &str) -> Option<u16>
     }
 }
 
-/// The number of at most 16 bits that a text spells.
+/// Parses a 16-bit number.
 fn number_of(text: &[u8]) -> Option<u16>
     ensures { result ≡ decimal_up_to 65535 text.now }
 {

@@ -1,10 +1,9 @@
-//! Numbers in text.
+//! Decimal numbers in text.
 
 ghost use Rattle.std.specs.Prelude.{◌≡◌, ◌+◌, ◌*◌, ◌-◌, ◌≤◌, [], ◌∷◌, IfSome};
 ghost use Rattle.dns_codes.specs.Decimal.{decimal_up_to, at_most, digits_from};
 
-/// The number that decimal digits spell, if it is at most the greatest that is taken. There is no sign, at least one
-/// digit, and zeros may lead.
+/// Parses a decimal number that is at most `greatest`. There is no sign and at least one digit; leading zeros are allowed.
 #[tactic(auto, unfolding(crate::specs::Decimal::decimal_up_to))]
 pub fn parse_decimal(text: &[u8], greatest: u64) -> Option<u64>
     ensures value { result ≡ decimal_up_to greatest text.now }
@@ -20,7 +19,7 @@ pub fn parse_decimal(text: &[u8], greatest: u64) -> Option<u64>
     Some(number)
 }
 
-/// The number with one more digit at the right.
+/// Appends a digit to a number.
 fn with_digit(number: u64, byte: u8, greatest: u64) -> Option<u64>
     ensures value { result ≡ at_most greatest (digits_from number (byte ∷ [])) }
 {

@@ -8,7 +8,7 @@ use crate::code_text::{CodeTextError, numbered};
 use std::fmt;
 use std::str::FromStr;
 
-/// A class of records, or of questions.
+/// A class of a record or a question.
 #[derive(Clone, Copy, Debug, PartialEq, Eq)]
 pub enum DNSClass {
     /// The Internet, 1.
@@ -21,16 +21,16 @@ pub enum DNSClass {
     NONE,
     /// Any class, 255.
     ANY,
-    /// The payload size that stands in the class's place in an OPT record (RFC 6891 section 6.1.2).
+    /// The payload size, which an OPT record has in place of a class (RFC 6891 section 6.1.2).
     OPT(u16),
-    /// Any other number.
+    /// Any other class, by its number.
     Unknown(u16),
 }
 
 impl DNSClass {
     ghost use Rattle.std.specs.Prelude.{◌≡◌, max};
 
-    /// Its name in capitals, and none for a class that is known by its number alone.
+    /// Returns the name in capitals, or an empty text for a class without a name.
     pub fn name(self) -> &'static str
         ensures { result.now ≡ class_name self }
     {
@@ -44,7 +44,7 @@ impl DNSClass {
         }
     }
 
-    /// The class of an OPT record of this payload size, of which 512 is the least (RFC 6891 section 6.2.3).
+    /// Returns the class of an OPT record with this payload size, which is at least 512 (RFC 6891 section 6.2.3).
     pub fn for_opt(payload: u16) -> Self
         ensures { result ≡ DNSClass.OPT (max payload 512) }
     {
@@ -98,9 +98,10 @@ const NAMED: [DNSClass; 5] = [
     DNSClass::ANY,
 ];
 
-/// The one of these classes that the text names, in any case.
+/// Returns the class that a text names, in any case.
 fn find_named(classes: &[DNSClass], text: &str) -> Option<DNSClass>
-    ensures { result ≡ find (λ class. str_eq_ignore_ascii_case (class_name class) text.now) classes.now }
+    ensures { result
+        ≡ find (λ class. str_eq_ignore_ascii_case (class_name class) text.now) classes.now }
 {
     for class in classes {
         if class.name().eq_ignore_ascii_case(text) {
@@ -119,7 +120,7 @@ impl FromStr for DNSClass {
 
     ghost from_str_gives = { λ text result. result ≡ ok_or (class_of_text text) UnknownName };
 
-    /// The class that a text names in any case, or gives as `CLASS` and its number (RFC 3597 section 5).
+    /// Parses a class: a name in any case, or `CLASS` and a number (RFC 3597 section 5).
     fn from_str(text: &str) -> Result<DNSClass, CodeTextError> {
         if let Some(class) = find_named(&NAMED, text) {
             return Ok(class);
@@ -134,7 +135,7 @@ impl FromStr for DNSClass {
 impl fmt::Display for DNSClass {
     ghost output = { λ class. Some (class_text class) };
 
-    /// Its name in capitals, or `CLASS` and its number where it has none (RFC 3597 section 5).
+    /// Writes the name in capitals, or `CLASS` and the number if it has none (RFC 3597 section 5).
     fn fmt<W: fmt::Write>(&self, f: &mut fmt::Formatter<W>) -> fmt::Result {
         match self {
             DNSClass::OPT(number) | DNSClass::Unknown(number) => write!(f, "CLASS{number}"),

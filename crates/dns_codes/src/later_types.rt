@@ -1,4 +1,4 @@
-//! The tables of the types that came after RFC 1035, and of the reserved number 0.
+//! The tables of the types that are later than RFC 1035, and of the reserved number 0.
 
 ghost use Rattle.std.specs.Prelude.{◌≡◌};
 ghost use Rattle.dns_codes.specs.CodeText.{later_type_name};
@@ -6,7 +6,7 @@ ghost use Rattle.dns_codes.specs.RecordType.{later_type_number, later_type_of};
 
 use crate::record_type::RecordType;
 
-/// Its name in capitals, and none for any other type.
+/// Returns the name in capitals, or an empty text for any other type.
 pub(crate) fn later_name(kind: RecordType) -> &'static str
     ensures { result.now ≡ later_type_name kind }
 {
@@ -42,7 +42,7 @@ pub(crate) fn later_name(kind: RecordType) -> &'static str
     }
 }
 
-/// The type of this number, or the number alone.
+/// Returns the type with this number, or `Unknown`.
 pub(crate) fn later_type(number: u16) -> RecordType
     ensures { result ≡ later_type_of number }
 {
@@ -78,7 +78,7 @@ pub(crate) fn later_type(number: u16) -> RecordType
     }
 }
 
-/// Its number, and 0 for any other type.
+/// Returns the number, or 0 for any other type.
 pub(crate) fn later_number(kind: RecordType) -> u16
     ensures { result ≡ later_type_number kind }
 {

@@ -1,4 +1,4 @@
-//! Laws of the codes.
+//! Laws of the codes. Each is a function without a body, whose contract is the law.
 
 ghost use Rattle.std.specs.Prelude.{◌≡◌, ◌<◌, ◌↔◌, ◌^◌, ◌-◌, ◌⊎◌, ℕ};
 ghost use Rattle.dns_codes.specs.DNSClass.{class_number, class_of};
@@ -6,23 +6,24 @@ ghost use Rattle.dns_codes.specs.RecordType.{type_number, type_of};
 ghost use Rattle.dns_codes.specs.SerialNumber.{serial_order, steps_up};
 ghost use Rattle.dns_codes.specs.declared.serial_number.SerialOrder.TheVariants.{Less, Undecided};
 
-/// Each number is the number of the type that it is read as (RFC 3597 section 2).
-pub fn every_type_number_comes_back()
+/// Every 16-bit code round-trips through `RecordType` (RFC 3597 section 2).
+pub fn type_number_round_trips()
     ensures { (number : ℕ) → type_number (type_of number) ≡ number }
 {}
 
-/// Each number is the number of the class that it is read as (RFC 3597 section 2).
-pub fn every_class_number_comes_back()
+/// Every 16-bit code round-trips through `DNSClass` (RFC 3597 section 2).
+pub fn class_number_round_trips()
     ensures { (number : ℕ) → class_number (class_of number) ≡ number }
 {}
 
-/// One serial number is less than another where it takes 1 to 2^31 - 1 steps up from it to the other, and none is
-/// said to be less where it takes 2^31 (RFC 1982 section 3.2).
+/// A serial number is less than another if 1 to 2^31 - 1 increments lead from it to the other. If 2^31 do, neither is
+/// less (RFC 1982 section 3.2).
 pub fn serials_compare_by_distance()
     ensures less { (a b : ℕ) → a < 2 ^ 32 → b < 2 ^ 32
         → (serial_order a b ≡ Less) ↔ ((0 < steps_up a b) × (steps_up a b < 2 ^ 31)) }
     ensures undecided { (a b : ℕ) → a < 2 ^ 32 → b < 2 ^ 32
         → (serial_order a b ≡ Undecided) ↔ (steps_up a b ≡ 2 ^ 31) }
     ensures by_values { (a b : ℕ) → a < 2 ^ 32 → b < 2 ^ 32
-        → (serial_order a b ≡ Less) ↔ (((a < b) × (b - a < 2 ^ 31)) ⊎ ((b < a) × (2 ^ 31 < a - b))) }
+        → (serial_order a b ≡ Less)
+        ↔ (((a < b) × (b - a < 2 ^ 31)) ⊎ ((b < a) × (2 ^ 31 < a - b))) }
 {}

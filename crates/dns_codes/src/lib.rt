@@ -1,24 +1,23 @@
 //! The codes of DNS: types, classes and serial numbers (RFC 1035 section 3.2, RFC 1982).
 //!
-//! - `record_type`: the types of records, with their numbers both ways; `later_types`: those that came after RFC 1035;
-//! - `dns_class`: the classes, with their numbers both ways; `serial_number`: serial numbers, which lie on a circle;
-//! - `code_text`: codes in text, by a word and a number; `decimal`: numbers in text;
-//! - `laws`: each number is its code's, and serials by distance.
+//! Types and classes convert from every 16-bit number and back without loss, and are parsed and printed by name, or by
+//! number if they have none (RFC 3597). Serial numbers are compared as RFC 1982 says.
+//!
+//! - `record_type`, `later_types`: types, and the tables of those that are later than RFC 1035; `dns_class`: classes;
+//! - `serial_number`: serial numbers; `code_text`, `decimal`: types, classes and decimal numbers in text;
+//! - `laws`: the laws of conversion and comparison.
 #![tactic(auto)]
 
 mod code_text;
 mod decimal;
 mod dns_class;
 mod later_types;
-mod laws;
+pub mod laws;
 mod record_type;
 mod serial_number;
 
 pub use code_text::CodeTextError;
 pub use decimal::parse_decimal;
 pub use dns_class::DNSClass;
-pub use laws::{
-    every_class_number_comes_back, every_type_number_comes_back, serials_compare_by_distance,
-};
 pub use record_type::RecordType;
 pub use serial_number::{SerialNumber, SerialOrder};

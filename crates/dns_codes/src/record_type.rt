@@ -1,4 +1,4 @@
-//! Types of records (RFC 1035 section 3.2.2, and the later ones that IANA lists).
+//! Types of records (RFC 1035 section 3.2.2, and later types of the IANA registry).
 
 ghost use Rattle.std.specs.Prelude.{◌≡◌, Some, find};
 ghost use Rattle.std.specs.Str.{str_eq_ignore_ascii_case};
@@ -9,18 +9,18 @@ use crate::later_types::{later_name, later_number, later_type};
 use std::fmt;
 use std::str::FromStr;
 
-/// A type of record, or of question.
+/// A type of a record or a question.
 #[derive(Clone, Copy, Debug, PartialEq, Eq)]
 pub enum RecordType {
     /// An address of IPv4, 1.
     A,
     /// A name server, 2.
     NS,
-    /// The name that an alias stands for, 5.
+    /// The canonical name of an alias, 5.
     CNAME,
     /// The start of a zone's authority, 6.
     SOA,
-    /// Any bytes, 10.
+    /// Arbitrary bytes, 10.
     NULL,
     /// A pointer to a name, 12.
     PTR,
@@ -80,15 +80,15 @@ pub enum RecordType {
     TSIG,
     /// A question for a zone's changes (RFC 1995), 251.
     IXFR,
-    /// A question for a whole zone, 252.
+    /// A request for a whole zone, 252.
     AXFR,
-    /// A question for any type, 255.
+    /// A request for records of any type, 255.
     ANY,
     /// Who may issue certificates (RFC 8659), 257.
     CAA,
     /// The number 0, which is reserved (RFC 2931).
     ZERO,
-    /// Any other number.
+    /// Any other type, by its number.
     Unknown(u16),
 }
 
@@ -96,7 +96,7 @@ impl RecordType {
     ghost use Rattle.std.specs.Prelude.{◌≡◌, ◌⊎◌, ◌↔◌, IsTrue};
     ghost use Rattle.dns_codes.specs.RecordType.{is_dnssec_type};
 
-    /// Its name in capitals, and none for a type that is known by its number alone.
+    /// Returns the name in capitals, or an empty text for a type without a name.
     pub fn name(self) -> &'static str
         ensures { result.now ≡ type_name self }
     {
@@ -116,63 +116,63 @@ impl RecordType {
         }
     }
 
-    /// Whether it is the question for any type.
+    /// Returns true for `ANY`.
     pub fn is_any(self) -> bool
         ensures { IsTrue result ↔ (self ≡ RecordType.ANY) }
     {
         matches!(self, RecordType::ANY)
     }
 
-    /// Whether it is a certificate.
+    /// Returns true for `CERT`.
     pub fn is_cert(self) -> bool
         ensures { IsTrue result ↔ (self ≡ RecordType.CERT) }
     {
         matches!(self, RecordType::CERT)
     }
 
-    /// Whether it is an alias.
+    /// Returns true for `CNAME`.
     pub fn is_cname(self) -> bool
         ensures { IsTrue result ↔ (self ≡ RecordType.CNAME) }
     {
         matches!(self, RecordType::CNAME)
     }
 
-    /// Whether it is a name server.
+    /// Returns true for `NS`.
     pub fn is_ns(self) -> bool
         ensures { IsTrue result ↔ (self ≡ RecordType.NS) }
     {
         matches!(self, RecordType::NS)
     }
 
-    /// Whether it is the start of a zone's authority.
+    /// Returns true for `SOA`.
     pub fn is_soa(self) -> bool
         ensures { IsTrue result ↔ (self ≡ RecordType.SOA) }
     {
         matches!(self, RecordType::SOA)
     }
 
-    /// Whether it is a service's location.
+    /// Returns true for `SRV`.
     pub fn is_srv(self) -> bool
         ensures { IsTrue result ↔ (self ≡ RecordType.SRV) }
     {
         matches!(self, RecordType::SRV)
     }
 
-    /// Whether it is a record set's signature.
+    /// Returns true for `RRSIG`.
     pub fn is_rrsig(self) -> bool
         ensures { IsTrue result ↔ (self ≡ RecordType.RRSIG) }
     {
         matches!(self, RecordType::RRSIG)
     }
 
-    /// Whether it is the reserved number 0.
+    /// Returns true for `ZERO`.
     pub fn is_zero(self) -> bool
         ensures { IsTrue result ↔ (self ≡ RecordType.ZERO) }
     {
         matches!(self, RecordType::ZERO)
     }
 
-    /// Whether it is an address.
+    /// Returns true for `A` and `AAAA`.
     pub fn is_ip_addr(self) -> bool
         ensures { IsTrue result ↔ ((self ≡ RecordType.A) ⊎ (self ≡ RecordType.AAAA)) }
     {
@@ -289,7 +289,7 @@ const NAMED: [RecordType; 38] = [
     RecordType::ZERO,
 ];
 
-/// The one of these types that the text names, in any case.
+/// Returns the type that a text names, in any case.
 fn find_named(types: &[RecordType], text: &str) -> Option<RecordType>
     ensures { result ≡ find (λ kind. str_eq_ignore_ascii_case (type_name kind) text.now) types.now }
 {
@@ -310,7 +310,7 @@ impl FromStr for RecordType {
 
     ghost from_str_gives = { λ text result. result ≡ ok_or (type_of_text text) UnknownName };
 
-    /// The type that a text names in any case, or gives as `TYPE` and its number (RFC 3597 section 5).
+    /// Parses a type: a name in any case, or `TYPE` and a number (RFC 3597 section 5).
     fn from_str(text: &str) -> Result<RecordType, CodeTextError> {
         if let Some(kind) = find_named(&NAMED, text) {
             return Ok(kind);
@@ -325,7 +325,7 @@ impl FromStr for RecordType {
 impl fmt::Display for RecordType {
     ghost output = { λ kind. Some (type_text kind) };
 
-    /// Its name in capitals, or `TYPE` and its number where it has none (RFC 3597 section 5).
+    /// Writes the name in capitals, or `TYPE` and the number if it has none (RFC 3597 section 5).
     fn fmt<W: fmt::Write>(&self, f: &mut fmt::Formatter<W>) -> fmt::Result {
         match self {
             RecordType::Unknown(number) => write!(f, "TYPE{number}"),

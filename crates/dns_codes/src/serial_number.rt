@@ -1,40 +1,40 @@
 //! Serial numbers of zones (RFC 1982).
 
-ghost use Rattle.std.specs.Prelude.{◌≡◌};
-ghost use Rattle.dns_codes.specs.SerialNumber.{serial_order};
-
-/// A serial number, of 32 bits.
+/// A serial number of 32 bits.
 #[derive(Clone, Copy, Debug, PartialEq, Eq)]
 pub struct SerialNumber(u32);
 
-/// How a serial number lies to another (RFC 1982 section 3.2).
+/// The order of two serial numbers (RFC 1982 section 3.2).
 #[derive(Clone, Copy, Debug, PartialEq, Eq)]
 pub enum SerialOrder {
     Less,
     Equal,
     Greater,
-    /// Half the circle lies between them.
+    /// They differ by 2^31, so neither is less.
     Undecided,
 }
 
 impl SerialNumber {
-    /// The serial number with this value.
+    ghost use Rattle.std.specs.Prelude.{◌≡◌};
+    ghost use Rattle.dns_codes.specs.SerialNumber.{serial_value, serial_order};
+
+    /// Creates a serial number.
     pub fn new(value: u32) -> Self
-        ensures { result.0 ≡ value }
+        ensures { serial_value result ≡ value }
     {
         SerialNumber(value)
     }
 
-    /// Its value.
+    /// Returns the value.
     pub fn get(self) -> u32
-        ensures { result ≡ self.0 }
+        ensures { result ≡ serial_value self }
     {
         self.0
     }
 
-    /// How it lies to another (RFC 1982 section 3.2).
+    /// Compares it with another (RFC 1982 section 3.2).
     pub fn compare(self, other: Self) -> SerialOrder
-        ensures { result ≡ serial_order self.0 other.0 }
+        ensures { result ≡ serial_order (serial_value self) (serial_value other) }
     {
         match other.0.wrapping_sub(self.0) {
             0 => SerialOrder::Equal,

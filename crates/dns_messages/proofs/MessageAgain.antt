@@ -5,8 +5,8 @@ use Rattle.std.specs.List.{AllByRecursion}
 use Rattle.dns_wire.specs.declared.name_encoding.NameEncoding.{NameEncoding}
 use Rattle.dns_wire.specs.declared.name_encoding.NameEncoding.TheVariants.{Uncompressed}
 use Rattle.dns_wire.specs.Writing.{compresses}
-use Rattle.dns_wire.specs.Pieces.{Piece, Plain, Sofar, form, after, Shows, AreAt, AreWritable}
-use Rattle.dns_wire.proofs.PieceLaws.{after-place, after-encoding, after-append, form-append, pieces_again, are_at-append}
+use Rattle.dns_wire.specs.Encodable.{Piece, Plain, Position, form, after, BytesAt, PiecesAt, AreWritable}
+use Rattle.dns_wire.proofs.PieceLaws.{after-place, after-encoding, after-append, form-append, whole_pieces_decode, pieces_at-append}
 use Rattle.dns_messages.specs.declared.header.MessageType.TheVariants as kinds
 use Rattle.dns_messages.specs.declared.header.MessageType.{MessageType}
 use Rattle.dns_messages.specs.declared.header.OpCode.{OpCode}
@@ -21,7 +21,8 @@ use Rattle.dns_messages.specs.Question.{question_pieces}
 use Rattle.dns_messages.specs.Record.{head_pieces, data_len, record_pieces}
 use Rattle.dns_messages.specs.Message.{beginning, queries_pieces, records_pieces, header_bytes, message_pieces, message_form}
 use Rattle.dns_messages.specs.Sound.{IsSoundMetadata, IsSoundQuery, IsSoundRecord, IsSound}
-use Rattle.dns_messages.specs.Grammar.{Follow, ReadsQuestion, ReadsRecord, ReadsMessage}
+use Rattle.dns_messages.specs.Grammar.{ReadsQuestion, ReadsRecord, ReadsMessage}
+use Rattle.dns_wire.specs.Decodable.{Follow}
 
 -- ---- the header's bits
 
@@ -95,7 +96,7 @@ split_writable [] qs h = (tt, h)
 split_writable (p ∷ ps) qs h = let more = split_writable ps qs h.1 in ((h.0, more.0), more.1)
 
 question_stays : (bytes more : List ℕ) (place : ℕ) (q : Query) (end : ℕ) → ReadsQuestion bytes place q end → ReadsQuestion (bytes ++ more) place q end
-question_stays bytes more place q end h = record { sound = h.sound; there = are_at-append Uncompressed bytes more place (question_pieces q) end h.there }
+question_stays bytes more place q end h = record { sound = h.sound; there = pieces_at-append Uncompressed bytes more place (question_pieces q) end h.there }
 
 record_stays : (bytes more : List ℕ) (place : ℕ) (r : Record) (end : ℕ) → ReadsRecord bytes place r end → ReadsRecord (bytes ++ more) place r end
 record_stays bytes more place r end h = record {
@@ -103,9 +104,9 @@ record_stays bytes more place r end h = record {
   data_place = h.data_place;
   len = h.len;
   len_fits = h.len_fits;
-  head = are_at-append Uncompressed bytes more place (head_pieces r ++ Plain (to_be_bytes w16 h.len) ∷ []) h.data_place h.head;
+  head = pieces_at-append Uncompressed bytes more place (head_pieces r ++ Plain (to_be_bytes w16 h.len) ∷ []) h.data_place h.head;
   ends = h.ends;
-  rdata = are_at-append Uncompressed bytes more h.data_place (data_pieces r.rdata) end h.rdata;
+  rdata = pieces_at-append Uncompressed bytes more h.data_place (data_pieces r.rdata) end h.rdata;
 }
 
 module _ {X : Type 0} (R : List ℕ → ℕ → X → ℕ → Type 0) (stays : (bytes more : List ℕ) (place : ℕ) (x : X) (end : ℕ) → R bytes place x end → R (bytes ++ more) place x end) where
@@ -122,26 +123,26 @@ all-append P [] ys a b = b
 all-append P (x ∷ xs) ys a b = (a.0, all-append P xs ys a.1 b)
 
 -- pieces behind the bytes are read again where names are written whole
-whole_again : (bytes : List ℕ) (s : Sofar) (ps : List Piece) → s.encoding ≡ Uncompressed → s.place ≡ length bytes → AreWritable ps → AreAt Uncompressed (bytes ++ form s ps) s.place ps (after s ps).place
-whole_again bytes s ps e end is = subst (λ (encoding : NameEncoding). AreAt encoding (bytes ++ form s ps) s.place ps (after s ps).place) e (pieces_again bytes s ps (ap compresses e) end is)
+whole_again : (bytes : List ℕ) (s : Position) (ps : List Piece) → s.encoding ≡ Uncompressed → s.place ≡ length bytes → AreWritable ps → PiecesAt Uncompressed (bytes ++ form s ps) s.place ps (after s ps).place
+whole_again bytes s ps e end is = subst (λ (encoding : NameEncoding). PiecesAt encoding (bytes ++ form s ps) s.place ps (after s ps).place) e (whole_pieces_decode bytes s ps (ap compresses e) end is)
 
-queries_again : (bytes : List ℕ) (s : Sofar) (qs : List Query) → s.encoding ≡ Uncompressed → s.place ≡ length bytes → AreWritable (queries_pieces qs) → AllByRecursion IsSoundQuery qs
+queries_again : (bytes : List ℕ) (s : Position) (qs : List Query) → s.encoding ≡ Uncompressed → s.place ≡ length bytes → AreWritable (queries_pieces qs) → AllByRecursion IsSoundQuery qs
     → Follow (ReadsQuestion (bytes ++ form s (queries_pieces qs))) s.place qs (after s (queries_pieces qs)).place
 queries_again bytes s [] e end is sound = refl
 queries_again bytes s (q ∷ qs) e end is sound =
     let ps : List Piece = question_pieces q in
-    let next : Sofar = after s ps in
+    let next : Position = after s ps in
     let rest : List Piece = queries_pieces qs in
     let w = split_writable ps rest is in
     let grown : List ℕ = bytes ++ form s ps in
     let one : ReadsQuestion grown s.place q next.place = record { sound = sound.0; there = whole_again bytes s ps e end w.0 } in
     let more = queries_again grown next qs (after-encoding s ps ∙ e) (omega (arith, after-place s ps, length-append bytes (form s ps), end)) w.1 sound.1 in
     let same : grown ++ form next rest ≡ bytes ++ form s (ps ++ rest) = append_assoc bytes (form s ps) (form next rest) ∙ ap (λ (b : List ℕ). bytes ++ b) (sym (form-append s ps rest)) in
-    let end' : (after next rest).place ≡ (after s (ps ++ rest)).place = ap (λ (v : Sofar). v.place) (sym (after-append s ps rest)) in
+    let end' : (after next rest).place ≡ (after s (ps ++ rest)).place = ap (λ (v : Position). v.place) (sym (after-append s ps rest)) in
     subst (λ (b : List ℕ). Follow (ReadsQuestion b) s.place (q ∷ qs) (after s (ps ++ rest)).place) same
     (subst (λ (n : ℕ). Follow (ReadsQuestion (grown ++ form next rest)) s.place (q ∷ qs) n) end' (next.place, question_stays grown (form next rest) s.place q next.place one, more))
 
-record_again : (bytes : List ℕ) (s : Sofar) (r : Record) → s.encoding ≡ Uncompressed → s.place ≡ length bytes → AreWritable (record_pieces s r) → IsSoundRecord r → (after s (record_pieces s r)).place < 65536
+record_again : (bytes : List ℕ) (s : Position) (r : Record) → s.encoding ≡ Uncompressed → s.place ≡ length bytes → AreWritable (record_pieces s r) → IsSoundRecord r → (after s (record_pieces s r)).place < 65536
     → ReadsRecord (bytes ++ form s (record_pieces s r)) s.place r (after s (record_pieces s r)).place
 record_again bytes s r e end is sound small =
     let hs : List Piece = head_pieces r ++ Plain (to_be_bytes w16 (data_len s r)) ∷ [] in
@@ -158,21 +159,21 @@ record_again bytes s r e end is sound small =
       data_place = (after s hs).place;
       len = data_len s r;
       len_fits = omega (arith, len, small);
-      head = are_at-append Uncompressed grown (form (after s hs) ds) s.place hs (after s hs).place one;
+      head = pieces_at-append Uncompressed grown (form (after s hs) ds) s.place hs (after s hs).place one;
       ends = len;
       rdata = two;
     })
 
-records_again : (bytes : List ℕ) (s : Sofar) (rs : List Record) → s.encoding ≡ Uncompressed → s.place ≡ length bytes → AreWritable (records_pieces s rs) → AllByRecursion IsSoundRecord rs → (after s (records_pieces s rs)).place < 65536
+records_again : (bytes : List ℕ) (s : Position) (rs : List Record) → s.encoding ≡ Uncompressed → s.place ≡ length bytes → AreWritable (records_pieces s rs) → AllByRecursion IsSoundRecord rs → (after s (records_pieces s rs)).place < 65536
     → Follow (ReadsRecord (bytes ++ form s (records_pieces s rs))) s.place rs (after s (records_pieces s rs)).place
 records_again bytes s [] e end is sound small = refl
 records_again bytes s (r ∷ rs) e end is sound small =
     let ps : List Piece = record_pieces s r in
-    let next : Sofar = after s ps in
+    let next : Position = after s ps in
     let rest : List Piece = records_pieces next rs in
     let w = split_writable ps rest is in
     let grown : List ℕ = bytes ++ form s ps in
-    let end' : (after next rest).place ≡ (after s (ps ++ rest)).place = ap (λ (v : Sofar). v.place) (sym (after-append s ps rest)) in
+    let end' : (after next rest).place ≡ (after s (ps ++ rest)).place = ap (λ (v : Position). v.place) (sym (after-append s ps rest)) in
     let fits : (after next rest).place < 65536 = omega (arith, end', small) in
     let one = record_again bytes s r e end w.0 sound.0 (omega (arith, fits, after-place next rest)) in
     let more = records_again grown next rs (after-encoding s ps ∙ e) (omega (arith, after-place s ps, length-append bytes (form s ps), end)) w.1 sound.1 fits in
@@ -185,9 +186,9 @@ records_again bytes s (r ∷ rs) e end is sound small =
 pub message_again : (m : Message) → IsSound m → AreWritable (message_pieces m) → length (message_form m) < 65536 → ReadsMessage (message_form m) m
 message_again m sound is small =
     let head : List ℕ = header_bytes m in
-    let start : Sofar = after beginning (Plain head ∷ []) in
+    let start : Position = after beginning (Plain head ∷ []) in
     let qp : List Piece = queries_pieces m.queries in
-    let behind : Sofar = after start qp in
+    let behind : Position = after start qp in
     let rs : List Record = m.answers ++ (m.authorities ++ m.additionals) in
     let rp : List Piece = records_pieces behind rs in
     let w = split_writable qp rp is.1 in
@@ -201,7 +202,7 @@ message_again m sound is small =
     let tells = records_again front behind rs (after-encoding start qp) place w.1 sounds fits in
     let first = follow_split (ReadsRecord whole) behind.place m.answers (m.authorities ++ m.additionals) (after behind rp).place tells in
     let second = follow_split (ReadsRecord whole) first.0 m.authorities m.additionals (after behind rp).place first.2 in
-    let heads : Shows whole 0 head 12 = record {
+    let heads : BytesAt whole 0 head 12 = record {
       ends = refl;
       within = omega (arith, length-append front (form behind rp), length-append head (form start qp));
       there = refl;

@@ -1,11 +1,11 @@
 -- Writing a message part by part.
 use Rattle.std.proofs.Common.{◌≡◌, ℕ, ◌+◌, ◌≤◌, List, [], ◌∷◌, ◌++◌, length, Result, Ok, Err, refl, sym, ap, subst, ◌∙◌, append_assoc, arith, length-append}
 use Rattle.dns_wire.specs.declared.error.EncodeError.{EncodeError}
-use Rattle.dns_wire.specs.Encoder.{Written, IsAtEnd}
+use Rattle.dns_wire.specs.Encoder.{EncoderState, IsAtEnd}
 use Rattle.std.specs.Int.{w16, w32, to_be_bytes}
 use Rattle.dns_codes.specs.RecordType.{type_number}
 use Rattle.dns_codes.specs.DNSClass.{class_number}
-use Rattle.dns_wire.specs.Pieces.{Piece, Plain, Domain, Sofar, sofar, name_form, piece_next, form, after, reach, Emits, AreWritable}
+use Rattle.dns_wire.specs.Encodable.{Piece, Plain, Domain, Position, position_of, name_form, piece_next, form, after, reach, Emits, AreWritable}
 use Rattle.dns_wire.proofs.PieceLaws.{after-append, after-place, form-append, name_form-some, reach-some}
 use Rattle.dns_messages.specs.declared.query.Query.{Query}
 use Rattle.dns_messages.specs.Question.{question_pieces}
@@ -16,46 +16,46 @@ use Rattle.dns_messages.specs.Record.{data_len, record_pieces}
 use Rattle.dns_messages.specs.Message.{beginning, queries_pieces, records_pieces, header_bytes, front_pieces, message_pieces, message_form}
 use Rattle.dns_messages.proofs.Steps.{Underway, begins, goes_on, stops, sofar-behind}
 
-pub records_pieces-append : (s : Sofar) (xs ys : List Record) → records_pieces s (xs ++ ys) ≡ records_pieces s xs ++ records_pieces (after s (records_pieces s xs)) ys
+pub records_pieces-append : (s : Position) (xs ys : List Record) → records_pieces s (xs ++ ys) ≡ records_pieces s xs ++ records_pieces (after s (records_pieces s xs)) ys
 records_pieces-append s [] ys = refl
 records_pieces-append s (x ∷ xs) ys =
     let ps : List Piece = record_pieces s x in
-    let next : Sofar = after s ps in
+    let next : Position = after s ps in
     let more : List Piece = records_pieces next xs in
     ap (λ (qs : List Piece). ps ++ qs) (records_pieces-append next xs ys)
     ∙ sym (append_assoc ps more (records_pieces (after next more) ys))
-    ∙ ap (λ (t : Sofar). (ps ++ more) ++ records_pieces t ys) (sym (after-append s ps more))
+    ∙ ap (λ (t : Position). (ps ++ more) ++ records_pieces t ys) (sym (after-append s ps more))
 
 -- ---- loops
 
 -- records are underway: one was written
-pub record_on : (old now next : Written) (all : List Piece) (r : Record) (rs : List Record) → Underway old now all (records_pieces (sofar now) (r ∷ rs)) → Emits now (record_pieces (sofar now) r) (Ok tt) next → AreWritable (record_pieces (sofar now) r) → Underway old next all (records_pieces (sofar next) rs)
+pub record_on : (old now next : EncoderState) (all : List Piece) (r : Record) (rs : List Record) → Underway old now all (records_pieces (position_of now) (r ∷ rs)) → Emits now (record_pieces (position_of now) r) (Ok tt) next → AreWritable (record_pieces (position_of now) r) → Underway old next all (records_pieces (position_of next) rs)
 record_on old now next all r rs u e is =
-    let ps : List Piece = record_pieces (sofar now) r in
-    subst (λ (s : Sofar). Underway old next all (records_pieces s rs)) (sym (sofar-behind now next ps e)) (goes_on old now next all ps (records_pieces (after (sofar now) ps) rs) u e is)
+    let ps : List Piece = record_pieces (position_of now) r in
+    subst (λ (s : Position). Underway old next all (records_pieces s rs)) (sym (sofar-behind now next ps e)) (goes_on old now next all ps (records_pieces (after (position_of now) ps) rs) u e is)
 
 -- ---- parts
 
-module _ (old : Written) (m : Message) (at_end : IsAtEnd old) (fresh : sofar old ≡ beginning) where
+module _ (old : EncoderState) (m : Message) (at_end : IsAtEnd old) (fresh : position_of old ≡ beginning) where
   abbrev pub Head : List Piece
   Head = Plain (header_bytes m) ∷ []
 
   abbrev pub Asked : List Piece
   Asked = queries_pieces m.queries
 
-  abbrev pub behind_asked : Sofar
+  abbrev pub behind_asked : Position
   behind_asked = after beginning (front_pieces m)
 
   abbrev pub Answered : List Piece
   Answered = records_pieces behind_asked m.answers
 
-  abbrev pub behind_answered : Sofar
+  abbrev pub behind_answered : Position
   behind_answered = after behind_asked Answered
 
   abbrev pub Named : List Piece
   Named = records_pieces behind_answered m.authorities
 
-  abbrev pub behind_named : Sofar
+  abbrev pub behind_named : Position
   behind_named = after behind_answered Named
 
   abbrev pub Added : List Piece
@@ -68,28 +68,28 @@ module _ (old : Written) (m : Message) (at_end : IsAtEnd old) (fresh : sofar old
   parts = ap (λ (ps : List Piece). front_pieces m ++ ps) sections
 
   -- what is left, and how far the writing has come
-  pub record Has (now : Written) (left : List Piece) (s : Sofar) : Type 0 where
+  pub record Has (now : EncoderState) (left : List Piece) (s : Position) : Type 0 where
     pub underway : Underway old now (message_pieces m) left
-    pub come : sofar now ≡ s
+    pub come : position_of now ≡ s
 
   pub at_front : Has old (Head ++ (Asked ++ (Answered ++ (Named ++ Added)))) beginning
   at_front = record { underway = subst (λ (ps : List Piece). Underway old old (message_pieces m) ps) parts (begins old (message_pieces m) at_end); come = fresh }
 
-  pub onwards : (now next : Written) (ps left : List Piece) (s : Sofar) → Has now (ps ++ left) s → Emits now ps (Ok tt) next → AreWritable ps → Has next left (after s ps)
+  pub onwards : (now next : EncoderState) (ps left : List Piece) (s : Position) → Has now (ps ++ left) s → Emits now ps (Ok tt) next → AreWritable ps → Has next left (after s ps)
   onwards now next ps left s h e is = record {
     underway = goes_on old now next (message_pieces m) ps left h.underway e is;
-    come = sofar-behind now next ps e ∙ ap (λ (t : Sofar). after t ps) h.come;
+    come = sofar-behind now next ps e ∙ ap (λ (t : Position). after t ps) h.come;
   }
 
-  pub refused : (now new : Written) (ps left : List Piece) (s : Sofar) (error : EncodeError) → Has now (ps ++ left) s → Emits now ps (Err error) new → Emits old (message_pieces m) (Err error) new
+  pub refused : (now new : EncoderState) (ps left : List Piece) (s : Position) (error : EncodeError) → Has now (ps ++ left) s → Emits now ps (Err error) new → Emits old (message_pieces m) (Err error) new
   refused now new ps left s error h e = stops old now new (message_pieces m) ps left error h.underway e
 
   -- records, from where the writing has come
-  pub here : (now new : Written) (rs : List Record) (r : Result (Unit {0}) EncodeError) (s : Sofar) → sofar now ≡ s → Emits now (records_pieces (sofar now) rs) r new → Emits now (records_pieces s rs) r new
-  here now new rs r s come e = subst (λ (t : Sofar). Emits now (records_pieces t rs) r new) come e
+  pub here : (now new : EncoderState) (rs : List Record) (r : Result (Unit {0}) EncodeError) (s : Position) → position_of now ≡ s → Emits now (records_pieces (position_of now) rs) r new → Emits now (records_pieces s rs) r new
+  here now new rs r s come e = subst (λ (t : Position). Emits now (records_pieces t rs) r new) come e
 
-  pub writable_here : (now : Written) (rs : List Record) (s : Sofar) → sofar now ≡ s → AreWritable (records_pieces (sofar now) rs) → AreWritable (records_pieces s rs)
-  writable_here now rs s come is = subst (λ (t : Sofar). AreWritable (records_pieces t rs)) come is
+  pub writable_here : (now : EncoderState) (rs : List Record) (s : Position) → position_of now ≡ s → AreWritable (records_pieces (position_of now) rs) → AreWritable (records_pieces s rs)
+  writable_here now rs s come is = subst (λ (t : Position). AreWritable (records_pieces t rs)) come is
 
 -- ---- how long a message is
 
@@ -100,27 +100,27 @@ length-form m =
 
 -- each item takes a byte at least
 
-some-form : (s : Sofar) (labels : List (List ℕ)) (ps : List Piece) → 1 ≤ length (form s (Domain labels ∷ ps))
+some-form : (s : Position) (labels : List (List ℕ)) (ps : List Piece) → 1 ≤ length (form s (Domain labels ∷ ps))
 some-form s labels ps = omega (arith, name_form-some s labels, length-append (name_form s labels) (form (piece_next s (Domain labels)) ps))
 
 abbrev tail_pieces_of : Query → List Piece
 tail_pieces_of q = Plain (to_be_bytes w16 (type_number q.query_type)) ∷ Plain (to_be_bytes w16 (class_number q.query_class)) ∷ []
 
-queries-count : (s : Sofar) (qs : List Query) → length qs ≤ length (form s (queries_pieces qs))
+queries-count : (s : Position) (qs : List Query) → length qs ≤ length (form s (queries_pieces qs))
 queries-count s [] = omega arith
 queries-count s (q ∷ qs) =
     let ps : List Piece = question_pieces q in
     let rest : List Piece = queries_pieces qs in
     omega (arith, ap (λ (xs : List ℕ). length xs) (form-append s ps rest), length-append (form s ps) (form (after s ps) rest), queries-count (after s ps) qs, some-form s q.name.labels (tail_pieces_of q))
 
-abbrev behind_owner : Sofar → Record → List Piece
+abbrev behind_owner : Position → Record → List Piece
 behind_owner s r = Plain (to_be_bytes w16 (type_number (data_type r.rdata))) ∷ Plain (to_be_bytes w16 (class_number r.dns_class)) ∷ Plain (to_be_bytes w32 r.ttl) ∷ Plain (to_be_bytes w16 (data_len s r)) ∷ data_pieces r.rdata
 
-records-count : (s : Sofar) (rs : List Record) → length rs ≤ length (form s (records_pieces s rs))
+records-count : (s : Position) (rs : List Record) → length rs ≤ length (form s (records_pieces s rs))
 records-count s [] = omega arith
 records-count s (r ∷ rs) =
     let ps : List Piece = record_pieces s r in
-    let next : Sofar = after s ps in
+    let next : Position = after s ps in
     let rest : List Piece = records_pieces next rs in
     omega (arith, ap (λ (xs : List ℕ). length xs) (form-append s ps rest), length-append (form s ps) (form next rest), records-count next rs, some-form s r.name.labels (behind_owner s r))
 
@@ -132,9 +132,9 @@ pub record Bounds (m : Message) : Type 0 where
 pub bounds : (m : Message) → Bounds m
 bounds m =
     let head : List Piece = Plain (header_bytes m) ∷ [] in
-    let start : Sofar = after beginning head in
+    let start : Position = after beginning head in
     let qp : List Piece = queries_pieces m.queries in
-    let behind : Sofar = after start qp in
+    let behind : Position = after start qp in
     let rs : List Record = m.answers ++ (m.authorities ++ m.additionals) in
     let rp : List Piece = records_pieces behind rs in
     let form_is = ap (λ (xs : List ℕ). length xs) (form-append start qp rp) in

@@ -3,10 +3,10 @@ use Rattle.std.specs.Prelude.{◌&&◌, ◌++◌, Bool, false, List, [], ◌∷�
 use Rattle.std.specs.Int.{w32, to_be_bytes}
 use Rattle.std.specs.Str.{bytes_eq}
 use Rattle.std.specs.Net.Addr.{ipv4_octets}
-use Rattle.dns_wire.specs.Pieces.{Piece, Plain, Domain}
+use Rattle.dns_wire.specs.Encodable.{Piece, Plain, Domain}
 use Rattle.dns_codes.specs.declared.record_type.RecordType.{RecordType}
 use Rattle.dns_codes.specs.declared.record_type.RecordType.TheVariants as types
-use Rattle.dns_names.specs.Comparison.{same_name}
+use Rattle.dns_names.specs.Compare.{same_name}
 use Rattle.dns_messages.specs.declared.rdata.SOA.{SOA}
 use Rattle.dns_messages.specs.declared.rdata.RData.{RData}
 use Rattle.dns_messages.specs.declared.rdata.RData.TheVariants as of

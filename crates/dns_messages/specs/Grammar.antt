@@ -1,9 +1,13 @@
 -- Which message bytes spell (RFC 1035 section 4.1). Bytes behind the last record are free.
-use Rattle.std.specs.Prelude.{◌≡◌, ◌+◌, ◌^◌, ◌<◌, ◌++◌, true, List, [], ◌∷◌, ℕ, length}
+use Rattle.std.specs.Prelude.{◌≡◌, ◌≢◌, ◌+◌, ◌^◌, ◌<◌, ◌++◌, true, List, [], ◌∷◌, ℕ, length, drop}
 use Rattle.std.specs.Int.{w16, w32, to_be_bytes}
 use Rattle.dns_codes.specs.RecordType.{type_number, type_of}
 use Rattle.dns_codes.specs.DNSClass.{class_number, class_of}
-use Rattle.dns_wire.specs.Pieces.{Plain, Domain, Shows, AreAt}
+use Rattle.dns_wire.specs.Reading.{ReadsName, RefusesName}
+use Rattle.dns_wire.specs.Decodable.{BytesAt, Follow}
+use Rattle.dns_wire.specs.declared.error.DecodeError.{DecodeError}
+use Rattle.dns_wire.specs.declared.error.DecodeError.TheVariants.{InsufficientBytes, UnsupportedRecordType, IncorrectRDataLengthRead}
+use Rattle.dns_wire.specs.Encodable.{Plain, Domain, PiecesAt}
 use Rattle.dns_wire.specs.declared.name_encoding.NameEncoding.TheVariants.{Uncompressed}
 use Rattle.dns_messages.specs.declared.header.Metadata.{Metadata}
 use Rattle.dns_messages.specs.declared.reading.Counts.{Counts}
@@ -13,20 +17,23 @@ use Rattle.dns_messages.specs.declared.record.Record.{Record}
 use Rattle.dns_messages.specs.declared.record.RecordHead.{RecordHead}
 use Rattle.dns_messages.specs.declared.message.Message.{Message}
 use Rattle.dns_messages.specs.Header.{metadata_of}
-use Rattle.dns_messages.specs.Data.{data_pieces}
+use Rattle.dns_messages.specs.Data.{data_type, data_pieces}
+use Rattle.dns_codes.specs.declared.record_type.RecordType.{RecordType}
+use Rattle.dns_codes.specs.declared.record_type.RecordType.TheVariants as types
 use Rattle.dns_messages.specs.Question.{question_pieces}
 use Rattle.dns_messages.specs.Record.{head_pieces}
 use Rattle.dns_messages.specs.Sound.{IsSoundQuery, IsSoundData, IsSoundRecord}
 
--- items stand one after another
-abbrev pub Follow : {X : Type 0} → (ℕ → X → ℕ → Type 0) → ℕ → List X → ℕ → Type 0
-Follow R place [] end = place ≡ end
-Follow R place (x ∷ xs) end = (middle : ℕ) × R place x middle × Follow R middle xs end
-
 -- a name, a type and a class
 pub record ReadsQuestion (bytes : List ℕ) (place : ℕ) (q : Query) (end : ℕ) : Type 0 where
   pub sound : IsSoundQuery q
-  pub there : AreAt Uncompressed bytes place (question_pieces q) end
+  pub there : PiecesAt Uncompressed bytes place (question_pieces q) end
+
+-- No question can be decoded: its name is refused, or fewer bytes follow the name than type and class take.
+pub data RefusesQuestion (bytes : List ℕ) (place : ℕ) : DecodeError → Type 0 where
+  bad_question_name : {error : DecodeError} → RefusesName bytes place error → RefusesQuestion bytes place error
+  short_question : {labels : List (List ℕ)} {name_end : ℕ} → ReadsName bytes place labels name_end
+      → length (drop name_end bytes) < 4 → RefusesQuestion bytes place InsufficientBytes
 
 -- what stands before a record's data: owner, type, class, TTL, and the data's length
 pub record ReadsHead (bytes : List ℕ) (place : ℕ) (h : RecordHead) (end : ℕ) : Type 0 where
@@ -37,12 +44,30 @@ pub record ReadsHead (bytes : List ℕ) (place : ℕ) (h : RecordHead) (end : �
   pub class_named : class_of (class_number h.dns_class) ≡ h.dns_class
   pub ttl_fits : h.ttl < 2 ^ 32
   pub len_fits : h.len < 2 ^ 16
-  pub there : AreAt Uncompressed bytes place (Domain h.name.labels ∷ Plain (to_be_bytes w16 (type_number h.record_type)) ∷ Plain (to_be_bytes w16 (class_number h.dns_class)) ∷ Plain (to_be_bytes w32 h.ttl) ∷ Plain (to_be_bytes w16 h.len) ∷ []) end
+  pub there : PiecesAt Uncompressed bytes place (Domain h.name.labels ∷ Plain (to_be_bytes w16 (type_number h.record_type)) ∷ Plain (to_be_bytes w16 (class_number h.dns_class)) ∷ Plain (to_be_bytes w32 h.ttl) ∷ Plain (to_be_bytes w16 h.len) ∷ []) end
+
+-- No head can be decoded: its owner is refused, or fewer bytes follow than type, class, TTL and length take.
+pub data RefusesHead (bytes : List ℕ) (place : ℕ) : DecodeError → Type 0 where
+  bad_owner : {error : DecodeError} → RefusesName bytes place error → RefusesHead bytes place error
+  short_head : {labels : List (List ℕ)} {name_end : ℕ} → ReadsName bytes place labels name_end
+      → length (drop name_end bytes) < 10 → RefusesHead bytes place InsufficientBytes
 
 -- record data
 pub record ReadsData (bytes : List ℕ) (place : ℕ) (d : RData) (end : ℕ) : Type 0 where
   pub sound : IsSoundData d
-  pub there : AreAt Uncompressed bytes place (data_pieces d) end
+  pub there : PiecesAt Uncompressed bytes place (data_pieces d) end
+
+-- No data of a type can be decoded: too few bytes are left for an address, one of the two names of a start of authority is
+-- refused, too few bytes follow them for its five numbers, or the type is another one.
+pub data RefusesData (bytes : List ℕ) (place : ℕ) (rtype : RecordType) : DecodeError → Type 0 where
+  short_address : rtype ≡ types.A → length (drop place bytes) < 4 → RefusesData bytes place rtype InsufficientBytes
+  bad_mname : {error : DecodeError} → rtype ≡ types.SOA → RefusesName bytes place error → RefusesData bytes place rtype error
+  bad_rname : {error : DecodeError} {labels : List (List ℕ)} {middle : ℕ} → rtype ≡ types.SOA
+      → ReadsName bytes place labels middle → RefusesName bytes middle error → RefusesData bytes place rtype error
+  short_numbers : {labels more : List (List ℕ)} {middle name_end : ℕ} → rtype ≡ types.SOA
+      → ReadsName bytes place labels middle → ReadsName bytes middle more name_end
+      → length (drop name_end bytes) < 20 → RefusesData bytes place rtype InsufficientBytes
+  unsupported_type : rtype ≢ types.A → rtype ≢ types.SOA → RefusesData bytes place rtype UnsupportedRecordType
 
 -- owner, type, class, TTL, a length, and data that takes exactly this length
 pub record ReadsRecord (bytes : List ℕ) (place : ℕ) (r : Record) (end : ℕ) : Type 0 where
@@ -50,16 +75,25 @@ pub record ReadsRecord (bytes : List ℕ) (place : ℕ) (r : Record) (end : ℕ)
   pub data_place : ℕ
   pub len : ℕ
   pub len_fits : len < 2 ^ 16
-  pub head : AreAt Uncompressed bytes place (head_pieces r ++ Plain (to_be_bytes w16 len) ∷ []) data_place
+  pub head : PiecesAt Uncompressed bytes place (head_pieces r ++ Plain (to_be_bytes w16 len) ∷ []) data_place
   pub ends : data_place + len ≡ end
-  pub rdata : AreAt Uncompressed bytes data_place (data_pieces r.rdata) end
+  pub rdata : PiecesAt Uncompressed bytes data_place (data_pieces r.rdata) end
+
+-- No record can be decoded: its head or its data is refused, or the data does not take exactly its length.
+pub data RefusesRecord (bytes : List ℕ) (place : ℕ) : DecodeError → Type 0 where
+  bad_head : {error : DecodeError} → RefusesHead bytes place error → RefusesRecord bytes place error
+  bad_data : {error : DecodeError} (h : RecordHead) {data_place : ℕ} → ReadsHead bytes place h data_place
+      → RefusesData bytes data_place h.record_type error → RefusesRecord bytes place error
+  bad_length : (h : RecordHead) (d : RData) {data_place data_end : ℕ} → ReadsHead bytes place h data_place
+      → data_type d ≡ h.record_type → ReadsData bytes data_place d data_end → data_place + h.len ≢ data_end
+      → RefusesRecord bytes place IncorrectRDataLengthRead
 
 -- twelve bytes: id, two bytes of flags, and how many items each section has
 pub record ReadsHeader (bytes : List ℕ) (m : Message) : Type 0 where
   pub third : ℕ
   pub fourth : ℕ
   pub id_fits : m.metadata.id < 2 ^ 16
-  pub there : Shows bytes 0 (to_be_bytes w16 m.metadata.id ++ (third ∷ fourth ∷ (to_be_bytes w16 (length m.queries) ++ (to_be_bytes w16 (length m.answers) ++ (to_be_bytes w16 (length m.authorities) ++ to_be_bytes w16 (length m.additionals)))))) 12
+  pub there : BytesAt bytes 0 (to_be_bytes w16 m.metadata.id ++ (third ∷ fourth ∷ (to_be_bytes w16 (length m.queries) ++ (to_be_bytes w16 (length m.answers) ++ (to_be_bytes w16 (length m.authorities) ++ to_be_bytes w16 (length m.additionals)))))) 12
   pub metadata : m.metadata ≡ metadata_of m.metadata.id third fourth
   pub queries_fit : length m.queries < 2 ^ 16
   pub answers_fit : length m.answers < 2 ^ 16

@@ -6,3 +6,4 @@ pub mod Header
 pub mod Message
 pub mod Sound
 pub mod Grammar
+pub mod internal

@@ -1,6 +1,6 @@
 -- What is written for a message, and what is left of it under a limit (RFC 1035 section 4.1).
 use Rattle.std.specs.Prelude.{◌++◌, nat_le, if◌then◌else◌, true, List, [], ◌∷◌, ℕ, length}
-use Rattle.dns_wire.specs.Pieces.{Piece, Plain, Sofar, form, after}
+use Rattle.dns_wire.specs.Encodable.{Piece, Plain, Position, form, after}
 use Rattle.dns_wire.specs.declared.name_encoding.NameEncoding.TheVariants.{Uncompressed}
 use Rattle.dns_messages.specs.declared.header.Metadata.{Metadata}
 use Rattle.dns_messages.specs.declared.query.Query.{Query}
@@ -11,14 +11,14 @@ use Rattle.dns_messages.specs.Question.{question_pieces}
 use Rattle.dns_messages.specs.Record.{record_pieces}
 
 -- nothing is written yet, and names are written whole
-abbrev pub beginning : Sofar
+abbrev pub beginning : Position
 beginning = record { place = 0; encoding = Uncompressed; suffixes = []; attempts = 0 }
 
 abbrev pub queries_pieces : List Query → List Piece
 queries_pieces [] = []
 queries_pieces (q ∷ qs) = question_pieces q ++ queries_pieces qs
 
-abbrev pub records_pieces : Sofar → List Record → List Piece
+abbrev pub records_pieces : Position → List Record → List Piece
 records_pieces s [] = []
 records_pieces s (r ∷ rs) = record_pieces s r ++ records_pieces (after s (record_pieces s r)) rs
 

@@ -1,10 +1,10 @@
 -- Questions: what is written for them, and when two ask the same (RFC 1035 section 4.1.2).
 use Rattle.std.specs.Prelude.{◌==◌, ◌&&◌, Bool, List, [], ◌∷◌}
 use Rattle.std.specs.Int.{w16, to_be_bytes}
-use Rattle.dns_wire.specs.Pieces.{Piece, Plain, Domain}
+use Rattle.dns_wire.specs.Encodable.{Piece, Plain, Domain}
 use Rattle.dns_codes.specs.RecordType.{type_number}
 use Rattle.dns_codes.specs.DNSClass.{class_number}
-use Rattle.dns_names.specs.Comparison.{same_labels}
+use Rattle.dns_names.specs.Compare.{same_labels}
 use Rattle.dns_messages.specs.declared.query.Query.{Query}
 
 -- a name, a type and a class

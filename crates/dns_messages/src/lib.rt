@@ -3,7 +3,7 @@
 //! What is read from bytes is what they spell, and nothing else; what is written is the message, or what is left of it
 //! under a limit, and these bytes spell just that.
 //!
-//! - `section`: a list as contracts see it; `numbers`: numbers in bytes;
+//! - `section`: a list as contracts see it;
 //! - `rdata`, `record`, `query`, `header`: what a message is made of;
 //! - `message`, `reading`, `writing`: whole messages; `laws`: bytes spell one message at most.
 #![tactic(auto)]
@@ -11,7 +11,6 @@
 mod header;
 mod laws;
 mod message;
-mod numbers;
 mod query;
 mod rdata;
 mod reading;

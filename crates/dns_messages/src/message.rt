@@ -12,6 +12,9 @@ use crate::writing::message_bytes;
 use dns_wire::{BinDecoder, DecodeError, EncodeError};
 use std::alloc::Global;
 
+/// How many bytes a header has (RFC 1035 section 4.1.1).
+const HEADER_LEN: usize = 12;
+
 /// A message.
 #[derive(Drop)]
 pub struct Message {
@@ -28,12 +31,16 @@ impl Message {
     ghost use Rattle.dns_messages.specs.Sound.{IsSound};
 
     /// Reads a message. Bytes behind its last record are free. Any error but want of memory says that the bytes spell
-    /// no message.
+    /// no message; bytes that are too short for a header are refused before memory is taken.
     pub fn from_vec(alloc: Global, bytes: &[u8]) -> Result<Message, DecodeError>
         ensures read { IfOk result (λ message. ReadsMessage bytes.now message) }
         ensures only { (message : Message) → ReadsMessage bytes.now message
             → MatchResult result (λ read. read ≡ message) (λ error. error ≡ DecodeError.Memory) }
+        ensures short { length bytes.now < HEADER_LEN → result ≡ Err DecodeError.InsufficientBytes }
     {
+        if bytes.len() < HEADER_LEN {
+            return Err(DecodeError::InsufficientBytes);
+        }
         let mut decoder = BinDecoder::new(bytes);
         let (metadata, counts) = read_header(&mut decoder)?;
         let queries = read_queries(alloc, counts.queries, &mut decoder)?;

@@ -1,14 +1,14 @@
 //! Questions (RFC 1035 section 4.1.2).
 
-ghost use Rattle.std.specs.Prelude.{◌≡◌, ◌<◌, ◌^◌, ◌↔◌, ℕ, MatchResult, IfOk, OnErr, IsTrue};
+ghost use Rattle.std.specs.Prelude.{◌≡◌, ◌≢◌, ◌<◌, ◌^◌, ◌↔◌, IfOk, IfErr, IsTrue};
 ghost use Rattle.dns_codes.specs.RecordType.{type_of, type_number};
 ghost use Rattle.dns_codes.specs.DNSClass.{class_of, class_number};
 
-use crate::numbers::read_u16;
 use dns_names::Name;
+use dns_wire::laws::{class_number_round_trips, type_number_round_trips};
 use dns_wire::{
-    BinDecoder, BinEncodable, BinEncoder, DNSClass, DecodeError, EncodeError, RecordType,
-    every_class_number_comes_back, every_type_number_comes_back,
+    BinDecodable, BinDecoder, BinEncodable, BinEncoder, DNSClass, DecodeError, EncodeError,
+    RecordType,
 };
 use std::alloc::{AllocError, Global};
 
@@ -25,7 +25,7 @@ impl Query {
     ghost use Rattle.dns_messages.specs.Question.{same_question};
     ghost use Rattle.dns_messages.specs.Sound.{IsSoundQuery};
     ghost use Rattle.dns_messages.specs.declared.query.Query.{Query};
-    ghost use Rattle.dns_messages.specs.Grammar.{ReadsQuestion};
+    ghost use Rattle.dns_messages.specs.Grammar.{ReadsQuestion, RefusesQuestion};
 
     /// A question for records of a type at a name, of the Internet's class.
     pub fn query(name: Name, query_type: RecordType) -> Query
@@ -49,32 +49,19 @@ impl Query {
         })
     }
 
-    /// Reads a question. A refusal leaves the decoder as it was.
-    pub fn read(alloc: Global, decoder: &mut BinDecoder<'_>) -> Result<Query, DecodeError>
-        ensures read { IfOk result (λ query. ReadsQuestion decoder.old.bytes decoder.old.index query decoder.new.index) }
-        ensures only { (query : Query) (end : ℕ) → ReadsQuestion decoder.old.bytes decoder.old.index query end
-            → MatchResult result (λ read. (read ≡ query) × (decoder.new.index ≡ end)) (λ error. error ≡ DecodeError.Memory) }
-        ensures bytes { decoder.new.bytes ≡ decoder.old.bytes }
-        ensures err { OnErr result (decoder.new ≡ decoder.old) }
-    {
-        let mut reader = decoder.clone(decoder.index());
-        let query = Query::read_on(alloc, &mut reader)?;
-        *decoder = reader;
-        Ok(query)
-    }
-
-    /// Reads a question; a refusal leaves the decoder wherever it came to.
+    /// Reads a question. A failed read may advance the decoder.
     fn read_on(alloc: Global, decoder: &mut BinDecoder<'_>) -> Result<Query, DecodeError>
-        ensures read { IfOk result (λ query. ReadsQuestion decoder.old.bytes decoder.old.index query decoder.new.index) }
-        ensures only { (query : Query) (end : ℕ) → ReadsQuestion decoder.old.bytes decoder.old.index query end
-            → MatchResult result (λ read. (read ≡ query) × (decoder.new.index ≡ end)) (λ error. error ≡ DecodeError.Memory) }
+        ensures read { IfOk result (λ query.
+            ReadsQuestion decoder.old.bytes decoder.old.index query decoder.new.index) }
+        ensures refused { IfErr result (λ error. error ≢ DecodeError.Memory
+            → RefusesQuestion decoder.old.bytes decoder.old.index error) }
         ensures bytes { decoder.new.bytes ≡ decoder.old.bytes }
     {
-        every_type_number_comes_back();
-        every_class_number_comes_back();
+        type_number_round_trips();
+        class_number_round_trips();
         let name = Name::read(alloc, decoder)?;
-        let query_type = RecordType::from(read_u16(decoder)?);
-        let query_class = DNSClass::from(read_u16(decoder)?);
+        let query_type = RecordType::from(u16::read(alloc, decoder)?);
+        let query_class = DNSClass::from(u16::read(alloc, decoder)?);
         Ok(Query {
             name,
             query_type,
@@ -109,7 +96,7 @@ fn is_named_type(kind: RecordType) -> bool
     ensures fits { type_number kind < 2 ^ 16 }
 {
     let _number = u16::from(kind);
-    every_type_number_comes_back();
+    type_number_round_trips();
     match kind {
         RecordType::Unknown(number) => {
             matches!(RecordType::from(number), RecordType::Unknown(_))
@@ -124,6 +111,26 @@ fn is_named_class(class: DNSClass) -> bool
     ensures fits { class_number class < 2 ^ 16 }
 {
     DNSClass::from(u16::from(class)) == class
+}
+
+impl BinDecodable for Query {
+    ghost use Rattle.dns_messages.specs.Grammar.{ReadsQuestion, RefusesQuestion};
+    ghost use Rattle.dns_messages.specs.internal.Questions.{question_same, question_not_refused};
+
+    ghost decodes = { ReadsQuestion };
+
+    ghost refuses = { RefusesQuestion };
+
+    fn read(alloc: Global, decoder: &mut BinDecoder<'_>) -> Result<Query, DecodeError> {
+        let mut reader = decoder.clone(decoder.index());
+        let query = Query::read_on(alloc, &mut reader)?;
+        *decoder = reader;
+        Ok(query)
+    }
+
+    ghost unambiguous = { question_same };
+
+    ghost not_refused = { question_not_refused };
 }
 
 impl BinEncodable for Query {

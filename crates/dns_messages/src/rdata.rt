@@ -1,12 +1,11 @@
 //! Record data (RFC 1035 section 3.3).
 
-ghost use Rattle.std.specs.Prelude.{◌≡◌, ◌≤◌, ℕ, List, [], ◌∷◌, length, MatchResult, IfOk, IsOk, Some};
-ghost use Rattle.dns_wire.specs.Encoder.{written, lender, IsAtEnd};
-ghost use Rattle.dns_wire.specs.Pieces.{Plain, Sofar, Emits, AreWritable, Shows, form};
-ghost use Rattle.dns_messages.specs.Grammar.{ReadsData};
+ghost use Rattle.std.specs.Prelude.{◌≡◌, ◌≢◌, ◌<◌, ◌≤◌, [], ◌∷◌, length, drop, IfOk, IfErr, IsOk, Some};
+ghost use Rattle.dns_wire.specs.Encoder.{state_of, IsAtEnd};
+ghost use Rattle.dns_wire.specs.Encodable.{Plain, Position, Emits, AreWritable, BytesAt, form};
+ghost use Rattle.dns_messages.specs.Grammar.{ReadsData, RefusesData};
 ghost use Rattle.dns_messages.specs.Printed.{soa_text, data_text};
 
-use crate::numbers::read_u32;
 use dns_names::Name;
 use dns_wire::{BinDecoder, BinEncodable, BinEncoder, DecodeError, EncodeError, RecordType};
 use std::alloc::{AllocError, Global};
@@ -82,8 +81,8 @@ impl RData {
         decoder: &mut BinDecoder<'_>,
     ) -> Result<RData, DecodeError>
         ensures read { IfOk result (λ rdata. (data_type rdata ≡ record_type) × ReadsData decoder.old.bytes decoder.old.index rdata decoder.new.index) }
-        ensures only { (rdata : RData) (end : ℕ) → data_type rdata ≡ record_type → ReadsData decoder.old.bytes decoder.old.index rdata end
-            → MatchResult result (λ read. (read ≡ rdata) × (decoder.new.index ≡ end)) (λ error. error ≡ DecodeError.Memory) }
+        ensures refused { IfErr result (λ error. error ≢ DecodeError.Memory
+            → RefusesData decoder.old.bytes decoder.old.index record_type error) }
         ensures bytes { decoder.new.bytes ≡ decoder.old.bytes }
     {
         match record_type {
@@ -113,11 +112,12 @@ impl A {
     /// Reads an address.
     fn read(decoder: &mut BinDecoder<'_>) -> Result<A, DecodeError>
         ensures read { IfOk result (λ a. ReadsData decoder.old.bytes decoder.old.index (RData.A a) decoder.new.index) }
-        ensures only { (a : A) (end : ℕ) → ReadsData decoder.old.bytes decoder.old.index (RData.A a) end
-            → MatchResult result (λ read. (read ≡ a) × (decoder.new.index ≡ end)) (λ error. error ≡ DecodeError.Memory) }
+        ensures refused { IfErr result (λ error.
+            (error ≡ DecodeError.InsufficientBytes) × (length (drop decoder.old.index decoder.old.bytes) < 4)) }
         ensures bytes { decoder.new.bytes ≡ decoder.old.bytes }
     {
-        Ok(A(Ipv4Addr::from_bits(read_u32(decoder)?)))
+        let bits = decoder.read_u32()?;
+        Ok(A(Ipv4Addr::from_bits(bits)))
     }
 }
 
@@ -125,7 +125,7 @@ impl SOA {
     ghost use Rattle.dns_messages.specs.declared.rdata.SOA.{SOA};
     ghost use Rattle.std.specs.Prelude.{◌&&◌};
     ghost use Rattle.std.specs.Str.{bytes_eq};
-    ghost use Rattle.dns_names.specs.Comparison.{same_name};
+    ghost use Rattle.dns_names.specs.Compare.{same_name};
     ghost use Rattle.dns_messages.specs.Data.{numbers_of, numbers_form, soa_numbers};
 
     /// A copy.
@@ -173,8 +173,8 @@ impl SOA {
     /// Reads a start of authority.
     fn read(alloc: Global, decoder: &mut BinDecoder<'_>) -> Result<SOA, DecodeError>
         ensures read { IfOk result (λ soa. ReadsData decoder.old.bytes decoder.old.index (RData.SOA soa) decoder.new.index) }
-        ensures only { (soa : SOA) (end : ℕ) → ReadsData decoder.old.bytes decoder.old.index (RData.SOA soa) end
-            → MatchResult result (λ read. (read ≡ soa) × (decoder.new.index ≡ end)) (λ error. error ≡ DecodeError.Memory) }
+        ensures refused { IfErr result (λ error. error ≢ DecodeError.Memory
+            → RefusesData decoder.old.bytes decoder.old.index RecordType.SOA error) }
         ensures bytes { decoder.new.bytes ≡ decoder.old.bytes }
     {
         let mname = Name::read(alloc, decoder)?;
@@ -193,9 +193,9 @@ impl SOA {
 
     /// Reads the five numbers.
     fn read_numbers(decoder: &mut BinDecoder<'_>) -> Result<(u32, u32, u32, u32, u32), DecodeError>
-        ensures read { IfOk result (λ n. Shows decoder.old.bytes decoder.old.index (numbers_form (n.0 ∷ n.1 ∷ n.2 ∷ n.3 ∷ n.4 ∷ [])) decoder.new.index) }
-        ensures only { (form : List ℕ) (end : ℕ) → length form ≡ 20 → Shows decoder.old.bytes decoder.old.index form end
-            → MatchResult result (λ n. (numbers_form (n.0 ∷ n.1 ∷ n.2 ∷ n.3 ∷ n.4 ∷ []) ≡ form) × (decoder.new.index ≡ end)) (λ error. error ≡ DecodeError.Memory) }
+        ensures read { IfOk result (λ n. BytesAt decoder.old.bytes decoder.old.index (numbers_form (n.0 ∷ n.1 ∷ n.2 ∷ n.3 ∷ n.4 ∷ [])) decoder.new.index) }
+        ensures refused { IfErr result (λ error.
+            (error ≡ DecodeError.InsufficientBytes) × (length (drop decoder.old.index decoder.old.bytes) < 20)) }
         ensures bytes { decoder.new.bytes ≡ decoder.old.bytes }
     {
         let serial = decoder.read_u32()?;
@@ -208,9 +208,8 @@ impl SOA {
 
     /// Writes the five numbers.
     fn emit_numbers(&self, encoder: &mut BinEncoder<'_>) -> Result<(), EncodeError>
-        requires { IsAtEnd (written encoder.old) }
-        ensures emits { Emits (written encoder.old) (Plain (soa_numbers self.now) ∷ []) result (written encoder.new) }
-        ensures lender { lender encoder.new ≡ lender encoder.old }
+        requires { IsAtEnd (state_of encoder.old) }
+        ensures { Emits (state_of encoder.old) (Plain (soa_numbers self.now) ∷ []) result (state_of encoder.new) }
     {
         encoder.emit_u32(self.serial)?;
         encoder.emit_u32(self.refresh)?;

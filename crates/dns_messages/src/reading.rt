@@ -4,13 +4,14 @@ ghost use Rattle.std.specs.Prelude.{◌≡◌, ℕ, List, length, MatchResult, I
 ghost use Rattle.dns_messages.specs.declared.message.Message.{Message};
 ghost use Rattle.dns_messages.specs.declared.query.Query.{Query};
 ghost use Rattle.dns_messages.specs.declared.record.Record.{Record};
-ghost use Rattle.dns_messages.specs.Grammar.{Follow, IsHeaded, ReadsHeader, ReadsQuestion, ReadsRecord};
+ghost use Rattle.dns_messages.specs.Grammar.{IsHeaded, ReadsHeader, ReadsQuestion, ReadsRecord};
+ghost use Rattle.dns_wire.specs.Decodable.{Follow};
 
 use crate::header::Metadata;
 use crate::query::Query;
 use crate::record::Record;
 use crate::section::Section;
-use dns_wire::{BinDecoder, DecodeError};
+use dns_wire::{BinDecodable, BinDecoder, DecodeError};
 use std::alloc::Global;
 
 /// How many items each section of a message has.

@@ -1,15 +1,15 @@
 //! Records (RFC 1035 section 4.1.3).
 
-ghost use Rattle.std.specs.Prelude.{◌≡◌, ℕ, MatchResult, IfOk, IsOk, OnErr};
-ghost use Rattle.dns_wire.specs.Encoder.{written, lender, IsAtEnd};
-ghost use Rattle.dns_wire.specs.Pieces.{Emits, AreWritable};
+ghost use Rattle.std.specs.Prelude.{◌≡◌, ◌≢◌, IfOk, IfErr, IsOk};
+ghost use Rattle.dns_wire.specs.Encoder.{state_of, IsAtEnd};
+ghost use Rattle.dns_wire.specs.Encodable.{Emits, AreWritable};
 
-use crate::numbers::{read_u16, read_u32};
 use crate::rdata::RData;
 use dns_names::Name;
+use dns_wire::laws::{class_number_round_trips, type_number_round_trips};
 use dns_wire::{
-    BinDecoder, BinEncodable, BinEncoder, DNSClass, DecodeError, EncodeError, Place, RecordType,
-    every_class_number_comes_back, every_type_number_comes_back,
+    BinDecodable, BinDecoder, BinEncodable, BinEncoder, DNSClass, DecodeError, EncodeError, Place,
+    RecordType,
 };
 use std::alloc::{AllocError, Global};
 
@@ -25,22 +25,22 @@ pub(crate) struct RecordHead {
 
 impl RecordHead {
     ghost use Rattle.dns_messages.specs.declared.record.RecordHead.{RecordHead};
-    ghost use Rattle.dns_messages.specs.Grammar.{ReadsHead};
+    ghost use Rattle.dns_messages.specs.Grammar.{ReadsHead, RefusesHead};
 
     /// Reads owner, type, class, TTL and the data's length.
     fn read(alloc: Global, decoder: &mut BinDecoder<'_>) -> Result<RecordHead, DecodeError>
         ensures read { IfOk result (λ head. ReadsHead decoder.old.bytes decoder.old.index head decoder.new.index) }
-        ensures only { (head : RecordHead) (end : ℕ) → ReadsHead decoder.old.bytes decoder.old.index head end
-            → MatchResult result (λ read. (read ≡ head) × (decoder.new.index ≡ end)) (λ error. error ≡ DecodeError.Memory) }
+        ensures refused { IfErr result (λ error. error ≢ DecodeError.Memory
+            → RefusesHead decoder.old.bytes decoder.old.index error) }
         ensures bytes { decoder.new.bytes ≡ decoder.old.bytes }
     {
-        every_type_number_comes_back();
-        every_class_number_comes_back();
+        type_number_round_trips();
+        class_number_round_trips();
         let name = Name::read(alloc, decoder)?;
-        let record_type = RecordType::from(read_u16(decoder)?);
-        let dns_class = DNSClass::from(read_u16(decoder)?);
-        let ttl = read_u32(decoder)?;
-        let len = read_u16(decoder)?;
+        let record_type = RecordType::from(u16::read(alloc, decoder)?);
+        let dns_class = DNSClass::from(u16::read(alloc, decoder)?);
+        let ttl = u32::read(alloc, decoder)?;
+        let len = u16::read(alloc, decoder)?;
         Ok(RecordHead {
             name,
             record_type,
@@ -65,7 +65,7 @@ pub struct Record {
 impl Record {
     ghost use Rattle.dns_messages.specs.declared.record.Record.{Record};
     ghost use Rattle.dns_messages.specs.Record.{head_pieces};
-    ghost use Rattle.dns_messages.specs.Grammar.{ReadsRecord};
+    ghost use Rattle.dns_messages.specs.Grammar.{ReadsRecord, RefusesRecord};
 
     /// A copy.
     pub fn clone(&self) -> Result<Record, AllocError>
@@ -79,26 +79,12 @@ impl Record {
         })
     }
 
-    /// Reads a record. Its data takes exactly the length before it, and its type is A or SOA. A refusal leaves the
-    /// decoder as it was.
-    pub fn read(alloc: Global, decoder: &mut BinDecoder<'_>) -> Result<Record, DecodeError>
-        ensures read { IfOk result (λ row. ReadsRecord decoder.old.bytes decoder.old.index row decoder.new.index) }
-        ensures only { (row : Record) (end : ℕ) → ReadsRecord decoder.old.bytes decoder.old.index row end
-            → MatchResult result (λ read. (read ≡ row) × (decoder.new.index ≡ end)) (λ error. error ≡ DecodeError.Memory) }
-        ensures bytes { decoder.new.bytes ≡ decoder.old.bytes }
-        ensures err { OnErr result (decoder.new ≡ decoder.old) }
-    {
-        let mut reader = decoder.clone(decoder.index());
-        let row = Record::read_on(alloc, &mut reader)?;
-        *decoder = reader;
-        Ok(row)
-    }
-
-    /// Reads a record; a refusal leaves the decoder wherever it came to.
+    /// Reads a record. A failed read may advance the decoder.
     fn read_on(alloc: Global, decoder: &mut BinDecoder<'_>) -> Result<Record, DecodeError>
-        ensures read { IfOk result (λ row. ReadsRecord decoder.old.bytes decoder.old.index row decoder.new.index) }
-        ensures only { (row : Record) (end : ℕ) → ReadsRecord decoder.old.bytes decoder.old.index row end
-            → MatchResult result (λ read. (read ≡ row) × (decoder.new.index ≡ end)) (λ error. error ≡ DecodeError.Memory) }
+        ensures read { IfOk result (λ row.
+            ReadsRecord decoder.old.bytes decoder.old.index row decoder.new.index) }
+        ensures refused { IfErr result (λ error. error ≢ DecodeError.Memory
+            → RefusesRecord decoder.old.bytes decoder.old.index error) }
         ensures bytes { decoder.new.bytes ≡ decoder.old.bytes }
     {
         let head = RecordHead::read(alloc, decoder)?;
@@ -117,16 +103,36 @@ impl Record {
 
     /// Writes owner, type, class and TTL.
     fn emit_head(&self, encoder: &mut BinEncoder<'_>) -> Result<(), EncodeError>
-        requires { IsAtEnd (written encoder.old) }
-        ensures emits { Emits (written encoder.old) (head_pieces self.now) result (written encoder.new) }
+        requires { IsAtEnd (state_of encoder.old) }
+        ensures emits { Emits (state_of encoder.old) (head_pieces self.now) result (state_of encoder.new) }
         ensures writable { IsOk result → AreWritable (head_pieces self.now) }
-        ensures lender { lender encoder.new ≡ lender encoder.old }
     {
         self.name.emit(encoder)?;
         encoder.emit_u16(u16::from(self.rdata.record_type()))?;
         encoder.emit_u16(u16::from(self.dns_class))?;
         encoder.emit_u32(self.ttl)
     }
+}
+
+impl BinDecodable for Record {
+    ghost use Rattle.dns_messages.specs.Grammar.{ReadsRecord, RefusesRecord};
+    ghost use Rattle.dns_messages.specs.internal.Records.{record_same, record_not_refused};
+
+    ghost decodes = { ReadsRecord };
+
+    ghost refuses = { RefusesRecord };
+
+    /// Reads a record of type A or SOA. Its data takes exactly the length before it.
+    fn read(alloc: Global, decoder: &mut BinDecoder<'_>) -> Result<Record, DecodeError> {
+        let mut reader = decoder.clone(decoder.index());
+        let row = Record::read_on(alloc, &mut reader)?;
+        *decoder = reader;
+        Ok(row)
+    }
+
+    ghost unambiguous = { record_same };
+
+    ghost not_refused = { record_not_refused };
 }
 
 impl BinEncodable for Record {

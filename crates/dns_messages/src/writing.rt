@@ -1,8 +1,8 @@
 //! Writing the parts of a message.
 
 ghost use Rattle.std.specs.Prelude.{◌≡◌, ◌≤◌, ◌<◌, length, IfOk, IsOk, Err};
-ghost use Rattle.dns_wire.specs.Encoder.{written, lender, IsAtEnd};
-ghost use Rattle.dns_wire.specs.Pieces.{sofar, Emits, AreWritable};
+ghost use Rattle.dns_wire.specs.Encoder.{state_of, IsAtEnd};
+ghost use Rattle.dns_wire.specs.Encodable.{position_of, Emits, AreWritable};
 ghost use Rattle.dns_messages.specs.Header.{header_form};
 ghost use Rattle.dns_messages.specs.Message.{beginning, queries_pieces, records_pieces, message_of, message_pieces, message_form};
 ghost use Rattle.dns_messages.specs.Sound.{IsSound};
@@ -47,10 +47,9 @@ fn header_bytes(
 
 /// Writes questions, one after another.
 fn emit_queries(queries: &[Query], encoder: &mut BinEncoder<'_>) -> Result<(), EncodeError>
-    requires { IsAtEnd (written encoder.old) }
-    ensures emits { Emits (written encoder.old) (queries_pieces queries.now) result (written encoder.new) }
+    requires { IsAtEnd (state_of encoder.old) }
+    ensures emits { Emits (state_of encoder.old) (queries_pieces queries.now) result (state_of encoder.new) }
     ensures writable { IsOk result → AreWritable (queries_pieces queries.now) }
-    ensures lender { lender encoder.new ≡ lender encoder.old }
 {
     for query in queries {
         query.emit(encoder)?;
@@ -60,10 +59,9 @@ fn emit_queries(queries: &[Query], encoder: &mut BinEncoder<'_>) -> Result<(), E
 
 /// Writes records, one after another.
 fn emit_records(records: &[Record], encoder: &mut BinEncoder<'_>) -> Result<(), EncodeError>
-    requires { IsAtEnd (written encoder.old) }
-    ensures emits { Emits (written encoder.old) (records_pieces (sofar (written encoder.old)) records.now) result (written encoder.new) }
-    ensures writable { IsOk result → AreWritable (records_pieces (sofar (written encoder.old)) records.now) }
-    ensures lender { lender encoder.new ≡ lender encoder.old }
+    requires { IsAtEnd (state_of encoder.old) }
+    ensures emits { Emits (state_of encoder.old) (records_pieces (position_of (state_of encoder.old)) records.now) result (state_of encoder.new) }
+    ensures writable { IsOk result → AreWritable (records_pieces (position_of (state_of encoder.old)) records.now) }
 {
     for row in records {
         row.emit(encoder)?;
@@ -80,15 +78,14 @@ fn emit_message(
     additionals: &[Record],
     encoder: &mut BinEncoder<'_>,
 ) -> Result<(), EncodeError>
-    requires at_end { IsAtEnd (written encoder.old) }
-    requires beginning { sofar (written encoder.old) ≡ beginning }
+    requires at_end { IsAtEnd (state_of encoder.old) }
+    requires beginning { position_of (state_of encoder.old) ≡ beginning }
     requires queries { length queries.now ≤ 65535 }
     requires answers { length answers.now ≤ 65535 }
     requires authorities { length authorities.now ≤ 65535 }
     requires additionals { length additionals.now ≤ 65535 }
-    ensures emits { Emits (written encoder.old) (message_pieces (message_of metadata queries.now answers.now authorities.now additionals.now)) result (written encoder.new) }
+    ensures emits { Emits (state_of encoder.old) (message_pieces (message_of metadata queries.now answers.now authorities.now additionals.now)) result (state_of encoder.new) }
     ensures writable { IsOk result → AreWritable (message_pieces (message_of metadata queries.now answers.now authorities.now additionals.now)) }
-    ensures lender { lender encoder.new ≡ lender encoder.old }
 {
     let head = header_bytes(
         metadata,

@@ -3,7 +3,7 @@ use Rattle.std.proofs.Common.{◌≡◌, ℕ, zero, suc, ◌+◌, ◌-◌, ◌*�
 use Rattle.std.specs.Prelude.{slice_get, slice_index, option_map}
 use Rattle.std.proofs.lemmas.List.{drop_all, drop-drop, take-append-drop}
 use Rattle.std.specs.declared.net.ip_addr.IpAddr.TheVariants.{V4, V6}
-use Rattle.dns_names.specs.Arpa.{number, numbers, number_behind, under, padded, v4_prefix, v6_prefix, segment_at}
+use Rattle.dns_names.specs.Reverse.{number, numbers, number_behind, under, padded, v4_prefix, v6_prefix, segment_at}
 use Rattle.dns_names.proofs.IterLaws.{drop-at}
 
 -- ---- the last two labels

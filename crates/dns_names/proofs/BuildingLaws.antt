@@ -3,8 +3,8 @@ use Rattle.std.proofs.Common.{◌≡◌, ℕ, suc, ◌+◌, ◌<◌, ◌≤◌, 
 use Rattle.std.specs.Prelude.{nat_lt, slice_get, Some}
 use Rattle.std.proofs.lemmas.Bool.Decides.{nat_tests}
 use Rattle.dns_wire.specs.Name.{name_len}
-use Rattle.dns_names.specs.DomainName.{DomainName}
-use Rattle.dns_names.specs.Building.{with_labels, with_label, behind_label}
+use Rattle.dns_names.specs.Name.{DomainName}
+use Rattle.dns_names.specs.Build.{with_labels, with_label, behind_label}
 use Rattle.dns_names.specs.declared.error.ParseError.{ParseError}
 use Rattle.dns_names.specs.declared.error.ParseError.TheVariants.{DomainNameTooLong}
 use Rattle.dns_names.proofs.IterLaws.{drop-at}

@@ -7,7 +7,7 @@ use Rattle.std.specs.Char.{to_ascii_lowercase}
 use Rattle.std.proofs.lemmas.Str.Ascii.{lowercase-lowercase}
 use Rattle.std.proofs.lemmas.Slice.Eq.{bytes_eq-Decides}
 use Rattle.std.proofs.lemmas.List.{length-map}
-use Rattle.dns_names.specs.Comparison.{lower, same_labels, at_or_below}
+use Rattle.dns_names.specs.Compare.{lower, same_labels, at_or_below}
 
 -- ---- what the same means
 

@@ -4,7 +4,7 @@ use Rattle.std.specs.List.{AllByRecursion}
 use Rattle.std.specs.Prelude.{slice_range, slice_get, Some}
 use Rattle.std.proofs.lemmas.List.{take-append-le, drop-append-le, take_all, drop_all, append-nil, drop_at, length-map, take-map, drop-map}
 use Rattle.dns_wire.specs.Name.{IsLabel, name_len, AreLabels}
-use Rattle.dns_names.specs.Cut.{labels_from, CutsFrom, IsCut}
+use Rattle.dns_names.specs.internal.Name.{labels_from, CutsFrom, IsCut}
 
 -- ---- the labels are those of a name
 

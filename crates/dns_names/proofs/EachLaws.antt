@@ -1,8 +1,8 @@
 -- Labels that are added one after another.
 use Rattle.std.proofs.Common.{◌≡◌, ℕ, List, [], ◌∷◌, ◌++◌, Option, Some, Result, Ok, Err, refl, sym, ap, subst, ◌∙◌}
 use Rattle.std.specs.Iterator.{Yields}
-use Rattle.dns_names.specs.DomainName.{DomainName}
-use Rattle.dns_names.specs.Building.{with_label, with_each}
+use Rattle.dns_names.specs.Name.{DomainName}
+use Rattle.dns_names.specs.Build.{with_label, with_each}
 use Rattle.dns_names.specs.declared.error.ParseError.{ParseError}
 
 module _ {A : Type 0} (label : A → Result (List ℕ) ParseError) where

@@ -7,12 +7,12 @@ use Rattle.std.proofs.lemmas.List.{append-nil}
 use Rattle.std.proofs.lemmas.Bool.Decides.{nat_tests}
 use Rattle.std.proofs.lemmas.Slice.Eq.{bytes_eq-Decides}
 use Rattle.dns_wire.specs.Name.{name_len}
-use Rattle.dns_names.specs.DomainName.{DomainName}
+use Rattle.dns_names.specs.Name.{DomainName}
 use Rattle.dns_codes.specs.Decimal.{is_digit, decimal_up_to}
 use Rattle.dns_names.specs.declared.error.ParseError.{ParseError}
 use Rattle.dns_names.specs.declared.error.ParseError.TheVariants.{LabelBytesTooLong, EmptyLabel, DomainNameTooLong, Text}
-use Rattle.dns_names.specs.Text.{Dot, Plain, Escaped, Broken, Begun, Placed, symbols_from, escape, escape_len, may_stand, with_octet, with_symbol, label_ended, name_ended, name_from, name_of_text}
-use Rattle.dns_names.specs.TextGrammar.{SpellsOctets, no_octet, unescaped, by_digits, by_character, SpellsLabel, SpellsLabels, one_label, more_labels, Spells, root, no_label, relative, fully_qualified}
+use Rattle.dns_names.specs.Parse.{Dot, Plain, Escaped, Broken, Begun, Placed, symbols_from, escape, escape_len, may_stand, with_octet, with_symbol, label_ended, name_ended, name_from, name_of_text}
+use Rattle.dns_names.specs.Parse.{SpellsOctets, no_octet, unescaped, by_digits, by_character, SpellsLabel, SpellsLabels, one_label, more_labels, Spells, root, no_label, relative, fully_qualified}
 use Rattle.dns_names.proofs.TextLaws.{taken}
 use Rattle.dns_names.proofs.TextSteps.{equal_numbers, takes_octet, plain_at, digits_are, three_digits_are, digits_len, character_is, character_len, escape_at, begun_some, some_labels}
 

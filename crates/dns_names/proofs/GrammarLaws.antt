@@ -6,10 +6,10 @@ use Rattle.std.specs.Str.{bytes_eq}
 use Rattle.std.proofs.lemmas.List.{append-nil}
 use Rattle.std.proofs.lemmas.Slice.Eq.{bytes_eq-Decides}
 use Rattle.dns_wire.specs.Name.{name_len}
-use Rattle.dns_names.specs.DomainName.{DomainName}
+use Rattle.dns_names.specs.Name.{DomainName}
 use Rattle.dns_names.specs.declared.error.ParseError.{ParseError}
-use Rattle.dns_names.specs.Text.{Escaped, Broken, symbols_from, may_stand, name_from, name_of_text}
-use Rattle.dns_names.specs.TextGrammar.{SpellsOctets, no_octet, unescaped, by_digits, by_character, SpellsLabels, one_label, more_labels, Spells, root, no_label, relative, fully_qualified}
+use Rattle.dns_names.specs.Parse.{Escaped, Broken, symbols_from, may_stand, name_from, name_of_text}
+use Rattle.dns_names.specs.Parse.{SpellsOctets, no_octet, unescaped, by_digits, by_character, SpellsLabels, one_label, more_labels, Spells, root, no_label, relative, fully_qualified}
 use Rattle.dns_names.proofs.TextSteps.{plain_step, digit_first, three_digits_are, digits_len, character_is, character_len, escape_step, begun_some, some_length, label_done, dot_step, some_labels, ended}
 
 behind_octet : (labels : List (List ℕ)) (label : List ℕ) (c : ℕ) (cs rest : List ℕ) {whole next : Result DomainName ParseError} → whole ≡ next

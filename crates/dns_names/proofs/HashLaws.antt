@@ -5,8 +5,8 @@ use Rattle.std.specs.Char.{to_ascii_lowercase}
 use Rattle.std.specs.Str.{str_to_ascii_lowercase}
 use Rattle.std.specs.List.{fold, flat_map}
 use Rattle.std.specs.Hash as fed
-use Rattle.dns_names.specs.Comparison.{lower}
-use Rattle.dns_names.specs.Order.{label_writes}
+use Rattle.dns_names.specs.Compare.{lower}
+use Rattle.dns_names.specs.LabelCompare.{label_writes}
 
 module _ {S : Type 0} (write : S → List ℕ → S) where
   fold-append : (s : S) (us vs : fed.HashWrites) → fold write s (us ++ vs) ≡ fold write (fold write s us) vs

@@ -8,7 +8,7 @@ use Rattle.std.specs.Cmp.{both_ways}
 use Rattle.std.proofs.lemmas.Slice.Eq.{bytes_eq-Decides}
 use Rattle.std.proofs.lemmas.List.{take-append-drop}
 use Rattle.dns_wire.specs.Name.{IsLabel, AreLabels, name_len}
-use Rattle.dns_names.specs.Parts.{localhost_label, ends_in_localhost}
+use Rattle.dns_names.specs.Labels.{localhost_label, ends_in_localhost}
 use Rattle.dns_names.proofs.IterLaws.{drop-at}
 
 -- a label takes two bytes at least

@@ -2,7 +2,7 @@
 use Rattle.std.proofs.Common.{◌≡◌, ℕ, suc, ◌+◌, ◌<◌, Bool, false, List, ◌∷◌, ◌++◌, length, drop, get_or, sym, ap, ◌∙◌, append_assoc, arith}
 use Rattle.std.specs.Prelude.{slice_get, Some}
 use Rattle.std.proofs.Math.Seq.{drop-cons}
-use Rattle.dns_names.specs.Printed.{octet_text, octets_text, label_text, labels_behind}
+use Rattle.dns_names.specs.Print.{octet_text, octets_text, label_text, labels_behind}
 use Rattle.dns_names.proofs.IterLaws.{drop-at}
 
 pub octet_more : (b : Bool) (xs : List ℕ) (i : ℕ) (done all : List ℕ) → i < length xs → done ++ octets_text b (drop i xs) ≡ all

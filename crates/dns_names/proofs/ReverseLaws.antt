@@ -8,9 +8,9 @@ use Rattle.std.specs.declared.cmp.Ordering.TheVariants.{Less, Equal, Greater}
 use Rattle.std.specs.Cmp.{tied_itself, nat_cmp_total}
 use Rattle.std.specs.Cmp.Lexicographic.{slice_cmp}
 use Rattle.std.proofs.lemmas.List.{get_or-reverse, length-reverse}
-use Rattle.dns_names.specs.DomainName.{DomainName}
-use Rattle.dns_names.specs.Order.{labels_order, name_order}
-use Rattle.dns_names.specs.OrderAgreement.{labels_equal, unreversed, name_total, labels_total}
+use Rattle.dns_names.specs.Name.{DomainName}
+use Rattle.dns_names.specs.Compare.{labels_order, name_order}
+use Rattle.dns_names.specs.internal.Compare.{labels_equal, unreversed, name_total, labels_total}
 use Rattle.dns_names.proofs.CutLaws.{slice_get_or}
 use Rattle.dns_names.proofs.IterLaws.{drop-at, by_length}
 

@@ -5,11 +5,11 @@ use Rattle.std.specs.List.{AllByRecursion}
 use Rattle.std.proofs.lemmas.List.{append-nil}
 use Rattle.std.proofs.lemmas.Bool.Decides.{nat_tests}
 use Rattle.dns_wire.specs.Name.{IsLabel, AreLabels, name_len}
-use Rattle.dns_names.specs.DomainName.{DomainName}
+use Rattle.dns_names.specs.Name.{DomainName}
 use Rattle.dns_codes.specs.Decimal.{is_digit, decimal_up_to}
-use Rattle.dns_names.specs.Text.{may_stand, name_of_text}
-use Rattle.dns_names.specs.TextGrammar.{SpellsOctets, no_octet, unescaped, by_digits, SpellsLabels, one_label, more_labels, Spells, root, no_label, relative, fully_qualified}
-use Rattle.dns_names.specs.Printed.{escaped, octet_text, octets_text, label_text, labels_behind, text_of_labels, text_of_name, AreOctets}
+use Rattle.dns_names.specs.Parse.{may_stand, name_of_text}
+use Rattle.dns_names.specs.Parse.{SpellsOctets, no_octet, unescaped, by_digits, SpellsLabels, one_label, more_labels, Spells, root, no_label, relative, fully_qualified}
+use Rattle.dns_names.specs.Print.{escaped, octet_text, octets_text, label_text, labels_behind, text_of_labels, text_of_name, AreOctets}
 use Rattle.dns_names.proofs.GrammarLaws.{spelled_is_read}
 
 -- ---- a label

@@ -8,12 +8,12 @@ use Rattle.std.specs.Cmp.{IsTotalOrder, tied_itself, tied_back, nat_cmp_total, f
 use Rattle.std.specs.Cmp.Lexicographic.{slice_cmp, lists_total}
 use Rattle.std.specs.Str.{str_to_ascii_lowercase}
 use Rattle.std.proofs.lemmas.List.{reverse-append, reverse-reverse}
-use Rattle.dns_names.specs.Comparison.{lower, same_labels, at_or_below}
-use Rattle.dns_names.specs.DomainName.{DomainName}
-use Rattle.dns_names.specs.LabelCmp.{lower_cmp}
-use Rattle.dns_names.specs.Order.{labels_order, name_cmp}
-use Rattle.dns_names.specs.OrderAgreement.{order_lower, bytes_equal}
-use Rattle.dns_names.specs.Subtree.{lies_below}
+use Rattle.dns_names.specs.Compare.{lower, same_labels, at_or_below}
+use Rattle.dns_names.specs.Name.{DomainName}
+use Rattle.dns_names.specs.LabelCompare.{lower_cmp}
+use Rattle.dns_names.specs.Compare.{labels_order, name_cmp}
+use Rattle.dns_names.specs.internal.Compare.{order_lower, bytes_equal}
+use Rattle.dns_names.specs.Compare.{lies_below}
 use Rattle.dns_names.proofs.ComparisonLaws.{same_labels-true, lower-same}
 
 -- ---- lists that begin alike

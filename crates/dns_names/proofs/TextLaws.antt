@@ -6,7 +6,7 @@ use Rattle.std.proofs.lemmas.Bool.Decides.{nat_tests}
 use Rattle.dns_wire.specs.Name.{name_len}
 use Rattle.dns_names.proofs.Underway.{name_len-push}
 use Rattle.dns_names.specs.declared.error.ParseError.TheVariants.{DomainNameTooLong}
-use Rattle.dns_names.specs.Text.{Symbol, Begun, Placed, label_ended, with_symbol, name_from, symbols_from, symbol, more_len}
+use Rattle.dns_names.specs.Parse.{Symbol, Begun, Placed, label_ended, with_symbol, name_from, symbols_from, symbol, more_len}
 
 pub ends_too_long : (b : Begun) → (length b.label == 0) ≡ false → 255 < name_len b.labels + (length b.label + 1) → label_ended b ≡ Err DomainNameTooLong
 ends_too_long b some over =

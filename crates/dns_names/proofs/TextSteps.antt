@@ -4,10 +4,10 @@ use Rattle.std.specs.Prelude.{◌==◌, nat_lt, nat_le, if◌then◌else◌, ◌
 use Rattle.std.specs.Option.{option_map_or}
 use Rattle.std.proofs.lemmas.Bool.Decides.{nat_tests}
 use Rattle.dns_wire.specs.Name.{IsLabel, name_len}
-use Rattle.dns_names.specs.DomainName.{DomainName}
+use Rattle.dns_names.specs.Name.{DomainName}
 use Rattle.dns_codes.specs.Decimal.{is_digit, decimal_up_to}
 use Rattle.dns_names.specs.declared.error.ParseError.{ParseError}
-use Rattle.dns_names.specs.Text.{Symbol, Dot, Plain, Escaped, Broken, Begun, symbol, more_len, symbols_from, decimal_octet, escape, escape_len, may_stand, with_octet, with_symbol, label_ended, name_ended, name_from}
+use Rattle.dns_names.specs.Parse.{Symbol, Dot, Plain, Escaped, Broken, Begun, symbol, more_len, symbols_from, decimal_octet, escape, escape_len, may_stand, with_octet, with_symbol, label_ended, name_ended, name_from}
 use Rattle.dns_names.proofs.TextLaws.{taken, ends_well}
 use Rattle.dns_names.proofs.BuildingLaws.{name_len-append, name_len-some}
 

@@ -1,6 +1,6 @@
 -- Labels (RFC 1035 sections 2.3.1 and 2.3.4, RFC 2181 section 11).
 use Rattle.std.specs.Prelude.{ℕ, ◌+◌, ◌==◌, nat_lt, if◌then◌else◌, List, [], ◌∷◌, length, Option, Some, None, Result, Ok, Err}
-use Rattle.dns_names.specs.Text.{may_stand}
+use Rattle.dns_names.specs.Parse.{may_stand}
 use Rattle.dns_names.specs.declared.error.ParseError.{ParseError}
 use Rattle.dns_names.specs.declared.error.ParseError.TheVariants.{LabelBytesTooLong, EmptyLabel, Text}
 

@@ -3,6 +3,7 @@
 ghost use Rattle.std.specs.Prelude.{◌≡◌, ◌≢◌, ℕ, List, Result, Ok, Err, IfOk, IfErr, string_bytes};
 ghost use Rattle.dns_names.specs.Label.{label_of_bytes, label_of_text};
 ghost use Rattle.dns_names.specs.declared.error.ParseError.{ParseError};
+ghost use Rattle.dns_wire.specs.Error.{IsUnless};
 
 use crate::error::ParseError;
 use crate::label::Label;
@@ -14,8 +15,7 @@ pub trait IntoLabel: Sized {
 
     /// The label.
     fn into_label(self, alloc: Global) -> Result<Label, ParseError>
-        ensures ok { IfOk result (λ made. label self ≡ Ok made) }
-        ensures refused { IfErr result (λ error. error ≢ ParseError.Memory → label self ≡ Err error) };
+        ensures { IsUnless ParseError.Memory (label self) result };
 }
 
 impl IntoLabel for Label {

@@ -5,6 +5,10 @@ ghost use Rattle.std.specs.Str.{str_to_ascii_lowercase, str_eq_ignore_ascii_case
 ghost use Rattle.dns_wire.specs.Name.{IsLabel};
 ghost use Rattle.dns_names.specs.Label.{label_of_bytes, label_of_text, refused_from};
 
+pub(crate) mod compare;
+
+ghost use Rattle.dns_wire.specs.Error.{IsUnless};
+
 use crate::error::ParseError;
 use crate::text::may_stand;
 use smallvec::SmallVec;
@@ -31,8 +35,7 @@ impl Model for Label {
 impl Label {
     /// The label of these bytes, whatever they are.
     pub fn from_raw_bytes(alloc: Global, bytes: &[u8]) -> Result<Label, ParseError>
-        ensures ok { IfOk result (λ label. label_of_bytes bytes.now ≡ Ok label) }
-        ensures refused { IfErr result (λ error. error ≢ ParseError.Memory → label_of_bytes bytes.now ≡ Err error) }
+        ensures outcome { IsUnless ParseError.Memory (label_of_bytes bytes.now) result }
         ensures fault { (error : ParseError) → label_of_bytes bytes.now ≡ Err error → result ≡ Err error }
         ensures inline { length bytes.now ≤ 24 → IfErr result (λ error. error ≢ ParseError.Memory) }
     {
@@ -50,8 +53,7 @@ impl Label {
     /// The label that a text without escapes spells: ASCII letters, digits and `_`, `-` but not as the first, `*` as
     /// the first. A dot ends a label, so none may stand in it (RFC 1035 section 5.1).
     pub fn from_ascii(alloc: Global, text: &str) -> Result<Label, ParseError>
-        ensures ok { IfOk result (λ label. label_of_text text.now ≡ Ok label) }
-        ensures refused { IfErr result (λ error. error ≢ ParseError.Memory → label_of_text text.now ≡ Err error) }
+        ensures outcome { IsUnless ParseError.Memory (label_of_text text.now) result }
         ensures inline { length text.now ≤ 24 → IfErr result (λ error. error ≢ ParseError.Memory) }
     {
         let label = Label::from_raw_bytes(alloc, text.as_bytes())?;
@@ -74,7 +76,6 @@ impl Label {
     pub fn clone(&self) -> Result<Label, AllocError>
         ensures ok { IfOk result (λ label. label ≡ self.now) }
         ensures inline { length self.now ≤ 24 → IsOk result }
-        ensures is_label { IsLabel self.now }
     {
         Ok(Label {
             bytes: SmallVec::from_slice(*self.bytes.allocator(), self.bytes.as_slice())?,
@@ -85,7 +86,6 @@ impl Label {
     pub fn to_lowercase(&self) -> Result<Label, AllocError>
         ensures ok { IfOk result (λ label. label ≡ str_to_ascii_lowercase self.now) }
         ensures inline { length self.now ≤ 24 → IsOk result }
-        ensures is_label { IsLabel self.now }
     {
         let mut label = self.clone()?;
         label.make_lowercase();
@@ -106,24 +106,21 @@ impl Label {
 
     /// Whether it is the label `*` (RFC 4592 section 2.1.1).
     pub fn is_wildcard(&self) -> bool
-        ensures value { result ≡ bytes_eq self.now (42 ∷ []) }
-        ensures is_label { IsLabel self.now }
+        ensures { result ≡ bytes_eq self.now (42 ∷ []) }
     {
         self.as_bytes() == b"*".as_slice()
     }
 
     /// How many bytes the label has.
     pub fn len(&self) -> usize
-        ensures value { result ≡ length self.now }
-        ensures is_label { IsLabel self.now }
+        ensures { result ≡ length self.now }
     {
         self.bytes.len()
     }
 
     /// Whether the label has no byte, which none is.
     pub fn is_empty(&self) -> bool
-        ensures value { result ≡ (length self.now == 0) }
-        ensures is_label { IsLabel self.now }
+        ensures { result ≡ (length self.now == 0) }
     {
         self.bytes.is_empty()
     }
@@ -138,8 +135,7 @@ impl Label {
 
     /// Whether the labels are the same up to ASCII case (RFC 4343).
     pub fn eq_ignore_ascii_case(&self, other: &Label) -> bool
-        ensures value { result ≡ str_eq_ignore_ascii_case self.now other.now }
-        ensures is_label { IsLabel self.now }
+        ensures { result ≡ str_eq_ignore_ascii_case self.now other.now }
     {
         self.as_bytes().eq_ignore_ascii_case(other.as_bytes())
     }

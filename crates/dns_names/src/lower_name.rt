@@ -4,11 +4,12 @@ ghost use Rattle.std.specs.Prelude.{◌≡◌, ◌==◌, ◌&&◌, length, IfOk}
 ghost use Rattle.std.specs.Ordering.{as_partial_cmp};
 ghost use Rattle.std.proofs.Common.{refl};
 ghost use Rattle.dns_wire.specs.Name.{AreLabels};
-ghost use Rattle.dns_names.specs.Comparison.{lower, at_or_below, same_name};
-ghost use Rattle.dns_names.specs.ComparisonEquivalence.{same_name-partial, same_name-equivalence};
-ghost use Rattle.dns_names.specs.Order.{name_cmp, name_writes};
-ghost use Rattle.dns_names.specs.OrderAgreement.{name_cmp-total, name_cmp-partial, names_agree, hashed_alike};
-ghost use Rattle.dns_names.specs.Parts.{begins_with_star, labels_counted, labels_len, base_of, wildcard_of};
+ghost use Rattle.dns_names.specs.Compare.{lower, at_or_below, same_name};
+ghost use Rattle.dns_names.specs.internal.Compare.{same_name-partial, same_name-equivalence};
+ghost use Rattle.dns_names.specs.Compare.{name_cmp, name_writes};
+ghost use Rattle.dns_names.specs.internal.Compare.{name_cmp-total, name_cmp-partial, names_agree, hashed_alike};
+ghost use Rattle.dns_names.specs.Labels.{begins_with_star, labels_counted, labels_len};
+ghost use Rattle.dns_names.specs.Build.{base_of, wildcard_of};
 
 use crate::name::Name;
 use std::alloc::AllocError;
@@ -24,8 +25,8 @@ pub struct LowerName {
 
 impl Model for LowerName {
     ghost use Rattle.std.specs.Prelude.{◌≡◌};
-    ghost use Rattle.dns_names.specs.Comparison.{lower};
-    ghost use Rattle.dns_names.specs.DomainName.{DomainName};
+    ghost use Rattle.dns_names.specs.Compare.{lower};
+    ghost use Rattle.dns_names.specs.Name.{DomainName};
 
     ghost Value = { DomainName };
 
@@ -37,8 +38,7 @@ impl Model for LowerName {
 impl LowerName {
     /// The name with its ASCII letters in lower case.
     pub fn new(name: &Name) -> Result<LowerName, AllocError>
-        ensures ok { IfOk result (λ made. made ≡ record name.now { labels = lower name.now.labels }) }
-        ensures labels { AreLabels name.now.labels }
+        ensures { IfOk result (λ made. made ≡ record name.now { labels = lower name.now.labels }) }
     {
         Ok(LowerName {
             name: name.to_lowercase()?,

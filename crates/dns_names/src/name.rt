@@ -2,9 +2,15 @@
 
 ghost use Rattle.std.specs.Prelude.{◌≡◌, ◌==◌, ◌+◌, ◌<◌, ◌≤◌, ◌&&◌, [], ◌∷◌, ◌++◌, false, true, length, slice_get, slice_index_or, IfOk, IsOk, OnOk, OnErr};
 ghost use Rattle.dns_wire.specs.Name.{IsLabel, AreLabels, name_len};
-ghost use Rattle.dns_names.specs.Comparison.{lower};
-ghost use Rattle.dns_names.specs.Cut.{CutsFrom, labels_from};
+ghost use Rattle.dns_names.specs.Compare.{lower};
+ghost use Rattle.dns_names.specs.internal.Name.{CutsFrom, labels_from};
 
+mod build;
+mod compare;
+mod labels;
+mod wire;
+
+pub use labels::LabelIter;
 use smallvec::SmallVec;
 use std::alloc::{AllocError, Global};
 use std::marker::Model;
@@ -18,8 +24,8 @@ pub struct Name {
 }
 
 impl Model for Name {
-    ghost use Rattle.dns_names.specs.DomainName.{DomainName};
-    ghost use Rattle.dns_names.specs.Cut.{labels_from, IsCut};
+    ghost use Rattle.dns_names.specs.Name.{DomainName};
+    ghost use Rattle.dns_names.specs.internal.Name.{labels_from, IsCut};
 
     ghost Value = { DomainName };
 
@@ -56,16 +62,14 @@ impl Name {
 
     /// Whether it is the root.
     pub fn is_root(&self) -> bool
-        ensures value { result ≡ (self.now.is_fqdn && length self.now.labels == 0) }
-        ensures labels { AreLabels self.now.labels }
+        ensures { result ≡ (self.now.is_fqdn && length self.now.labels == 0) }
     {
         self.is_fqdn && self.label_ends.is_empty()
     }
 
     /// Whether the name is fully qualified: whether it ends at the root.
     pub fn is_fqdn(&self) -> bool
-        ensures value { result ≡ self.now.is_fqdn }
-        ensures labels { AreLabels self.now.labels }
+        ensures { result ≡ self.now.is_fqdn }
     {
         self.is_fqdn
     }
@@ -74,7 +78,6 @@ impl Name {
     pub fn clone(&self) -> Result<Self, AllocError>
         ensures ok { IfOk result (λ name. name ≡ self.now) }
         ensures inline { length self.now.labels ≤ 24 → name_len self.now.labels ≤ length self.now.labels + 33 → IsOk result }
-        ensures labels { AreLabels self.now.labels }
     {
         Ok(Name {
             is_fqdn: self.is_fqdn,
@@ -93,7 +96,6 @@ impl Name {
     pub fn to_lowercase(&self) -> Result<Self, AllocError>
         ensures ok { IfOk result (λ name. name ≡ record self.now { labels = lower self.now.labels }) }
         ensures inline { length self.now.labels ≤ 24 → name_len self.now.labels ≤ length self.now.labels + 33 → IsOk result }
-        ensures labels { AreLabels self.now.labels }
     {
         let mut name = self.clone()?;
         name.make_lowercase();

@@ -3,7 +3,7 @@ use Rattle.std.proofs.Common.{◌≡◌, ℕ, suc, ◌+◌, ◌-◌, ◌<◌, Bo
 use Rattle.std.specs.Prelude.{◌==◌, not, if◌then◌else◌}
 use Rattle.std.proofs.Math.Seq.{drop-cons}
 use Rattle.std.proofs.lemmas.List.{take_all}
-use Rattle.dns_text.specs.Tokens.{Run, line_end, line_from, ends_run, run_from}
+use Rattle.dns_text.specs.Front.{Run, line_end, line_from, ends_run, run_from}
 
 -- the slice that is handed down
 pub slice_is : (text : List ℕ) (place : ℕ) → take (length text - place) (drop place text) ≡ drop place text
@@ -27,20 +27,20 @@ else_picks : (t : Bool) (a b : Option ℕ) → t ≡ false → (if t then a else
 else_picks t a b e = rw e refl
 
 -- a run goes on past a character that doesn't end it
-pub run_next : (run : Run) (kept next : Bool) (place : ℕ) (text : List ℕ) → place < length text → ends_run run kept (drop place text) ≡ false → next ≡ (not kept && get_or text place 0 == 92)
-    → run_from run kept place (drop place text) ≡ run_from run next (place + 1) (drop (place + 1) text)
-run_next run kept next place text within e is =
+pub run_next : (run : Run) (is_escaped next : Bool) (place : ℕ) (text : List ℕ) → place < length text → ends_run run is_escaped (drop place text) ≡ false → next ≡ (not is_escaped && get_or text place 0 == 92)
+    → run_from run is_escaped place (drop place text) ≡ run_from run next (place + 1) (drop (place + 1) text)
+run_next run is_escaped next place text within e is =
     let here : drop place text ≡ get_or text place 0 ∷ drop (suc place) text = drop-cons text place 0 within in
-    ap (run_from run kept place) here
-    ∙ else_picks (ends_run run kept (get_or text place 0 ∷ drop (suc place) text)) (if kept then None else Some place)
-    (run_from run (not kept && get_or text place 0 == 92) (place + 1) (drop (suc place) text)) (ap (ends_run run kept) (sym here) ∙ e)
+    ap (run_from run is_escaped place) here
+    ∙ else_picks (ends_run run is_escaped (get_or text place 0 ∷ drop (suc place) text)) (if is_escaped then None else Some place)
+    (run_from run (not is_escaped && get_or text place 0 == 92) (place + 1) (drop (suc place) text)) (ap (ends_run run is_escaped) (sym here) ∙ e)
     ∙ ap (λ (k : Bool). run_from run k (place + 1) (drop (suc place) text)) (sym is)
     ∙ ap (λ (k : ℕ). run_from run next (place + 1) (drop k text)) (next_place place)
 
 -- and ends where one does
-pub run_ends : (run : Run) (kept : Bool) (place : ℕ) (text : List ℕ) → ends_run run kept text ≡ true → run_from run kept place text ≡ (if kept then None else Some place)
-run_ends run kept place [] e = refl
-run_ends run kept place (c ∷ cs) e = then_picks (ends_run run kept (c ∷ cs)) (if kept then None else Some place) (run_from run (not kept && c == 92) (place + 1) cs) e
+pub run_ends : (run : Run) (is_escaped : Bool) (place : ℕ) (text : List ℕ) → ends_run run is_escaped text ≡ true → run_from run is_escaped place text ≡ (if is_escaped then None else Some place)
+run_ends run is_escaped place [] e = refl
+run_ends run is_escaped place (c ∷ cs) e = then_picks (ends_run run is_escaped (c ∷ cs)) (if is_escaped then None else Some place) (run_from run (not is_escaped && c == 92) (place + 1) cs) e
   where
     then_picks : (t : Bool) (a b : Option ℕ) → t ≡ true → (if t then a else b) ≡ a
     then_picks t a b q = rw q refl

@@ -3,7 +3,8 @@ use Rattle.std.proofs.Common.{◌≡◌, ℕ, ◌+◌, ◌<◌, ◌≤◌, Bool,
 use Rattle.std.specs.Prelude.{◌==◌, not, if◌then◌else◌}
 use Rattle.std.proofs.lemmas.Bool.Decides.{nat_tests}
 use Rattle.dns_text.specs.declared.error.LexerError.{LexerError}
-use Rattle.dns_text.specs.Tokens.{Run, Bare, InQuotes, Front, TextEnd, LineEnd, Gap, Comment, Open, Close, Quoted, Word, Unclosed, Broken, line_end, is_blank, ends_run, run_from, quoted, word, front, Place, Lexeme, Step, Skips, Gives, step_past, step, NextToken, past_nothing, at_token, at_end, at_fault}
+use Rattle.dns_text.specs.Front.{Run, Bare, InQuotes, Front, TextEnd, LineEnd, Gap, Comment, Open, Close, Quoted, Word, Unclosed, Broken, line_end, is_blank, ends_run, run_from, quoted, word, front}
+use Rattle.dns_text.specs.Lexer.{Place, Lexeme, Step, Skips, Yields, step_past, step, NextToken, past_nothing, at_token, at_end, at_fault}
 
 -- ---- what stands in front has a character
 
@@ -13,21 +14,21 @@ Takes (LineEnd n) = 0 < n
 Takes (Word n) = 0 < n
 Takes _ = Unit {0}
 
-run_least : (r : Run) (kept : Bool) (place : ℕ) (cs : List ℕ) (n : ℕ) → run_from r kept place cs ≡ Some n → place ≤ n
-run_least r kept place [] n e = at kept e
+run_least : (r : Run) (is_escaped : Bool) (place : ℕ) (cs : List ℕ) (n : ℕ) → run_from r is_escaped place cs ≡ Some n → place ≤ n
+run_least r is_escaped place [] n e = at is_escaped e
   where
     at : (b : Bool) → (if b then None else Some place) ≡ Some n → place ≤ n
     at true q = absurd (cc)
     at false q = let is : place ≡ n = cc in omega arith
-run_least r kept place (c ∷ cs) n e = at (ends_run r kept (c ∷ cs)) e (run_least r (not kept && c == 92) (place + 1) cs n)
+run_least r is_escaped place (c ∷ cs) n e = at (ends_run r is_escaped (c ∷ cs)) e (run_least r (not is_escaped && c == 92) (place + 1) cs n)
   where
     stop : (b : Bool) → (if b then None else Some place) ≡ Some n → place ≤ n
     stop true q = absurd (cc)
     stop false q = let is : place ≡ n = cc in omega arith
 
-    at : (b : Bool) → (if b then (if kept then None else Some place) else run_from r (not kept && c == 92) (place + 1) cs) ≡ Some n
-        → (run_from r (not kept && c == 92) (place + 1) cs ≡ Some n → place + 1 ≤ n) → place ≤ n
-    at true q more = stop kept q
+    at : (b : Bool) → (if b then (if is_escaped then None else Some place) else run_from r (not is_escaped && c == 92) (place + 1) cs) ≡ Some n
+        → (run_from r (not is_escaped && c == 92) (place + 1) cs ≡ Some n → place + 1 ≤ n) → place ≤ n
+    at true q more = stop is_escaped q
     at false q more = omega (arith, more q)
 
 -- where nothing stops it, a run has a character
@@ -76,7 +77,7 @@ takes_front c cs =
 -- with a token less is left, and without one no more
 abbrev Forward : ℕ → Step → Type 0
 Forward n (Skips next) = length next.text ≤ n
-Forward n (Gives token next) = length next.text < n
+Forward n (Yields token next) = length next.text < n
 Forward n _ = Unit {0}
 
 by_flag : (t : Bool) (n : ℕ) (x y : Step) → Forward n x → Forward n y → Forward n (if t then x else y)

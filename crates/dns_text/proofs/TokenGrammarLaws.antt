@@ -4,10 +4,10 @@ use Rattle.std.specs.Prelude.{◌≢◌, ◌==◌, not, if◌then◌else◌}
 use Rattle.std.specs.Str.{bytes_eq}
 use Rattle.std.proofs.Math.Seq.{take-append_seam, drop-append_seam, drop-append-add}
 use Rattle.std.proofs.lemmas.Bool.Decides.{nat_tests}
-use Rattle.dns_text.specs.Tokens.{Run, Bare, InQuotes, Front, line_end, line_from, begins_with_feed, is_blank, stops, ends_run, run_from, quoted, front}
-use Rattle.dns_text.specs.Tokens as counted
-use Rattle.dns_text.specs.TokenGrammar.{EndsLine, feed, return_and_feed, IsLineOver, by_text_end, by_line_end, LineGoesTo, line_over, on_line, RunGoesTo, no_further, unescaped, escaped, IsRunOver, by_line, by_stop, Standing, TextEnd, LineEnd, Blank, Comment, Open, Close, Quoted, Word, Unclosed, Broken, StandsInFront, text_end, blank, comment, opening, closing, quoted_string, word, unclosed, broken_string, broken_word, standing}
-use Rattle.dns_text.specs.TokenGrammar as grammar
+use Rattle.dns_text.specs.Front.{Run, Bare, InQuotes, Front, line_end, line_from, begins_with_feed, is_blank, stops, ends_run, run_from, quoted, front}
+use Rattle.dns_text.specs.Front as by_len
+use Rattle.dns_text.specs.FrontGrammar.{EndsLine, feed, return_and_feed, IsLineOver, by_text_end, by_line_end, LineGoesTo, line_over, on_line, RunGoesTo, no_further, unescaped, escaped, IsRunOver, by_line, by_stop, FrontItem, TextEnd, LineEnd, Blank, Comment, Open, Close, Quoted, Word, Unclosed, Broken, IsInFront, text_end, blank, comment, opening, closing, quoted_string, word, unclosed, broken_string, broken_word, front_item}
+use Rattle.dns_text.specs.FrontGrammar as grammar
 use Rattle.dns_text.proofs.FrontLaws.{run_ends}
 
 -- ---- tests
@@ -92,12 +92,12 @@ run_is no_further = refl
 run_is (unescaped {c = c} goes e n more) = ap (λ (l : List ℕ). c ∷ l) (run_is more)
 run_is (escaped {c = c} goes more) = ap (λ (l : List ℕ). 92 ∷ c ∷ l) (run_is more)
 
-unstopped : (l : ℕ) (kept stop : Bool) → l ≡ 0 → (not kept && stop) ≡ false → (not (l == 0) || (not kept && stop)) ≡ false
-unstopped l kept stop e f = rw (e, f) refl
+unstopped : (l : ℕ) (is_escaped stop : Bool) → l ≡ 0 → (not is_escaped && stop) ≡ false → (not (l == 0) || (not is_escaped && stop)) ≡ false
+unstopped l is_escaped stop e f = rw (e, f) refl
 
-step_on : (r : Run) (kept next : Bool) (p c : ℕ) (cs : List ℕ) → line_end (c ∷ cs) ≡ 0 → (not kept && stops r c) ≡ false → (not kept && c == 92) ≡ next → run_from r kept p (c ∷ cs) ≡ run_from r next (p + 1) cs
-step_on r kept next p c cs e f is =
-    picks (ends_run r kept (c ∷ cs)) (if kept then None else Some p) (run_from r (not kept && c == 92) (p + 1) cs) (unstopped (line_end (c ∷ cs)) kept (stops r c) e f)
+step_on : (r : Run) (is_escaped next : Bool) (p c : ℕ) (cs : List ℕ) → line_end (c ∷ cs) ≡ 0 → (not is_escaped && stops r c) ≡ false → (not is_escaped && c == 92) ≡ next → run_from r is_escaped p (c ∷ cs) ≡ run_from r next (p + 1) cs
+step_on r is_escaped next p c cs e f is =
+    picks (ends_run r is_escaped (c ∷ cs)) (if is_escaped then None else Some p) (run_from r (not is_escaped && c == 92) (p + 1) cs) (unstopped (line_end (c ∷ cs)) is_escaped (stops r c) e f)
     ∙ ap (λ (k : Bool). run_from r k (p + 1) cs) is
   where
     picks : (t : Bool) (a b : Option ℕ) → t ≡ false → (if t then a else b) ≡ b
@@ -117,10 +117,10 @@ run_on {r} {rest = rest} (escaped {c = c} {text = text} {run = run} goes more) p
     ∙ step_on r true false (p + 1) c text (stays_on c text goes) refl refl
     ∙ run_on more (p + 1 + 1) ∙ ap (λ (k : ℕ). run_from r false k rest) (omega arith)
 
-line_stops : (r : Run) (kept : Bool) {rest : List ℕ} → IsLineOver rest → ends_run r kept rest ≡ true
-line_stops r kept by_text_end = refl
-line_stops r kept (by_line_end feed) = refl
-line_stops r kept (by_line_end return_and_feed) = refl
+line_stops : (r : Run) (is_escaped : Bool) {rest : List ℕ} → IsLineOver rest → ends_run r is_escaped rest ≡ true
+line_stops r is_escaped by_text_end = refl
+line_stops r is_escaped (by_line_end feed) = refl
+line_stops r is_escaped (by_line_end return_and_feed) = refl
 
 run_stops : {r : Run} {rest : List ℕ} → IsRunOver r rest → ends_run r false rest ≡ true
 run_stops {r} (by_line over) = line_stops r false over
@@ -139,7 +139,7 @@ run_breaks {r} {run = run} {rest = rest} goes over =
 
 -- ---- what the grammar has in front is what is is_counted
 
-word_first : (c : ℕ) (cs : List ℕ) → line_end (c ∷ cs) ≡ 0 → stops Bare c ≡ false → front (c ∷ cs) ≡ counted.word (run_from Bare false 0 (c ∷ cs))
+word_first : (c : ℕ) (cs : List ℕ) → line_end (c ∷ cs) ≡ 0 → stops Bare c ≡ false → front (c ∷ cs) ≡ by_len.word (run_from Bare false 0 (c ∷ cs))
 word_first c cs e f =
     let a = neither (is_blank c || c == 59 || c == 34 || c == 40) (c == 41) f in
     let b = neither (is_blank c || c == 59 || c == 34) (c == 40) a.0 in
@@ -151,22 +151,22 @@ word_first c cs e f =
         → (if not (l == 0) then f1 else if s then f2 else if t then f3 else if u then f4 else if v then f5 else if w then f6 else f7) ≡ f7
     last l s t u v w f1 f2 f3 f4 f5 f6 f7 e1 e2 e3 e4 e5 e6 = rw (e1, e2, e3, e4, e5, e6) refl
 
-word_begun : {text run rest : List ℕ} → RunGoesTo Bare text run rest → 0 < length run → front text ≡ counted.word (run_from Bare false 0 text)
+word_begun : {text run rest : List ℕ} → RunGoesTo Bare text run rest → 0 < length run → front text ≡ by_len.word (run_from Bare false 0 text)
 word_begun no_further some = absurd (omega arith)
 word_begun (unescaped {c = c} {text = text} goes e n more) some = word_first c text (stays_on c text goes) e
 word_begun (escaped {c = c} {text = text} goes more) some = word_first 92 (c ∷ text) refl refl
 
-word_broken : {text run rest : List ℕ} → RunGoesTo Bare text run (92 ∷ rest) → front text ≡ counted.word (run_from Bare false 0 text)
+word_broken : {text run rest : List ℕ} → RunGoesTo Bare text run (92 ∷ rest) → front text ≡ by_len.word (run_from Bare false 0 text)
 word_broken {rest = rest} no_further = word_first 92 rest refl refl
 word_broken (unescaped {c = c} {text = text} goes e n more) = word_first c text (stays_on c text goes) e
 word_broken (escaped {c = c} {text = text} goes more) = word_first 92 (c ∷ text) refl refl
 
-word_stands : (run rest : List ℕ) → Word run rest ≡ standing (counted.Word (length run)) (run ++ rest)
+word_stands : (run rest : List ℕ) → Word run rest ≡ front_item (by_len.Word (length run)) (run ++ rest)
 word_stands run rest = sym (ap (λ (l : List ℕ). Word l (drop (length run) (run ++ rest))) (take-append_seam run rest) ∙ ap (λ (l : List ℕ). Word run l) (drop-append_seam run rest))
 
-string_stands : (string rest : List ℕ) → Quoted string rest ≡ standing (quoted (Some (length string)) (string ++ 34 ∷ rest)) (34 ∷ (string ++ 34 ∷ rest))
+string_stands : (string rest : List ℕ) → Quoted string rest ≡ front_item (quoted (Some (length string)) (string ++ 34 ∷ rest)) (34 ∷ (string ++ 34 ∷ rest))
 string_stands string rest =
-    sym (ap (λ (l : List ℕ). standing (if bytes_eq (take 1 l) (34 ∷ []) then counted.Quoted (length string) else counted.Unclosed) (34 ∷ (string ++ 34 ∷ rest))) (drop-append_seam string (34 ∷ rest))
+    sym (ap (λ (l : List ℕ). front_item (if bytes_eq (take 1 l) (34 ∷ []) then by_len.Quoted (length string) else by_len.Unclosed) (34 ∷ (string ++ 34 ∷ rest))) (drop-append_seam string (34 ∷ rest))
     ∙ ap (λ (l : List ℕ). Quoted l (drop (length string + 2) (34 ∷ (string ++ 34 ∷ rest)))) (take-append_seam string (34 ∷ rest))
     ∙ ap (λ (k : ℕ). Quoted string (drop k (34 ∷ (string ++ 34 ∷ rest)))) (further (length string))
     ∙ ap (λ (l : List ℕ). Quoted string l) (drop-append-add string (34 ∷ rest) 1))
@@ -179,25 +179,25 @@ no_quote by_text_end = refl
 no_quote (by_line_end feed) = refl
 no_quote (by_line_end return_and_feed) = refl
 
-string_open : (string rest : List ℕ) → IsLineOver rest → quoted (Some (length string)) (string ++ rest) ≡ counted.Unclosed
+string_open : (string rest : List ℕ) → IsLineOver rest → quoted (Some (length string)) (string ++ rest) ≡ by_len.Unclosed
 string_open string rest over =
-    ap (λ (l : List ℕ). if bytes_eq (take 1 l) (34 ∷ []) then counted.Quoted (length string) else counted.Unclosed) (drop-append_seam string rest)
+    ap (λ (l : List ℕ). if bytes_eq (take 1 l) (34 ∷ []) then by_len.Quoted (length string) else by_len.Unclosed) (drop-append_seam string rest)
     ∙ picks _ (no_quote over)
   where
-    picks : (t : Bool) → t ≡ false → (if t then counted.Quoted (length string) else counted.Unclosed) ≡ counted.Unclosed
+    picks : (t : Bool) → t ≡ false → (if t then by_len.Quoted (length string) else by_len.Unclosed) ≡ by_len.Unclosed
     picks t e = rw e refl
 
-blank_stands : (c : ℕ) (rest : List ℕ) → is_blank c ≡ true → Blank rest ≡ standing (front (c ∷ rest)) (c ∷ rest)
+blank_stands : (c : ℕ) (rest : List ℕ) → is_blank c ≡ true → Blank rest ≡ front_item (front (c ∷ rest)) (c ∷ rest)
 blank_stands c rest e = tested (c == 32) (λ f. at 32 (equal c 32 f) refl) (λ f. at 9 (equal c 9 (rest_of (c == 32) (c == 9) f e)) refl)
   where
-    at : (k : ℕ) → c ≡ k → Blank rest ≡ standing (front (k ∷ rest)) (k ∷ rest) → Blank rest ≡ standing (front (c ∷ rest)) (c ∷ rest)
-    at k is q = subst (λ (n : ℕ). Blank rest ≡ standing (front (n ∷ rest)) (n ∷ rest)) (sym is) q
+    at : (k : ℕ) → c ≡ k → Blank rest ≡ front_item (front (k ∷ rest)) (k ∷ rest) → Blank rest ≡ front_item (front (c ∷ rest)) (c ∷ rest)
+    at k is q = subst (λ (n : ℕ). Blank rest ≡ front_item (front (n ∷ rest)) (n ∷ rest)) (sym is) q
 
     rest_of : (a b : Bool) → a ≡ false → (a || b) ≡ true → b ≡ true
     rest_of true b f q = absurd (cc)
     rest_of false b f q = q
 
-is_counted : {text : List ℕ} {a : Standing} → StandsInFront text a → a ≡ standing (front text) text
+is_counted : {text : List ℕ} {a : FrontItem} → IsInFront text a → a ≡ front_item (front text) text
 is_counted text_end = refl
 is_counted (grammar.line_end feed) = refl
 is_counted (grammar.line_end return_and_feed) = refl
@@ -211,24 +211,24 @@ is_counted closing = refl
 is_counted (quoted_string {text = text} {string = string} {rest = rest} goes) =
     let whole : text ≡ string ++ 34 ∷ rest = run_is goes in
     string_stands string rest
-    ∙ ap (λ (l : List ℕ). standing (quoted (Some (length string)) l) (34 ∷ l)) (sym whole)
-    ∙ ap (λ (o : Option ℕ). standing (quoted o text) (34 ∷ text)) (sym (run_read goes (by_stop refl)))
+    ∙ ap (λ (l : List ℕ). front_item (quoted (Some (length string)) l) (34 ∷ l)) (sym whole)
+    ∙ ap (λ (o : Option ℕ). front_item (quoted o text) (34 ∷ text)) (sym (run_read goes (by_stop refl)))
 is_counted (word {c = c} {text = text} {run = run} {rest = rest} goes over) =
     let whole : text ≡ c ∷ run ++ rest = run_is goes in
     word_stands (c ∷ run) rest
-    ∙ ap (λ (l : List ℕ). standing (counted.Word (suc (length run))) l) (sym whole)
-    ∙ ap (λ (o : Option ℕ). standing (counted.word o) text) (sym (run_read goes over))
-    ∙ ap (λ (f : Front). standing f text) (sym (word_begun goes (omega arith)))
+    ∙ ap (λ (l : List ℕ). front_item (by_len.Word (suc (length run))) l) (sym whole)
+    ∙ ap (λ (o : Option ℕ). front_item (by_len.word o) text) (sym (run_read goes over))
+    ∙ ap (λ (f : Front). front_item f text) (sym (word_begun goes (omega arith)))
 is_counted (unclosed {text = text} {string = string} {rest = rest} goes over) =
     let whole : text ≡ string ++ rest = run_is goes in
-    let is : quoted (run_from InQuotes false 0 text) text ≡ counted.Unclosed =
+    let is : quoted (run_from InQuotes false 0 text) text ≡ by_len.Unclosed =
     ap (λ (o : Option ℕ). quoted o text) (run_read goes (by_line over)) ∙ ap (λ (l : List ℕ). quoted (Some (length string)) l) whole ∙ string_open string rest over in
-    ap (λ (f : Front). standing f (34 ∷ text)) (sym is)
-is_counted (broken_string {text = text} goes over) = ap (λ (o : Option ℕ). standing (quoted o text) (34 ∷ text)) (sym (run_breaks goes over))
+    ap (λ (f : Front). front_item f (34 ∷ text)) (sym is)
+is_counted (broken_string {text = text} goes over) = ap (λ (o : Option ℕ). front_item (quoted o text) (34 ∷ text)) (sym (run_breaks goes over))
 is_counted (broken_word {text = text} goes over) =
-    ap (λ (o : Option ℕ). standing (counted.word o) text) (sym (run_breaks goes over)) ∙ ap (λ (f : Front). standing f text) (sym (word_broken goes))
+    ap (λ (o : Option ℕ). front_item (by_len.word o) text) (sym (run_breaks goes over)) ∙ ap (λ (f : Front). front_item f text) (sym (word_broken goes))
 
-pub one : (text : List ℕ) (a b : Standing) → StandsInFront text a → StandsInFront text b → a ≡ b
+pub one : (text : List ℕ) (a b : FrontItem) → IsInFront text a → IsInFront text b → a ≡ b
 one text a b s t = is_counted s ∙ sym (is_counted t)
 
 -- ---- in front of each text something stands
@@ -273,7 +273,7 @@ run_found r (c ∷ d ∷ ds) = run_first r c (d ∷ ds) (run_found r (d ∷ ds))
     behind (inr e) more = past_two (goes_on d ds e) more
 
 abbrev Something : List ℕ → Type 0
-Something text = (a : Standing) × StandsInFront text a
+Something text = (a : FrontItem) × IsInFront text a
 
 string_found : {text : List ℕ} → Ran InQuotes text → Something (34 ∷ text)
 string_found (ended goes (by_line over)) = (Unclosed, unclosed goes over)
@@ -311,5 +311,5 @@ something (c ∷ cs) = at (over_or_not c cs)
         tested (c == 34) (λ u. is 34 u (string_found (run_found InQuotes cs))) (λ u.
         word_found (run_found Bare (c ∷ cs)) (unstopped (line_end (c ∷ cs)) false (stops Bare c) e (bare (is_blank c) (c == 59) (c == 34) (c == 40) (c == 41) s t u v w)))))))
 
-pub stands : (text : List ℕ) → StandsInFront text (standing (front text) text)
-stands text = let found = something text in subst (λ (a : Standing). StandsInFront text a) (is_counted found.1) found.1
+pub stands : (text : List ℕ) → IsInFront text (front_item (front text) text)
+stands text = let found = something text in subst (λ (a : FrontItem). IsInFront text a) (is_counted found.1) found.1

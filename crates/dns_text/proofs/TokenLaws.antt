@@ -1,6 +1,6 @@
 -- Where a reading of tokens stays.
 use Rattle.std.proofs.Common.{◌≡◌, Ok, Err, None}
-use Rattle.dns_text.specs.Tokens.{Place, step, Ends, Refuses, NextToken, at_end, at_fault}
+use Rattle.dns_text.specs.Lexer.{Place, step, Ends, Refuses, NextToken, at_end, at_fault}
 use Rattle.dns_text.specs.declared.error.LexerError.{LexerError}
 
 pub on_end : (p next : Place) → step p ≡ Ends → next ≡ p → NextToken p (Ok None) next

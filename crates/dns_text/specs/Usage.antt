@@ -1,7 +1,7 @@
 -- Names that are used in a way of their own (RFC 6761).
 use Rattle.std.specs.Prelude.{true, List, ℕ, [], ◌∷◌, codes}
 use Rattle.std.specs.declared.net.ip_addr.IpAddr.TheVariants.{V6}
-use Rattle.dns_names.specs.Arpa.{reverse_name}
+use Rattle.dns_names.specs.Reverse.{reverse_name}
 use Rattle.dns_text.specs.declared.usage.ZoneUsage.{ZoneUsage}
 use Rattle.dns_text.specs.declared.usage.ResolverUsage.{ResolverUsage}
 use Rattle.dns_text.specs.declared.usage.ResolverUsage.TheVariants.{Normal, Loopback, LinkLocal, NxDomain}

@@ -24,7 +24,7 @@ pub enum LexerError {
 
 impl LexerError {
     ghost use Rattle.std.specs.Prelude.{◌≡◌};
-    ghost use Rattle.dns_text.specs.FaultLine.{line_of};
+    ghost use Rattle.dns_text.specs.Error.{line_of};
 
     /// The line of the fault, counted from 1.
     pub fn line(&self) -> usize

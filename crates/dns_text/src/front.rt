@@ -1,9 +1,9 @@
 //! What stands in front of a zone's text (RFC 1035 section 5.1).
 
 ghost use Rattle.std.specs.Prelude.{◌≡◌, ◌+◌, ◌<◌, ◌≤◌, ◌==◌, ◌&&◌, not, length, false, IfSome};
-ghost use Rattle.dns_text.specs.Tokens.{front, line_end, line_from, is_blank, stops, ends_run, run_from, quoted, word};
-ghost use Rattle.dns_text.specs.FrontLen.{front_len, HasSome};
-ghost use Rattle.dns_text.specs.FrontShown.{front_of, run_of};
+ghost use Rattle.dns_text.specs.Front.{front, line_end, line_from, is_blank, stops, ends_run, run_from, quoted, word};
+ghost use Rattle.dns_text.specs.internal.Front.{front_len, HasSome};
+ghost use Rattle.dns_text.specs.internal.Front.{front_of, run_of};
 
 /// What stands in front of a text.
 #[derive(Clone, Copy)]
@@ -92,28 +92,28 @@ fn run_len(run: Run, text: &[u8]) -> Option<usize>
     ensures value { result ≡ run_from (run_of run) false 0 text.now }
     ensures within { IfSome result (λ len. len ≤ length text.now) }
 {
-    let mut kept = false;
+    let mut is_escaped = false;
     for place in 0..text.len() {
-        if is_end_of_run(run, kept, &text[place..]) {
-            return if kept { None } else { Some(place) };
+        if is_end_of_run(run, is_escaped, &text[place..]) {
+            return if is_escaped { None } else { Some(place) };
         }
-        kept = keeps_next(kept, text[place]);
+        is_escaped = escapes_next(is_escaped, text[place]);
     }
-    if kept { None } else { Some(text.len()) }
+    if is_escaped { None } else { Some(text.len()) }
 }
 
 /// Whether a run ends in front of a text: at a line's end, and where a character stops it that no backslash keeps.
-fn is_end_of_run(run: Run, kept: bool, text: &[u8]) -> bool
-    ensures { result ≡ ends_run (run_of run) kept text.now }
+fn is_end_of_run(run: Run, is_escaped: bool, text: &[u8]) -> bool
+    ensures { result ≡ ends_run (run_of run) is_escaped text.now }
 {
-    text.is_empty() || line_ending(text) > 0 || !kept && is_stop(run, text[0])
+    text.is_empty() || line_ending(text) > 0 || !is_escaped && is_stop(run, text[0])
 }
 
 /// Whether a character is a backslash that keeps the one behind it, by whether it is kept itself.
-fn keeps_next(kept: bool, character: u8) -> bool
-    ensures { result ≡ (not kept && character == 92) }
+fn escapes_next(is_escaped: bool, character: u8) -> bool
+    ensures { result ≡ (not is_escaped && character == 92) }
 {
-    !kept && character == b'\\'
+    !is_escaped && character == b'\\'
 }
 
 /// Whether a character stops a run.

@@ -1,10 +1,11 @@
 //! What names are made of.
 
 ghost use Rattle.std.specs.Prelude.{◌≡◌, ◌≢◌, Result, Option, Ok, Err, Some, None, IfOk, IfErr, string_bytes, List, ℕ};
+ghost use Rattle.dns_wire.specs.Error.{IsUnless};
 ghost use Rattle.std.specs.declared.net.ip_addr.IpAddr.{IpAddr};
-ghost use Rattle.dns_text.specs.AddressText.{IsTextOf};
-ghost use Rattle.dns_names.specs.DomainName.{DomainName};
-ghost use Rattle.dns_names.specs.Text.{name_of_text};
+ghost use Rattle.dns_text.specs.IntoName.{IsTextOf};
+ghost use Rattle.dns_names.specs.Name.{DomainName};
+ghost use Rattle.dns_names.specs.Parse.{name_of_text};
 ghost use Rattle.dns_names.specs.declared.error.ParseError.{ParseError};
 
 use dns_names::{Name, ParseError};
@@ -19,8 +20,7 @@ pub trait IntoName: Sized {
 
     /// The name.
     fn into_name(self, alloc: Global) -> Result<Name, ParseError>
-        ensures ok { IfOk result (λ made. name self ≡ Ok made) }
-        ensures refused { IfErr result (λ error. error ≢ ParseError.Memory → name self ≡ Err error) };
+        ensures { IsUnless ParseError.Memory (name self) result };
 
     /// The address that the text is, if it is one.
     fn to_ip(&self) -> Option<IpAddr>

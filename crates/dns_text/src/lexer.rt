@@ -1,11 +1,12 @@
 //! The tokens of a zone's text, one after another (RFC 1035 section 5.1).
 
 ghost use Rattle.std.specs.Prelude.{◌≡◌, ◌+◌, ◌<◌, ◌≤◌, Ok, Err, true, false, drop, take, length};
-ghost use Rattle.dns_text.specs.Tokens.{NextToken, start, step, step_past, front, past};
-ghost use Rattle.dns_text.specs.TokenShown.{answer, lexeme};
-ghost use Rattle.dns_text.specs.FrontLen.{front_len, HasSome};
-ghost use Rattle.dns_text.specs.FrontShown.{front_of};
-ghost use Rattle.dns_text.specs.Looked.{step_of, Stays};
+ghost use Rattle.dns_text.specs.Front.{front};
+ghost use Rattle.dns_text.specs.Lexer.{NextToken, start, step, step_past, past};
+ghost use Rattle.dns_text.specs.Token.{answer, lexeme};
+ghost use Rattle.dns_text.specs.internal.Front.{front_len, HasSome};
+ghost use Rattle.dns_text.specs.internal.Front.{front_of};
+ghost use Rattle.dns_text.specs.internal.Lexer.{step_of, Stays};
 
 use crate::error::LexerError;
 use crate::front::{Front, find_front};
@@ -14,7 +15,7 @@ use std::marker::Model;
 
 /// What a look at the front of the text gives.
 #[derive(Clone, Copy)]
-enum Look<'a> {
+enum Scan<'a> {
     /// Nothing that makes a token.
     Nothing,
     Found(Token<'a>),
@@ -35,7 +36,7 @@ pub struct Lexer<'a> {
 
 impl<'a> Model for Lexer<'a> {
     ghost use Rattle.std.specs.Prelude.{◌+◌, ◌<◌, ◌^◌, length};
-    ghost use Rattle.dns_text.specs.Tokens.{Place};
+    ghost use Rattle.dns_text.specs.Lexer.{Place};
 
     ghost Value = { Place };
 
@@ -64,10 +65,10 @@ impl<'a> Lexer<'a> {
         ensures { NextToken self.old (answer result) self.new }
     {
         loop {
-            match self.look()? {
-                Look::Nothing => {}
-                Look::Found(token) => return Ok(Some(token)),
-                Look::AtEnd => return Ok(None),
+            match self.scan()? {
+                Scan::Nothing => {}
+                Scan::Found(token) => return Ok(Some(token)),
+                Scan::AtEnd => return Ok(None),
             }
         }
     }
@@ -87,10 +88,10 @@ impl<'a> Lexer<'a> {
     }
 
     /// Takes what stands in front.
-    fn look(&mut self) -> Result<Look<'a>, LexerError>
-        ensures looked { step self.old ≡ step_of result self.new }
+    fn scan(&mut self) -> Result<Scan<'a>, LexerError>
+        ensures steps { step self.old ≡ step_of result self.new }
         ensures stays { Stays result self.old self.new }
-        ensures moves { result ≡ Ok Look.Nothing → length self.new.text < length self.old.text }
+        ensures moves { result ≡ Ok Scan.Nothing → length self.new.text < length self.old.text }
     {
         match find_front(self.text) {
             Front::TextEnd => self.end_text(),
@@ -98,96 +99,96 @@ impl<'a> Lexer<'a> {
             Front::Gap => Ok(self.take_gap()),
             Front::Comment(len) => {
                 self.text = &self.text[len..];
-                Ok(Look::Nothing)
+                Ok(Scan::Nothing)
             }
             Front::Open => self.open_list(),
             Front::Close => self.close_list(),
-            Front::Quoted(len) => Ok(Look::Found(self.take_quoted(len))),
-            Front::Word(len) => Ok(Look::Found(self.take_word(len))),
+            Front::Quoted(len) => Ok(Scan::Found(self.take_quoted(len))),
+            Front::Word(len) => Ok(Scan::Found(self.take_word(len))),
             Front::Unclosed => Err(LexerError::UnclosedQuotedString(self.line)),
             Front::Broken => Err(LexerError::LoneBackslash(self.line)),
         }
     }
 
     /// Ends the text, which may not leave a parenthesis open.
-    fn end_text(&mut self) -> Result<Look<'a>, LexerError>
-        ensures looked { step_past (front_of Front.TextEnd) self.old ≡ step_of result self.new }
+    fn end_text(&mut self) -> Result<Scan<'a>, LexerError>
+        ensures steps { step_past (front_of Front.TextEnd) self.old ≡ step_of result self.new }
         ensures stays { self.new ≡ self.old }
     {
         if self.is_open {
             return Err(LexerError::UnclosedList(self.entry));
         }
-        Ok(Look::AtEnd)
+        Ok(Scan::AtEnd)
     }
 
     /// Ends a line, and the entry with it, unless a parenthesis is open.
-    fn end_line(&mut self, len: usize) -> Look<'a>
+    fn end_line(&mut self, len: usize) -> Scan<'a>
         requires some { 0 < len }
         requires within { len ≤ length self.old.text }
-        ensures looked { step_past (front_of (Front.LineEnd len)) self.old ≡ step_of (Ok result) self.new }
+        ensures steps { step_past (front_of (Front.LineEnd len)) self.old ≡ step_of (Ok result) self.new }
         ensures moved { self.new.text ≡ drop len self.old.text }
         ensures stays { Stays (Ok result) self.old self.new }
     {
         self.text = &self.text[len..];
         self.line += 1;
         if self.is_open {
-            return Look::Nothing;
+            return Scan::Nothing;
         }
         self.entry = self.line;
         self.is_front = true;
-        Look::Found(Token::EOL)
+        Scan::Found(Token::EOL)
     }
 
     /// Takes a blank.
-    fn take_gap(&mut self) -> Look<'a>
+    fn take_gap(&mut self) -> Scan<'a>
         requires { 0 < length self.old.text }
-        ensures looked { step_past (front_of Front.Gap) self.old ≡ step_of (Ok result) self.new }
+        ensures steps { step_past (front_of Front.Gap) self.old ≡ step_of (Ok result) self.new }
         ensures moved { self.new.text ≡ drop 1 self.old.text }
         ensures stays { Stays (Ok result) self.old self.new }
     {
         let is_front = self.is_front;
         self.advance(1);
         if is_front {
-            Look::Found(Token::Blank)
+            Scan::Found(Token::Blank)
         } else {
-            Look::Nothing
+            Scan::Nothing
         }
     }
 
     /// Opens a parenthesis.
-    fn open_list(&mut self) -> Result<Look<'a>, LexerError>
+    fn open_list(&mut self) -> Result<Scan<'a>, LexerError>
         requires { 0 < length self.old.text }
-        ensures looked { step_past (front_of Front.Open) self.old ≡ step_of result self.new }
+        ensures steps { step_past (front_of Front.Open) self.old ≡ step_of result self.new }
         ensures stays { Stays result self.old self.new }
-        ensures moves { result ≡ Ok Look.Nothing → length self.new.text < length self.old.text }
+        ensures moves { result ≡ Ok Scan.Nothing → length self.new.text < length self.old.text }
     {
         if self.is_open {
             return Err(LexerError::NestedList(self.line));
         }
         self.advance(1);
         self.is_open = true;
-        Ok(Look::Nothing)
+        Ok(Scan::Nothing)
     }
 
     /// Closes a parenthesis.
-    fn close_list(&mut self) -> Result<Look<'a>, LexerError>
+    fn close_list(&mut self) -> Result<Scan<'a>, LexerError>
         requires { 0 < length self.old.text }
-        ensures looked { step_past (front_of Front.Close) self.old ≡ step_of result self.new }
+        ensures steps { step_past (front_of Front.Close) self.old ≡ step_of result self.new }
         ensures stays { Stays result self.old self.new }
-        ensures moves { result ≡ Ok Look.Nothing → length self.new.text < length self.old.text }
+        ensures moves { result ≡ Ok Scan.Nothing → length self.new.text < length self.old.text }
     {
         if !self.is_open {
             return Err(LexerError::UnopenedList(self.line));
         }
         self.advance(1);
         self.is_open = false;
-        Ok(Look::Nothing)
+        Ok(Scan::Nothing)
     }
 
     /// Takes a quoted string.
     fn take_quoted(&mut self, len: usize) -> Token<'a>
         requires { len + 2 ≤ length self.old.text }
-        ensures { step_past (front_of (Front.Quoted len)) self.old ≡ step_of (Ok (Look.Found result)) self.new }
+        ensures { step_past (front_of (Front.Quoted len)) self.old ≡ step_of (Ok (Scan.Found result)) self.new }
     {
         let string = &self.text[1..len + 1];
         self.advance(len + 2);
@@ -197,7 +198,7 @@ impl<'a> Lexer<'a> {
     /// Takes a word.
     fn take_word(&mut self, len: usize) -> Token<'a>
         requires { len ≤ length self.old.text }
-        ensures { step_past (front_of (Front.Word len)) self.old ≡ step_of (Ok (Look.Found result)) self.new }
+        ensures { step_past (front_of (Front.Word len)) self.old ≡ step_of (Ok (Scan.Found result)) self.new }
     {
         let token = token_of_word(self.is_front, &self.text[..len]);
         self.advance(len);

@@ -10,7 +10,7 @@
 mod error;
 mod front;
 mod into_name;
-mod laws;
+pub mod laws;
 mod lexer;
 mod token;
 mod ttl;
@@ -18,10 +18,6 @@ pub mod usage;
 
 pub use error::LexerError;
 pub use into_name::IntoName;
-pub use laws::{
-    each_token_shortens_the_text, readings_have_one_outcome, what_begins_a_time_is_one,
-    what_stands_in_front_is_one_thing,
-};
 pub use lexer::Lexer;
 pub use token::Token;
 pub use ttl::parse_ttl;

@@ -1,8 +1,8 @@
 //! Tokens of a zone's text (RFC 1035 section 5.1).
 
 ghost use Rattle.std.specs.Prelude.{◌≡◌};
-ghost use Rattle.dns_text.specs.Tokens.{word_token};
-ghost use Rattle.dns_text.specs.TokenShown.{lexeme};
+ghost use Rattle.dns_text.specs.Lexer.{word_token};
+ghost use Rattle.dns_text.specs.Token.{lexeme};
 
 /// A token of a zone's text. Words and strings are lent, with their escapes as they are written.
 #[derive(Clone, Copy, Debug, PartialEq, Eq)]

@@ -2,7 +2,7 @@
 
 ghost use Rattle.std.specs.Prelude.{◌≡◌, ◌≤◌, Ok, Err, IfOk, IfErr, IfSome};
 ghost use Rattle.dns_text.specs.Ttl.{unit_seconds, ttl_of_text};
-ghost use Rattle.dns_text.specs.Counting.{counted, total};
+ghost use Rattle.dns_text.specs.internal.Ttl.{add_character, total};
 
 use dns_names::ParseError;
 
@@ -11,7 +11,7 @@ const GREATEST: u64 = 4_294_967_295;
 
 /// What was counted so far: the seconds, and the digits of the run that has begun, if one has.
 #[derive(Clone, Copy)]
-struct Counted {
+struct TtlSum {
     sum: u64,
     run: Option<u64>,
 }
@@ -27,7 +27,7 @@ pub fn parse_ttl(text: &str) -> Result<u32, ParseError>
     if bytes.is_empty() {
         return Err(ParseError::Text(0));
     }
-    let mut so_far = Counted { sum: 0, run: None };
+    let mut so_far = TtlSum { sum: 0, run: None };
     for place in 0..bytes.len() {
         so_far = match with_character(so_far, bytes[place]) {
             Some(next) if total_of(next) <= GREATEST => next,
@@ -38,21 +38,21 @@ pub fn parse_ttl(text: &str) -> Result<u32, ParseError>
 }
 
 /// What is counted with a character more.
-fn with_character(so_far: Counted, character: u8) -> Option<Counted>
+fn with_character(so_far: TtlSum, character: u8) -> Option<TtlSum>
     requires { total so_far ≤ 4294967295 }
-    ensures value { result ≡ counted so_far character }
+    ensures value { result ≡ add_character so_far character }
     ensures small { IfSome result (λ next. total next ≤ 2600000000000000) }
 {
     if character.is_ascii_digit() {
         let digit = (character - b'0') as u64;
-        return Some(Counted {
+        return Some(TtlSum {
             sum: so_far.sum,
             run: Some(10 * so_far.run.unwrap_or(0) + digit),
         });
     }
     let number = so_far.run?;
     let seconds = seconds_of(character)?;
-    Some(Counted {
+    Some(TtlSum {
         sum: so_far.sum + seconds * number,
         run: None,
     })
@@ -74,7 +74,7 @@ fn seconds_of(unit: u8) -> Option<u64>
 }
 
 /// The seconds so far, a last run with them.
-fn total_of(so_far: Counted) -> u64
+fn total_of(so_far: TtlSum) -> u64
     requires { total so_far ≤ 2600000000000000 }
     ensures { result ≡ total so_far }
 {

@@ -2,7 +2,7 @@
 
 ghost use Rattle.std.specs.Prelude.{◌≡◌, ◌+◌, ◌≤◌, ◌++◌, ◌∷◌, [], length, IfOk};
 ghost use Rattle.dns_wire.specs.Name.{IsLabel, name_len};
-ghost use Rattle.dns_names.specs.Comparison.{at_or_below};
+ghost use Rattle.dns_names.specs.Compare.{at_or_below};
 ghost use Rattle.dns_text.specs.Usage.{localhost_zone, in_addr_arpa_127_zone, ip6_arpa_1_zone, local_zone, invalid_zone, onion_zone, root_zone};
 
 use dns_names::Name;

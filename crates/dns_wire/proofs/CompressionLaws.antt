@@ -8,15 +8,15 @@ use Rattle.std.proofs.lemmas.List.{take_at, drop_at, append-nil}
 use Rattle.std.proofs.lemmas.Nat.{or_shifted}
 use Rattle.std.proofs.lemmas.Bool.{ltb-true}
 use Rattle.dns_wire.specs.Element.{Pointer, element, element_at}
-use Rattle.dns_wire.specs.Encoder.{Suffix, place_of, remember, before}
+use Rattle.dns_wire.specs.Encoder.{Suffix, place_of, remember, suffixes_before}
 use Rattle.dns_wire.specs.Name.{IsLabel, AreLabels, name_len}
 use Rattle.dns_wire.specs.Reading.{Reads, ReadsName, at_closing, at_label, at_pointer}
-use Rattle.dns_wire.specs.Writing.{labels_form, pointer_form, compressed_form, remembered, Stands, AllStand}
-use Rattle.dns_wire.specs.Calls.{pointed, LeadsPast, StandUnlessLost}
+use Rattle.dns_wire.specs.Writing.{labels_form, pointer_form, compressed_form, remember_labels, IsPointerTarget, ArePointerTargets}
+use Rattle.dns_wire.specs.Laws.{pointer_target, TargetSurvives, ArePointerTargetsUnlessLost}
 use Rattle.dns_wire.proofs.ElementLaws.{element-pointer}
 use Rattle.dns_wire.proofs.NameLaws.{length-labels_form, past, label_there}
 use Rattle.dns_wire.proofs.ReadingLaws.{reads-append}
-use Rattle.dns_wire.proofs.SuffixLaws.{all_weaker, all-push, all-before, place_of-found, AgreeBelow, remember-agree}
+use Rattle.dns_wire.proofs.SuffixLaws.{all_weaker, all-push, all-suffixes_before, place_of-found, AgreeBelow, remember-agree}
 
 -- ---- a pointer
 
@@ -47,34 +47,34 @@ labels_form-same (l ∷ a) (m ∷ b) e =
     ap (λ (x : List ℕ). x ∷ a) first ∙ ap (λ (xs : List (List ℕ)). m ∷ xs) (labels_form-same a b rest)
 
 -- the suffixes stand but for those that are lost, and begin before a place
-abbrev pub AllStandBefore : (ℕ → Type 0) → List ℕ → ℕ → List Suffix → Type 0
-AllStandBefore lost buffer place suffixes = AllByRecursion (λ s. (lost s.start ⊎ Stands buffer s) × (s.start < place)) suffixes
+abbrev pub AreTargetsBefore : (ℕ → Type 0) → List ℕ → ℕ → List Suffix → Type 0
+AreTargetsBefore lost buffer place suffixes = AllByRecursion (λ s. (lost s.start ⊎ IsPointerTarget buffer s) × (s.start < place)) suffixes
 
-later : (lost : ℕ → Type 0) (buffer : List ℕ) (place n : ℕ) (suffixes : List Suffix) → AllStandBefore lost buffer place suffixes → AllStandBefore lost buffer (place + n) suffixes
+later : (lost : ℕ → Type 0) (buffer : List ℕ) (place n : ℕ) (suffixes : List Suffix) → AreTargetsBefore lost buffer place suffixes → AreTargetsBefore lost buffer (place + n) suffixes
 later lost buffer place n suffixes all =
-    all_weaker {P = λ s. (lost s.start ⊎ Stands buffer s) × (s.start < place)} {Q = λ s. (lost s.start ⊎ Stands buffer s) × (s.start < place + n)} (λ s q. (q.0, omega (arith, q.1))) suffixes all
+    all_weaker {P = λ s. (lost s.start ⊎ IsPointerTarget buffer s) × (s.start < place)} {Q = λ s. (lost s.start ⊎ IsPointerTarget buffer s) × (s.start < place + n)} (λ s q. (q.0, omega (arith, q.1))) suffixes all
 
 pub unless : {A B : Type 0} → A ⊎ B → (A → ⊥) → B
 unless (inl a) refuted = absurd (refuted a)
 unless (inr b) refuted = b
 
 pub compressed_reads : (lost : ℕ → Type 0) (buffer : List ℕ) (suffixes : List Suffix) (place segment left : ℕ) (labels : List (List ℕ)) (rest : List ℕ) → AllByRecursion IsLabel labels → name_len labels ≤ left
-    → AllStandBefore lost buffer segment suffixes → LeadsPast lost (pointed suffixes labels) → drop place buffer ≡ compressed_form suffixes labels ++ rest → Reads buffer place segment left labels (place + length (compressed_form suffixes labels))
+    → AreTargetsBefore lost buffer segment suffixes → TargetSurvives lost (pointer_target suffixes labels) → drop place buffer ≡ compressed_form suffixes labels ++ rest → Reads buffer place segment left labels (place + length (compressed_form suffixes labels))
 compressed_reads lost buffer suffixes place segment left [] rest all fits stand clear h = at_closing (ap element h)
 compressed_reads lost buffer suffixes place segment left (label ∷ labels) rest all fits stand clear h =
     at (place_of suffixes (labels_form (label ∷ labels))) refl clear h
     (λ clear again. compressed_reads lost buffer suffixes (place + (length label + 1)) segment (left - (length label + 1)) labels rest all.1 (omega arith) stand clear (past buffer place label (compressed_form suffixes labels) rest again))
   where
-    at : (found : Option ℕ) → place_of suffixes (labels_form (label ∷ labels)) ≡ found → LeadsPast lost (option_map_or Some found (pointed suffixes labels)) → drop place buffer ≡ option_map_or pointer_form found (length label ∷ (label ++ compressed_form suffixes labels)) ++ rest
-        → (LeadsPast lost (pointed suffixes labels) → drop place buffer ≡ (length label ∷ (label ++ compressed_form suffixes labels)) ++ rest → Reads buffer (place + (length label + 1)) segment (left - (length label + 1)) labels (place + (length label + 1) + length (compressed_form suffixes labels)))
+    at : (found : Option ℕ) → place_of suffixes (labels_form (label ∷ labels)) ≡ found → TargetSurvives lost (option_map_or Some found (pointer_target suffixes labels)) → drop place buffer ≡ option_map_or pointer_form found (length label ∷ (label ++ compressed_form suffixes labels)) ++ rest
+        → (TargetSurvives lost (pointer_target suffixes labels) → drop place buffer ≡ (length label ∷ (label ++ compressed_form suffixes labels)) ++ rest → Reads buffer (place + (length label + 1)) segment (left - (length label + 1)) labels (place + (length label + 1) + length (compressed_form suffixes labels)))
         → Reads buffer place segment left (label ∷ labels) (place + length (option_map_or pointer_form found (length label ∷ (label ++ compressed_form suffixes labels))))
     at (Some target) is clear h more =
-        let found = place_of-found (λ s. (lost s.start ⊎ Stands buffer s) × (s.start < segment)) suffixes (labels_form (label ∷ labels)) target stand is in
-        let stands : Stands buffer found.0 = unless found.3.0 (λ is_lost. clear target refl (subst lost found.1 is_lost)) in
-        let same : stands.labels ≡ label ∷ labels = labels_form-same stands.labels (label ∷ labels) (sym stands.form ∙ found.2) in
-        let r = stands.reads left (subst (λ (ls : List (List ℕ)). name_len ls ≤ left) (sym same) fits) in
+        let found = place_of-found (λ s. (lost s.start ⊎ IsPointerTarget buffer s) × (s.start < segment)) suffixes (labels_form (label ∷ labels)) target stand is in
+        let is_target : IsPointerTarget buffer found.0 = unless found.3.0 (λ is_lost. clear target refl (subst lost found.1 is_lost)) in
+        let same : is_target.labels ≡ label ∷ labels = labels_form-same is_target.labels (label ∷ labels) (sym is_target.form ∙ found.2) in
+        let r = is_target.reads left (subst (λ (ls : List (List ℕ)). name_len ls ≤ left) (sym same) fits) in
         let there : Reads buffer target target left (label ∷ labels) r.0 = subst (λ (t : ℕ). Reads buffer t t left (label ∷ labels) r.0) found.1 (subst (λ (ls : List (List ℕ)). Reads buffer found.0.start found.0.start left ls r.0) same r.1) in
-        at_pointer (pointer_there buffer place target rest (omega (arith, stands.near, found.1)) h) (omega (arith, found.1, found.3.1)) there
+        at_pointer (pointer_there buffer place target rest (omega (arith, is_target.near, found.1)) h) (omega (arith, found.1, found.3.1)) there
     at None is clear h more =
         let room : length label + 1 < left = omega (arith, length-labels_form labels) in
         let end : place + (length label + 1) + length (compressed_form suffixes labels) ≡ place + length (length label ∷ (label ++ compressed_form suffixes labels)) = omega (arith, length-append label (compressed_form suffixes labels)) in
@@ -82,8 +82,8 @@ compressed_reads lost buffer suffixes place segment left (label ∷ labels) rest
 
 -- ---- what is remembered stands
 
-pub stands-append : (buffer more : List ℕ) (suffix : Suffix) → Stands buffer suffix → Stands (buffer ++ more) suffix
-stands-append buffer more suffix s = record {
+pub target-append : (buffer more : List ℕ) (suffix : Suffix) → IsPointerTarget buffer suffix → IsPointerTarget (buffer ++ more) suffix
+target-append buffer more suffix s = record {
   labels = s.labels;
   form = s.form;
   within = omega (arith, s.within, length-append buffer more);
@@ -91,8 +91,8 @@ stands-append buffer more suffix s = record {
   reads = λ left fits. let r = s.reads left fits in (r.0, reads-append more r.1);
 }
 
-pub all_stand-append : (buffer more : List ℕ) (suffixes : List Suffix) → AllStand buffer suffixes → AllStand (buffer ++ more) suffixes
-all_stand-append buffer more suffixes stand = all_weaker (stands-append buffer more) suffixes stand
+pub targets-append : (buffer more : List ℕ) (suffixes : List Suffix) → ArePointerTargets buffer suffixes → ArePointerTargets (buffer ++ more) suffixes
+targets-append buffer more suffixes stand = all_weaker (target-append buffer more) suffixes stand
 
 remember-all : (P : Suffix → Type 0) (suffixes : List Suffix) (place : ℕ) (bytes : List ℕ) → AllByRecursion P suffixes → (place < 16383 → P (record { start = place; bytes = bytes })) → AllByRecursion P (remember suffixes place bytes)
 remember-all P suffixes place bytes all new = at (ltb place 16383) (ltb (length suffixes) 64 && is_none (place_of suffixes bytes)) refl
@@ -103,9 +103,9 @@ remember-all P suffixes place bytes all new = at (ltb place 16383) (ltb (length 
     at false room e = all
 
 -- a name that was just written stands at its place
-stands_there : (lost : ℕ → Type 0) (buffer : List ℕ) (old : List Suffix) (place : ℕ) (label : List ℕ) (labels : List (List ℕ)) (rest : List ℕ) → AllByRecursion IsLabel (label ∷ labels) → AllStandBefore lost buffer place old
-    → LeadsPast lost (pointed old (label ∷ labels)) → drop place buffer ≡ compressed_form old (label ∷ labels) ++ rest → place < length buffer → place < 16383 → Stands buffer (record { start = place; bytes = labels_form (label ∷ labels) })
-stands_there lost buffer old place label labels rest all stand clear h within near = record {
+target-there : (lost : ℕ → Type 0) (buffer : List ℕ) (old : List Suffix) (place : ℕ) (label : List ℕ) (labels : List (List ℕ)) (rest : List ℕ) → AllByRecursion IsLabel (label ∷ labels) → AreTargetsBefore lost buffer place old
+    → TargetSurvives lost (pointer_target old (label ∷ labels)) → drop place buffer ≡ compressed_form old (label ∷ labels) ++ rest → place < length buffer → place < 16383 → IsPointerTarget buffer (record { start = place; bytes = labels_form (label ∷ labels) })
+target-there lost buffer old place label labels rest all stand clear h within near = record {
   labels = label ∷ labels;
   form = refl;
   within = within;
@@ -113,31 +113,31 @@ stands_there lost buffer old place label labels rest all stand clear h within ne
   reads = λ left fits. (place + length (compressed_form old (label ∷ labels)), compressed_reads lost buffer old place place left (label ∷ labels) rest all fits stand clear h);
 }
 
-remembered-stand : (lost : ℕ → Type 0) (buffer : List ℕ) (old now : List Suffix) (place : ℕ) (labels : List (List ℕ)) (rest : List ℕ) → AllByRecursion IsLabel labels → AllStandBefore lost buffer place old
-    → StandUnlessLost lost buffer now → LeadsPast lost (pointed old labels) → AgreeBelow (name_len labels) old now → drop place buffer ≡ compressed_form old labels ++ rest → StandUnlessLost lost buffer (remembered now place labels)
-remembered-stand lost buffer old now place [] rest all behind stand clear agree h = stand
-remembered-stand lost buffer old now place (label ∷ labels) rest all behind stand clear agree h =
+remember_labels-targets : (lost : ℕ → Type 0) (buffer : List ℕ) (old now : List Suffix) (place : ℕ) (labels : List (List ℕ)) (rest : List ℕ) → AllByRecursion IsLabel labels → AreTargetsBefore lost buffer place old
+    → ArePointerTargetsUnlessLost lost buffer now → TargetSurvives lost (pointer_target old labels) → AgreeBelow (name_len labels) old now → drop place buffer ≡ compressed_form old labels ++ rest → ArePointerTargetsUnlessLost lost buffer (remember_labels now place labels)
+remember_labels-targets lost buffer old now place [] rest all behind stand clear agree h = stand
+remember_labels-targets lost buffer old now place (label ∷ labels) rest all behind stand clear agree h =
     let bytes : List ℕ = labels_form (label ∷ labels) in
     let len : length bytes + 1 ≡ name_len (label ∷ labels) = length-labels_form (label ∷ labels) in
     at (place_of now bytes) (agree bytes (omega (arith, len)))
     (λ none.
     let again : drop place buffer ≡ (length label ∷ (label ++ compressed_form old labels)) ++ rest = subst (λ (found : Option ℕ). drop place buffer ≡ option_map_or pointer_form found (length label ∷ (label ++ compressed_form old labels)) ++ rest) none h in
     let within : place < length buffer = omega (arith, ap length again, length-drop place buffer) in
-    let stand' = remember-all (λ s. lost s.start ⊎ Stands buffer s) now place bytes stand (λ near. inr (stands_there lost buffer old place label labels rest all behind clear h within near)) in
+    let stand' = remember-all (λ s. lost s.start ⊎ IsPointerTarget buffer s) now place bytes stand (λ near. inr (target-there lost buffer old place label labels rest all behind clear h within near)) in
     let agree' = remember-agree (name_len labels) old now place bytes (omega (arith, len)) (λ sought lt. agree sought (omega arith)) in
-    let clear' : LeadsPast lost (pointed old labels) = subst (λ (found : Option ℕ). LeadsPast lost (option_map_or Some found (pointed old labels))) none clear in
-    remembered-stand lost buffer old (remember now place bytes) (place + (length label + 1)) labels rest all.1 (later lost buffer place (length label + 1) old behind) stand' clear' agree' (past buffer place label (compressed_form old labels) rest again))
+    let clear' : TargetSurvives lost (pointer_target old labels) = subst (λ (found : Option ℕ). TargetSurvives lost (option_map_or Some found (pointer_target old labels))) none clear in
+    remember_labels-targets lost buffer old (remember now place bytes) (place + (length label + 1)) labels rest all.1 (later lost buffer place (length label + 1) old behind) stand' clear' agree' (past buffer place label (compressed_form old labels) rest again))
   where
-    at : (found : Option ℕ) → found ≡ place_of old (labels_form (label ∷ labels)) → (place_of old (labels_form (label ∷ labels)) ≡ None → StandUnlessLost lost buffer (remembered (remember now place (labels_form (label ∷ labels))) (place + (length label + 1)) labels))
-        → StandUnlessLost lost buffer (if is_some found then before place now else remembered (remember now place (labels_form (label ∷ labels))) (place + (length label + 1)) labels)
-    at (Some target) is more = all-before (λ s. lost s.start ⊎ Stands buffer s) place now stand
+    at : (found : Option ℕ) → found ≡ place_of old (labels_form (label ∷ labels)) → (place_of old (labels_form (label ∷ labels)) ≡ None → ArePointerTargetsUnlessLost lost buffer (remember_labels (remember now place (labels_form (label ∷ labels))) (place + (length label + 1)) labels))
+        → ArePointerTargetsUnlessLost lost buffer (if is_some found then suffixes_before place now else remember_labels (remember now place (labels_form (label ∷ labels))) (place + (length label + 1)) labels)
+    at (Some target) is more = all-suffixes_before (λ s. lost s.start ⊎ IsPointerTarget buffer s) place now stand
     at None is more = more (sym is)
 
 -- and begins before the end of the name
-pub remembered-behind : (old now : List Suffix) (place end : ℕ) (labels : List (List ℕ)) → AllByRecursion (λ s. s.start < end) now → AgreeBelow (name_len labels) old now → place + length (compressed_form old labels) ≤ end
-    → AllByRecursion (λ s. s.start < end) (remembered now place labels)
-remembered-behind old now place end [] behind agree within = behind
-remembered-behind old now place end (label ∷ labels) behind agree within =
+pub remember_labels-behind : (old now : List Suffix) (place end : ℕ) (labels : List (List ℕ)) → AllByRecursion (λ s. s.start < end) now → AgreeBelow (name_len labels) old now → place + length (compressed_form old labels) ≤ end
+    → AllByRecursion (λ s. s.start < end) (remember_labels now place labels)
+remember_labels-behind old now place end [] behind agree within = behind
+remember_labels-behind old now place end (label ∷ labels) behind agree within =
     let bytes : List ℕ = labels_form (label ∷ labels) in
     let len : length bytes + 1 ≡ name_len (label ∷ labels) = length-labels_form (label ∷ labels) in
     at (place_of now bytes) (agree bytes (omega (arith, len)))
@@ -145,41 +145,41 @@ remembered-behind old now place end (label ∷ labels) behind agree within =
     let room : place + length (length label ∷ (label ++ compressed_form old labels)) ≤ end = subst (λ (found : Option ℕ). place + length (option_map_or pointer_form found (length label ∷ (label ++ compressed_form old labels))) ≤ end) none within in
     let behind' = remember-all (λ s. s.start < end) now place bytes behind (λ near. omega (arith, room)) in
     let agree' = remember-agree (name_len labels) old now place bytes (omega (arith, len)) (λ sought lt. agree sought (omega arith)) in
-    remembered-behind old (remember now place bytes) (place + (length label + 1)) end labels behind' agree' (omega (arith, room, length-append label (compressed_form old labels))))
+    remember_labels-behind old (remember now place bytes) (place + (length label + 1)) end labels behind' agree' (omega (arith, room, length-append label (compressed_form old labels))))
   where
-    at : (found : Option ℕ) → found ≡ place_of old (labels_form (label ∷ labels)) → (place_of old (labels_form (label ∷ labels)) ≡ None → AllByRecursion (λ s. s.start < end) (remembered (remember now place (labels_form (label ∷ labels))) (place + (length label + 1)) labels))
-        → AllByRecursion (λ s. s.start < end) (if is_some found then before place now else remembered (remember now place (labels_form (label ∷ labels))) (place + (length label + 1)) labels)
-    at (Some target) is more = all-before (λ s. s.start < end) place now behind
+    at : (found : Option ℕ) → found ≡ place_of old (labels_form (label ∷ labels)) → (place_of old (labels_form (label ∷ labels)) ≡ None → AllByRecursion (λ s. s.start < end) (remember_labels (remember now place (labels_form (label ∷ labels))) (place + (length label + 1)) labels))
+        → AllByRecursion (λ s. s.start < end) (if is_some found then suffixes_before place now else remember_labels (remember now place (labels_form (label ∷ labels))) (place + (length label + 1)) labels)
+    at (Some target) is more = all-suffixes_before (λ s. s.start < end) place now behind
     at None is more = more (sym is)
 
 -- ---- at the end of the buffer
 
-pub unless_lost-append : (lost : ℕ → Type 0) (buffer more : List ℕ) (suffixes : List Suffix) → StandUnlessLost lost buffer suffixes → StandUnlessLost lost (buffer ++ more) suffixes
-unless_lost-append lost buffer more suffixes stand = all_weaker {P = λ s. lost s.start ⊎ Stands buffer s} {Q = λ s. lost s.start ⊎ Stands (buffer ++ more) s} (λ s q. grown s q) suffixes stand
+pub unless_lost-append : (lost : ℕ → Type 0) (buffer more : List ℕ) (suffixes : List Suffix) → ArePointerTargetsUnlessLost lost buffer suffixes → ArePointerTargetsUnlessLost lost (buffer ++ more) suffixes
+unless_lost-append lost buffer more suffixes stand = all_weaker {P = λ s. lost s.start ⊎ IsPointerTarget buffer s} {Q = λ s. lost s.start ⊎ IsPointerTarget (buffer ++ more) s} (λ s q. grown s q) suffixes stand
   where
-    grown : (s : Suffix) → lost s.start ⊎ Stands buffer s → lost s.start ⊎ Stands (buffer ++ more) s
+    grown : (s : Suffix) → lost s.start ⊎ IsPointerTarget buffer s → lost s.start ⊎ IsPointerTarget (buffer ++ more) s
     grown s (inl is_lost) = inl is_lost
-    grown s (inr stands) = inr (stands-append buffer more s stands)
+    grown s (inr is_target) = inr (target-append buffer more s is_target)
 
 both : (P Q : Suffix → Type 0) (suffixes : List Suffix) → AllByRecursion P suffixes → AllByRecursion Q suffixes → AllByRecursion (λ s. P s × Q s) suffixes
 both P Q [] p q = tt
 both P Q (s ∷ suffixes) p q = ((p.0, q.0), both P Q suffixes p.1 q.1)
 
-old_stand : (lost : ℕ → Type 0) (buffer more : List ℕ) (suffixes : List Suffix) → StandUnlessLost lost buffer suffixes → AllByRecursion (λ s. s.start < length buffer) suffixes → AllStandBefore lost (buffer ++ more) (length buffer) suffixes
-old_stand lost buffer more suffixes stand behind =
-    both (λ s. lost s.start ⊎ Stands (buffer ++ more) s) (λ s. s.start < length buffer) suffixes (unless_lost-append lost buffer more suffixes stand) behind
+old_targets : (lost : ℕ → Type 0) (buffer more : List ℕ) (suffixes : List Suffix) → ArePointerTargetsUnlessLost lost buffer suffixes → AllByRecursion (λ s. s.start < length buffer) suffixes → AreTargetsBefore lost (buffer ++ more) (length buffer) suffixes
+old_targets lost buffer more suffixes stand behind =
+    both (λ s. lost s.start ⊎ IsPointerTarget (buffer ++ more) s) (λ s. s.start < length buffer) suffixes (unless_lost-append lost buffer more suffixes stand) behind
 
 -- a name that is written there is read there
-pub compressed_again : (lost : ℕ → Type 0) (buffer : List ℕ) (suffixes : List Suffix) (labels : List (List ℕ)) → AreLabels labels → StandUnlessLost lost buffer suffixes → AllByRecursion (λ s. s.start < length buffer) suffixes
-    → LeadsPast lost (pointed suffixes labels) → ReadsName (buffer ++ compressed_form suffixes labels) (length buffer) labels (length buffer + length (compressed_form suffixes labels))
-compressed_again lost buffer suffixes labels is stand behind clear =
+pub compressed_decodes : (lost : ℕ → Type 0) (buffer : List ℕ) (suffixes : List Suffix) (labels : List (List ℕ)) → AreLabels labels → ArePointerTargetsUnlessLost lost buffer suffixes → AllByRecursion (λ s. s.start < length buffer) suffixes
+    → TargetSurvives lost (pointer_target suffixes labels) → ReadsName (buffer ++ compressed_form suffixes labels) (length buffer) labels (length buffer + length (compressed_form suffixes labels))
+compressed_decodes lost buffer suffixes labels is stand behind clear =
     let form : List ℕ = compressed_form suffixes labels in
-    compressed_reads lost (buffer ++ form) suffixes (length buffer) (length buffer) 255 labels [] is.each is.fits (old_stand lost buffer form suffixes stand behind) clear (drop_at buffer form (length buffer) refl ∙ sym (append-nil form))
+    compressed_reads lost (buffer ++ form) suffixes (length buffer) (length buffer) 255 labels [] is.each is.fits (old_targets lost buffer form suffixes stand behind) clear (drop_at buffer form (length buffer) refl ∙ sym (append-nil form))
 
 -- and what is remembered then stands
-pub remembered_again : (lost : ℕ → Type 0) (buffer : List ℕ) (suffixes : List Suffix) (labels : List (List ℕ)) → AreLabels labels → StandUnlessLost lost buffer suffixes → AllByRecursion (λ s. s.start < length buffer) suffixes
-    → LeadsPast lost (pointed suffixes labels) → StandUnlessLost lost (buffer ++ compressed_form suffixes labels) (remembered suffixes (length buffer) labels)
-remembered_again lost buffer suffixes labels is stand behind clear =
+pub remember_labels-targets_again : (lost : ℕ → Type 0) (buffer : List ℕ) (suffixes : List Suffix) (labels : List (List ℕ)) → AreLabels labels → ArePointerTargetsUnlessLost lost buffer suffixes → AllByRecursion (λ s. s.start < length buffer) suffixes
+    → TargetSurvives lost (pointer_target suffixes labels) → ArePointerTargetsUnlessLost lost (buffer ++ compressed_form suffixes labels) (remember_labels suffixes (length buffer) labels)
+remember_labels-targets_again lost buffer suffixes labels is stand behind clear =
     let form : List ℕ = compressed_form suffixes labels in
-    remembered-stand lost (buffer ++ form) suffixes suffixes (length buffer) labels [] is.each (old_stand lost buffer form suffixes stand behind) (unless_lost-append lost buffer form suffixes stand) clear (λ bytes lt. refl)
+    remember_labels-targets lost (buffer ++ form) suffixes suffixes (length buffer) labels [] is.each (old_targets lost buffer form suffixes stand behind) (unless_lost-append lost buffer form suffixes stand) clear (λ bytes lt. refl)
     (drop_at buffer form (length buffer) refl ∙ sym (append-nil form))

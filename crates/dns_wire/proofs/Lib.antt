@@ -4,7 +4,9 @@ pub mod ReadingLaws
 pub mod NameLaws
 pub mod CompressionLaws
 pub mod PieceLaws
-pub mod ShowsLaws
+pub mod BytesAtLaws
 pub mod ItemLaws
+pub mod SectionLaws
 pub mod FillLaws
 pub mod CallLaws
+pub mod DecodeErrorLaws

@@ -8,7 +8,7 @@ use Rattle.dns_wire.specs.declared.name_encoding.NameEncoding.TheVariants.{Compr
 use Rattle.dns_wire.specs.Element.{Label, element, element_at}
 use Rattle.dns_wire.specs.Name.{IsLabel, name_len, AreLabels}
 use Rattle.dns_wire.specs.Reading.{Reads, at_closing, at_label}
-use Rattle.dns_wire.specs.Writing.{labels_form, whole_form, spelled}
+use Rattle.dns_wire.specs.Writing.{labels_form, whole_form, spelling}
 use Rattle.dns_wire.proofs.ElementLaws.{element-label}
 
 -- ---- how long
@@ -35,16 +35,16 @@ name_len-lowercase : (labels : List (List ℕ)) → name_len (map str_to_ascii_l
 name_len-lowercase [] = refl
 name_len-lowercase (label ∷ labels) = omega (arith, length-lowercase label, name_len-lowercase labels)
 
-pub name_len-spelled : (encoding : NameEncoding) (labels : List (List ℕ)) → name_len (spelled encoding labels) ≡ name_len labels
-name_len-spelled Compressed labels = refl
-name_len-spelled Uncompressed labels = refl
-name_len-spelled UncompressedLowercase labels = name_len-lowercase labels
+pub name_len-spelling : (encoding : NameEncoding) (labels : List (List ℕ)) → name_len (spelling encoding labels) ≡ name_len labels
+name_len-spelling Compressed labels = refl
+name_len-spelling Uncompressed labels = refl
+name_len-spelling UncompressedLowercase labels = name_len-lowercase labels
 
 -- the spelling of a name is a name
-pub spelled-are_labels : (encoding : NameEncoding) (labels : List (List ℕ)) → AreLabels labels → AreLabels (spelled encoding labels)
-spelled-are_labels Compressed labels is = is
-spelled-are_labels Uncompressed labels is = is
-spelled-are_labels UncompressedLowercase labels is = record { each = lowercase-each labels is.each; fits = omega (arith, is.fits, name_len-lowercase labels) }
+pub spelling-are_labels : (encoding : NameEncoding) (labels : List (List ℕ)) → AreLabels labels → AreLabels (spelling encoding labels)
+spelling-are_labels Compressed labels is = is
+spelling-are_labels Uncompressed labels is = is
+spelling-are_labels UncompressedLowercase labels is = record { each = lowercase-each labels is.each; fits = omega (arith, is.fits, name_len-lowercase labels) }
 
 -- ---- written whole and read again
 

@@ -9,45 +9,45 @@ use Rattle.std.proofs.lemmas.List.{append-nil}
 use Rattle.std.proofs.lemmas.List.Elements.{filter-append}
 use Rattle.std.proofs.lemmas.Slice.Eq.{bytes_eq-Decides}
 use Rattle.dns_wire.specs.declared.encoder.Suffix as code
-use Rattle.dns_wire.specs.Encoder.{Suffix, suffix_of, before, place_of, remember}
+use Rattle.dns_wire.specs.Encoder.{Suffix, suffix_of, suffixes_before, place_of, remember}
 
 -- choosing among the code's suffixes is choosing among what contracts see of them
-pub map-before : (place : ℕ) (xs : List code.Suffix) → map suffix_of (filter (λ s. ltb s.start place) xs) ≡ before place (map suffix_of xs)
-map-before place [] = refl
-map-before place (x ∷ xs) = at (ltb x.start place) (map-before place xs)
+pub map-suffixes_before : (place : ℕ) (xs : List code.Suffix) → map suffix_of (filter (λ s. ltb s.start place) xs) ≡ suffixes_before place (map suffix_of xs)
+map-suffixes_before place [] = refl
+map-suffixes_before place (x ∷ xs) = at (ltb x.start place) (map-suffixes_before place xs)
   where
-    at : (b : Bool) → map suffix_of (filter (λ s. ltb s.start place) xs) ≡ before place (map suffix_of xs)
-        → map suffix_of (cond b (x ∷ filter (λ s. ltb s.start place) xs) (filter (λ s. ltb s.start place) xs)) ≡ cond b (suffix_of x ∷ before place (map suffix_of xs)) (before place (map suffix_of xs))
+    at : (b : Bool) → map suffix_of (filter (λ s. ltb s.start place) xs) ≡ suffixes_before place (map suffix_of xs)
+        → map suffix_of (cond b (x ∷ filter (λ s. ltb s.start place) xs) (filter (λ s. ltb s.start place) xs)) ≡ cond b (suffix_of x ∷ suffixes_before place (map suffix_of xs)) (suffixes_before place (map suffix_of xs))
     at true more = ap (λ (ss : List Suffix). suffix_of x ∷ ss) more
     at false more = more
 
 -- those before an earlier place are among those before a later one
-pub before-before : (place later : ℕ) (suffixes : List Suffix) → place ≤ later → before place (before later suffixes) ≡ before place suffixes
-before-before place later [] le = refl
-before-before place later (s ∷ suffixes) le = at (ltb s.start later) (ltb s.start place) refl refl (before-before place later suffixes le)
+pub suffixes_before-before : (place later : ℕ) (suffixes : List Suffix) → place ≤ later → suffixes_before place (suffixes_before later suffixes) ≡ suffixes_before place suffixes
+suffixes_before-before place later [] le = refl
+suffixes_before-before place later (s ∷ suffixes) le = at (ltb s.start later) (ltb s.start place) refl refl (suffixes_before-before place later suffixes le)
   where
-    at : (b a : Bool) → ltb s.start later ≡ b → ltb s.start place ≡ a → before place (before later suffixes) ≡ before place suffixes
-        → before place (cond b (s ∷ before later suffixes) (before later suffixes)) ≡ cond a (s ∷ before place suffixes) (before place suffixes)
-    at true a p q more = ap (λ (c : Bool). cond c (s ∷ before place (before later suffixes)) (before place (before later suffixes))) q ∙ ap (λ (ss : List Suffix). cond a (s ∷ ss) ss) more
+    at : (b a : Bool) → ltb s.start later ≡ b → ltb s.start place ≡ a → suffixes_before place (suffixes_before later suffixes) ≡ suffixes_before place suffixes
+        → suffixes_before place (cond b (s ∷ suffixes_before later suffixes) (suffixes_before later suffixes)) ≡ cond a (s ∷ suffixes_before place suffixes) (suffixes_before place suffixes)
+    at true a p q more = ap (λ (c : Bool). cond c (s ∷ suffixes_before place (suffixes_before later suffixes)) (suffixes_before place (suffixes_before later suffixes))) q ∙ ap (λ (ss : List Suffix). cond a (s ∷ ss) ss) more
     at false true p q more = absurd (omega (arith, ltb-false _ _ p, ltb-true _ _ q))
     at false false p q more = more
 
 -- what is remembered from a place on is none of them
-pub before-remember : (place here : ℕ) (suffixes : List Suffix) (bytes : List ℕ) → place ≤ here → before place (remember suffixes here bytes) ≡ before place suffixes
-before-remember place here suffixes bytes le = at (ltb here 16383 && (ltb (length suffixes) 64 && is_none (place_of suffixes bytes)))
+pub suffixes_before-remember : (place here : ℕ) (suffixes : List Suffix) (bytes : List ℕ) → place ≤ here → suffixes_before place (remember suffixes here bytes) ≡ suffixes_before place suffixes
+suffixes_before-remember place here suffixes bytes le = at (ltb here 16383 && (ltb (length suffixes) 64 && is_none (place_of suffixes bytes)))
   where
-    at : (b : Bool) → before place (cond b (suffixes ++ record { start = here; bytes = bytes } ∷ []) suffixes) ≡ before place suffixes
+    at : (b : Bool) → suffixes_before place (cond b (suffixes ++ record { start = here; bytes = bytes } ∷ []) suffixes) ≡ suffixes_before place suffixes
     at true =
         let no : ltb here place ≡ false = le-ltb _ _ le in
-        filter-append (λ s. ltb s.start place) suffixes (record { start = here; bytes = bytes } ∷ []) ∙ rw no (append-nil (before place suffixes))
+        filter-append (λ s. ltb s.start place) suffixes (record { start = here; bytes = bytes } ∷ []) ∙ rw no (append-nil (suffixes_before place suffixes))
     at false = refl
 
 -- all of them, where all begin before it
-pub before-all : (place : ℕ) (suffixes : List Suffix) → AllByRecursion (λ x. x.start < place) suffixes → before place suffixes ≡ suffixes
-before-all place [] all = refl
-before-all place (s ∷ suffixes) all =
+pub suffixes_before-all : (place : ℕ) (suffixes : List Suffix) → AllByRecursion (λ x. x.start < place) suffixes → suffixes_before place suffixes ≡ suffixes
+suffixes_before-all place [] all = refl
+suffixes_before-all place (s ∷ suffixes) all =
     let yes : ltb s.start place ≡ true = grind arith in
-    rw yes (ap (λ (ss : List Suffix). s ∷ ss) (before-all place suffixes all.1))
+    rw yes (ap (λ (ss : List Suffix). s ∷ ss) (suffixes_before-all place suffixes all.1))
 
 -- ---- what holds of each
 
@@ -59,29 +59,29 @@ pub all-push : (P : Suffix → Type 0) (suffixes : List Suffix) (s : Suffix) →
 all-push P [] s all p = (p, tt)
 all-push P (x ∷ suffixes) s all p = (all.0, all-push P suffixes s all.1 p)
 
-pub all-before : (P : Suffix → Type 0) (place : ℕ) (suffixes : List Suffix) → AllByRecursion P suffixes → AllByRecursion P (before place suffixes)
-all-before P place [] all = tt
-all-before P place (s ∷ suffixes) all = at (ltb s.start place) (all-before P place suffixes all.1)
+pub all-suffixes_before : (P : Suffix → Type 0) (place : ℕ) (suffixes : List Suffix) → AllByRecursion P suffixes → AllByRecursion P (suffixes_before place suffixes)
+all-suffixes_before P place [] all = tt
+all-suffixes_before P place (s ∷ suffixes) all = at (ltb s.start place) (all-suffixes_before P place suffixes all.1)
   where
-    at : (b : Bool) → AllByRecursion P (before place suffixes) → AllByRecursion P (cond b (s ∷ before place suffixes) (before place suffixes))
+    at : (b : Bool) → AllByRecursion P (suffixes_before place suffixes) → AllByRecursion P (cond b (s ∷ suffixes_before place suffixes) (suffixes_before place suffixes))
     at true more = (all.0, more)
     at false more = more
 
 -- what holds of those before a place, and what holds from there on
-pub all-rejoin : {P Q : Suffix → Type 0} (place end : ℕ) (suffixes : List Suffix) → AllByRecursion P (before place suffixes) → AllByRecursion (λ s. s.start < end) suffixes
+pub all-rejoin : {P Q : Suffix → Type 0} (place end : ℕ) (suffixes : List Suffix) → AllByRecursion P (suffixes_before place suffixes) → AllByRecursion (λ s. s.start < end) suffixes
     → (front : (s : Suffix) → P s → Q s) (back : (s : Suffix) → place ≤ s.start → s.start < end → Q s) → AllByRecursion Q suffixes
 all-rejoin place end [] all behind front back = tt
 all-rejoin {P} {Q} place end (s ∷ suffixes) all behind front back = at (ltb s.start place) refl all (λ all. all-rejoin place end suffixes all behind.1 front back)
   where
-    at : (b : Bool) → ltb s.start place ≡ b → AllByRecursion P (cond b (s ∷ before place suffixes) (before place suffixes)) → (AllByRecursion P (before place suffixes) → AllByRecursion Q suffixes) → Q s × AllByRecursion Q suffixes
+    at : (b : Bool) → ltb s.start place ≡ b → AllByRecursion P (cond b (s ∷ suffixes_before place suffixes) (suffixes_before place suffixes)) → (AllByRecursion P (suffixes_before place suffixes) → AllByRecursion Q suffixes) → Q s × AllByRecursion Q suffixes
     at true e all more = (front s all.0, more all.1)
     at false e all more = (back s (ltb-false _ _ e) behind.0, more all)
 
-pub before-behind : (place : ℕ) (suffixes : List Suffix) → AllByRecursion (λ s. s.start < place) (before place suffixes)
-before-behind place [] = tt
-before-behind place (s ∷ suffixes) = at (ltb s.start place) refl (before-behind place suffixes)
+pub suffixes_before-behind : (place : ℕ) (suffixes : List Suffix) → AllByRecursion (λ s. s.start < place) (suffixes_before place suffixes)
+suffixes_before-behind place [] = tt
+suffixes_before-behind place (s ∷ suffixes) = at (ltb s.start place) refl (suffixes_before-behind place suffixes)
   where
-    at : (b : Bool) → ltb s.start place ≡ b → AllByRecursion (λ x. x.start < place) (before place suffixes) → AllByRecursion (λ x. x.start < place) (cond b (s ∷ before place suffixes) (before place suffixes))
+    at : (b : Bool) → ltb s.start place ≡ b → AllByRecursion (λ x. x.start < place) (suffixes_before place suffixes) → AllByRecursion (λ x. x.start < place) (cond b (s ∷ suffixes_before place suffixes) (suffixes_before place suffixes))
     at true e more = (ltb-true _ _ e, more)
     at false e more = more
 
@@ -115,18 +115,18 @@ remember-agree n old now place bytes le agree = at (ltb place 16383 && (ltb (len
 
 -- ---- what `retain` leaves, where the closure stays as it is and answers by a test
 
-one_more : {X : Type 0} (x : X) (xs kept : List X) (answers : List Bool) (b t : Bool) → b ≡ t → items_where_true answers xs ≡ kept → items_where_true (b ∷ answers) (x ∷ xs) ≡ cond t (x ∷ kept) kept
-one_more x xs kept answers true t e more = ap (λ ys. x ∷ ys) more ∙ ap (λ c. cond c (x ∷ kept) kept) e
-one_more x xs kept answers false t e more = more ∙ ap (λ c. cond c (x ∷ kept) kept) e
+one_more : {X : Type 0} (x : X) (xs picked : List X) (answers : List Bool) (b t : Bool) → b ≡ t → items_where_true answers xs ≡ picked → items_where_true (b ∷ answers) (x ∷ xs) ≡ cond t (x ∷ picked) picked
+one_more x xs picked answers true t e more = ap (λ ys. x ∷ ys) more ∙ ap (λ c. cond c (x ∷ picked) picked) e
+one_more x xs picked answers false t e more = more ∙ ap (λ c. cond c (x ∷ picked) picked) e
 
 module _ {X F : Type 0} (R : F → X → Bool → F → Type 0) (test : X → Bool) (f : F) (says : (x : X) (b : Bool) (f' : F) → R f x b f' → (b ≡ test x) × (f' ≡ f)) where
-  kept_in_turn : (g h : F) (answers : List Bool) (xs : List X) → g ≡ f → length answers ≡ length xs → ReturnsInTurn R g answers xs h → items_where_true answers xs ≡ filter test xs
-  kept_in_turn g h [] [] is len turns = refl
-  kept_in_turn g h [] (x ∷ xs) is len turns = absurd (omega arith)
-  kept_in_turn g h (b ∷ answers) [] is len turns = absurd turns
-  kept_in_turn g h (b ∷ answers) (x ∷ xs) is len turns =
+  filtered_in_turn : (g h : F) (answers : List Bool) (xs : List X) → g ≡ f → length answers ≡ length xs → ReturnsInTurn R g answers xs h → items_where_true answers xs ≡ filter test xs
+  filtered_in_turn g h [] [] is len turns = refl
+  filtered_in_turn g h [] (x ∷ xs) is len turns = absurd (omega arith)
+  filtered_in_turn g h (b ∷ answers) [] is len turns = absurd turns
+  filtered_in_turn g h (b ∷ answers) (x ∷ xs) is len turns =
       let said = says x b turns.0 (subst (λ (g : F). R g x b turns.0) is turns.1) in
-      one_more x xs (filter test xs) answers b (test x) said.0 (kept_in_turn turns.0 h answers xs said.1 (omega arith) turns.2)
+      one_more x xs (filter test xs) answers b (test x) said.0 (filtered_in_turn turns.0 h answers xs said.1 (omega arith) turns.2)
 
   pub filter_from_retain_by : (xs ys : List X) → IsFiltered R f xs ys → ys ≡ filter test xs
-  filter_from_retain_by xs ys h = h.4 ∙ kept_in_turn f h.1 h.0 xs refl h.2 h.3
+  filter_from_retain_by xs ys h = h.4 ∙ filtered_in_turn f h.1 h.0 xs refl h.2 h.3

@@ -1,25 +1,25 @@
--- What a name on the wire is made of (RFC 1035 section 4.1.4).
+-- The elements of a name on the wire (RFC 1035 section 4.1.4).
 use Rattle.std.specs.Prelude.{ℕ, ◌+◌, ◌-◌, ◌*◌, ◌==◌, nat_lt, if◌then◌else◌, List, [], ◌∷◌, length, take, drop, Result, Ok, Err}
 use Rattle.dns_wire.specs.declared.error.DecodeError.{DecodeError}
 use Rattle.dns_wire.specs.declared.error.DecodeError.TheVariants.{InsufficientBytes, UnrecognizedLabelCode}
 
--- the zero byte that ends a name, a label, or a pointer to a place
+-- the zero byte that ends a name, a label, or a pointer to an offset
 pub data Element : Type 0 where
   Closing : Element
   Label : List ℕ → Element
   Pointer : ℕ → Element
 
--- a label of n bytes: the first n of those that follow its length
+-- a label of n bytes, from the bytes after its length
 abbrev pub label_element : ℕ → List ℕ → Result Element DecodeError
 label_element n bytes = if nat_lt (length bytes) n then Err InsufficientBytes else Ok (Label (take n bytes))
 
--- a pointer, from the high part of its place and the byte that has the low part
+-- a pointer, from the high bits of its offset and the byte with the low bits
 abbrev pub pointer_element : ℕ → List ℕ → Result Element DecodeError
 pointer_element high [] = Err InsufficientBytes
 pointer_element high (low ∷ bytes) = Ok (Pointer (256 * high + low))
 
--- The element in front of the bytes, by its first byte: 0 closes, 1 to 63 is a label's length, 192 to 255 begins a
--- pointer, and what lies between has no meaning.
+-- The element at the front of the bytes. A first byte of 0 ends the name, 1 to 63 is the length of a label, 192 to 255
+-- begins a pointer, and any other byte is refused.
 abbrev pub element : List ℕ → Result Element DecodeError
 element [] = Err InsufficientBytes
 element (code ∷ bytes) =

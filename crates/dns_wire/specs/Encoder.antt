@@ -1,4 +1,4 @@
--- What a contract sees of a `BinEncoder`.
+-- What contracts see of a `BinEncoder`.
 use Rattle.std.specs.Prelude.{◌≡◌, ℕ, ◌+◌, ◌≤◌, Bool, ◌&&◌, if◌then◌else◌, List, [], ◌∷◌, ◌++◌, length, take, drop, map, nat_lt, filter, Option, Some, None, is_none}
 use Rattle.std.specs.Str.{bytes_eq}
 use Rattle.std.specs.Borrow.{GName}
@@ -6,14 +6,39 @@ use Rattle.dns_wire.specs.declared.encoder.BinEncoder.{BinEncoder}
 use Rattle.dns_wire.specs.declared.encoder.Suffix as code
 use Rattle.dns_wire.specs.declared.name_encoding.NameEncoding.{NameEncoding}
 
--- a part of a name that was written: its place, and its labels as they are written whole
+-- ---- limits
+
+-- the greatest size of a message (RFC 1035 section 4.2.2: a length of 16 bits)
+abbrev pub max_message_len : ℕ
+max_message_len = 65535
+
+-- how many suffixes an encoder remembers
+abbrev pub max_suffixes : ℕ
+max_suffixes = 64
+
+-- Suffixes are remembered below this offset. A pointer has 14 bits for its target (RFC 1035 section 4.1.4).
+abbrev pub suffix_offset_limit : ℕ
+suffix_offset_limit = 16383
+
+-- how many names an encoder tries to compress
+abbrev pub max_compressed_names : ℕ
+max_compressed_names = 120
+
+-- the greatest length of character data (RFC 1035 section 3.3)
+abbrev pub max_character_data_len : ℕ
+max_character_data_len = 255
+
+-- ---- state
+
+-- a suffix of a name that was written: its offset, and its labels in uncompressed form
 pub record Suffix : Type 0 where
   pub start : ℕ
   pub bytes : List ℕ
 
--- what was written, the place of the next byte, how many bytes there may be, how names are written, whether in
--- canonical form, the remembered suffixes in their order, and how many names were begun that could be compressed
-pub record Written : Type 0 where
+-- The state of an encoder: the buffer, the offset of the next byte, the greatest size of the buffer, how names are
+-- encoded, whether record data has its canonical form, the remembered suffixes in order, how many names it has tried to
+-- compress, and the identity of the borrowed vector.
+pub record EncoderState : Type 0 where
   pub bytes : List ℕ
   pub offset : ℕ
   pub limit : ℕ
@@ -21,12 +46,13 @@ pub record Written : Type 0 where
   pub canonical : Bool
   pub suffixes : List Suffix
   pub attempts : ℕ
+  pub lender : GName
 
 abbrev pub suffix_of : code.Suffix → Suffix
 suffix_of s = record { start = s.start; bytes = s.bytes.items }
 
-abbrev pub written : BinEncoder → Written
-written e = record {
+abbrev pub state_of : BinEncoder → EncoderState
+state_of e = record {
   bytes = e.buffer.now.items;
   offset = e.offset;
   limit = e.max_size;
@@ -34,50 +60,62 @@ written e = record {
   canonical = e.canonical_form;
   suffixes = map suffix_of e.suffixes.items;
   attempts = e.attempts;
+  lender = e.buffer.ghost_name;
 }
 
--- whose buffer it is
-abbrev pub lender : BinEncoder → GName
-lender e = e.buffer.ghost_name
+-- the next byte extends the buffer
+abbrev pub IsAtEnd : EncoderState → Type 0
+IsAtEnd w = w.offset ≡ length w.bytes
 
--- the bytes, with these from a place on
+-- ---- writing bytes
+
+-- the buffer, overwritten from a place on, and extended where the bytes pass its end
 abbrev pub put_at : ℕ → List ℕ → List ℕ → List ℕ
 put_at place more bytes = take place bytes ++ (more ++ drop (place + length more) bytes)
 
--- these bytes were written at the offset
-abbrev pub after_put : Written → List ℕ → Written
-after_put w more = record w { bytes = put_at w.offset more w.bytes; offset = w.offset + length more }
+-- the state after writing bytes at the offset
+abbrev pub overwrite_at : EncoderState → List ℕ → EncoderState
+overwrite_at w more = record w { bytes = put_at w.offset more w.bytes; offset = w.offset + length more }
+
+-- ---- remembered suffixes
 
 -- the suffixes that begin before a place
-abbrev pub before : ℕ → List Suffix → List Suffix
-before place suffixes = filter (λ s. nat_lt s.start place) suffixes
+abbrev pub suffixes_before : ℕ → List Suffix → List Suffix
+suffixes_before place suffixes = filter (λ s. nat_lt s.start place) suffixes
 
--- the earliest place at which these bytes are remembered
+-- the offset of the first suffix with these bytes
 abbrev pub place_of : List Suffix → List ℕ → Option ℕ
 place_of [] bytes = None
-place_of (suffix ∷ suffixes) bytes = if bytes_eq suffix.bytes bytes then Some suffix.start else place_of suffixes bytes
+place_of (suffix ∷ suffixes) bytes =
+    if bytes_eq suffix.bytes bytes then Some suffix.start else place_of suffixes bytes
 
--- These bytes are remembered at a place: unless they are held, or the place is one that no pointer is to lead to, or as
--- many as 64 are held.
+-- The suffixes after remembering bytes at an offset. Nothing changes if the bytes are remembered already, no pointer
+-- could reach the offset, or the list is full.
 abbrev pub remember : List Suffix → ℕ → List ℕ → List Suffix
 remember suffixes start bytes =
-    if nat_lt start 16383 && (nat_lt (length suffixes) 64 && is_none (place_of suffixes bytes))
+    if nat_lt start suffix_offset_limit
+    && (nat_lt (length suffixes) max_suffixes && is_none (place_of suffixes bytes))
     then suffixes ++ record { start = start; bytes = bytes } ∷ []
     else suffixes
 
--- cut back to the offset
-abbrev pub trimmed : Written → Written
-trimmed w = record w { bytes = take w.offset w.bytes; suffixes = before w.offset w.suffixes }
+-- ---- rolling back
 
--- the next byte goes to the end
-abbrev pub IsAtEnd : Written → Type 0
-IsAtEnd w = w.offset ≡ length w.bytes
+-- the state after truncating the buffer to the offset, and forgetting the suffixes from there on
+abbrev pub trim_to_offset : EncoderState → EncoderState
+trim_to_offset w = record w {
+  bytes = take w.offset w.bytes;
+  suffixes = suffixes_before w.offset w.suffixes;
+}
 
--- After a refused write: going back to the old offset and trimming gives what was there.
-pub record TakesBack (old new : Written) : Type 0 where
+-- A refused write can be rolled back: returning to the old offset and trimming restores what was there before.
+pub record CanRollBack (old new : EncoderState) : Type 0 where
   pub bytes : take old.offset new.bytes ≡ take old.offset old.bytes
   pub within : old.offset ≤ length new.bytes
-  pub suffixes : before old.offset new.suffixes ≡ before old.offset old.suffixes
-  pub limit : new.limit ≡ old.limit
-  pub encoding : new.encoding ≡ old.encoding
-  pub canonical : new.canonical ≡ old.canonical
+  pub suffixes : suffixes_before old.offset new.suffixes ≡ suffixes_before old.offset old.suffixes
+  -- nothing else changes
+  pub same : new ≡ record old {
+    bytes = new.bytes;
+    offset = new.offset;
+    suffixes = new.suffixes;
+    attempts = new.attempts;
+  }

@@ -1,25 +1,27 @@
--- Reading a name at a place of a buffer (RFC 1035 section 4.1.4).
+-- Decoding a name at a place of a buffer (RFC 1035 section 4.1.4).
 use Rattle.std.specs.Prelude.{◌≡◌, ℕ, ◌+◌, ◌-◌, ◌<◌, ◌≤◌, List, [], ◌∷◌, length, Ok, Err}
+use Rattle.dns_wire.specs.Name.{max_name_len}
 use Rattle.dns_wire.specs.Element.{Closing, Label, Pointer, element_at}
 use Rattle.dns_wire.specs.declared.error.DecodeError.{DecodeError}
 use Rattle.dns_wire.specs.declared.error.DecodeError.TheVariants.{PointerNotPriorToLabel, DomainNameTooLong}
 
--- Reads buffer place segment left labels end: from the place on, in a segment of labels that begins at segment, with
--- left of the 255 bytes still free, these labels stand, and the name's own bytes end at end.
+-- Reads buffer place segment left labels end: these labels are decoded from the place on, in a segment of labels that
+-- begins at segment, with left of the 255 bytes unused, and the bytes at the place end at end.
 --
--- The closing zero ends a name. A label stands before the rest of a name, and leaves room for the closing zero.
--- A pointer leads strictly before its segment, to the rest of the name, where a segment begins anew.
+-- The zero byte ends a name. A label precedes the rest of the name, and leaves room for the zero byte. A pointer refers to
+-- the rest of the name, strictly before its segment, where a new segment begins.
 pub data Reads (buffer : List ℕ) : ℕ → ℕ → ℕ → List (List ℕ) → ℕ → Type 0 where
   at_closing : {place segment left : ℕ} → element_at buffer place ≡ Ok Closing
       → Reads buffer place segment left [] (place + 1)
-  at_label : {place segment left end : ℕ} {label : List ℕ} {labels : List (List ℕ)} → element_at buffer place ≡ Ok (Label label)
-      → length label + 1 < left → Reads buffer (place + (length label + 1)) segment (left - (length label + 1)) labels end
+  at_label : {place segment left end : ℕ} {label : List ℕ} {labels : List (List ℕ)}
+      → element_at buffer place ≡ Ok (Label label) → length label + 1 < left
+      → Reads buffer (place + (length label + 1)) segment (left - (length label + 1)) labels end
       → Reads buffer place segment left (label ∷ labels) end
-  at_pointer : {place segment left target end : ℕ} {labels : List (List ℕ)} → element_at buffer place ≡ Ok (Pointer target)
-      → target < segment → Reads buffer target target left labels end
+  at_pointer : {place segment left target end : ℕ} {labels : List (List ℕ)}
+      → element_at buffer place ≡ Ok (Pointer target) → target < segment → Reads buffer target target left labels end
       → Reads buffer place segment left labels (place + 2)
 
--- The first fault on the same way.
+-- The first fault that decoding meets.
 pub data Refuses (buffer : List ℕ) : ℕ → ℕ → ℕ → DecodeError → Type 0 where
   at_fault : {place segment left : ℕ} {error : DecodeError} → element_at buffer place ≡ Err error
       → Refuses buffer place segment left error
@@ -27,16 +29,18 @@ pub data Refuses (buffer : List ℕ) : ℕ → ℕ → ℕ → DecodeError → T
       → left ≤ length label + 1 → Refuses buffer place segment left DomainNameTooLong
   at_forward_pointer : {place segment left target : ℕ} → element_at buffer place ≡ Ok (Pointer target)
       → segment ≤ target → Refuses buffer place segment left PointerNotPriorToLabel
-  past_label : {place segment left : ℕ} {error : DecodeError} {label : List ℕ} → element_at buffer place ≡ Ok (Label label)
-      → length label + 1 < left → Refuses buffer (place + (length label + 1)) segment (left - (length label + 1)) error
+  past_label : {place segment left : ℕ} {error : DecodeError} {label : List ℕ}
+      → element_at buffer place ≡ Ok (Label label) → length label + 1 < left
+      → Refuses buffer (place + (length label + 1)) segment (left - (length label + 1)) error
       → Refuses buffer place segment left error
   past_pointer : {place segment left target : ℕ} {error : DecodeError} → element_at buffer place ≡ Ok (Pointer target)
       → target < segment → Refuses buffer target target left error
       → Refuses buffer place segment left error
 
--- a name at a place: its first segment begins there, and all 255 bytes are free
+-- a name at a place: its first segment begins there, and all 255 bytes are unused
 abbrev pub ReadsName : List ℕ → ℕ → List (List ℕ) → ℕ → Type 0
-ReadsName buffer place labels end = Reads buffer place place 255 labels end
+ReadsName buffer place labels end = Reads buffer place place max_name_len labels end
 
+-- a name at a place is refused
 abbrev pub RefusesName : List ℕ → ℕ → DecodeError → Type 0
-RefusesName buffer place error = Refuses buffer place place 255 error
+RefusesName buffer place error = Refuses buffer place place max_name_len error

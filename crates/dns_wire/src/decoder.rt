@@ -1,4 +1,4 @@
-//! Reading bytes, one after another.
+//! A decoder: reads numbers and slices from the front of the unread bytes.
 
 ghost use Rattle.std.specs.Prelude.{◌≡◌, ◌+◌, ◌<◌, ◌≤◌, ◌↔◌, ◌⊎◌, ℕ, List, [], ◌∷◌, ◌++◌, length, slice_range, IsOk, IsTrue, IfOk, IfErr, OnErr, slice_get};
 ghost use Rattle.std.specs.Int.{w16, w32, to_be_bytes, cast_unsigned};
@@ -8,7 +8,7 @@ use crate::error::DecodeError;
 use std::alloc::Global;
 use std::marker::Model;
 
-/// A reader of lent bytes. A read that is refused leaves it as it was.
+/// A decoder over borrowed bytes. A failed read leaves it unchanged.
 #[derive(Drop)]
 pub struct BinDecoder<'a> {
     buffer: &'a [u8],
@@ -27,14 +27,14 @@ impl<'a> Model for BinDecoder<'a> {
 }
 
 impl<'a> BinDecoder<'a> {
-    /// A decoder at the front of the bytes.
+    /// Creates a decoder at the start of the bytes.
     pub fn new(buffer: &'a [u8]) -> Self
         ensures { result ≡ record { bytes = buffer.now; index = 0 } }
     {
         BinDecoder { buffer, index: 0 }
     }
 
-    /// A decoder over the same bytes, at another place.
+    /// Returns a decoder over the same bytes, at another index.
     pub fn clone(&self, index_at: usize) -> BinDecoder<'a>
         requires { index_at ≤ length self.now.bytes }
         ensures { result ≡ record self.now { index = index_at } }
@@ -45,7 +45,7 @@ impl<'a> BinDecoder<'a> {
         }
     }
 
-    /// The place of the next read.
+    /// Returns the index of the next byte.
     pub fn index(&self) -> usize
         ensures value { result ≡ self.now.index }
         ensures within { result ≤ length self.now.bytes }
@@ -53,21 +53,21 @@ impl<'a> BinDecoder<'a> {
         self.index
     }
 
-    /// How many bytes are left.
+    /// Returns the number of unread bytes.
     pub fn len(&self) -> usize
         ensures { result ≡ length (rest self.now) }
     {
         self.buffer.len() - self.index
     }
 
-    /// Whether no byte is left.
+    /// Returns true if no byte is unread.
     pub fn is_empty(&self) -> bool
         ensures { IsTrue result ↔ (rest self.now ≡ []) }
     {
         self.len() == 0
     }
 
-    /// The next byte, which stays unread.
+    /// Returns the next byte without reading it.
     pub fn peek(&self) -> Option<u8>
         ensures { result ≡ slice_get (rest self.now) 0 }
     {
@@ -78,12 +78,13 @@ impl<'a> BinDecoder<'a> {
         }
     }
 
-    /// The next bytes, lent and not copied.
+    /// Reads the next `len` bytes, without copying them.
     pub fn read_slice(&mut self, len: usize) -> Result<&'a [u8], DecodeError>
         ensures ok { IfOk result (λ bytes. rest self.old ≡ bytes.now ++ rest self.new) }
         ensures len { IfOk result (λ bytes. length bytes.now ≡ len) }
         ensures moved { IfOk result (λ _. Advances self.old self.new len) }
-        ensures short { IfErr result (λ error. (error ≡ DecodeError.InsufficientBytes) × (length (rest self.old) < len)) }
+        ensures short { IfErr result (λ error.
+            (error ≡ DecodeError.InsufficientBytes) × (length (rest self.old) < len)) }
         ensures err { OnErr result (self.new ≡ self.old) }
     {
         if self.buffer.len() - self.index < len {
@@ -94,66 +95,76 @@ impl<'a> BinDecoder<'a> {
         Ok(&self.buffer[start..start + len])
     }
 
-    /// The next byte.
+    /// Reads a byte.
     pub fn read_u8(&mut self) -> Result<u8, DecodeError>
         ensures ok { IfOk result (λ byte. rest self.old ≡ byte ∷ rest self.new) }
         ensures moved { IfOk result (λ _. Advances self.old self.new 1) }
-        ensures short { IfErr result (λ error. (error ≡ DecodeError.InsufficientBytes) × (rest self.old ≡ [])) }
+        ensures short { IfErr result (λ error.
+            (error ≡ DecodeError.InsufficientBytes) × (rest self.old ≡ [])) }
         ensures err { OnErr result (self.new ≡ self.old) }
     {
         let bytes = self.read_slice(1)?;
         Ok(bytes[0])
     }
 
-    /// A number of two bytes, the high one first.
+    /// Reads a 16-bit number in network byte order.
     pub fn read_u16(&mut self) -> Result<u16, DecodeError>
-        ensures ok { IfOk result (λ number. rest self.old ≡ to_be_bytes w16 number ++ rest self.new) }
+        ensures ok { IfOk result
+            (λ number. rest self.old ≡ to_be_bytes w16 number ++ rest self.new) }
         ensures moved { IfOk result (λ _. Advances self.old self.new 2) }
-        ensures short { IfErr result (λ error. (error ≡ DecodeError.InsufficientBytes) × (length (rest self.old) < 2)) }
+        ensures short { IfErr result (λ error.
+            (error ≡ DecodeError.InsufficientBytes) × (length (rest self.old) < 2)) }
         ensures err { OnErr result (self.new ≡ self.old) }
     {
         let bytes = self.read_slice(2)?;
         Ok(u16::from_be_bytes([bytes[0], bytes[1]]))
     }
 
-    /// A number of four bytes, the highest one first.
+    /// Reads a 32-bit number in network byte order.
     pub fn read_u32(&mut self) -> Result<u32, DecodeError>
-        ensures ok { IfOk result (λ number. rest self.old ≡ to_be_bytes w32 number ++ rest self.new) }
+        ensures ok { IfOk result
+            (λ number. rest self.old ≡ to_be_bytes w32 number ++ rest self.new) }
         ensures moved { IfOk result (λ _. Advances self.old self.new 4) }
-        ensures short { IfErr result (λ error. (error ≡ DecodeError.InsufficientBytes) × (length (rest self.old) < 4)) }
+        ensures short { IfErr result (λ error.
+            (error ≡ DecodeError.InsufficientBytes) × (length (rest self.old) < 4)) }
         ensures err { OnErr result (self.new ≡ self.old) }
     {
         let bytes = self.read_slice(4)?;
         Ok(u32::from_be_bytes([bytes[0], bytes[1], bytes[2], bytes[3]]))
     }
 
-    /// A signed number of four bytes, the highest one first.
+    /// Reads a signed 32-bit number in network byte order.
     pub fn read_i32(&mut self) -> Result<i32, DecodeError>
-        ensures ok { IfOk result (λ number. rest self.old ≡ to_be_bytes w32 (cast_unsigned w32 number) ++ rest self.new) }
+        ensures ok { IfOk result (λ number.
+            rest self.old ≡ to_be_bytes w32 (cast_unsigned w32 number) ++ rest self.new) }
         ensures moved { IfOk result (λ _. Advances self.old self.new 4) }
-        ensures short { IfErr result (λ error. (error ≡ DecodeError.InsufficientBytes) × (length (rest self.old) < 4)) }
+        ensures short { IfErr result (λ error.
+            (error ≡ DecodeError.InsufficientBytes) × (length (rest self.old) < 4)) }
         ensures err { OnErr result (self.new ≡ self.old) }
     {
         Ok(self.read_u32()?.cast_signed())
     }
 
-    /// The next byte, as `read_u8` reads it.
+    /// Reads a byte, like `read_u8`.
     pub fn pop(&mut self) -> Result<u8, DecodeError>
         ensures ok { IfOk result (λ byte. rest self.old ≡ byte ∷ rest self.new) }
         ensures moved { IfOk result (λ _. Advances self.old self.new 1) }
-        ensures short { IfErr result (λ error. (error ≡ DecodeError.InsufficientBytes) × (rest self.old ≡ [])) }
+        ensures short { IfErr result (λ error.
+            (error ≡ DecodeError.InsufficientBytes) × (rest self.old ≡ [])) }
         ensures err { OnErr result (self.new ≡ self.old) }
     {
         self.read_u8()
     }
 
-    /// The next bytes, copied.
+    /// Reads the next `len` bytes into a new vector. Nothing is allocated if fewer are unread.
     pub fn read_vec(&mut self, alloc: Global, len: usize) -> Result<Vec<u8>, DecodeError>
         ensures ok { IfOk result (λ bytes. rest self.old ≡ bytes.items ++ rest self.new) }
         ensures len { IfOk result (λ bytes. length bytes.items ≡ len) }
         ensures moved { IfOk result (λ _. Advances self.old self.new len) }
-        ensures short { (result ≡ Err DecodeError.InsufficientBytes) ↔ (length (rest self.old) < len) }
-        ensures only { IfErr result (λ error. (error ≡ DecodeError.InsufficientBytes) ⊎ (error ≡ DecodeError.Memory)) }
+        ensures short { (result ≡ Err DecodeError.InsufficientBytes)
+            ↔ (length (rest self.old) < len) }
+        ensures only { IfErr result (λ error.
+            (error ≡ DecodeError.InsufficientBytes) ⊎ (error ≡ DecodeError.Memory)) }
         ensures err { OnErr result (self.new ≡ self.old) }
     {
         let mut reader = self.clone(self.index);
@@ -162,12 +173,14 @@ impl<'a> BinDecoder<'a> {
         Ok(bytes)
     }
 
-    /// Bytes behind one byte with their number, lent and not copied (RFC 1035 section 3.3).
+    /// Reads character data: a length byte and as many bytes, which are not copied (RFC 1035 section 3.3).
     pub fn read_character_data(&mut self) -> Result<&'a [u8], DecodeError>
-        ensures ok { IfOk result (λ bytes. rest self.old ≡ length bytes.now ∷ (bytes.now ++ rest self.new)) }
+        ensures ok { IfOk result
+            (λ bytes. rest self.old ≡ length bytes.now ∷ (bytes.now ++ rest self.new)) }
         ensures moved { IfOk result (λ bytes. Advances self.old self.new (length bytes.now + 1)) }
         ensures short { IfErr result (λ error. error ≡ DecodeError.InsufficientBytes) }
-        ensures only { (bytes more : List ℕ) → length bytes < 256 → rest self.old ≡ length bytes ∷ (bytes ++ more) → IsOk result }
+        ensures only { (bytes more : List ℕ) → length bytes < 256
+            → rest self.old ≡ length bytes ∷ (bytes ++ more) → IsOk result }
         ensures err { OnErr result (self.new ≡ self.old) }
     {
         let mut reader = self.clone(self.index);
@@ -177,7 +190,7 @@ impl<'a> BinDecoder<'a> {
         Ok(bytes)
     }
 
-    /// The bytes from an earlier place up to the next read, lent and not copied.
+    /// Returns the bytes from an earlier index up to the next one.
     pub fn slice_from(&self, index: usize) -> &'a [u8]
         requires { index ≤ self.now.index }
         ensures { result.now ≡ slice_range self.now.bytes index self.now.index }

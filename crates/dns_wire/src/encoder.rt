@@ -1,4 +1,4 @@
-//! Writing bytes, one after another.
+//! An encoder: writes bytes at an offset of a buffer, up to a size.
 
 ghost use Rattle.std.specs.Prelude.{◌≡◌, ◌≤◌, vec_len, filter, nat_lt};
 
@@ -7,14 +7,31 @@ use crate::error::{EncodeError, ProtoError};
 use crate::name_encoding::NameEncoding;
 use std::alloc::{AllocError, Global};
 
-/// A part of a name that was written, which a pointer can lead to.
+/// The greatest size of a message (RFC 1035 section 4.2.2).
+const MAX_MESSAGE_LEN: usize = 65_535;
+
+/// How many suffixes an encoder remembers.
+const MAX_SUFFIXES: usize = 64;
+
+/// Suffixes are remembered below this offset: a pointer has 14 bits for its target (RFC 1035 section 4.1.4).
+const SUFFIX_OFFSET_LIMIT: usize = 0x3FFF;
+
+/// How many names an encoder tries to compress.
+const MAX_COMPRESSED_NAMES: usize = 120;
+
+/// The greatest length of character data (RFC 1035 section 3.3).
+const MAX_CHARACTER_DATA_LEN: usize = 255;
+
+/// A suffix of a name that was written, which a compression pointer can refer to.
 #[derive(Drop)]
 pub struct Suffix {
     start: u16,
     bytes: Vec<u8>,
 }
 
-/// A writer into lent bytes.
+/// An encoder over a borrowed buffer.
+///
+/// Names are compressed with pointers to the suffixes that it remembers (RFC 1035 section 4.1.4).
 #[derive(Drop)]
 pub struct BinEncoder<'a> {
     buffer: &'a mut Vec<u8>,
@@ -31,27 +48,27 @@ pub struct BinEncoder<'a> {
 impl<'a> BinEncoder<'a> {
     ghost use Rattle.std.specs.Prelude.{◌≡◌, vec_len, ◌+◌, ◌<◌, ◌≤◌, ◌↔◌, ◌⊎◌, nat_lt, if◌then◌else◌, [], ◌∷◌, false, length, replicate, slice_range, IsTrue, IfErr, OnOk, OnErr};
     ghost use Rattle.std.specs.Int.{w16, w32, to_be_bytes, cast_unsigned};
-    ghost use Rattle.dns_wire.specs.Encoder.{written, lender, after_put, put_at, place_of, remember, trimmed, IsAtEnd, TakesBack};
-    ghost use Rattle.dns_wire.specs.Pieces.{Plain, Emits, appended};
+    ghost use Rattle.dns_wire.specs.Encoder.{max_message_len, max_compressed_names, max_character_data_len, state_of, overwrite_at, put_at, place_of, remember, trim_to_offset, IsAtEnd, CanRollBack};
+    ghost use Rattle.dns_wire.specs.Encodable.{Plain, Emits, Puts, append_pieces};
     ghost use Rattle.dns_wire.specs.declared.name_encoding.NameEncoding.TheVariants.{Compressed};
 
-    /// An encoder at the front of the buffer, of at most 65,535 bytes, which compresses names.
+    /// Creates an encoder at the start of the buffer. It compresses names, and its greatest size is 65,535 bytes.
     pub fn new(alloc: Global, buffer: &'a mut Vec<u8>) -> BinEncoder<'a>
-        ensures value { written result ≡ record {
+        ensures { state_of result ≡ record {
           bytes = buffer.old.items;
           offset = 0;
-          limit = 65535;
+          limit = max_message_len;
           encoding = Compressed;
           canonical = false;
           suffixes = [];
           attempts = 0;
+          lender = buffer.entry.ghost_name;
         } }
-        ensures lender { lender result ≡ buffer.entry.ghost_name }
     {
         BinEncoder::with_offset(alloc, buffer, 0, NameEncoding::Compressed)
     }
 
-    /// An encoder at a place of the buffer, of at most 65,535 bytes, which writes names in this way.
+    /// Creates an encoder at an offset of the buffer, with this encoding of names and a greatest size of 65,535 bytes.
     pub fn with_offset(
         alloc: Global,
         buffer: &'a mut Vec<u8>,
@@ -59,21 +76,21 @@ impl<'a> BinEncoder<'a> {
         name_encoding: NameEncoding,
     ) -> BinEncoder<'a>
         requires within { offset ≤ vec_len buffer.old }
-        ensures value { written result ≡ record {
+        ensures { state_of result ≡ record {
           bytes = buffer.old.items;
           offset = offset;
-          limit = 65535;
+          limit = max_message_len;
           encoding = name_encoding;
           canonical = false;
           suffixes = [];
           attempts = 0;
+          lender = buffer.entry.ghost_name;
         } }
-        ensures lender { lender result ≡ buffer.entry.ghost_name }
     {
         BinEncoder {
             buffer,
             offset,
-            max_size: 65535,
+            max_size: MAX_MESSAGE_LEN,
             name_encoding,
             canonical_form: false,
             suffixes: Vec::new(alloc),
@@ -81,10 +98,10 @@ impl<'a> BinEncoder<'a> {
         }
     }
 
-    /// The buffer, given back.
+    /// Returns the buffer.
     pub fn into_bytes(self) -> &'a mut Vec<u8>
-        ensures value { result.now.items ≡ (written self.entry).bytes }
-        ensures lender { result.ghost_name ≡ lender self.entry }
+        ensures value { result.now.items ≡ (state_of self.entry).bytes }
+        ensures lender { result.ghost_name ≡ (state_of self.entry).lender }
     {
         let BinEncoder {
             buffer,
@@ -99,84 +116,75 @@ impl<'a> BinEncoder<'a> {
         buffer
     }
 
-    /// The place of the next byte.
+    /// Returns the offset of the next byte.
     pub fn offset(&self) -> usize
-        ensures value { result ≡ (written self.now).offset }
-        ensures within { result ≤ length (written self.now).bytes }
-        ensures small { (written self.now).limit ≤ 65535 }
+        ensures value { result ≡ (state_of self.now).offset }
+        ensures within { result ≤ length (state_of self.now).bytes }
+        ensures small { (state_of self.now).limit ≤ max_message_len }
     {
         self.offset
     }
 
-    /// How many bytes the buffer has.
+    /// Returns the length of the buffer.
     pub fn len(&self) -> usize
-        ensures { result ≡ length (written self.now).bytes }
+        ensures { result ≡ length (state_of self.now).bytes }
     {
         self.buffer.len()
     }
 
-    /// Whether the buffer has no byte.
+    /// Returns true if the buffer is empty.
     pub fn is_empty(&self) -> bool
-        ensures { IsTrue result ↔ ((written self.now).bytes ≡ []) }
+        ensures { IsTrue result ↔ ((state_of self.now).bytes ≡ []) }
     {
         self.buffer.is_empty()
     }
 
-    /// Goes to another place of the buffer.
+    /// Sets the offset of the next byte.
     pub fn set_offset(&mut self, offset: usize)
-        requires { offset ≤ length (written self.old).bytes }
-        ensures value { written self.new ≡ record (written self.old) { offset = offset } }
-        ensures lender { lender self.new ≡ lender self.old }
+        requires { offset ≤ length (state_of self.old).bytes }
+        ensures { state_of self.new ≡ record (state_of self.old) { offset = offset } }
     {
         self.offset = offset;
     }
 
-    /// Sets how many bytes the buffer may have.
+    /// Sets the greatest size of the buffer.
     pub fn set_max_size(&mut self, max: u16)
-        ensures value { written self.new ≡ record (written self.old) { limit = max } }
-        ensures lender { lender self.new ≡ lender self.old }
+        ensures { state_of self.new ≡ record (state_of self.old) { limit = max } }
     {
         self.max_size = usize::from(max);
     }
 
-    /// How names are written.
+    /// Returns how names are encoded.
     pub fn name_encoding(&self) -> NameEncoding
-        ensures { result ≡ (written self.now).encoding }
+        ensures { result ≡ (state_of self.now).encoding }
     {
         self.name_encoding
     }
 
-    /// Sets how names are written.
+    /// Sets how names are encoded.
     pub fn set_name_encoding(&mut self, encoding: NameEncoding)
-        ensures value { written self.new ≡ record (written self.old) { encoding = encoding } }
-        ensures lender { lender self.new ≡ lender self.old }
+        ensures { state_of self.new ≡ record (state_of self.old) { encoding = encoding } }
     {
         self.name_encoding = encoding;
     }
 
-    /// Whether record data is written in its canonical form (RFC 4034 section 6.2).
+    /// Returns true if record data is written in canonical form (RFC 4034 section 6.2).
     pub fn is_canonical_form(&self) -> bool
-        ensures { result ≡ (written self.now).canonical }
+        ensures { result ≡ (state_of self.now).canonical }
     {
         self.canonical_form
     }
 
-    /// Sets whether record data is written in its canonical form.
+    /// Sets whether record data is written in canonical form.
     pub fn set_canonical_form(&mut self, canonical_form: bool)
-        ensures value { written self.new ≡ record (written self.old) { canonical = canonical_form } }
-        ensures lender { lender self.new ≡ lender self.old }
+        ensures { state_of self.new ≡ record (state_of self.old) { canonical = canonical_form } }
     {
         self.canonical_form = canonical_form;
     }
 
-    /// Writes bytes at the offset.
+    /// Writes bytes at the offset. They overwrite what is there, and extend the buffer past its end.
     pub fn emit_vec(&mut self, bytes: &[u8]) -> Result<(), EncodeError>
-        ensures ok { OnOk result (written self.new ≡ after_put (written self.old) bytes.now) }
-        ensures room { OnOk result ((written self.old).offset + length bytes.now ≤ (written self.old).limit) }
-        ensures full { (result ≡ Err EncodeError.MaxBufferSizeExceeded) ↔ ((written self.old).limit < (written self.old).offset + length bytes.now) }
-        ensures err { OnErr result (written self.new ≡ written self.old) }
-        ensures at_end { IsAtEnd (written self.old) → Emits (written self.old) (Plain bytes.now ∷ []) result (written self.new) }
-        ensures lender { lender self.new ≡ lender self.old }
+        ensures { Puts (state_of self.old) bytes.now result (state_of self.new) }
     {
         let offset = self.offset;
         if bytes.len() > self.max_size || offset > self.max_size - bytes.len() {
@@ -191,76 +199,57 @@ impl<'a> BinEncoder<'a> {
 
     /// Writes a byte.
     pub fn emit_u8(&mut self, byte: u8) -> Result<(), EncodeError>
-        ensures ok { OnOk result (written self.new ≡ after_put (written self.old) (byte ∷ [])) }
-        ensures room { OnOk result ((written self.old).offset + 1 ≤ (written self.old).limit) }
-        ensures full { (result ≡ Err EncodeError.MaxBufferSizeExceeded) ↔ ((written self.old).limit < (written self.old).offset + 1) }
-        ensures err { OnErr result (written self.new ≡ written self.old) }
-        ensures at_end { IsAtEnd (written self.old) → Emits (written self.old) (Plain (byte ∷ []) ∷ []) result (written self.new) }
-        ensures lender { lender self.new ≡ lender self.old }
+        ensures { Puts (state_of self.old) (byte ∷ []) result (state_of self.new) }
     {
         self.emit_vec(&[byte])
     }
 
-    /// Writes a number of two bytes, the high one first.
+    /// Writes a 16-bit number in network byte order.
     pub fn emit_u16(&mut self, number: u16) -> Result<(), EncodeError>
-        ensures ok { OnOk result (written self.new ≡ after_put (written self.old) (to_be_bytes w16 number)) }
-        ensures room { OnOk result ((written self.old).offset + 2 ≤ (written self.old).limit) }
-        ensures full { (result ≡ Err EncodeError.MaxBufferSizeExceeded) ↔ ((written self.old).limit < (written self.old).offset + 2) }
-        ensures err { OnErr result (written self.new ≡ written self.old) }
-        ensures at_end { IsAtEnd (written self.old) → Emits (written self.old) (Plain (to_be_bytes w16 number) ∷ []) result (written self.new) }
-        ensures lender { lender self.new ≡ lender self.old }
+        ensures { Puts (state_of self.old) (to_be_bytes w16 number) result (state_of self.new) }
     {
         self.emit_vec(&number.to_be_bytes())
     }
 
-    /// Writes a number of four bytes, the highest one first.
+    /// Writes a 32-bit number in network byte order.
     pub fn emit_u32(&mut self, number: u32) -> Result<(), EncodeError>
-        ensures ok { OnOk result (written self.new ≡ after_put (written self.old) (to_be_bytes w32 number)) }
-        ensures room { OnOk result ((written self.old).offset + 4 ≤ (written self.old).limit) }
-        ensures full { (result ≡ Err EncodeError.MaxBufferSizeExceeded) ↔ ((written self.old).limit < (written self.old).offset + 4) }
-        ensures err { OnErr result (written self.new ≡ written self.old) }
-        ensures at_end { IsAtEnd (written self.old) → Emits (written self.old) (Plain (to_be_bytes w32 number) ∷ []) result (written self.new) }
-        ensures lender { lender self.new ≡ lender self.old }
+        ensures { Puts (state_of self.old) (to_be_bytes w32 number) result (state_of self.new) }
     {
         self.emit_vec(&number.to_be_bytes())
     }
 
-    /// Writes a signed number of four bytes, the highest one first.
+    /// Writes a signed 32-bit number in network byte order.
     pub fn emit_i32(&mut self, number: i32) -> Result<(), EncodeError>
-        ensures ok { OnOk result (written self.new ≡ after_put (written self.old) (to_be_bytes w32 (cast_unsigned w32 number))) }
-        ensures room { OnOk result ((written self.old).offset + 4 ≤ (written self.old).limit) }
-        ensures full { (result ≡ Err EncodeError.MaxBufferSizeExceeded) ↔ ((written self.old).limit < (written self.old).offset + 4) }
-        ensures err { OnErr result (written self.new ≡ written self.old) }
-        ensures at_end { IsAtEnd (written self.old) → Emits (written self.old) (Plain (to_be_bytes w32 (cast_unsigned w32 number)) ∷ []) result (written self.new) }
-        ensures lender { lender self.new ≡ lender self.old }
+        ensures { Puts (state_of self.old) (to_be_bytes w32 (cast_unsigned w32 number))
+            result (state_of self.new) }
     {
         self.emit_u32(number.cast_unsigned())
     }
 
-    /// Writes a byte, as `emit_u8` does.
+    /// Writes a byte, like `emit_u8`.
     pub fn emit(&mut self, byte: u8) -> Result<(), EncodeError>
-        ensures ok { OnOk result (written self.new ≡ after_put (written self.old) (byte ∷ [])) }
-        ensures room { OnOk result ((written self.old).offset + 1 ≤ (written self.old).limit) }
-        ensures full { (result ≡ Err EncodeError.MaxBufferSizeExceeded) ↔ ((written self.old).limit < (written self.old).offset + 1) }
-        ensures err { OnErr result (written self.new ≡ written self.old) }
-        ensures at_end { IsAtEnd (written self.old) → Emits (written self.old) (Plain (byte ∷ []) ∷ []) result (written self.new) }
-        ensures lender { lender self.new ≡ lender self.old }
+        ensures { Puts (state_of self.old) (byte ∷ []) result (state_of self.new) }
     {
         self.emit_u8(byte)
     }
 
-    /// Writes bytes behind one byte with their number (RFC 1035 section 3.3).
+    /// Writes character data: a length byte and at most 255 bytes (RFC 1035 section 3.3).
     pub fn emit_character_data_unrestricted(&mut self, bytes: &[u8]) -> Result<(), EncodeError>
         requires { length bytes.now < 256 }
-        ensures ok { OnOk result (written self.new ≡ after_put (after_put (written self.old) (length bytes.now ∷ [])) bytes.now) }
-        ensures room { OnOk result ((written self.old).offset + 1 + length bytes.now ≤ (written self.old).limit) }
-        ensures full { (result ≡ Err EncodeError.MaxBufferSizeExceeded) ↔ ((written self.old).limit < (written self.old).offset + 1 + length bytes.now) }
-        ensures no_room { (written self.old).limit < (written self.old).offset + 1 + length bytes.now → written self.new ≡ written self.old }
-        // Want of memory may leave the length.
-        ensures err { OnErr result ((written self.new ≡ written self.old) ⊎ (written self.new ≡ after_put (written self.old) (length bytes.now ∷ []))) }
-        ensures at_end { IsAtEnd (written self.old)
-            → Emits (written self.old) (Plain (length bytes.now ∷ []) ∷ Plain bytes.now ∷ []) result (written self.new) }
-        ensures lender { lender self.new ≡ lender self.old }
+        ensures ok { OnOk result (state_of self.new
+            ≡ overwrite_at (overwrite_at (state_of self.old) (length bytes.now ∷ [])) bytes.now) }
+        ensures room { OnOk result
+            ((state_of self.old).offset + 1 + length bytes.now ≤ (state_of self.old).limit) }
+        ensures full { (result ≡ Err EncodeError.MaxBufferSizeExceeded)
+            ↔ ((state_of self.old).limit < (state_of self.old).offset + 1 + length bytes.now) }
+        ensures no_room { (state_of self.old).limit < (state_of self.old).offset + 1 + length bytes.now
+            → state_of self.new ≡ state_of self.old }
+        // If memory runs out, the length byte may remain.
+        ensures err { OnErr result ((state_of self.new ≡ state_of self.old)
+            ⊎ (state_of self.new ≡ overwrite_at (state_of self.old) (length bytes.now ∷ []))) }
+        ensures at_end { IsAtEnd (state_of self.old)
+            → Emits (state_of self.old) (Plain (length bytes.now ∷ []) ∷ Plain bytes.now ∷ [])
+            result (state_of self.new) }
     {
         if !self.has_room(bytes.len() + 1) {
             return Err(EncodeError::MaxBufferSizeExceeded);
@@ -269,42 +258,48 @@ impl<'a> BinEncoder<'a> {
         self.emit_vec(bytes)
     }
 
-    /// Writes at most 255 bytes behind one byte with their number (RFC 1035 section 3.3).
+    /// Writes character data: a length byte and the bytes (RFC 1035 section 3.3). More than 255 bytes are refused.
     pub fn emit_character_data(&mut self, bytes: &[u8]) -> Result<(), ProtoError>
-        ensures ok { OnOk result (written self.new ≡ after_put (after_put (written self.old) (length bytes.now ∷ [])) bytes.now) }
-        ensures room { OnOk result ((written self.old).offset + 1 + length bytes.now ≤ (written self.old).limit) }
-        ensures long { (result ≡ Err (ProtoError.CharacterDataTooLong (length bytes.now))) ↔ (255 < length bytes.now) }
-        ensures untouched { 255 < length bytes.now → written self.new ≡ written self.old }
-        ensures full { length bytes.now < 256 → ((result ≡ Err ProtoError.MaxBufferSizeExceeded) ↔ ((written self.old).limit < (written self.old).offset + 1 + length bytes.now)) }
-        ensures only { IfErr result (λ error. (error ≡ ProtoError.Memory) ⊎ (error ≡ ProtoError.MaxBufferSizeExceeded) ⊎ (error ≡ ProtoError.CharacterDataTooLong (length bytes.now))) }
-        ensures no_room { (written self.old).limit < (written self.old).offset + 1 + length bytes.now → written self.new ≡ written self.old }
-        ensures err { OnErr result ((written self.new ≡ written self.old) ⊎ (written self.new ≡ after_put (written self.old) (length bytes.now ∷ []))) }
-        ensures appended { IsAtEnd (written self.old) → OnOk result (written self.new ≡ appended (written self.old) (Plain (length bytes.now ∷ []) ∷ Plain bytes.now ∷ [])) }
-        ensures back { IsAtEnd (written self.old) → OnErr result (TakesBack (written self.old) (written self.new)) }
-        ensures lender { lender self.new ≡ lender self.old }
+        ensures ok { OnOk result (state_of self.new
+            ≡ overwrite_at (overwrite_at (state_of self.old) (length bytes.now ∷ [])) bytes.now) }
+        ensures room { OnOk result
+            ((state_of self.old).offset + 1 + length bytes.now ≤ (state_of self.old).limit) }
+        ensures long { (result ≡ Err (ProtoError.CharacterDataTooLong (length bytes.now)))
+            ↔ (max_character_data_len < length bytes.now) }
+        ensures untouched { max_character_data_len < length bytes.now
+            → state_of self.new ≡ state_of self.old }
+        ensures full { length bytes.now < 256 → ((result ≡ Err ProtoError.MaxBufferSizeExceeded)
+            ↔ ((state_of self.old).limit < (state_of self.old).offset + 1 + length bytes.now)) }
+        ensures only { IfErr result (λ error. (error ≡ ProtoError.Memory)
+            ⊎ (error ≡ ProtoError.MaxBufferSizeExceeded)
+            ⊎ (error ≡ ProtoError.CharacterDataTooLong (length bytes.now))) }
+        ensures no_room { (state_of self.old).limit < (state_of self.old).offset + 1 + length bytes.now
+            → state_of self.new ≡ state_of self.old }
+        ensures err { OnErr result ((state_of self.new ≡ state_of self.old)
+            ⊎ (state_of self.new ≡ overwrite_at (state_of self.old) (length bytes.now ∷ []))) }
+        ensures appended { IsAtEnd (state_of self.old) → OnOk result (state_of self.new
+            ≡ append_pieces (state_of self.old)
+            (Plain (length bytes.now ∷ []) ∷ Plain bytes.now ∷ [])) }
+        ensures back { IsAtEnd (state_of self.old)
+            → OnErr result (CanRollBack (state_of self.old) (state_of self.new)) }
     {
-        if bytes.len() > 255 {
+        if bytes.len() > MAX_CHARACTER_DATA_LEN {
             return Err(ProtoError::CharacterDataTooLong { len: bytes.len() });
         }
         self.emit_character_data_unrestricted(bytes)?;
         Ok(())
     }
 
-    /// Whether so many bytes have room behind the offset.
+    /// Returns true if `len` bytes at the offset are within the greatest size.
     fn has_room(&self, len: usize) -> bool
-        ensures { IsTrue result ↔ ((written self.now).offset + len ≤ (written self.now).limit) }
+        ensures { IsTrue result ↔ ((state_of self.now).offset + len ≤ (state_of self.now).limit) }
     {
         len <= self.max_size && self.offset <= self.max_size - len
     }
 
-    /// Writes so many zero bytes. Where they have no room, no memory is asked for.
+    /// Writes `len` zero bytes. Nothing is allocated if they would pass the greatest size.
     pub(crate) fn emit_zeros(&mut self, len: usize) -> Result<(), EncodeError>
-        ensures ok { OnOk result (written self.new ≡ after_put (written self.old) (replicate len 0)) }
-        ensures room { OnOk result ((written self.old).offset + len ≤ (written self.old).limit) }
-        ensures full { (result ≡ Err EncodeError.MaxBufferSizeExceeded) ↔ ((written self.old).limit < (written self.old).offset + len) }
-        ensures err { OnErr result (written self.new ≡ written self.old) }
-        ensures at_end { IsAtEnd (written self.old) → Emits (written self.old) (Plain (replicate len 0) ∷ []) result (written self.new) }
-        ensures lender { lender self.new ≡ lender self.old }
+        ensures { Puts (state_of self.old) (replicate len 0) result (state_of self.new) }
     {
         if !self.has_room(len) {
             return Err(EncodeError::MaxBufferSizeExceeded);
@@ -313,36 +308,38 @@ impl<'a> BinEncoder<'a> {
         self.emit_vec(&zeros)
     }
 
-    /// How many bytes the buffer may have.
+    /// Returns the greatest size of the buffer.
     pub(crate) fn max_size(&self) -> usize
-        ensures { result ≡ (written self.now).limit }
+        ensures { result ≡ (state_of self.now).limit }
     {
         self.max_size
     }
 
-    /// Writes a value over the bytes at a place.
+    /// Overwrites the bytes at `start` with a value.
     pub(crate) fn fill_at<T: EncodedSize>(&mut self, start: usize, value: &T)
-        requires { start + T.LEN ≤ length (written self.old).bytes }
-        ensures value { written self.new ≡ record (written self.old) { bytes = put_at start (T.wire value.now) (written self.old).bytes } }
-        ensures lender { lender self.new ≡ lender self.old }
+        requires { start + T.LEN ≤ length (state_of self.old).bytes }
+        ensures { state_of self.new ≡ record (state_of self.old) {
+          bytes = put_at start (T.wire value.now) (state_of self.old).bytes;
+        } }
     {
         value.fill(&mut self.buffer[start..start + T::LEN]);
     }
 
-    /// The bytes of a range, lent.
+    /// Returns a range of the buffer.
     pub fn slice_of(&self, start: usize, end: usize) -> &[u8]
         requires order { start ≤ end }
-        requires within { end ≤ length (written self.now).bytes }
-        ensures { result.now ≡ slice_range (written self.now).bytes start end }
+        requires within { end ≤ length (state_of self.now).bytes }
+        ensures { result.now ≡ slice_range (state_of self.now).bytes start end }
     {
         &self.buffer[start..end]
     }
 
-    /// The earliest place at which the bytes of a range are remembered.
+    /// Returns the offset of the first remembered suffix that equals a range of the buffer.
     pub fn get_label_pointer(&self, start: usize, end: usize) -> Option<u16>
         requires order { start ≤ end }
-        requires within { end ≤ length (written self.now).bytes }
-        ensures { result ≡ place_of (written self.now).suffixes (slice_range (written self.now).bytes start end) }
+        requires within { end ≤ length (state_of self.now).bytes }
+        ensures { result ≡ place_of (state_of self.now).suffixes
+            (slice_range (state_of self.now).bytes start end) }
     {
         let bytes = self.slice_of(start, end);
         for suffix in &self.suffixes {
@@ -353,17 +350,18 @@ impl<'a> BinEncoder<'a> {
         None
     }
 
-    /// Remembers the bytes of a range, unless they are held, or lie too far for a pointer, or 64 are held.
+    /// Remembers a range of the buffer as a suffix. Does nothing if it is remembered already, if no pointer could reach
+    /// it, or if 64 suffixes are remembered.
     pub fn store_label_pointer(&mut self, start: usize, end: usize) -> Result<(), AllocError>
         requires order { start ≤ end }
-        requires within { end ≤ length (written self.old).bytes }
-        ensures ok { OnOk result (written self.new ≡ record (written self.old) {
-          suffixes = remember (written self.old).suffixes start (slice_range (written self.old).bytes start end);
+        requires within { end ≤ length (state_of self.old).bytes }
+        ensures ok { OnOk result (state_of self.new ≡ record (state_of self.old) {
+          suffixes = remember (state_of self.old).suffixes start
+              (slice_range (state_of self.old).bytes start end);
         }) }
-        ensures err { OnErr result (written self.new ≡ written self.old) }
-        ensures lender { lender self.new ≡ lender self.old }
+        ensures err { OnErr result (state_of self.new ≡ state_of self.old) }
     {
-        if start >= 0x3FFF || self.suffixes.len() >= 64 {
+        if start >= SUFFIX_OFFSET_LIMIT || self.suffixes.len() >= MAX_SUFFIXES {
             return Ok(());
         }
         if self.get_label_pointer(start, end).is_some() {
@@ -377,17 +375,17 @@ impl<'a> BinEncoder<'a> {
         Ok(())
     }
 
-    /// Counts the beginning of a name that could be compressed, and answers whether it is to be: the first 120 are.
+    /// Counts a name that could be compressed, and returns true if it should be: the first 120 are.
     ///
-    /// What writes a name in the compressing encoding calls it once, first of all.
+    /// Call it once for each name that is written in the compressing encoding, before the name's first byte.
     pub fn begin_name(&mut self) -> bool
-        ensures value { result ≡ nat_lt (written self.old).attempts 120 }
-        ensures counts { written self.new ≡ record (written self.old) {
-          attempts = if nat_lt (written self.old).attempts 120 then (written self.old).attempts + 1 else (written self.old).attempts;
+        ensures value { result ≡ nat_lt (state_of self.old).attempts max_compressed_names }
+        ensures counts { state_of self.new ≡ record (state_of self.old) {
+          attempts = if nat_lt (state_of self.old).attempts max_compressed_names
+              then (state_of self.old).attempts + 1 else (state_of self.old).attempts;
         } }
-        ensures lender { lender self.new ≡ lender self.old }
     {
-        if self.attempts < 120 {
+        if self.attempts < MAX_COMPRESSED_NAMES {
             self.attempts += 1;
             true
         } else {
@@ -395,10 +393,9 @@ impl<'a> BinEncoder<'a> {
         }
     }
 
-    /// Cuts the buffer back to the offset, and forgets the suffixes from there on.
+    /// Truncates the buffer to the offset, and forgets the suffixes from there on.
     pub fn trim(&mut self)
-        ensures value { written self.new ≡ trimmed (written self.old) }
-        ensures lender { lender self.new ≡ lender self.old }
+        ensures { state_of self.new ≡ trim_to_offset (state_of self.old) }
     {
         let offset = self.offset;
         self.buffer.truncate(offset);
@@ -406,7 +403,7 @@ impl<'a> BinEncoder<'a> {
     }
 }
 
-/// Forgets the suffixes from a place on.
+/// Forgets the suffixes that start at `place` or later.
 fn forget_from(suffixes: &mut Vec<Suffix>, place: usize)
     ensures { suffixes.new.items ≡ filter (λ s. nat_lt s.start place) suffixes.old.items }
 {

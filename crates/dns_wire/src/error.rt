@@ -1,30 +1,30 @@
-//! Why bytes could not be read or written.
+//! The errors of decoding and encoding.
 
 use std::alloc::{AllocError, AllocFailed};
 use thiserror::Error;
 
-/// Why bytes could not be read.
+/// An error of decoding.
 #[derive(Debug, Drop, Error)]
 pub enum DecodeError {
-    /// Fewer bytes are left than the read needs.
-    #[error("unexpected end of the bytes")]
+    /// Fewer bytes are unread than the read requires.
+    #[error("unexpected end of input")]
     InsufficientBytes,
-    /// A pointer that doesn't lead strictly before the labels it follows (RFC 1035 section 4.1.4).
-    #[error("a pointer that does not lead back before its labels")]
+    /// A compression pointer does not point before the labels that it follows (RFC 1035 section 4.1.4).
+    #[error("compression pointer does not point before its labels")]
     PointerNotPriorToLabel,
-    /// The two high bits of a length byte are 01 or 10 (RFC 1035 section 4.1.4).
-    #[error("a label's length begins with bits that have no meaning")]
+    /// The high bits of a label's length byte are 01 or 10 (RFC 1035 section 4.1.4).
+    #[error("label length has reserved high bits")]
     UnrecognizedLabelCode,
-    /// A name that takes more than 255 bytes (RFC 1035 section 2.3.4).
-    #[error("a name of more than 255 bytes")]
+    /// A name is longer than 255 bytes (RFC 1035 section 2.3.4).
+    #[error("name is longer than 255 bytes")]
     DomainNameTooLong,
-    /// A record's data that doesn't take exactly the length before it (RFC 1035 section 4.1.3).
-    #[error("record data that does not take exactly its length")]
+    /// The data of a record does not have exactly its length (RFC 1035 section 4.1.3).
+    #[error("record data does not have its stated length")]
     IncorrectRDataLengthRead,
-    /// Record data of a type that isn't read.
-    #[error("record data of a type that is not read")]
+    /// Record data of a type that cannot be decoded.
+    #[error("record data of an unsupported type")]
     UnsupportedRecordType,
-    /// Memory was refused.
+    /// Memory could not be allocated.
     #[error("out of memory")]
     Memory,
 }
@@ -51,13 +51,13 @@ impl<T: Drop> From<AllocFailed<T>> for DecodeError {
     }
 }
 
-/// Why bytes could not be written.
+/// An error of encoding.
 #[derive(Debug, Drop, Error)]
 pub enum EncodeError {
-    /// The write would pass the greatest size of the buffer.
-    #[error("the buffer's greatest size would be passed")]
+    /// The write would exceed the greatest size of the buffer.
+    #[error("maximum buffer size exceeded")]
     MaxBufferSizeExceeded,
-    /// Memory was refused.
+    /// Memory could not be allocated.
     #[error("out of memory")]
     Memory,
 }
@@ -84,26 +84,26 @@ impl<T: Drop> From<AllocFailed<T>> for EncodeError {
     }
 }
 
-/// Why a list or a text could not be written.
+/// An error of encoding a list or character data.
 #[derive(Debug, Drop, Error)]
 pub enum ProtoError {
-    /// An item of a list didn't fit, after so many that did.
+    /// An item of a list did not fit, after `count` items that did.
     #[error("not all records could be written, only {count}")]
     NotAllRecordsWritten { count: usize },
-    /// A text of more than 255 bytes (RFC 1035 section 3.3).
-    #[error("character data of {len} bytes, where at most 255 can be written")]
+    /// Character data is longer than 255 bytes (RFC 1035 section 3.3).
+    #[error("character data of {len} bytes exceeds 255 bytes")]
     CharacterDataTooLong { len: usize },
-    /// The write would pass the greatest size of the buffer.
-    #[error("the buffer's greatest size would be passed")]
+    /// The write would exceed the greatest size of the buffer.
+    #[error("maximum buffer size exceeded")]
     MaxBufferSizeExceeded,
-    /// Memory was refused.
+    /// Memory could not be allocated.
     #[error("out of memory")]
     Memory,
 }
 
 impl From<EncodeError> for ProtoError {
     ghost use Rattle.std.specs.Prelude.{◌≡◌};
-    ghost use Rattle.dns_wire.specs.Items.{proto_error};
+    ghost use Rattle.dns_wire.specs.Error.{proto_error};
 
     ghost from_gives = { λ error e. e ≡ proto_error error };
 

@@ -1,9 +1,9 @@
-//! Writing items one after another.
+//! Lists of values, written one after another.
 
-ghost use Rattle.std.specs.Prelude.{◌≡◌, length, IfOk, IfErr, IsOk, OnErr};
-ghost use Rattle.dns_wire.specs.Encoder.{written, lender, IsAtEnd, TakesBack};
-ghost use Rattle.dns_wire.specs.Items.{kept, all_pieces, after_all};
-ghost use Rattle.dns_wire.specs.Pieces.{sofar, AllBehind, AreWritable};
+ghost use Rattle.std.specs.Prelude.{◌≡◌, [], ◌∷◌, if◌then◌else◌, length, IfOk, IfErr, IsOk, OnErr};
+ghost use Rattle.dns_wire.specs.Encoder.{state_of, IsAtEnd, CanRollBack};
+ghost use Rattle.dns_wire.specs.Items.{fitting_items, fitting_pieces, append_fitting, lent_pieces};
+ghost use Rattle.dns_wire.specs.Encodable.{position_of, AllBehind, AreWritable};
 
 use crate::encodable::BinEncodable;
 use crate::encoder::BinEncoder;
@@ -15,20 +15,26 @@ impl<'a> BinEncoder<'a> {
     ghost use Rattle.std.specs.Iterator.{IsFinite, Drains};
     ghost use Rattle.std.specs.Borrow.{Bor};
 
-    /// Writes items at the end, and answers how many: all of them. One that doesn't fit is taken back, and the refusal
-    /// says how many were written before it.
+    /// Writes all items at the end, and returns their number. If one does not fit, it is rolled back, those before it
+    /// stay, and the error counts them.
     pub fn emit_all<T: BinEncodable>(&mut self, items: &[T]) -> Result<usize, ProtoError>
-        requires at_end { IsAtEnd (written self.old) }
-        requires behind { AllBehind (sofar (written self.old)) }
-        ensures all { IfOk result (λ n. (n ≡ length items.now) × (kept T.pieces (written self.old).limit (sofar (written self.old)) items.now ≡ items.now)) }
+        requires at_end { IsAtEnd (state_of self.old) }
+        requires behind { AllBehind (position_of (state_of self.old)) }
+        ensures all { IfOk result (λ n. (n ≡ length items.now)
+            × (fitting_items T.pieces (state_of self.old) items.now ≡ items.now)) }
         ensures not_all { IfErr result (λ error. (error ≡ ProtoError.Memory)
-            ⊎ ((error ≡ ProtoError.NotAllRecordsWritten (length (kept T.pieces (written self.old).limit (sofar (written self.old)) items.now)))
-            × (length (kept T.pieces (written self.old).limit (sofar (written self.old)) items.now) < length items.now))) }
-        ensures wrote { result ≢ Err ProtoError.Memory → written self.new ≡ after_all T.pieces (written self.old) items.now }
+            ⊎ ((error ≡ ProtoError.NotAllRecordsWritten
+            (length (fitting_items T.pieces (state_of self.old) items.now)))
+            × (length (fitting_items T.pieces (state_of self.old) items.now) < length items.now))) }
+        ensures wrote { result ≢ Err ProtoError.Memory
+            → state_of self.new ≡ append_fitting T.pieces (state_of self.old) items.now }
         ensures writable { result ≢ Err ProtoError.Memory
-            → AreWritable (all_pieces T.pieces (sofar (written self.old)) (kept T.pieces (written self.old).limit (sofar (written self.old)) items.now)) }
-        ensures back { result ≡ Err ProtoError.Memory → TakesBack (written self.old) (written self.new) }
-        ensures lender { lender self.new ≡ lender self.old }
+            → AreWritable (fitting_pieces T.pieces (state_of self.old) items.now) }
+        ensures at_end { result ≢ Err ProtoError.Memory → IsAtEnd (state_of self.new) }
+        ensures behind { result ≢ Err ProtoError.Memory
+            → AllBehind (position_of (state_of self.new)) }
+        ensures back { result ≡ Err ProtoError.Memory
+            → CanRollBack (state_of self.old) (state_of self.new) }
     {
         let count = emit_fitting(items, self)?;
         if count < items.len() {
@@ -37,59 +43,79 @@ impl<'a> BinEncoder<'a> {
         Ok(count)
     }
 
-    /// Writes lent items, as `emit_all` does.
+    /// Writes items behind references, like `emit_all`.
     pub fn emit_all_refs<T: BinEncodable>(&mut self, items: &[&T]) -> Result<usize, ProtoError>
-        requires at_end { IsAtEnd (written self.old) }
-        requires behind { AllBehind (sofar (written self.old)) }
-        ensures all { IfOk result (λ n. (n ≡ length items.now) × (kept (λ x s. T.pieces x.now s) (written self.old).limit (sofar (written self.old)) items.now ≡ items.now)) }
+        requires at_end { IsAtEnd (state_of self.old) }
+        requires behind { AllBehind (position_of (state_of self.old)) }
+        ensures all { IfOk result (λ n. (n ≡ length items.now)
+            × (fitting_items (lent_pieces T.pieces) (state_of self.old) items.now ≡ items.now)) }
         ensures not_all { IfErr result (λ error. (error ≡ ProtoError.Memory)
-            ⊎ ((error ≡ ProtoError.NotAllRecordsWritten (length (kept (λ x s. T.pieces x.now s) (written self.old).limit (sofar (written self.old)) items.now)))
-            × (length (kept (λ x s. T.pieces x.now s) (written self.old).limit (sofar (written self.old)) items.now) < length items.now))) }
-        ensures wrote { result ≢ Err ProtoError.Memory → written self.new ≡ after_all (λ x s. T.pieces x.now s) (written self.old) items.now }
+            ⊎ ((error ≡ ProtoError.NotAllRecordsWritten
+            (length (fitting_items (lent_pieces T.pieces) (state_of self.old) items.now)))
+            × (length (fitting_items (lent_pieces T.pieces) (state_of self.old) items.now)
+            < length items.now))) }
+        ensures wrote { result ≢ Err ProtoError.Memory
+            → state_of self.new
+            ≡ append_fitting (lent_pieces T.pieces) (state_of self.old) items.now }
         ensures writable { result ≢ Err ProtoError.Memory
-            → AreWritable (all_pieces (λ x s. T.pieces x.now s) (sofar (written self.old)) (kept (λ x s. T.pieces x.now s) (written self.old).limit (sofar (written self.old)) items.now)) }
-        ensures back { result ≡ Err ProtoError.Memory → TakesBack (written self.old) (written self.new) }
-        ensures lender { lender self.new ≡ lender self.old }
+            → AreWritable (fitting_pieces (lent_pieces T.pieces) (state_of self.old) items.now) }
+        ensures at_end { result ≢ Err ProtoError.Memory → IsAtEnd (state_of self.new) }
+        ensures behind { result ≢ Err ProtoError.Memory
+            → AllBehind (position_of (state_of self.new)) }
+        ensures back { result ≡ Err ProtoError.Memory
+            → CanRollBack (state_of self.old) (state_of self.new) }
     {
         self.emit_all(items)
     }
 
-    /// Writes what an iterator lends, as `emit_all` does. All of it is taken before the first is written.
+    /// Writes the items of an iterator, like `emit_all`. They are collected before the first one is written.
     pub fn emit_iter<'e, T: BinEncodable + 'e, I: Iterator<Item = &'e T> + Drop>(
         &mut self,
         alloc: Global,
         items: I,
     ) -> Result<usize, ProtoError>
-        requires at_end { IsAtEnd (written self.old) }
-        requires behind { AllBehind (sofar (written self.old)) }
+        requires at_end { IsAtEnd (state_of self.old) }
+        requires behind { AllBehind (position_of (state_of self.old)) }
         requires can { I.can_next items }
         requires ends { IsFinite (I.remaining items) }
-        ensures gives { (xs : List (Bor T)) × (result ≢ Err ProtoError.Memory → Drains I.next_gives items xs × (written self.new ≡ after_all (λ x s. T.pieces x.now s) (written self.old) xs)
-            × AreWritable (all_pieces (λ x s. T.pieces x.now s) (sofar (written self.old)) (kept (λ x s. T.pieces x.now s) (written self.old).limit (sofar (written self.old)) xs)))
-            × IfOk result (λ n. (n ≡ length xs) × (kept (λ x s. T.pieces x.now s) (written self.old).limit (sofar (written self.old)) xs ≡ xs))
-            × IfErr result (λ error. (error ≡ ProtoError.Memory) ⊎ ((error ≡ ProtoError.NotAllRecordsWritten (length (kept (λ x s. T.pieces x.now s) (written self.old).limit (sofar (written self.old)) xs))) × (length (kept (λ x s. T.pieces x.now s) (written self.old).limit (sofar (written self.old)) xs) < length xs))) }
-        ensures back { result ≡ Err ProtoError.Memory → TakesBack (written self.old) (written self.new) }
-        ensures lender { lender self.new ≡ lender self.old }
+        ensures gives { (xs : List (Bor T)) × (result ≢ Err ProtoError.Memory
+            → Drains I.next_gives items xs
+            × (state_of self.new ≡ append_fitting (lent_pieces T.pieces) (state_of self.old) xs)
+            × AreWritable (fitting_pieces (lent_pieces T.pieces) (state_of self.old) xs))
+            × IfOk result (λ n. (n ≡ length xs)
+            × (fitting_items (lent_pieces T.pieces) (state_of self.old) xs ≡ xs))
+            × IfErr result (λ error. (error ≡ ProtoError.Memory)
+            ⊎ ((error ≡ ProtoError.NotAllRecordsWritten
+            (length (fitting_items (lent_pieces T.pieces) (state_of self.old) xs)))
+            × (length (fitting_items (lent_pieces T.pieces) (state_of self.old) xs) < length xs))) }
+        ensures at_end { result ≢ Err ProtoError.Memory → IsAtEnd (state_of self.new) }
+        ensures behind { result ≢ Err ProtoError.Memory
+            → AllBehind (position_of (state_of self.new)) }
+        ensures back { result ≡ Err ProtoError.Memory
+            → CanRollBack (state_of self.old) (state_of self.new) }
     {
         let lent: Vec<&T> = items.collect(alloc)?;
         self.emit_all_refs(&lent)
     }
 }
 
-/// Writes items at the end up to the first that doesn't fit, which is taken back, and answers how many were written.
+/// Writes items at the end up to the first that does not fit, which is rolled back, and returns how many were written.
 pub fn emit_fitting<T: BinEncodable>(
     items: &[T],
     encoder: &mut BinEncoder<'_>,
 ) -> Result<usize, EncodeError>
-    requires at_end { IsAtEnd (written encoder.old) }
-    requires behind { AllBehind (sofar (written encoder.old)) }
-    ensures count { IfOk result (λ n. n ≡ length (kept T.pieces (written encoder.old).limit (sofar (written encoder.old)) items.now)) }
-    ensures wrote { IsOk result → written encoder.new ≡ after_all T.pieces (written encoder.old) items.now }
+    requires at_end { IsAtEnd (state_of encoder.old) }
+    requires behind { AllBehind (position_of (state_of encoder.old)) }
+    ensures count { IfOk result
+        (λ n. n ≡ length (fitting_items T.pieces (state_of encoder.old) items.now)) }
+    ensures wrote { IsOk result
+        → state_of encoder.new ≡ append_fitting T.pieces (state_of encoder.old) items.now }
     ensures writable { IsOk result
-        → AreWritable (all_pieces T.pieces (sofar (written encoder.old)) (kept T.pieces (written encoder.old).limit (sofar (written encoder.old)) items.now)) }
+        → AreWritable (fitting_pieces T.pieces (state_of encoder.old) items.now) }
+    ensures at_end { IsOk result → IsAtEnd (state_of encoder.new) }
+    ensures behind { IsOk result → AllBehind (position_of (state_of encoder.new)) }
     ensures memory { IfErr result (λ error. error ≡ EncodeError.Memory) }
-    ensures back { OnErr result (TakesBack (written encoder.old) (written encoder.new)) }
-    ensures lender { lender encoder.new ≡ lender encoder.old }
+    ensures back { OnErr result (CanRollBack (state_of encoder.old) (state_of encoder.new)) }
 {
     let mut count = 0;
     for item in items {
@@ -105,4 +131,35 @@ pub fn emit_fitting<T: BinEncodable>(
         }
     }
     Ok(count)
+}
+
+/// Writes an item at the end if it fits, and returns true if it was written. An item that does not fit is rolled back.
+pub fn emit_if_fits<T: BinEncodable>(
+    item: &T,
+    encoder: &mut BinEncoder<'_>,
+) -> Result<bool, EncodeError>
+    requires at_end { IsAtEnd (state_of encoder.old) }
+    requires behind { AllBehind (position_of (state_of encoder.old)) }
+    ensures fits { IfOk result (λ fits.
+        fitting_items T.pieces (state_of encoder.old) (item.now ∷ [])
+        ≡ if fits then item.now ∷ [] else []) }
+    ensures wrote { IsOk result
+        → state_of encoder.new ≡ append_fitting T.pieces (state_of encoder.old) (item.now ∷ []) }
+    ensures writable { IsOk result
+        → AreWritable (fitting_pieces T.pieces (state_of encoder.old) (item.now ∷ [])) }
+    ensures at_end { IsOk result → IsAtEnd (state_of encoder.new) }
+    ensures behind { IsOk result → AllBehind (position_of (state_of encoder.new)) }
+    ensures memory { IfErr result (λ error. error ≡ EncodeError.Memory) }
+    ensures back { OnErr result (CanRollBack (state_of encoder.old) (state_of encoder.new)) }
+{
+    let offset = encoder.offset();
+    match item.emit(encoder) {
+        Ok(()) => Ok(true),
+        Err(EncodeError::MaxBufferSizeExceeded) => {
+            encoder.set_offset(offset);
+            encoder.trim();
+            Ok(false)
+        }
+        Err(error) => Err(error),
+    }
 }

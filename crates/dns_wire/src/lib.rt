@@ -1,17 +1,13 @@
-//! The wire of DNS (RFC 1035 section 4): a reader and a writer of bytes, what they refuse, and the codes.
+//! The wire format of DNS (RFC 1035 section 4): decoding and encoding of bytes, numbers and names.
 //!
-//! What is written is a list of pieces, plain bytes and names, whose bytes depend on the place, the way names are written,
-//! the remembered suffixes and the names begun, and on no byte that was written. So what pieces were written says what
-//! stands in the buffer, what is remembered and what a later name looks like.
+//! An encoder promises what it wrote: a sequence of pieces, which are plain bytes and names. Their encoding depends on the
+//! position (the offset, the encoding of names, the remembered suffixes, the number of names that were tried), and on no
+//! byte that was written before. So the pieces tell what the buffer contains, and `laws` says that they decode again.
 //!
-//! - `decoder`: reads numbers and slices, and stays as it was where it refuses; `decodable`: what is read from the wire;
-//! - `encoder`: writes at an offset, up to a size, and says exactly what it wrote; `name_encoding`: how names are written;
-//!   `modal_encoder`: a guard that restores that; `place`: places whose value is written later;
-//! - `encodable`: what a value writes, as pieces; `items`: lists of values; `numbers`: numbers as values;
-//! - `laws`: what was written is read again, over any calls too, and stays when more is written;
-//! - `error`: the refusals, by their names.
-//!
-//! The codes are those of `dns_codes`, given on under this crate's name.
+//! - `decoder`, `decodable`: reads from the front of the unread bytes, where a failed read changes nothing;
+//! - `encoder`, `encodable`: writes at an offset, up to a greatest size; `name_encoding`, `modal_encoder`: how names are
+//!   encoded; `place`: places that are filled in later; `items`: lists of values; `numbers`: numbers as values;
+//! - `error`: the errors; `laws`: the laws of decoding and encoding. The codes are those of `dns_codes`.
 #![tactic(auto)]
 
 mod decodable;
@@ -20,7 +16,7 @@ mod encodable;
 mod encoder;
 mod error;
 mod items;
-mod laws;
+pub mod laws;
 mod modal_encoder;
 mod name_encoding;
 mod numbers;
@@ -28,19 +24,11 @@ mod place;
 
 pub use decodable::BinDecodable;
 pub use decoder::BinDecoder;
-pub use dns_codes::{
-    CodeTextError, DNSClass, RecordType, SerialNumber, SerialOrder, every_class_number_comes_back,
-    every_type_number_comes_back, serials_compare_by_distance,
-};
+pub use dns_codes::{CodeTextError, DNSClass, RecordType, SerialNumber, SerialOrder};
 pub use encodable::{BinEncodable, EncodedSize};
 pub use encoder::BinEncoder;
 pub use error::{DecodeError, EncodeError, ProtoError};
-pub use items::emit_fitting;
-pub use laws::{
-    a_name_in_its_own_mode_is_whole, all_that_stands_is_read_again, emissions_compose,
-    filled_emissions_are_emissions, filling_is_writing, taking_back_composes,
-    what_is_remembered_lies_behind, what_stands_stays, written_is_read_again,
-};
+pub use items::{emit_fitting, emit_if_fits};
 pub use modal_encoder::ModalEncoder;
 pub use name_encoding::{NameEncoding, RDataEncoding};
 pub use place::Place;

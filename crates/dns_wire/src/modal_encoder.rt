@@ -1,33 +1,38 @@
-//! Writing names in another way for a while.
+//! A guard that sets the encoding of names, and restores it when it is dropped.
 
 ghost use Rattle.std.specs.Prelude.{◌≡◌};
-ghost use Rattle.dns_wire.specs.Encoder.{written, lender};
-ghost use Rattle.dns_wire.specs.RDataEncoding.{rdata_mode};
 
 use crate::encoder::BinEncoder;
 use crate::name_encoding::{NameEncoding, RDataEncoding};
 
-/// An encoder that writes names in another way, until this is dropped.
+/// An encoder with an encoding of names that lasts until this guard is dropped.
+///
+/// While a `ModalEncoder` is alive, names use its encoding. Dropping it restores the encoding that it saved.
 pub struct ModalEncoder<'a, 'e> {
     previous: NameEncoding,
     encoder: &'e mut BinEncoder<'a>,
 }
 
 impl<'a, 'e> ModalEncoder<'a, 'e> {
-    /// The encoder, in its mode.
+    ghost use Rattle.dns_wire.specs.Encoder.{state_of};
+    ghost use Rattle.dns_wire.specs.ModalEncoder.{modal_state};
+
+    /// Returns the encoder, in the mode of this guard.
     pub fn encoder_mut(&mut self) -> &mut BinEncoder<'a>
-        ensures value { written result.now ≡ written self.old.encoder.now }
-        ensures lender { lender result.now ≡ lender self.old.encoder.now }
+        ensures { state_of result.now ≡ modal_state self.old }
     {
         self.encoder
     }
 }
 
 impl Drop for ModalEncoder<'_, '_> {
-    /// Restores the former way.
+    ghost use Rattle.dns_wire.specs.Encoder.{state_of};
+    ghost use Rattle.dns_wire.specs.ModalEncoder.{modal_state, saved_encoding};
+
+    /// Restores the encoding that was saved.
     fn drop(self)
-        ensures restores { written self.exit.1.0.now ≡ record (written self.entry.encoder.now) { encoding = self.entry.previous } }
-        ensures lender { lender self.exit.1.0.now ≡ lender self.entry.encoder.now }
+        ensures { state_of self.exit.1.0.now
+            ≡ record (modal_state self.entry) { encoding = saved_encoding self.entry } }
     {
         let ModalEncoder { previous, encoder } = self;
         encoder.set_name_encoding(previous);
@@ -35,12 +40,16 @@ impl Drop for ModalEncoder<'_, '_> {
 }
 
 impl<'a> BinEncoder<'a> {
-    /// Writes names in this way, until what is returned is dropped.
+    ghost use Rattle.dns_wire.specs.Encoder.{state_of};
+    ghost use Rattle.dns_wire.specs.NameEncoding.{rdata_mode};
+    ghost use Rattle.dns_wire.specs.ModalEncoder.{modal_state, saved_encoding, modal_lender};
+
+    /// Sets the encoding of names until the guard is dropped.
     pub fn with_name_encoding<'e>(&'e mut self, name_encoding: NameEncoding) -> ModalEncoder<'a, 'e>
-        ensures value { written result.encoder.now ≡ record (written self.old) { encoding = name_encoding } }
-        ensures previous { result.previous ≡ (written self.old).encoding }
-        ensures lender { lender result.encoder.now ≡ lender self.old }
-        ensures borrow { result.encoder.ghost_name ≡ self.entry.ghost_name }
+        ensures value { modal_state result
+            ≡ record (state_of self.old) { encoding = name_encoding } }
+        ensures previous { saved_encoding result ≡ (state_of self.old).encoding }
+        ensures borrow { modal_lender result ≡ self.entry.ghost_name }
     {
         let previous = self.name_encoding();
         self.set_name_encoding(name_encoding);
@@ -50,17 +59,17 @@ impl<'a> BinEncoder<'a> {
         }
     }
 
-    /// Writes names as record data asks, until what is returned is dropped.
+    /// Sets the encoding of names that this kind of record data requires, until the guard is dropped.
     pub fn with_rdata_behavior<'e>(
         &'e mut self,
         rdata_encoding: RDataEncoding,
     ) -> ModalEncoder<'a, 'e>
-        ensures value { written result.encoder.now ≡ record (written self.old) {
-          encoding = rdata_mode rdata_encoding (written self.old).canonical (written self.old).encoding;
+        ensures value { modal_state result ≡ record (state_of self.old) {
+          encoding = rdata_mode rdata_encoding
+              (state_of self.old).canonical (state_of self.old).encoding;
         } }
-        ensures previous { result.previous ≡ (written self.old).encoding }
-        ensures lender { lender result.encoder.now ≡ lender self.old }
-        ensures borrow { result.encoder.ghost_name ≡ self.entry.ghost_name }
+        ensures previous { saved_encoding result ≡ (state_of self.old).encoding }
+        ensures borrow { modal_lender result ≡ self.entry.ghost_name }
     {
         let name_encoding = match (rdata_encoding, self.is_canonical_form()) {
             (RDataEncoding::StandardRecord, false) => self.name_encoding(),

@@ -1,23 +1,23 @@
-//! How names are written.
+//! Encodings of names.
 
-/// How a name is written.
+/// How names are encoded.
 #[derive(Clone, Copy, Debug, PartialEq, Eq)]
 pub enum NameEncoding {
-    /// By pointers to what was written before (RFC 1035 section 4.1.4).
+    /// With pointers to earlier names (RFC 1035 section 4.1.4).
     Compressed,
-    /// Whole, as it is spelled.
+    /// Without pointers, in the case of the name.
     Uncompressed,
-    /// Whole, its ASCII letters in lower case.
+    /// Without pointers, with ASCII letters in lower case.
     UncompressedLowercase,
 }
 
-/// What record data asks of the names in it.
+/// How record data encodes the names in it.
 #[derive(Clone, Copy, Debug, PartialEq, Eq)]
 pub enum RDataEncoding {
-    /// A type of RFC 1035: its names may be compressed (RFC 3597 section 4).
+    /// A type of RFC 1035, whose names may be compressed (RFC 3597 section 4).
     StandardRecord,
-    /// A type whose names are never compressed, and are in lower case in canonical form (RFC 4034 section 6.2).
+    /// A type whose names are never compressed, and have lower case in canonical form (RFC 4034 section 6.2).
     Canonical,
-    /// Any other type: its names are written whole, as they are spelled.
+    /// Any other type, whose names are never compressed and keep their case.
     Other,
 }

@@ -1,11 +1,11 @@
-//! Numbers on the wire, the highest byte first (RFC 1035 section 2.3.2).
+//! Numbers on the wire, in network byte order (RFC 1035 section 2.3.2).
 
 ghost use Rattle.std.specs.Prelude.{◌≡◌, ◌<◌, ◌^◌, [], ◌∷◌, length, drop, refl};
 ghost use Rattle.std.proofs.Common.{rules};
 ghost use Rattle.std.specs.Int.{w16, w32, to_be_bytes, cast_unsigned};
 ghost use Rattle.std.specs.Int.RustNames.{FitsSigned};
-ghost use Rattle.dns_wire.specs.Pieces.{Plain, Shows};
-ghost use Rattle.dns_wire.specs.NumberLaws.{one_byte, one_of_two, one_of_four, one_signed, not_short};
+ghost use Rattle.dns_wire.specs.Encodable.{Plain, BytesAt};
+ghost use Rattle.dns_wire.specs.internal.NumberLaws.{one_byte, one_of_two, one_of_four, one_signed, not_short};
 ghost use Rattle.dns_wire.specs.declared.error.DecodeError.TheVariants.{InsufficientBytes};
 
 use crate::decodable::BinDecodable;
@@ -120,60 +120,72 @@ impl EncodedSize for i32 {
 }
 
 impl BinDecodable for u8 {
-    ghost stands = { λ bytes place number end. Shows bytes place (number ∷ []) end };
+    ghost decodes = { λ bytes place number end. BytesAt bytes place (number ∷ []) end };
 
-    ghost refuses = { λ bytes place error. (error ≡ InsufficientBytes) × (length (drop place bytes) < 1) };
+    ghost refuses = { λ bytes place error.
+        (error ≡ InsufficientBytes) × (length (drop place bytes) < 1) };
 
     fn read(_alloc: Global, decoder: &mut BinDecoder<'_>) -> Result<u8, DecodeError> {
         decoder.read_u8()
     }
 
-    ghost one_way = { one_byte };
+    ghost unambiguous = { one_byte };
 
-    ghost not_refused = { λ bytes place value end error stands refused. not_short bytes place (value ∷ []) end stands refused.1 };
+    ghost not_refused = { λ bytes place value end error decodes refused.
+        not_short bytes place (value ∷ []) end decodes refused.1 };
 }
 
 impl BinDecodable for u16 {
-    ghost stands = { λ bytes place number end. Shows bytes place (to_be_bytes w16 number) end × (number < 2 ^ 16) };
+    ghost decodes = { λ bytes place number end.
+        BytesAt bytes place (to_be_bytes w16 number) end × (number < 2 ^ 16) };
 
-    ghost refuses = { λ bytes place error. (error ≡ InsufficientBytes) × (length (drop place bytes) < 2) };
+    ghost refuses = { λ bytes place error.
+        (error ≡ InsufficientBytes) × (length (drop place bytes) < 2) };
 
     fn read(_alloc: Global, decoder: &mut BinDecoder<'_>) -> Result<u16, DecodeError> {
         let number = decoder.read_u16()?;
         Ok(number)
     }
 
-    ghost one_way = { one_of_two };
+    ghost unambiguous = { one_of_two };
 
-    ghost not_refused = { λ bytes place value end error stands refused. not_short bytes place (to_be_bytes w16 value) end stands.0 refused.1 };
+    ghost not_refused = { λ bytes place value end error decodes refused.
+        not_short bytes place (to_be_bytes w16 value) end decodes.0 refused.1 };
 }
 
 impl BinDecodable for u32 {
-    ghost stands = { λ bytes place number end. Shows bytes place (to_be_bytes w32 number) end × (number < 2 ^ 32) };
+    ghost decodes = { λ bytes place number end.
+        BytesAt bytes place (to_be_bytes w32 number) end × (number < 2 ^ 32) };
 
-    ghost refuses = { λ bytes place error. (error ≡ InsufficientBytes) × (length (drop place bytes) < 4) };
+    ghost refuses = { λ bytes place error.
+        (error ≡ InsufficientBytes) × (length (drop place bytes) < 4) };
 
     fn read(_alloc: Global, decoder: &mut BinDecoder<'_>) -> Result<u32, DecodeError> {
         let number = decoder.read_u32()?;
         Ok(number)
     }
 
-    ghost one_way = { one_of_four };
+    ghost unambiguous = { one_of_four };
 
-    ghost not_refused = { λ bytes place value end error stands refused. not_short bytes place (to_be_bytes w32 value) end stands.0 refused.1 };
+    ghost not_refused = { λ bytes place value end error decodes refused.
+        not_short bytes place (to_be_bytes w32 value) end decodes.0 refused.1 };
 }
 
 impl BinDecodable for i32 {
-    ghost stands = { λ bytes place number end. Shows bytes place (to_be_bytes w32 (cast_unsigned w32 number)) end × FitsSigned w32 number };
+    ghost decodes = { λ bytes place number end.
+        BytesAt bytes place (to_be_bytes w32 (cast_unsigned w32 number)) end
+        × FitsSigned w32 number };
 
-    ghost refuses = { λ bytes place error. (error ≡ InsufficientBytes) × (length (drop place bytes) < 4) };
+    ghost refuses = { λ bytes place error.
+        (error ≡ InsufficientBytes) × (length (drop place bytes) < 4) };
 
     fn read(_alloc: Global, decoder: &mut BinDecoder<'_>) -> Result<i32, DecodeError> {
         let number = decoder.read_i32()?;
         Ok(number)
     }
 
-    ghost one_way = { one_signed };
+    ghost unambiguous = { one_signed };
 
-    ghost not_refused = { λ bytes place value end error stands refused. not_short bytes place (to_be_bytes w32 (cast_unsigned w32 value)) end stands.0 refused.1 };
+    ghost not_refused = { λ bytes place value end error decodes refused.
+        not_short bytes place (to_be_bytes w32 (cast_unsigned w32 value)) end decodes.0 refused.1 };
 }

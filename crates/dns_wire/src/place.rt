@@ -1,15 +1,15 @@
-//! Places whose value is written later.
+//! Places in the buffer that are filled in later.
 
-ghost use Rattle.std.specs.Prelude.{◌≡◌, ◌+◌, ◌<◌, ◌≤◌, ◌↔◌, [], ◌∷◌, length, replicate, OnErr, OnOk, IfOk, IfErr};
-ghost use Rattle.dns_wire.specs.Encoder.{written, lender, after_put, put_at, IsAtEnd};
-ghost use Rattle.dns_wire.specs.Pieces.{Plain, Emits, outcome};
+ghost use Rattle.std.specs.Prelude.{◌≡◌, ◌+◌, ◌<◌, ◌≤◌, ◌↔◌, length, replicate, OnOk, IfOk, IfErr};
+ghost use Rattle.dns_wire.specs.Encoder.{max_message_len, state_of, put_at};
+ghost use Rattle.dns_wire.specs.Encodable.{Puts, outcome};
 
 use crate::encodable::EncodedSize;
 use crate::encoder::BinEncoder;
 use crate::error::EncodeError;
 use std::marker::PhantomData;
 
-/// A place among the bytes that were written, whose value is written later.
+/// A place in the buffer of an encoder for a value that is not known yet, such as a length.
 #[derive(Drop)]
 pub struct Place<T> {
     start: usize,
@@ -17,28 +17,31 @@ pub struct Place<T> {
 }
 
 impl<T: EncodedSize + Drop> Place<T> {
-    /// Writes the value at its place. The encoder's offset stays.
+    ghost use Rattle.dns_wire.specs.Place.{place_start};
+
+    /// Writes the value at its place, without moving the offset of the encoder.
     pub fn replace(self, encoder: &mut BinEncoder<'_>, content: T) -> Result<(), EncodeError>
-        requires { self.start + T.LEN ≤ length (written encoder.old).bytes }
-        ensures ok { OnOk result (written encoder.new ≡ record (written encoder.old) { bytes = put_at self.start (T.wire content) (written encoder.old).bytes }) }
-        ensures full { (result ≡ Err EncodeError.MaxBufferSizeExceeded) ↔ ((written encoder.old).limit < self.start + T.LEN) }
-        ensures err { IfErr result (λ error. (error ≡ EncodeError.MaxBufferSizeExceeded) × (written encoder.new ≡ written encoder.old)) }
-        ensures lender { lender encoder.new ≡ lender encoder.old }
+        requires { place_start self + T.LEN ≤ length (state_of encoder.old).bytes }
+        ensures ok { OnOk result (state_of encoder.new ≡ record (state_of encoder.old) {
+          bytes = put_at (place_start self) (T.wire content) (state_of encoder.old).bytes;
+        }) }
+        ensures full { (result ≡ Err EncodeError.MaxBufferSizeExceeded)
+            ↔ ((state_of encoder.old).limit < place_start self + T.LEN) }
+        ensures err { IfErr result (λ error. (error ≡ EncodeError.MaxBufferSizeExceeded)
+            × (state_of encoder.new ≡ state_of encoder.old)) }
     {
         encoder.emit_at(self, content)
     }
 }
 
 impl<'a> BinEncoder<'a> {
-    /// Leaves a place for a value, filled with zeros.
+    ghost use Rattle.dns_wire.specs.Place.{place_start};
+
+    /// Writes zeros in the place of a value, and returns the place.
     pub fn place<T: EncodedSize>(&mut self) -> Result<Place<T>, EncodeError>
-        ensures start { IfOk result (λ place. place.start ≡ (written self.old).offset) }
-        ensures ok { OnOk result (written self.new ≡ after_put (written self.old) (replicate T.LEN 0)) }
-        ensures room { OnOk result ((written self.old).offset + T.LEN ≤ (written self.old).limit) }
-        ensures full { (result ≡ Err EncodeError.MaxBufferSizeExceeded) ↔ ((written self.old).limit < (written self.old).offset + T.LEN) }
-        ensures err { OnErr result (written self.new ≡ written self.old) }
-        ensures at_end { IsAtEnd (written self.old) → Emits (written self.old) (Plain (replicate T.LEN 0) ∷ []) (outcome result) (written self.new) }
-        ensures lender { lender self.new ≡ lender self.old }
+        ensures start { IfOk result (λ place. place_start place ≡ (state_of self.old).offset) }
+        ensures zeros { Puts (state_of self.old) (replicate T.LEN 0)
+            (outcome result) (state_of self.new) }
     {
         let start = self.offset();
         self.emit_zeros(T::LEN)?;
@@ -48,26 +51,29 @@ impl<'a> BinEncoder<'a> {
         })
     }
 
-    /// How many bytes were written behind a place.
+    /// Returns the number of bytes between the place and the offset.
     pub fn len_since_place<T: EncodedSize>(&self, place: &Place<T>) -> usize
-        requires { place.now.start + T.LEN ≤ (written self.now).offset }
-        ensures value { place.now.start + T.LEN + result ≡ (written self.now).offset }
-        ensures small { (written self.now).limit ≤ 65535 }
+        requires { place_start place.now + T.LEN ≤ (state_of self.now).offset }
+        ensures value { place_start place.now + T.LEN + result ≡ (state_of self.now).offset }
+        ensures small { (state_of self.now).limit ≤ max_message_len }
     {
         self.offset() - place.start - T::LEN
     }
 
-    /// Writes a value at its place. The offset stays.
+    /// Writes a value at its place, without moving the offset.
     pub fn emit_at<T: EncodedSize + Drop>(
         &mut self,
         place: Place<T>,
         content: T,
     ) -> Result<(), EncodeError>
-        requires { place.start + T.LEN ≤ length (written self.old).bytes }
-        ensures ok { OnOk result (written self.new ≡ record (written self.old) { bytes = put_at place.start (T.wire content) (written self.old).bytes }) }
-        ensures full { (result ≡ Err EncodeError.MaxBufferSizeExceeded) ↔ ((written self.old).limit < place.start + T.LEN) }
-        ensures err { IfErr result (λ error. (error ≡ EncodeError.MaxBufferSizeExceeded) × (written self.new ≡ written self.old)) }
-        ensures lender { lender self.new ≡ lender self.old }
+        requires { place_start place + T.LEN ≤ length (state_of self.old).bytes }
+        ensures ok { OnOk result (state_of self.new ≡ record (state_of self.old) {
+          bytes = put_at (place_start place) (T.wire content) (state_of self.old).bytes;
+        }) }
+        ensures full { (result ≡ Err EncodeError.MaxBufferSizeExceeded)
+            ↔ ((state_of self.old).limit < place_start place + T.LEN) }
+        ensures err { IfErr result (λ error. (error ≡ EncodeError.MaxBufferSizeExceeded)
+            × (state_of self.new ≡ state_of self.old)) }
     {
         if place.start + T::LEN > self.max_size() {
             return Err(EncodeError::MaxBufferSizeExceeded);

@@ -1,6 +1,6 @@
 -- Answers can be sent, and read again.
 use Rattle.std.proofs.Common.{◌≡◌, ◌<◌, ◌^◌, ℕ, true, List, [], ◌∷◌, map, refl, arith}
-use Rattle.dns_names.specs.DomainName.{DomainName}
+use Rattle.dns_names.specs.Name.{DomainName}
 use Rattle.dns_zone.specs.declared.rows.Row.{Row}
 use Rattle.dns_messages.specs.declared.rdata.RData.{RData}
 use Rattle.dns_messages.specs.declared.rdata.RData.TheVariants as of

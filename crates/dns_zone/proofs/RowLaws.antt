@@ -1,5 +1,5 @@
 -- The rows of sets: where a set stands, and what one more row makes of them.
-use Rattle.std.proofs.Common.{◌≡◌, ◌==◌, ◌<◌, ◌≤◌, ℕ, Bool, true, false, cond, ◌&&◌, ◌||◌, List, [], ◌∷◌, ◌++◌, map, refl, sym, ap, ◌∙◌, subst, length, set, get_or, arith, Option, Some, None, unwrap_or}
+use Rattle.std.proofs.Common.{◌≡◌, ◌==◌, ◌≢◌, ◌<◌, ◌≤◌, ℕ, Bool, true, false, cond, ◌&&◌, ◌||◌, List, [], ◌∷◌, ◌++◌, map, refl, sym, ap, ◌∙◌, subst, length, length-append, set, get_or, arith, Option, Some, None, unwrap_or}
 use Rattle.std.specs.List.{list_any, position_or_len}
 use Rattle.std.specs.Ordering.{eq_by_cmp, nat_cmp, ordering_then}
 use Rattle.std.proofs.Common.{Ordering, Less, Equal, Greater}
@@ -20,10 +20,10 @@ use Rattle.std.specs.FinMap.{IsAntisymmetric, slice_cmp-IsAntisymmetric, nat_cmp
 use Rattle.std.specs.FinMap.Entries.{find, put, by_order}
 use Rattle.dns_codes.specs.RecordType.{type_number}
 use Rattle.dns_codes.specs.declared.record_type.RecordType.{RecordType}
-use Rattle.dns_names.specs.Comparison.{lower, same_labels, at_or_below}
+use Rattle.dns_names.specs.Compare.{lower, same_labels, at_or_below}
 use Rattle.dns_zone.specs.declared.rows.Row.{Row}
 use Rattle.dns_zone.specs.declared.rows.RecordSet.{RecordSet}
-use Rattle.dns_zone.specs.Rows.{Key, key, key_cmp, set_key, rows_of_sets, rows_at, with_row, joined, some_row_below, is_soa, supersedes, replaced, IsSoundRow, AreSoundRows, AreSoundSets}
+use Rattle.dns_zone.specs.Rows.{Key, key, key_cmp, set_key, rows_of_sets, rows_at, with_row, joined, some_row_below, is_soa, supersedes, replaced, IsSoundRow, IsSoundSet, AreSoundRows, AreSoundSets, HasNoEmptySet}
 
 -- ---- the order of keys
 
@@ -155,6 +155,18 @@ sound_joined rows row all sound = joins (is_soa row.rdata) (list_any (λ r. same
     joins false true = all
     joins false false = All-push IsSoundRow rows row all sound
 
+joined_filled : (rows : List Row) (row : Row) → 0 < length rows → 0 < length (joined rows row)
+joined_filled rows row filled = joins (is_soa row.rdata) (list_any (λ r. same_data r.rdata row.rdata) rows)
+  where
+    alone : (rs : List Row) → 0 < length (replaced rs row)
+    alone [] = omega arith
+    alone (old ∷ more) = elim (supersedes row.rdata old.rdata) as (λ b. 0 < length (cond b (row ∷ []) (old ∷ more))) [ true ↦ omega arith | false ↦ omega arith ]
+
+    joins : (s t : Bool) → 0 < length (cond s (replaced rows row) (cond t rows (rows ++ row ∷ [])))
+    joins true t = alone rows
+    joins false true = filled
+    joins false false = omega (arith, length-append rows (row ∷ []))
+
 -- ---- names above rows
 
 label_twice : (l : List ℕ) → str_to_ascii_lowercase (str_to_ascii_lowercase l) ≡ str_to_ascii_lowercase l
@@ -222,5 +234,32 @@ row_below sets name = any_owners name sets ∙ sym (any_entries (λ k. at_or_bel
 
 pub sound_set : (sets : List RecordSet) (x y : RecordSet) (row : Row) (i : ℕ) → AreSoundSets sets → IsSoundRow row → i < length sets → x ≡ get_or sets i x → y.rows.items ≡ joined x.rows.items row → AreSoundSets (set sets i y)
 sound_set sets x y row i all sound h is r =
-    let P : RecordSet → Type 0 = λ s. AreSoundRows s.rows.items in
-    All-set P sets i y all (subst AreSoundRows (sym r) (sound_joined x.rows.items row (All-at P sets i x all h is) sound))
+    let old = All-at IsSoundSet sets i x all h is in
+    All-set IsSoundSet sets i y all (record {
+      filled = subst (λ (rows : List Row). 0 < length rows) (sym r) (joined_filled x.rows.items row old.filled);
+      rows = subst AreSoundRows (sym r) (sound_joined x.rows.items row old.rows sound);
+    })
+
+-- a new set, of one row
+pub sound_one : (sets : List RecordSet) (s : RecordSet) (row : Row) → AreSoundSets sets → IsSoundRow row → s.rows.items ≡ row ∷ [] → AreSoundSets (sets ++ s ∷ [])
+sound_one sets s row all sound r = All-push IsSoundSet sets s all (record {
+  filled = omega (arith, ap (λ (rows : List Row). length rows) r);
+  rows = subst AreSoundRows (sym r) (sound, tt);
+})
+
+pub sound_there : (sets : List RecordSet) (i : ℕ) (x : RecordSet) → AreSoundSets sets → i < length sets → x ≡ get_or sets i x → AreSoundRows x.rows.items
+sound_there sets i x all h is = (All-at IsSoundSet sets i x all h is).rows
+
+-- ---- no key is without rows
+
+filled_there : (p : RecordSet → Bool) (sets : List RecordSet) → AreSoundSets sets → rows_if (list.find p sets) ≢ Some []
+unfolding rows_if
+filled_there p [] all e = cc
+filled_there p (s ∷ ss) all e = by_test (p s) (filled_there p ss all.1) e
+  where
+    by_test : (b : Bool) → rows_if (list.find p ss) ≢ Some [] → rows_if (cond b (Some s) (list.find p ss)) ≡ Some [] → ⊥
+    by_test true more f = let none : s.rows.items ≡ [] = cc in absurd (omega (arith, all.0.filled, ap (λ (rows : List Row). length rows) none))
+    by_test false more f = more f
+
+pub no_empty_set : (sets : List RecordSet) → AreSoundSets sets → HasNoEmptySet (rows_of_sets sets)
+no_empty_set sets all k e = filled_there (tied k) sets all (sym (get-sets sets k) ∙ e)

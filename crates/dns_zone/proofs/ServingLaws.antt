@@ -1,11 +1,14 @@
 -- Requests and replies.
-use Rattle.std.proofs.Common.{◌≡◌, ◌==◌, ◌<◌, ◌≤◌, ◌^◌, ℕ, Bool, true, false, cond, List, [], ◌∷◌, ◌++◌, refl, sym, ap, ◌∙◌, subst, length, arith, length-append, nat_le}
+use Rattle.std.proofs.Common.{◌≡◌, ◌==◌, ◌&&◌, ◌<◌, ◌≤◌, ◌^◌, ◌/◌, ◌%◌, eq-eqb, get_or, drop, take, ℕ, Bool, true, false, cond, List, [], ◌∷◌, ◌++◌, refl, sym, ap, ◌∙◌, subst, length, arith, length-append, nat_le}
 use Rattle.std.specs.Bool.{MatchBool}
 use Rattle.std.specs.List.{AllByRecursion}
 use borrow.Author.Tests.{eqb-true, eqb-false}
-use Rattle.std.proofs.Common.{leb-true}
+use Rattle.std.specs.Str.{bytes_eq}
+use Rattle.std.proofs.lemmas.List.{get_or-take, drop-take}
+use Rattle.std.proofs.Common.{leb-true, lit<}
+use Rattle.std.proofs.lemmas.Bool.{le-leb}
 use Rattle.dns_wire.specs.Name.{name_len}
-use Rattle.dns_wire.specs.Pieces.{Piece, Plain, Domain, Sofar, name_form, form, after, piece_form, piece_next, labels_form, whole_form}
+use Rattle.dns_wire.specs.Encodable.{Piece, Plain, Domain, Position, name_form, form, after, piece_form, piece_next, labels_form, whole_form}
 use Rattle.dns_wire.proofs.PieceLaws.{name_form-some}
 use Rattle.std.specs.Int.{w16, w32, to_be_bytes}
 use Rattle.dns_codes.specs.RecordType.{type_number}
@@ -20,16 +23,17 @@ use Rattle.dns_messages.specs.declared.header.MessageType.TheVariants as kinds
 use Rattle.dns_messages.specs.declared.header.OpCode.TheVariants as ops
 use Rattle.dns_zone.specs.declared.road.Road.{Road}
 use Rattle.dns_zone.specs.declared.road.Road.TheVariants as roads
-use Rattle.dns_messages.specs.Header.{op_number, op_of}
+use Rattle.dns_messages.specs.Header.{op_number, op_of, has_bit, metadata_of}
 use Rattle.std.proofs.Common.{append_assoc, Some}
 use Rattle.dns_zone.specs.Rows.{ZoneContent}
 use Rattle.dns_messages.specs.Data.{data_type, data_pieces}
 use Rattle.dns_messages.specs.Record.{data_len, record_pieces}
 use Rattle.dns_messages.specs.Message.{beginning, records_pieces, front_pieces, message_form, cut, cut_off}
 use Rattle.dns_messages.specs.Sound.{IsSound, IsSoundQuery, IsSoundMetadata}
-use Rattle.dns_messages.specs.Grammar.{ReadsMessage, ReadsQuestion, Follow}
+use Rattle.dns_messages.specs.Grammar.{ReadsMessage, ReadsHeader, ReadsQuestion}
+use Rattle.dns_wire.specs.Decodable.{Follow}
 use Rattle.dns_zone.specs.Answer.{answer, IsSoundAnswer, AreSoundRecords}
-use Rattle.dns_zone.specs.Serving.{IsServed, IsRequest, Serves, reply, reply_to, reply_limit, sent_reply}
+use Rattle.dns_zone.specs.Serving.{has_request_header, IsServed, IsRequest, Serves, reply, reply_to, reply_limit, sent_reply}
 
 -- ---- which requests are served
 
@@ -49,6 +53,51 @@ served_if m true t o n a u d =
     (q.0, record { asks = t; of_code = o; one_question = q.1; no_answer = empty m.answers a; no_authority = empty m.authorities u; no_additional = empty m.additionals (eqb-true (length m.additionals) 0 (sym d)) })
 served_if m false t o n a u d = λ q s. eqb-false (length m.additionals) 0 (sym d) (ap length s.no_additional)
 
+-- ---- the header of a request
+
+op_query : (n : ℕ) → op_of n ≡ ops.Query → n ≡ 0
+op_query n e = by_tests (n == 0) (n == 2) (n == 4) (n == 5) refl e
+  where
+    by_tests : (a b c d : Bool) → (n == 0) ≡ a → cond a ops.Query (cond b ops.Status (cond c ops.Notify (cond d ops.Update (ops.Unknown n)))) ≡ ops.Query → n ≡ 0
+    by_tests true b c d t e = eqb-true n 0 t
+    by_tests false true c d t e = cc
+    by_tests false false true d t e = cc
+    by_tests false false false true t e = cc
+    by_tests false false false false t e = cc
+
+kind_query : (b : Bool) → cond b kinds.Response kinds.Query ≡ kinds.Query → b ≡ false
+kind_query true e = cc
+kind_query false e = refl
+
+-- QR and opcode are 0 in the third byte
+third_of_query : (id third fourth : ℕ) (m : Metadata) → m ≡ metadata_of id third fourth → m.message_type ≡ kinds.Query → m.op_code ≡ ops.Query → (((third / 8) % 32) == 0) ≡ true
+third_of_query id third fourth m e kind op =
+    let bit = eqb-false _ 1 (kind_query (has_bit 128 third) (sym (ap (λ (h : Metadata). h.message_type) e) ∙ kind)) in
+    let code = op_query ((third / 8) % 16) (sym (ap (λ (h : Metadata). h.op_code) e) ∙ op) in
+    eq-eqb ((third / 8) % 32) 0 (omega arith)
+
+header_of_query : (bytes : List ℕ) (m : Message) (q : Query) → ReadsHeader bytes m → IsServed m q → has_request_header bytes ≡ true
+header_of_query bytes m q r served =
+    let there = r.there.there in
+    let long : 12 ≤ length bytes = omega (arith, r.there.ends, r.there.within) in
+    let third : get_or bytes 2 0 ≡ r.third = sym (get_or-take 12 bytes 2 0 (lit< tt)) ∙ ap (λ (xs : List ℕ). get_or xs 2 0) there in
+    let counts : take 8 (drop 4 bytes) ≡ 0 ∷ 1 ∷ 0 ∷ 0 ∷ 0 ∷ 0 ∷ 0 ∷ 0 ∷ [] =
+    sym (drop-take 4 8 bytes) ∙ ap (λ (xs : List ℕ). drop 4 xs) there
+    ∙ counts_of (length m.queries) (length m.answers) (length m.authorities) (length m.additionals) (ap length served.one_question) (ap length served.no_answer) (ap length served.no_authority) (ap length served.no_additional) in
+    let flags : (((get_or bytes 2 0 / 8) % 32) == 0) ≡ true =
+    ap (λ (b : ℕ). ((b / 8) % 32) == 0) third ∙ third_of_query m.metadata.id r.third r.fourth m.metadata r.metadata served.asks served.of_code in
+    λ i. le-leb 12 (length bytes) long i && (flags i && bytes_eq (counts i) (0 ∷ 1 ∷ 0 ∷ 0 ∷ 0 ∷ 0 ∷ 0 ∷ 0 ∷ []))
+  where
+    counts_of : (q a u d : ℕ) → q ≡ 1 → a ≡ 0 → u ≡ 0 → d ≡ 0 → to_be_bytes w16 q ++ (to_be_bytes w16 a ++ (to_be_bytes w16 u ++ to_be_bytes w16 d)) ≡ 0 ∷ 1 ∷ 0 ∷ 0 ∷ 0 ∷ 0 ∷ 0 ∷ 0 ∷ []
+    counts_of q a u d e f g k = λ i. to_be_bytes w16 (e i) ++ (to_be_bytes w16 (f i) ++ (to_be_bytes w16 (g i) ++ to_be_bytes w16 (k i)))
+
+-- a request has the header of one
+pub no_request : (bytes : List ℕ) → has_request_header bytes ≡ false → (m : Message) (q : Query) → ¬ (IsRequest bytes m q)
+no_request bytes e m q request =
+    let header = header_of_query bytes m q request.reads.header request.served in
+    let no : true ≡ false = sym header ∙ e in
+    cc
+
 -- ---- no reply
 
 pub not_read : (bytes : List ℕ) (error : DecodeError) → ((message : Message) → ReadsMessage bytes message → error ≡ faults.Memory) → (error ≡ faults.Memory → ⊥) → (m : Message) (q : Query) → ¬ (IsRequest bytes m q)
@@ -56,7 +105,7 @@ not_read bytes error only not m q request = not (only m request.reads)
 
 -- ---- how long a message is
 
-form_append : (s : Sofar) (ps qs : List Piece) → form s (ps ++ qs) ≡ form s ps ++ form (after s ps) qs
+form_append : (s : Position) (ps qs : List Piece) → form s (ps ++ qs) ≡ form s ps ++ form (after s ps) qs
 form_append s [] qs = refl
 form_append s (p ∷ ps) qs = ap (λ more. piece_form s p ++ more) (form_append (piece_next s p) ps qs) ∙ sym (append_assoc (piece_form s p) (form (piece_next s p) ps) (form (after (piece_next s p) ps) qs))
 
@@ -64,10 +113,10 @@ name_long : (labels : List (List ℕ)) → length (whole_form labels) ≡ name_l
 name_long [] = refl
 name_long (label ∷ labels) = omega (arith, name_long labels, length-append label (labels_form labels), length-append (labels_form labels) (0 ∷ []), ap length (append_assoc label (labels_form labels) (0 ∷ [])), length-append label (labels_form labels ++ 0 ∷ []))
 
-record_long : (s : Sofar) (r : Record) → 0 < length (form s (record_pieces s r))
+record_long : (s : Position) (r : Record) → 0 < length (form s (record_pieces s r))
 record_long s r = omega (arith, name_form-some s r.name.labels, length-append (name_form s r.name.labels) (form (piece_next s (Domain r.name.labels)) (Plain (to_be_bytes w16 (type_number (data_type r.rdata))) ∷ Plain (to_be_bytes w16 (class_number r.dns_class)) ∷ Plain (to_be_bytes w32 r.ttl) ∷ Plain (to_be_bytes w16 (data_len s r)) ∷ data_pieces r.rdata)))
 
-records_long : (s : Sofar) (rs : List Record) → length rs ≤ length (form s (records_pieces s rs))
+records_long : (s : Position) (rs : List Record) → length rs ≤ length (form s (records_pieces s rs))
 records_long s [] = omega arith
 records_long s (r ∷ rs) =
     let t = after s (record_pieces s r) in

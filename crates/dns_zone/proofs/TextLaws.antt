@@ -3,8 +3,8 @@ use Rattle.std.proofs.Common.{suc, map, ◌≡◌, ◌+◌, ◌<◌, ◌≤◌, 
 use Rattle.std.specs.List.{list_all}
 use borrow.Author.Tests.{lt-ltb}
 use Rattle.std.specs.Str.{IsAscii}
-use Rattle.dns_names.specs.DomainName.{DomainName}
-use Rattle.dns_names.specs.Text.{name_of_text}
+use Rattle.dns_names.specs.Name.{DomainName}
+use Rattle.dns_names.specs.Parse.{name_of_text}
 use Rattle.dns_zone.specs.declared.text.Entry.{Entry}
 use Rattle.dns_zone.specs.declared.text.LineContent.{LineContent}
 use Rattle.dns_zone.specs.declared.text.LineContent.TheVariants.{Nothing, Holds, Unreadable}

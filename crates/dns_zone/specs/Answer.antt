@@ -4,8 +4,8 @@ use Rattle.dns_codes.specs.RecordType.{type_number}
 use Rattle.dns_codes.specs.DNSClass.{class_number}
 use Rattle.dns_codes.specs.declared.dns_class.DNSClass.TheVariants.{IN}
 use Rattle.dns_codes.specs.declared.record_type.RecordType.TheVariants as types
-use Rattle.dns_names.specs.DomainName.{DomainName}
-use Rattle.dns_names.specs.Comparison.{at_or_below}
+use Rattle.dns_names.specs.Name.{DomainName}
+use Rattle.dns_names.specs.Compare.{at_or_below}
 use Rattle.dns_messages.specs.declared.header.ResponseCode.{ResponseCode}
 use Rattle.dns_messages.specs.declared.header.ResponseCode.TheVariants.{NoError, NXDomain, NotImp, Refused}
 use Rattle.dns_zone.specs.declared.answer.Answer.{Answer}
@@ -54,6 +54,12 @@ found zone q (row ∷ rows) = record { code = NoError; answers = map (record_of 
 
 abbrev pub refusal : ResponseCode → Answer
 refusal code = record { code = code; answers = []; authorities = [] }
+
+-- whether a question is refused by its type, its class or its name
+abbrev pub is_refused : ZoneContent → Query → Bool
+is_refused zone q =
+    is_no_row_type (type_number q.query_type)
+    || (not (class_number q.query_class == 1) || not (at_or_below zone.origin.labels q.name.labels))
 
 -- The first case that applies.
 abbrev pub answer : ZoneContent → Query → Answer

@@ -1,17 +1,14 @@
 -- The rows of a zone: a finite map from an owner, up to ASCII case, and a type to data with TTLs, in their order.
-use Rattle.std.specs.Prelude.{◌<◌, ◌^◌, ◌++◌, map, Bool, true, false, List, [], ◌∷◌, ℕ, if◌then◌else◌, unwrap_or}
+use Rattle.std.specs.Prelude.{◌≢◌, ◌<◌, ◌^◌, ◌++◌, nat_lt, length, map, Some, Bool, true, false, List, [], ◌∷◌, ℕ, if◌then◌else◌, unwrap_or}
 use Rattle.std.specs.List.{list_any, AllByRecursion}
 use Rattle.std.specs.declared.cmp.Ordering.{Ordering}
 use Rattle.std.specs.Ordering.{nat_cmp, ordering_then}
 use Rattle.std.specs.Cmp.Lexicographic.{slice_cmp}
 use Rattle.std.specs.FinMap as rows_map
-use Rattle.dns_codes.specs.SerialNumber.{serial_order}
-use Rattle.dns_codes.specs.declared.serial_number.SerialOrder.TheVariants.{Greater}
-use Rattle.dns_codes.specs.declared.serial_number.SerialOrder.{SerialOrder}
 use Rattle.dns_codes.specs.declared.record_type.RecordType.{RecordType}
 use Rattle.dns_codes.specs.RecordType.{type_number}
-use Rattle.dns_names.specs.DomainName.{DomainName}
-use Rattle.dns_names.specs.Comparison.{lower, at_or_below}
+use Rattle.dns_names.specs.Name.{DomainName}
+use Rattle.dns_names.specs.Compare.{lower, at_or_below}
 use Rattle.dns_messages.specs.declared.rdata.RData.{RData}
 use Rattle.dns_messages.specs.declared.rdata.RData.TheVariants as of
 use Rattle.dns_zone.specs.declared.rows.Row.{Row}
@@ -45,13 +42,9 @@ abbrev pub is_soa : RData → Bool
 is_soa (of.SOA soa) = true
 is_soa (of.A address) = false
 
-abbrev pub is_greater : SerialOrder → Bool
-is_greater Greater = true
-is_greater order = false
-
--- whether new data may take the place of old: a start of authority of a plainly greater serial number (RFC 1982)
+-- whether new data replaces old: both are starts of authority, and the serial of the new one is the greater number
 abbrev pub supersedes : RData → RData → Bool
-supersedes (of.SOA new) (of.SOA old) = is_greater (serial_order new.serial old.serial)
+supersedes (of.SOA new) (of.SOA old) = nat_lt old.serial new.serial
 supersedes new old = false
 
 -- a start of authority stands alone
@@ -92,5 +85,14 @@ pub record IsSoundRow (row : Row) : Type 0 where
 abbrev pub AreSoundRows : List Row → Type 0
 AreSoundRows rows = AllByRecursion IsSoundRow rows
 
+-- a set that a zone keeps has a row, and its rows can be sent, and read again
+pub record IsSoundSet (s : RecordSet) : Type 0 where
+  pub filled : 0 < length s.rows.items
+  pub rows : AreSoundRows s.rows.items
+
 abbrev pub AreSoundSets : List RecordSet → Type 0
-AreSoundSets sets = AllByRecursion (λ s. AreSoundRows s.rows.items) sets
+AreSoundSets sets = AllByRecursion IsSoundSet sets
+
+-- each key has a row, so that an owner is a key only where it has rows
+abbrev pub HasNoEmptySet : Rows → Type 0
+HasNoEmptySet rows = (k : Key) → rows_map.get rows k ≢ Some []

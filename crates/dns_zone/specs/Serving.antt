@@ -1,5 +1,6 @@
 -- What a zone's server replies (RFC 1035 sections 4.1 and 4.2).
-use Rattle.std.specs.Prelude.{◌≡◌, min, true, false, Bool, List, [], ◌∷◌, ℕ, Option, Some, None}
+use Rattle.std.specs.Prelude.{◌≡◌, ◌==◌, ◌&&◌, ◌/◌, ◌%◌, nat_le, length, slice_index, slice_range, min, true, false, Bool, List, [], ◌∷◌, ℕ, Option, Some, None}
+use Rattle.std.specs.Str.{bytes_eq}
 use Rattle.dns_messages.specs.declared.header.MessageType.TheVariants as kinds
 use Rattle.dns_messages.specs.declared.header.OpCode.TheVariants as ops
 use Rattle.dns_messages.specs.declared.header.ResponseCode.{ResponseCode}
@@ -28,6 +29,13 @@ pub record IsServed (m : Message) (q : Query) : Type 0 where
 pub record IsRequest (bytes : List ℕ) (m : Message) (q : Query) : Type 0 where
   pub reads : ReadsMessage bytes m
   pub served : IsServed m q
+
+-- Bytes that begin with the header of a request: twelve bytes, QR and opcode 0, one question, and no record. Whether
+-- bytes are no request is mostly decided by these alone, before memory is taken.
+abbrev pub has_request_header : List ℕ → Bool
+has_request_header bytes =
+    nat_le 12 (length bytes) && ((((slice_index bytes 2 / 8) % 32) == 0)
+    && bytes_eq (slice_range bytes 4 12) (0 ∷ 1 ∷ 0 ∷ 0 ∷ 0 ∷ 0 ∷ 0 ∷ 0 ∷ []))
 
 -- the server has authority where it found out whether something is there
 abbrev pub has_authority : ResponseCode → Bool
@@ -62,7 +70,7 @@ reply zone m q = reply_to zone m.metadata q
 -- how many bytes a reply may have: a datagram 512, where the request announces no more, and no more than the
 -- server's own limit; a stream's message 65,535 (RFC 1035 sections 4.2.1 and 4.2.2)
 abbrev pub reply_limit : Road → ℕ
-reply_limit (Datagram limit) = min limit.value 512
+reply_limit (Datagram limit) = min limit 512
 reply_limit Stream = 65535
 
 -- what is left of the reply under the road's limit

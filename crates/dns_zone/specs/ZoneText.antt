@@ -5,9 +5,9 @@ use Rattle.std.specs.List.{list_any, list_all, AllByRecursion}
 use Rattle.std.specs.Str.{bytes_eq}
 use Rattle.std.specs.Str.Lines.{lines}
 use Rattle.std.specs.FinMap as map
-use Rattle.dns_names.specs.DomainName.{DomainName}
-use Rattle.dns_names.specs.Comparison.{at_or_below, same_labels}
-use Rattle.dns_names.specs.Text.{name_of_text}
+use Rattle.dns_names.specs.Name.{DomainName}
+use Rattle.dns_names.specs.Compare.{at_or_below, same_labels}
+use Rattle.dns_names.specs.Parse.{name_of_text}
 use Rattle.dns_codes.specs.Decimal.{decimal_up_to}
 use Rattle.dns_names.specs.declared.error.ParseError.{ParseError}
 use Rattle.dns_messages.specs.declared.rdata.RData.{RData}
@@ -96,13 +96,18 @@ entry_of (owner ∷ ttl ∷ class ∷ rtype ∷ data_words) =
     if bytes_eq class (codes "IN") then entry (fqdn_of owner) (number_of ttl) (rdata_of rtype data_words) else Unreadable
 entry_of line_words = Unreadable
 
--- A line of blanks has nothing, nor has a comment, which begins with a semicolon; an entry begins without a blank.
+-- whether a line has no entry: it is blank, or a comment, which begins with a semicolon, behind blanks if there are any
+abbrev pub is_without_entry : List ℕ → Bool
+is_without_entry [] = true
+is_without_entry (c ∷ cs) = (c == 59) || (is_blank c && is_without_entry cs)
+
+-- an entry begins without a blank
+abbrev pub entry_of_line : List ℕ → LineContent
+entry_of_line [] = Nothing
+entry_of_line (c ∷ cs) = if is_blank c then Unreadable else entry_of (words (c ∷ cs))
+
 abbrev pub content_of_line : List ℕ → LineContent
-content_of_line [] = Nothing
-content_of_line (c ∷ cs) =
-    if c == 59 then Nothing
-    else if is_blank c then (if list_all is_blank cs then Nothing else Unreadable)
-    else entry_of (words (c ∷ cs))
+content_of_line line = if is_without_entry line then Nothing else entry_of_line line
 
 -- the entries of the lines from this number on, or the first line that can't be read
 abbrev pub then_entries : LineContent → ℕ → Result (List Entry) ZoneFault → Result (List Entry) ZoneFault

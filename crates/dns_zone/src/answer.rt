@@ -1,9 +1,9 @@
 //! The answer of a zone to a question (RFC 1034 section 4.3.2, RFC 2308 sections 2 and 3).
 
-ghost use Rattle.std.specs.Prelude.{◌≡◌, true, map, IfOk};
+ghost use Rattle.std.specs.Prelude.{◌≡◌, true, map, IfOk, IsOk};
 ghost use Rattle.dns_codes.specs.RecordType.{type_number};
 ghost use Rattle.dns_zone.specs.Rows.{rows_of_sets, AreSoundRows, AreSoundSets};
-ghost use Rattle.dns_zone.specs.Answer.{answer, authority, authority_row, found, is_no_row_type, negative, negative_ttl, record_of, refusal, AreSoundRecords, IsSoundAnswer};
+ghost use Rattle.dns_zone.specs.Answer.{answer, authority, authority_row, found, is_no_row_type, is_refused, negative, negative_ttl, record_of, refusal, AreSoundRecords, IsSoundAnswer};
 
 use crate::rows::{RecordSet, Row, has_row_below, rows_of};
 use dns_messages::{Query, RData, Record, ResponseCode, Section};
@@ -36,6 +36,19 @@ fn lowered_ttl(row: &Row) -> u32
     }
 }
 
+/// A row as a record with this owner and this TTL.
+fn record_with_ttl(owner: &Name, ttl: u32, row: &Row) -> Result<Record, AllocError>
+    ensures { IfOk result (λ r. r ≡ record_of owner.now (record row.now { ttl = ttl })) }
+{
+    let rdata = row.rdata.clone()?;
+    Ok(Record {
+        name: owner.clone()?,
+        dns_class: DNSClass::IN,
+        ttl,
+        rdata,
+    })
+}
+
 /// Rows as records with this owner.
 fn records_at(alloc: Global, owner: &Name, rows: &[Row]) -> Result<Section<Record>, AllocError>
     ensures records { IfOk result (λ records. records ≡ map (record_of owner.now) rows.now) }
@@ -43,12 +56,7 @@ fn records_at(alloc: Global, owner: &Name, rows: &[Row]) -> Result<Section<Recor
 {
     let mut records = Section::new(alloc);
     for row in rows {
-        records.push(Record {
-            name: owner.clone()?,
-            dns_class: DNSClass::IN,
-            ttl: row.ttl,
-            rdata: row.rdata.clone()?,
-        })?;
+        records.push(record_with_ttl(owner, row.ttl, row)?)?;
     }
     Ok(records)
 }
@@ -64,12 +72,7 @@ fn authority_records(
 {
     let mut records = Section::new(alloc);
     for row in rows {
-        records.push(Record {
-            name: origin.clone()?,
-            dns_class: DNSClass::IN,
-            ttl: lowered_ttl(row),
-            rdata: row.rdata.clone()?,
-        })?;
+        records.push(record_with_ttl(origin, lowered_ttl(row), row)?)?;
     }
     Ok(records)
 }
@@ -90,10 +93,11 @@ fn negative_answer(
         ResponseCode::NXDomain
     };
     let rows = rows_of(sets, origin, RecordType::SOA);
+    let authorities = authority_records(alloc, origin, rows)?;
     Ok(Answer {
         code,
         answers: Section::new(alloc),
-        authorities: authority_records(alloc, origin, rows)?,
+        authorities,
     })
 }
 
@@ -108,7 +112,7 @@ fn bare_answer(alloc: Global, code: ResponseCode) -> Answer
     }
 }
 
-/// The answer of the zone with this origin and these sets.
+/// The answer of the zone with this origin and these sets. A refusal takes no memory.
 pub fn answer_from(
     alloc: Global,
     origin: &Name,
@@ -117,6 +121,8 @@ pub fn answer_from(
 ) -> Result<Answer, AllocError>
     ensures answer { IfOk result (λ a. a ≡ answer (record { origin = origin.now; rows = rows_of_sets sets.now }) query.now) }
     ensures sound { IfOk result (λ a. origin.now.is_fqdn ≡ true → AreSoundSets sets.now → query.now.name.is_fqdn ≡ true → IsSoundAnswer a) }
+    ensures refused { is_refused (record { origin = origin.now; rows = rows_of_sets sets.now }) query.now ≡ true
+        → IsOk result }
 {
     if is_without_rows(query.query_type) {
         return Ok(bare_answer(alloc, ResponseCode::NotImp));

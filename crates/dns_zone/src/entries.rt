@@ -1,18 +1,19 @@
 //! The entries of a zone's text, all together: its origin, what may not stand in it, and its rows.
 
-ghost use Rattle.std.specs.Prelude.{◌≡◌, IfOk, IfSome, option_copied, true};
+ghost use Rattle.std.specs.Prelude.{◌≡◌, ◌≢◌, IfOk, IfErr, IfSome, Ok, Err, option_copied, true};
 ghost use Rattle.std.specs.FinMap as rows_map;
 ghost use Rattle.std.specs.List.{list_any};
 ghost use Rattle.dns_zone.specs.Rows.{rows_of_sets, AreSoundSets};
-ghost use Rattle.dns_zone.specs.ZoneText.{first_soa, rows_of, is_outside, is_soa_elsewhere, AreSoundEntries};
+ghost use Rattle.dns_zone.specs.ZoneText.{first_soa, rows_of, is_outside, is_soa_elsewhere, zone_of_entries, AreSoundEntries};
 
 use crate::rows::{RecordSet, add_row, is_start_of_authority};
 use crate::text::Entry;
+use crate::zone::ZoneFault;
 use dns_names::Name;
 use std::alloc::{AllocError, Global};
 
 /// The owner of the first start of authority.
-pub fn first_soa_owner(entries: &[Entry]) -> Option<&Name>
+fn first_soa_owner(entries: &[Entry]) -> Option<&Name>
     ensures owner { option_copied result ≡ first_soa entries.now }
     ensures fqdn { IfSome result (λ owner. AreSoundEntries entries.now → owner.now.is_fqdn ≡ true) }
 {
@@ -25,7 +26,7 @@ pub fn first_soa_owner(entries: &[Entry]) -> Option<&Name>
 }
 
 /// Whether some owner doesn't lie at or below the origin.
-pub fn has_owner_outside(origin: &Name, entries: &[Entry]) -> bool
+fn has_owner_outside(origin: &Name, entries: &[Entry]) -> bool
     ensures { result ≡ list_any (is_outside origin.now) entries.now }
 {
     for entry in entries {
@@ -37,7 +38,7 @@ pub fn has_owner_outside(origin: &Name, entries: &[Entry]) -> bool
 }
 
 /// Whether some start of authority stands elsewhere than at the origin.
-pub fn has_soa_elsewhere(origin: &Name, entries: &[Entry]) -> bool
+fn has_soa_elsewhere(origin: &Name, entries: &[Entry]) -> bool
     ensures { result ≡ list_any (is_soa_elsewhere origin.now) entries.now }
 {
     for entry in entries {
@@ -46,6 +47,26 @@ pub fn has_soa_elsewhere(origin: &Name, entries: &[Entry]) -> bool
         }
     }
     false
+}
+
+/// The zone's origin, which is the owner of the first start of authority, or the first fault of the entries.
+pub fn origin_of(entries: &[Entry]) -> Result<Name, ZoneFault>
+    ensures ok { IfOk result (λ origin. zone_of_entries (Ok entries.now)
+        ≡ Ok (record { origin = origin; rows = rows_of rows_map.empty entries.now })) }
+    ensures refused { IfErr result (λ fault. fault ≢ ZoneFault.Memory
+        → zone_of_entries (Ok entries.now) ≡ Err fault) }
+    ensures fqdn { IfOk result (λ origin. AreSoundEntries entries.now → origin.is_fqdn ≡ true) }
+{
+    let Some(origin) = first_soa_owner(entries) else {
+        return Err(ZoneFault::NoSoa);
+    };
+    if has_owner_outside(origin, entries) {
+        return Err(ZoneFault::OutsideOrigin);
+    }
+    if has_soa_elsewhere(origin, entries) {
+        return Err(ZoneFault::SoaElsewhere);
+    }
+    Ok(origin.clone()?)
 }
 
 /// The rows of the entries, in sets.

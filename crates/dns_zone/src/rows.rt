@@ -9,7 +9,7 @@ ghost use Rattle.dns_messages.specs.Data.{same_data};
 
 use dns_messages::RData;
 use dns_names::Name;
-use dns_wire::{RecordType, SerialNumber, SerialOrder};
+use dns_wire::RecordType;
 use std::alloc::{AllocError, Global};
 
 /// A row: data, and how long it may be kept, in seconds.
@@ -58,15 +58,13 @@ pub fn is_start_of_authority(rdata: &RData) -> bool
     }
 }
 
-/// Whether new data may take the place of old: a start of authority of a plainly greater serial number (RFC 1982).
+/// Whether new data replaces old: both are starts of authority, and the serial of the new one is the greater number.
+/// The arithmetic of RFC 1982 is for dynamic updates, and not for two records in one text.
 fn may_replace(new: &RData, old: &RData) -> bool
     ensures { result ≡ supersedes new.now old.now }
 {
     match (new, old) {
-        (RData::SOA(new), RData::SOA(old)) => {
-            let order = SerialNumber::new(new.serial).compare(SerialNumber::new(old.serial));
-            matches!(order, SerialOrder::Greater)
-        }
+        (RData::SOA(new), RData::SOA(old)) => old.serial < new.serial,
         _ => false,
     }
 }
@@ -126,8 +124,7 @@ pub fn add_row(
     if place < sets.len() {
         return join(&mut sets[place].rows, row);
     }
-    let mut rows = Vec::new(alloc);
-    rows.push(row)?;
+    let rows = Vec::from_array(alloc, [row])?;
     sets.push(RecordSet {
         name: owner,
         record_type,

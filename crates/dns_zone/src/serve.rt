@@ -2,10 +2,19 @@
 
 ghost use Rattle.std.specs.Prelude.{◌≡◌, ◌≤◌, MatchBool, MatchOption};
 ghost use Rattle.dns_messages.specs.declared.query.Query as asked;
-ghost use Rattle.dns_zone.specs.Serving.{has_authority, reply_limit, reply_metadata, IsServed};
+ghost use Rattle.dns_zone.specs.Serving.{has_request_header as is_request_header, has_authority, reply_limit, reply_metadata, IsServed};
 
 use crate::road::Road;
 use dns_messages::{Message, MessageType, Metadata, OpCode, Query, ResponseCode};
+
+/// Whether bytes begin with the header of a request that is served: a query with one question, and no record.
+pub fn has_request_header(bytes: &[u8]) -> bool
+    ensures { result ≡ is_request_header bytes.now }
+{
+    bytes.len() >= 12
+        && bytes[2] / 8 % 32 == 0
+        && &bytes[4..12] == b"\x00\x01\x00\x00\x00\x00\x00\x00".as_slice()
+}
 
 /// Whether a message is a request that is served: a question, one, and no record.
 fn is_served(message: &Message) -> bool

@@ -1,11 +1,11 @@
 //! The text of a zone, line by line (RFC 1035 section 5.1).
 
 ghost use Rattle.std.specs.Prelude.{◌≡◌, ◌≢◌, ◌<◌, ◌^◌, Option, true, [], map, IfOk, IfErr, IfSome, OnOk, Ok, Err, List, ℕ, ◌++◌};
-ghost use Rattle.std.specs.List.{list_all, AllByRecursion};
+ghost use Rattle.std.specs.List.{AllByRecursion};
 ghost use Rattle.std.specs.Str.Lines.{lines};
 ghost use Rattle.dns_zone.specs.Rows.{IsSoundRow};
 ghost use Rattle.dns_messages.specs.Sound.{IsSoundData};
-ghost use Rattle.dns_zone.specs.ZoneText.{is_blank, words, ended, fqdn_of, number_of, numbers_of, soa_of, a_of, rdata_of, entry_of, content_of_line, entries_from, IsSoundContent, AreSoundEntries, NumbersFit};
+ghost use Rattle.dns_zone.specs.ZoneText.{is_blank, words, ended, fqdn_of, number_of, numbers_of, soa_of, a_of, rdata_of, entry_of, content_of_line, is_without_entry as has_no_entry, entries_from, IsSoundContent, AreSoundEntries, NumbersFit};
 
 use crate::address::parse_ip;
 use crate::rows::Row;
@@ -100,6 +100,7 @@ pub fn parse_name(alloc: Global, word: &[u8]) -> Result<Option<Name>, AllocError
                 Ok(None)
             }
         }
+        // The memory for the name was refused.
         Err(ParseError::Memory) => Err(AllocError),
         Err(_) => Ok(None),
     }
@@ -205,10 +206,10 @@ fn parse_entry(alloc: Global, words: &[Vec<u8>]) -> Result<LineContent, AllocErr
     if class.as_slice() != b"IN".as_slice() {
         return Ok(LineContent::Unreadable);
     }
-    let Some(owner) = parse_name(alloc, owner)? else {
+    let Some(ttl) = parse_number(ttl) else {
         return Ok(LineContent::Unreadable);
     };
-    let Some(ttl) = parse_number(ttl) else {
+    let Some(owner) = parse_name(alloc, owner)? else {
         return Ok(LineContent::Unreadable);
     };
     let Some(rdata) = parse_rdata(alloc, record_type, data_words)? else {
@@ -220,11 +221,14 @@ fn parse_entry(alloc: Global, words: &[Vec<u8>]) -> Result<LineContent, AllocErr
     }))
 }
 
-/// Whether a text is blanks alone.
-fn is_all_blank(text: &[u8]) -> bool
-    ensures { result ≡ list_all is_blank text.now }
+/// Whether a line has no entry: it is blank, or a comment, which may begin with blanks.
+fn is_without_entry(line: &[u8]) -> bool
+    ensures { result ≡ has_no_entry line.now }
 {
-    for c in text {
+    for c in line {
+        if *c == b';' {
+            return true;
+        }
         if !is_blank_character(*c) {
             return false;
         }
@@ -237,16 +241,13 @@ fn read_line(alloc: Global, line: &[u8]) -> Result<LineContent, AllocError>
     ensures content { IfOk result (λ content. content ≡ content_of_line line.now) }
     ensures sound { IfOk result IsSoundContent }
 {
-    let [first, rest @ ..] = line else {
-        return Ok(LineContent::Nothing);
-    };
-    if *first == b';' {
+    if is_without_entry(line) {
         return Ok(LineContent::Nothing);
     }
+    let [first, ..] = line else {
+        return Ok(LineContent::Nothing);
+    };
     if is_blank_character(*first) {
-        if is_all_blank(rest) {
-            return Ok(LineContent::Nothing);
-        }
         return Ok(LineContent::Unreadable);
     }
     let words = split_words(alloc, line)?;

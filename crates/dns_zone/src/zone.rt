@@ -1,12 +1,12 @@
 //! Zones: read from text, and served.
 
-ghost use Rattle.std.specs.Prelude.{◌≡◌, ◌≢◌, IfOk, IfErr, Ok, Err, option_map};
+ghost use Rattle.std.specs.Prelude.{◌≡◌, ◌≢◌, IfOk, IsOk, IfErr, Ok, Err, option_map};
 
 use crate::answer::{Answer, answer_from};
-use crate::entries::{first_soa_owner, has_owner_outside, has_soa_elsewhere, sets_of};
+use crate::entries::{origin_of, sets_of};
 use crate::road::Road;
 use crate::rows::RecordSet;
-use crate::serve::{limit_of, metadata_of_reply, served_question};
+use crate::serve::{has_request_header, limit_of, metadata_of_reply, served_question};
 use crate::text::read_entries;
 use dns_messages::{Message, Metadata, Query, Section};
 use dns_names::Name;
@@ -61,9 +61,10 @@ impl Model for Zone {
 
 impl Zone {
     ghost use Rattle.dns_zone.specs.ZoneText.{zone_of_text};
-    ghost use Rattle.dns_zone.specs.Answer.{answer, IsSoundAnswer};
-    ghost use Rattle.dns_zone.specs.Serving.{Serves, reply_to};
-    ghost use Rattle.std.specs.Prelude.{true};
+    ghost use Rattle.dns_zone.specs.Answer.{answer, is_refused, IsSoundAnswer};
+    ghost use Rattle.dns_zone.specs.Serving.{Serves, reply_to, has_request_header as is_request_header};
+    ghost use Rattle.dns_zone.specs.Rows.{HasNoEmptySet};
+    ghost use Rattle.std.specs.Prelude.{true, false, None};
 
     /// The zone of a text. The origin is the owner of the first start of authority in it; the texts to include and the
     /// origin aren't looked at yet.
@@ -75,18 +76,10 @@ impl Zone {
     ) -> Result<Zone, ZoneFault>
         ensures ok { IfOk result (λ zone. zone_of_text text.now ≡ Ok zone) }
         ensures refused { IfErr result (λ fault. fault ≢ ZoneFault.Memory → zone_of_text text.now ≡ Err fault) }
+        ensures filled { IfOk result (λ zone. HasNoEmptySet zone.rows) }
     {
         let entries = read_entries(alloc, text)?;
-        let Some(owner) = first_soa_owner(entries.as_slice()) else {
-            return Err(ZoneFault::NoSoa);
-        };
-        let origin = owner.clone()?;
-        if has_owner_outside(&origin, entries.as_slice()) {
-            return Err(ZoneFault::OutsideOrigin);
-        }
-        if has_soa_elsewhere(&origin, entries.as_slice()) {
-            return Err(ZoneFault::SoaElsewhere);
-        }
+        let origin = origin_of(entries.as_slice())?;
         let sets = sets_of(alloc, entries)?;
         Ok(Zone {
             origin,
@@ -102,10 +95,11 @@ impl Zone {
         &self.origin
     }
 
-    /// The answer to a question.
+    /// The answer to a question. A question that is refused takes no memory.
     pub fn answer(&self, query: &Query) -> Result<Answer, AllocError>
         ensures answer { IfOk result (λ a. a ≡ answer self.now query.now) }
         ensures sound { IfOk result (λ a. query.now.name.is_fqdn ≡ true → IsSoundAnswer a) }
+        ensures refused { is_refused self.now query.now ≡ true → IsOk result }
     {
         answer_from(self.alloc, &self.origin, self.sets.as_slice(), query)
     }
@@ -116,8 +110,7 @@ impl Zone {
         ensures sound { IfOk result (λ _. query.name.is_fqdn ≡ true → IsSoundAnswer (answer self.now query)) }
     {
         let answer = self.answer(&query)?;
-        let mut queries = Section::new(self.alloc);
-        queries.push(query)?;
+        let queries = Section::from_vec(Vec::from_array(self.alloc, [query])?);
         Ok(Message {
             metadata: metadata_of_reply(request, answer.code),
             queries,
@@ -127,14 +120,20 @@ impl Zone {
         })
     }
 
-    /// Serves a request: its reply, or none where the bytes are no request that is served.
+    /// Serves a request: its reply, or none where the bytes are no request that is served. Bytes without the header of a
+    /// request are dropped before memory is taken.
     pub fn serve(&mut self, bytes: &[u8], road: Road) -> Result<Option<Vec<u8>>, AllocError>
         ensures reply { IfOk result (λ reply. Serves self.old road bytes.now (option_map (λ out. out.items) reply)) }
         ensures same { self.new ≡ self.old }
+        ensures header { is_request_header bytes.now ≡ false → result ≡ Ok None }
     {
+        if !has_request_header(bytes) {
+            return Ok(None);
+        }
         let message = match Message::from_vec(self.alloc, bytes) {
             Ok(message) => message,
             Err(error) => match error {
+                // The memory for the message was refused.
                 DecodeError::Memory => return Err(AllocError),
                 _ => return Ok(None),
             },
@@ -146,6 +145,7 @@ impl Zone {
         let reply = self.reply_to(request, query)?;
         match reply.to_vec(self.alloc, limit_of(road)) {
             Ok(out) => Ok(Some(out)),
+            // The memory for the reply's bytes was refused.
             Err(EncodeError::Memory) => Err(AllocError),
             Err(EncodeError::MaxBufferSizeExceeded) => unreachable!(),
         }

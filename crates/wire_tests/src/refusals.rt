@@ -12,27 +12,27 @@ fn faults_of_reading_are_sentences(rt: HostRuntime) -> Result<(), Fail> {
     for (error, text) in [
         (
             DecodeError::InsufficientBytes,
-            "unexpected end of the bytes",
+            "unexpected end of input",
         ),
         (
             DecodeError::PointerNotPriorToLabel,
-            "a pointer that does not lead back before its labels",
+            "compression pointer does not point before its labels",
         ),
         (
             DecodeError::UnrecognizedLabelCode,
-            "a label's length begins with bits that have no meaning",
+            "label length has reserved high bits",
         ),
         (
             DecodeError::DomainNameTooLong,
-            "a name of more than 255 bytes",
+            "name is longer than 255 bytes",
         ),
         (
             DecodeError::IncorrectRDataLengthRead,
-            "record data that does not take exactly its length",
+            "record data does not have its stated length",
         ),
         (
             DecodeError::UnsupportedRecordType,
-            "record data of a type that is not read",
+            "record data of an unsupported type",
         ),
         (DecodeError::Memory, "out of memory"),
     ] {
@@ -56,11 +56,11 @@ fn refusals_of_lists_are_sentences(rt: HostRuntime) -> Result<(), Fail> {
         ),
         (
             ProtoError::CharacterDataTooLong { len: 256 },
-            "character data of 256 bytes, where at most 255 can be written",
+            "character data of 256 bytes exceeds 255 bytes",
         ),
         (
             ProtoError::from(EncodeError::MaxBufferSizeExceeded),
-            "the buffer's greatest size would be passed",
+            "maximum buffer size exceeded",
         ),
         (ProtoError::from(EncodeError::Memory), "out of memory"),
     ] {
@@ -80,7 +80,7 @@ fn refusals_of_writes_are_sentences(rt: HostRuntime) -> Result<(), Fail> {
     for (error, text) in [
         (
             EncodeError::MaxBufferSizeExceeded,
-            "the buffer's greatest size would be passed",
+            "maximum buffer size exceeded",
         ),
         (EncodeError::Memory, "out of memory"),
     ] {

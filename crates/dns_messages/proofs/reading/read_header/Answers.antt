@@ -1,8 +1,8 @@
 use Rattle.std.proofs.Common.{◌≡◌, ◌∙◌, ℕ, List, [], ◌∷◌, ◌++◌, length, refl, ap, sym, subst, arith}
 use Rattle.std.specs.Int.{w16, to_be_bytes}
-use Rattle.dns_wire.specs.Pieces.{Shows}
+use Rattle.dns_wire.specs.Encodable.{BytesAt}
 use Rattle.dns_messages.specs.Header.{metadata_of}
-use Rattle.dns_wire.specs.NumberLaws.{same_bytes}
+use Rattle.dns_wire.specs.internal.NumberLaws.{same_bytes}
 use Rattle.dns_messages.proofs.OneWay.{Took, took_then, shows_took, header_list, header_same}
 use Rattle.dns_messages.proofs.reading.read_header.Goals as goal
 
@@ -33,7 +33,7 @@ returns-clause-only c = λ m h.
     let all : List ℕ = id ++ (third ++ (fourth ++ (queries ++ (answers ++ (authorities ++ additionals))))) in
     let took : Took d0 d7 all =
     took_then d0 d1 d7 id _ t1 (took_then d1 d2 d7 third _ t2 (took_then d2 d3 d7 fourth _ t3 (took_then d3 d4 d7 queries _ t4 (took_then d4 d5 d7 answers _ t5 (took_then d5 d6 d7 authorities additionals t6 t7))))) in
-    let shown : Shows d0.bytes 0 all d7.index = subst (λ (n : ℕ). Shows d0.bytes n all d7.index) c.requires (shows_took d0 d7 all (omega arith) took) in
+    let shown : BytesAt d0.bytes 0 all d7.index = subst (λ (n : ℕ). BytesAt d0.bytes n all d7.index) c.requires (shows_took d0 d7 all (omega arith) took) in
     let theirs : List ℕ = header_list m.metadata.id h.third h.fourth (length m.queries) (length m.answers) (length m.authorities) (length m.additionals) in
     let lists : theirs ≡ all = (same_bytes d0.bytes 0 theirs all 12 d7.index refl h.there shown).0 in
     let s = header_same m.metadata.id h.third h.fourth (length m.queries) (length m.answers) (length m.authorities) (length m.additionals)

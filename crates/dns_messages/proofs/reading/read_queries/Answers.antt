@@ -1,8 +1,11 @@
 use Rattle.std.proofs.Common.{◌<◌, ℕ, List, [], ◌∷◌, length, ap, sym, subst, ◌∙◌, arith, length-append}
 use Rattle.std.proofs.lemmas.Result.{err_from_is_err_and}
 use Rattle.dns_messages.specs.declared.query.Query.{Query}
-use Rattle.dns_messages.specs.Grammar.{Follow, ReadsQuestion}
-use Rattle.dns_messages.proofs.OneWay.{question_same, follow_same, follow_next, follow_push}
+use Rattle.dns_messages.specs.Grammar.{ReadsQuestion}
+use Rattle.dns_wire.specs.Decodable.{Follow}
+use Rattle.dns_wire.proofs.DecodeErrorLaws.{memory_alone}
+use Rattle.dns_messages.specs.internal.Questions.{question_same, question_not_refused}
+use Rattle.dns_messages.proofs.OneWay.{follow_same, follow_next, follow_push}
 use Rattle.dns_messages.proofs.reading.read_queries.Goals as goal
 
 pub returns-in_err-query-clause-only : goal.returns-in_err-query-clause-only
@@ -13,7 +16,8 @@ returns-in_err-query-clause-only c = λ xs end len f.
     let now = c.loop-nth.decoder in
     let less : length c.loop-nth.queries < length xs = omega (arith, len, inv.count_is, c.loop-nth-test.true) in
     let next = follow_next (ReadsQuestion old.bytes) (question_same old.bytes) old.index c.loop-nth.queries xs now.index end less inv.so_far f in
-    rw (p.1, p.2) (c.in_err-query.ensures.only next.0 next.1 (subst (λ (bs : List ℕ). ReadsQuestion bs now.index next.0 next.1) (sym inv.same_bytes) next.2))
+    let there = subst (λ (bs : List ℕ). ReadsQuestion bs now.index next.0 next.1) (sym inv.same_bytes) next.2 in
+    rw (p.1, p.2) (memory_alone _ (λ other. question_not_refused _ _ _ _ _ there (c.in_err-query.ensures.refused other)))
 
 pub loop-nth-preserved : goal.loop-nth-preserved
 loop-nth-preserved c =

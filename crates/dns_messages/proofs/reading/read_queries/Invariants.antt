@@ -1,5 +1,6 @@
 use Rattle.std.proofs.Common.{◌≡◌, length}
-use Rattle.dns_messages.specs.Grammar.{Follow, ReadsQuestion}
+use Rattle.dns_messages.specs.Grammar.{ReadsQuestion}
+use Rattle.dns_wire.specs.Decodable.{Follow}
 use Rattle.dns_messages.proofs.reading.read_queries.Given as goal
 
 abbrev pub invariant-loop-nth : goal.invariant-loop-nth

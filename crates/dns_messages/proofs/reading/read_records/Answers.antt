@@ -1,8 +1,11 @@
 use Rattle.std.proofs.Common.{◌<◌, ℕ, List, [], ◌∷◌, length, ap, sym, subst, ◌∙◌, arith, length-append}
 use Rattle.std.proofs.lemmas.Result.{err_from_is_err_and}
 use Rattle.dns_messages.specs.declared.record.Record.{Record}
-use Rattle.dns_messages.specs.Grammar.{Follow, ReadsRecord}
-use Rattle.dns_messages.proofs.OneWay.{record_same, follow_same, follow_next, follow_push}
+use Rattle.dns_messages.specs.Grammar.{ReadsRecord}
+use Rattle.dns_wire.specs.Decodable.{Follow}
+use Rattle.dns_wire.proofs.DecodeErrorLaws.{memory_alone}
+use Rattle.dns_messages.specs.internal.Records.{record_same, record_not_refused}
+use Rattle.dns_messages.proofs.OneWay.{follow_same, follow_next, follow_push}
 use Rattle.dns_messages.proofs.reading.read_records.Goals as goal
 
 pub returns-in_err-row-clause-only : goal.returns-in_err-row-clause-only
@@ -13,7 +16,8 @@ returns-in_err-row-clause-only c = λ xs end len f.
     let now = c.loop-nth.decoder in
     let less : length c.loop-nth.records < length xs = omega (arith, len, inv.count_is, c.loop-nth-test.true) in
     let next = follow_next (ReadsRecord old.bytes) (record_same old.bytes) old.index c.loop-nth.records xs now.index end less inv.so_far f in
-    rw (p.1, p.2) (c.in_err-row.ensures.only next.0 next.1 (subst (λ (bs : List ℕ). ReadsRecord bs now.index next.0 next.1) (sym inv.same_bytes) next.2))
+    let there = subst (λ (bs : List ℕ). ReadsRecord bs now.index next.0 next.1) (sym inv.same_bytes) next.2 in
+    rw (p.1, p.2) (memory_alone _ (λ other. record_not_refused _ _ _ _ _ there (c.in_err-row.ensures.refused other)))
 
 pub loop-nth-preserved : goal.loop-nth-preserved
 loop-nth-preserved c =

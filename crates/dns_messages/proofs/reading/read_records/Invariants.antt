@@ -1,5 +1,6 @@
 use Rattle.std.proofs.Common.{◌≡◌, length}
-use Rattle.dns_messages.specs.Grammar.{Follow, ReadsRecord}
+use Rattle.dns_messages.specs.Grammar.{ReadsRecord}
+use Rattle.dns_wire.specs.Decodable.{Follow}
 use Rattle.dns_messages.proofs.reading.read_records.Given as goal
 
 abbrev pub invariant-loop-nth : goal.invariant-loop-nth

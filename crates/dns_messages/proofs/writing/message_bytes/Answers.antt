@@ -1,7 +1,7 @@
 use Rattle.std.proofs.Common.{◌≡◌, ◌<◌, ◌∙◌, ℕ, List, length, refl, sym, ap, subst, arith, rules}
 use Rattle.std.proofs.lemmas.Result.{err_from_is_err_and}
-use Rattle.dns_wire.specs.Encoder.{Written, written}
-use Rattle.dns_wire.specs.Pieces.{Sofar, sofar, reach}
+use Rattle.dns_wire.specs.Encoder.{EncoderState, state_of}
+use Rattle.dns_wire.specs.Encodable.{Position, position_of, reach}
 use Rattle.dns_messages.specs.Message.{beginning, message_of, message_form, message_pieces}
 use Rattle.dns_messages.specs.Grammar.{ReadsMessage}
 use Rattle.dns_messages.proofs.MessageWriting.{length-form, bounds}
@@ -10,17 +10,17 @@ use Rattle.dns_messages.proofs.writing.message_bytes.Goals as goal
 use Rattle.dns_messages.proofs.writing.message_bytes.Goals.{After-set_max_size}
 
 -- nothing was written yet, under the limit
-begun : (c : After-set_max_size) → sofar (written c.set_max_size.new.self) ≡ beginning
-begun c = ap sofar c.set_max_size.ensures.value ∙ ap (λ (w : Written). sofar (record w { limit = c.args.limit })) c.with_offset-encoder.ensures.value
+begun : (c : After-set_max_size) → position_of (state_of c.set_max_size.new.self) ≡ beginning
+begun c = ap position_of c.set_max_size.ensures ∙ ap (λ (w : EncoderState). position_of (record w { limit = c.args.limit })) c.with_offset-encoder.ensures
 
-limit_is : (c : After-set_max_size) → (written c.set_max_size.new.self).limit ≡ c.args.limit
-limit_is c = ap (λ (w : Written). w.limit) c.set_max_size.ensures.value
+limit_is : (c : After-set_max_size) → (state_of c.set_max_size.new.self).limit ≡ c.args.limit
+limit_is c = ap (λ (w : EncoderState). w.limit) c.set_max_size.ensures
 
-reaches : (c : After-set_max_size) → reach (sofar (written c.set_max_size.new.self)) (message_pieces (message_of c.args.metadata c.args.queries.now c.args.answers.now c.args.authorities.now c.args.additionals.now))
+reaches : (c : After-set_max_size) → reach (position_of (state_of c.set_max_size.new.self)) (message_pieces (message_of c.args.metadata c.args.queries.now c.args.answers.now c.args.authorities.now c.args.additionals.now))
     ≡ length (message_form (message_of c.args.metadata c.args.queries.now c.args.answers.now c.args.authorities.now c.args.additionals.now))
 reaches c =
     let m = message_of c.args.metadata c.args.queries.now c.args.answers.now c.args.authorities.now c.args.additionals.now in
-    ap (λ (s : Sofar). reach s (message_pieces m)) (begun c) ∙ length-form m
+    ap (λ (s : Position). reach s (message_pieces m)) (begun c) ∙ length-form m
 
 pub returns-then-max-from-clause-full : goal.returns-then-max-from-clause-full
 returns-then-max-from-clause-full c = λ e.

@@ -1,5 +1,5 @@
 use Rattle.std.proofs.Common.{◌≡◌, ◌<◌, ◌∙◌, length, drop, sym, ap, arith}
-use Rattle.dns_text.specs.Tokens.{line_end}
+use Rattle.dns_text.specs.Front.{line_end}
 use Rattle.dns_text.proofs.FrontLaws.{slice_is, line_next}
 use Rattle.dns_text.proofs.front.line_len.Goals as goal
 

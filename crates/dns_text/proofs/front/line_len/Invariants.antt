@@ -1,5 +1,5 @@
 use Rattle.std.proofs.Common.{◌≡◌, drop}
-use Rattle.dns_text.specs.Tokens.{line_from}
+use Rattle.dns_text.specs.Front.{line_from}
 use Rattle.dns_text.proofs.front.line_len.Given as goal
 
 -- no line has ended before

@@ -1,5 +1,5 @@
 use Rattle.std.proofs.Common.{◌≤◌}
-use Rattle.dns_text.specs.Counting.{total}
+use Rattle.dns_text.specs.internal.Ttl.{total}
 use Rattle.dns_text.proofs.TtlLaws.{Underway}
 use Rattle.dns_text.proofs.ttl.parse_ttl.Given as goal
 

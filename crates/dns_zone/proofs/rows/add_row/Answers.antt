@@ -1,4 +1,4 @@
-use Rattle.std.proofs.Common.{refl, ap, ◌∙◌, [], ◌∷◌, ◌++◌, arith}
+use Rattle.std.proofs.Common.{refl, ap, ◌∙◌, arith}
 use Rattle.std.proofs.lemmas.Result.{on_ok_weaker}
 use Rattle.std.specs.List.{position_or_len}
 use Rattle.std.specs.Ordering.{eq_by_cmp}
@@ -21,4 +21,4 @@ returns-then-place-len-clause-sound c =
 
 pub returns-clause-rows : goal.returns-clause-rows
 returns-clause-rows c =
-    ap rows_of_sets c.in_ok-push-2.ensures.items ∙ new_set c.args.sets.now.items _ c.args.owner.labels c.args.row c.position-place.result (c.position-place.ensures ∙ (λ i. position_or_len (λ (s : RecordSet). eq_by_cmp key_cmp (key c.args.owner.labels (c.record_type-record_type.ensures i)) (set_key s)) (c.as_slice.ensures.value i))) (omega arith) refl c.record_type-record_type.ensures (c.in_ok-push.ensures.items ∙ ap (λ xs. xs ++ c.args.row ∷ []) c.new-rows.ensures.items)
+    ap rows_of_sets c.in_ok-push.ensures.items ∙ new_set c.args.sets.now.items _ c.args.owner.labels c.args.row c.position-place.result (c.position-place.ensures ∙ (λ i. position_or_len (λ (s : RecordSet). eq_by_cmp key_cmp (key c.args.owner.labels (c.record_type-record_type.ensures i)) (set_key s)) (c.as_slice.ensures.value i))) (omega arith) refl c.record_type-record_type.ensures c.in_ok-rows.ensures.items

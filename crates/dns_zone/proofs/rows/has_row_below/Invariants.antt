@@ -1,6 +1,6 @@
 use Rattle.std.proofs.Common.{◌≡◌, drop}
 use Rattle.std.specs.List.{list_any}
-use Rattle.dns_names.specs.Comparison.{at_or_below}
+use Rattle.dns_names.specs.Compare.{at_or_below}
 use Rattle.dns_zone.specs.declared.rows.RecordSet.{RecordSet}
 use Rattle.dns_zone.proofs.rows.has_row_below.Given as goal
 

@@ -1,28 +1,17 @@
-use Rattle.std.proofs.Common.{◌∙◌, ap, sym, subst}
 use Rattle.std.proofs.lemmas.Result.{err_from_is_err_and}
-use Rattle.dns_messages.specs.declared.rdata.RData.{RData}
-use Rattle.dns_messages.specs.declared.rdata.RData.TheVariants as of
-use Rattle.dns_messages.specs.Grammar.{ReadsData}
-use Rattle.dns_messages.proofs.OneWay.{is_address, is_soa}
+use Rattle.dns_messages.specs.Grammar.{short_address, unsupported_type}
 use Rattle.dns_messages.proofs.rdata.RData.read.Goals as goal
 
-pub returns-in_err-read-in-A-clause-only : goal.returns-in_err-read-in-A-clause-only
-returns-in_err-read-in-A-clause-only c = λ rdata end type r.
+pub returns-in_err-read-in-A-clause-refused : goal.returns-in_err-read-in-A-clause-refused
+returns-in_err-read-in-A-clause-refused c =
     let p = err_from_is_err_and c.from_residual.result c.from_residual.ensures.1 in
-    let old = c.args.decoder.now in
-    let is = is_address rdata (type ∙ c.in-A.is) in
-    rw (p.1, p.2) (c.in_err-read-in-A.ensures.only is.0 end (subst (λ (d : RData). ReadsData old.bytes old.index d end) is.1 r))
+    let few = c.in_err-read-in-A.ensures.refused in
+    rw (p.1, p.2) (λ other. rw few.0 (short_address c.in-A.is few.1))
 
-pub returns-in_err-read-in-SOA-clause-only : goal.returns-in_err-read-in-SOA-clause-only
-returns-in_err-read-in-SOA-clause-only c = λ rdata end type r.
+pub returns-in_err-read-in-SOA-clause-refused : goal.returns-in_err-read-in-SOA-clause-refused
+returns-in_err-read-in-SOA-clause-refused c =
     let p = err_from_is_err_and c.from_residual-in_err-read-in-SOA.result c.from_residual-in_err-read-in-SOA.ensures.1 in
-    let old = c.args.decoder.now in
-    let is = is_soa rdata (type ∙ c.in-SOA.is) in
-    rw (p.1, p.2) (c.in_err-read-in-SOA.ensures.only is.0 end (subst (λ (d : RData). ReadsData old.bytes old.index d end) is.1 r))
+    rw (p.1, p.2) (λ other. rw c.in-SOA.is (c.in_err-read-in-SOA.ensures.refused other))
 
-pub returns-in_ok-read-in-SOA-clause-only : goal.returns-in_ok-read-in-SOA-clause-only
-returns-in_ok-read-in-SOA-clause-only c = λ rdata end type r.
-    let old = c.args.decoder.now in
-    let is = is_soa rdata (type ∙ c.in-SOA.is) in
-    let same = c.in_ok-read-in-SOA.ensures.only is.0 end (subst (λ (d : RData). ReadsData old.bytes old.index d end) is.1 r) in
-    (ap of.SOA same.0 ∙ sym is.1, same.1)
+pub returns-in_default-clause-refused : goal.returns-in_default-clause-refused
+returns-in_default-clause-refused c = λ other. unsupported_type c.in_default.not-A c.in_default.not-SOA

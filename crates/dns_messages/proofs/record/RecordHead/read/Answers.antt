@@ -1,71 +1,59 @@
-use Rattle.std.proofs.Common.{ℕ, List, ◌∙◌, refl, rules}
-use Rattle.std.specs.Int.{w16, w32, to_be_bytes}
+use Rattle.std.proofs.Common.{◌≡◌, ◌+◌, ◌<◌, ◌≤◌, ◌∙◌, ℕ, List, length, drop, ap, arith, length-drop}
 use Rattle.std.proofs.lemmas.Result.{err_from_is_err_and}
-use Rattle.dns_codes.specs.RecordType.{type_number}
-use Rattle.dns_codes.specs.DNSClass.{class_number}
-use Rattle.dns_messages.proofs.OneWay.{shows_here, head_same}
+use Rattle.dns_messages.specs.Grammar.{bad_owner, short_head}
 use Rattle.dns_messages.proofs.record.RecordHead.read.Goals as goal
 
-pub returns-in_err-read_u16-clause-only : goal.returns-in_err-read_u16-clause-only
-returns-in_err-read_u16-clause-only c = λ h end r.
-    let p = err_from_is_err_and c.from_residual-in_err-read_u16.result c.from_residual-in_err-read_u16.ensures.1 in
-    let old = c.args.decoder.now in
-    let d1 = c.read.new.decoder in
-    let name = c.in_ok-name.ensures.only h.name.labels r.there.0 r.there.1 in
-    let type_form : List ℕ = to_be_bytes w16 (type_number h.record_type) in
-    let type = c.in_err-read_u16.ensures.only type_form r.there.2.0 refl (shows_here old.bytes d1.bytes r.there.0 d1.index r.there.2.0 type_form (c.in_ok-name.ensures.bytes) name.1 r.there.2.1) in
-    rw (p.1, p.2) type
+-- behind what was read, too few bytes are left
+short : (bytes here : List ℕ) (place behind taken few : ℕ) → here ≡ bytes → place + taken ≡ behind → length (drop behind here) < few → taken + few ≤ 10 → length (drop place bytes) < 10
+short bytes here place behind taken few same ends less most =
+    omega (arith, ap (λ (xs : List ℕ). length (drop behind xs)) same, ends, less, most, length-drop place bytes, length-drop behind bytes)
 
-pub returns-in_err-read_u16-2-clause-only : goal.returns-in_err-read_u16-2-clause-only
-returns-in_err-read_u16-2-clause-only c = λ h end r.
-    let p = err_from_is_err_and c.from_residual-in_err-read_u16-2.result c.from_residual-in_err-read_u16-2.ensures.1 in
-    let old = c.args.decoder.now in
-    let d1 = c.read.new.decoder in
-    let name = c.in_ok-name.ensures.only h.name.labels r.there.0 r.there.1 in
-    let type_form : List ℕ = to_be_bytes w16 (type_number h.record_type) in
-    let type = c.in_ok-read_u16.ensures.only type_form r.there.2.0 refl (shows_here old.bytes d1.bytes r.there.0 d1.index r.there.2.0 type_form (c.in_ok-name.ensures.bytes) name.1 r.there.2.1) in
-    let d2 = c.read_u16.new.decoder in
-    let class_form : List ℕ = to_be_bytes w16 (class_number h.dns_class) in
-    let class = c.in_err-read_u16-2.ensures.only class_form r.there.2.2.0 refl (shows_here old.bytes d2.bytes r.there.2.0 d2.index r.there.2.2.0 class_form (c.in_ok-read_u16.ensures.bytes ∙ c.in_ok-name.ensures.bytes) type.1 r.there.2.2.1) in
-    rw (p.1, p.2) class
+pub returns-in_err-name-clause-refused : goal.returns-in_err-name-clause-refused
+returns-in_err-name-clause-refused c =
+    let p = err_from_is_err_and c.from_residual.result c.from_residual.ensures.1 in
+    rw (p.1, p.2) (λ other. bad_owner (c.in_err-name.ensures.refused other))
 
-pub returns-in_err-ttl-clause-only : goal.returns-in_err-ttl-clause-only
-returns-in_err-ttl-clause-only c = λ h end r.
+pub returns-in_err-read-clause-refused : goal.returns-in_err-read-clause-refused
+returns-in_err-read-clause-refused c =
+    let p = err_from_is_err_and c.from_residual-in_err-read.result c.from_residual-in_err-read.ensures.1 in
+    rw (p.1, p.2) (λ other.
+    let few = c.in_err-read.ensures.refused other in
+    let d0 = c.args.decoder.now in
+    let d1 = c.read.new.decoder in
+    let ends : d1.index + 0 ≡ d1.index = omega arith in
+    rw few.0 (short_head c.in_ok-name.ensures.read (short d0.bytes d1.bytes d1.index d1.index 0 2 c.in_ok-name.ensures.bytes ends few.1 (omega arith))))
+
+pub returns-in_err-read-2-clause-refused : goal.returns-in_err-read-2-clause-refused
+returns-in_err-read-2-clause-refused c =
+    let p = err_from_is_err_and c.from_residual-in_err-read-2.result c.from_residual-in_err-read-2.ensures.1 in
+    rw (p.1, p.2) (λ other.
+    let few = c.in_err-read-2.ensures.refused other in
+    let same = c.in_ok-read.ensures.bytes ∙ c.in_ok-name.ensures.bytes in
+    let d0 = c.args.decoder.now in
+    let d1 = c.read.new.decoder in
+    let d2 = c.read-2.new.decoder in
+    rw few.0 (short_head c.in_ok-name.ensures.read (short d0.bytes d2.bytes d1.index d2.index 2 2 same c.in_ok-read.ensures.read.0.ends few.1 (omega arith))))
+
+pub returns-in_err-ttl-clause-refused : goal.returns-in_err-ttl-clause-refused
+returns-in_err-ttl-clause-refused c =
     let p = err_from_is_err_and c.from_residual-in_err-ttl.result c.from_residual-in_err-ttl.ensures.1 in
-    let old = c.args.decoder.now in
+    rw (p.1, p.2) (λ other.
+    let few = c.in_err-ttl.ensures.refused other in
+    let same = c.in_ok-read-2.ensures.bytes ∙ c.in_ok-read.ensures.bytes ∙ c.in_ok-name.ensures.bytes in
+    let d0 = c.args.decoder.now in
     let d1 = c.read.new.decoder in
-    let name = c.in_ok-name.ensures.only h.name.labels r.there.0 r.there.1 in
-    let type_form : List ℕ = to_be_bytes w16 (type_number h.record_type) in
-    let type = c.in_ok-read_u16.ensures.only type_form r.there.2.0 refl (shows_here old.bytes d1.bytes r.there.0 d1.index r.there.2.0 type_form (c.in_ok-name.ensures.bytes) name.1 r.there.2.1) in
-    let d2 = c.read_u16.new.decoder in
-    let class_form : List ℕ = to_be_bytes w16 (class_number h.dns_class) in
-    let class = c.in_ok-read_u16-2.ensures.only class_form r.there.2.2.0 refl (shows_here old.bytes d2.bytes r.there.2.0 d2.index r.there.2.2.0 class_form (c.in_ok-read_u16.ensures.bytes ∙ c.in_ok-name.ensures.bytes) type.1 r.there.2.2.1) in
-    let d3 = c.read_u16-2.new.decoder in
-    let ttl_form : List ℕ = to_be_bytes w32 h.ttl in
-    let ttl = c.in_err-ttl.ensures.only ttl_form r.there.2.2.2.0 refl (shows_here old.bytes d3.bytes r.there.2.2.0 d3.index r.there.2.2.2.0 ttl_form (c.in_ok-read_u16-2.ensures.bytes ∙ c.in_ok-read_u16.ensures.bytes ∙ c.in_ok-name.ensures.bytes) class.1 r.there.2.2.2.1) in
-    rw (p.1, p.2) ttl
+    let d3 = c.read-3.new.decoder in
+    let ends : d1.index + 4 ≡ d3.index = omega (arith, c.in_ok-read.ensures.read.0.ends, c.in_ok-read-2.ensures.read.0.ends) in
+    rw few.0 (short_head c.in_ok-name.ensures.read (short d0.bytes d3.bytes d1.index d3.index 4 4 same ends few.1 (omega arith))))
 
-pub returns-in_err-len-clause-only : goal.returns-in_err-len-clause-only
-returns-in_err-len-clause-only c = λ h end r.
+pub returns-in_err-len-clause-refused : goal.returns-in_err-len-clause-refused
+returns-in_err-len-clause-refused c =
     let p = err_from_is_err_and c.from_residual-in_err-len.result c.from_residual-in_err-len.ensures.1 in
-    let old = c.args.decoder.now in
+    rw (p.1, p.2) (λ other.
+    let few = c.in_err-len.ensures.refused other in
+    let same = c.in_ok-ttl.ensures.bytes ∙ c.in_ok-read-2.ensures.bytes ∙ c.in_ok-read.ensures.bytes ∙ c.in_ok-name.ensures.bytes in
+    let d0 = c.args.decoder.now in
     let d1 = c.read.new.decoder in
-    let name = c.in_ok-name.ensures.only h.name.labels r.there.0 r.there.1 in
-    let type_form : List ℕ = to_be_bytes w16 (type_number h.record_type) in
-    let type = c.in_ok-read_u16.ensures.only type_form r.there.2.0 refl (shows_here old.bytes d1.bytes r.there.0 d1.index r.there.2.0 type_form (c.in_ok-name.ensures.bytes) name.1 r.there.2.1) in
-    let d2 = c.read_u16.new.decoder in
-    let class_form : List ℕ = to_be_bytes w16 (class_number h.dns_class) in
-    let class = c.in_ok-read_u16-2.ensures.only class_form r.there.2.2.0 refl (shows_here old.bytes d2.bytes r.there.2.0 d2.index r.there.2.2.0 class_form (c.in_ok-read_u16.ensures.bytes ∙ c.in_ok-name.ensures.bytes) type.1 r.there.2.2.1) in
-    let d3 = c.read_u16-2.new.decoder in
-    let ttl_form : List ℕ = to_be_bytes w32 h.ttl in
-    let ttl = c.in_ok-ttl.ensures.only ttl_form r.there.2.2.2.0 refl (shows_here old.bytes d3.bytes r.there.2.2.0 d3.index r.there.2.2.2.0 ttl_form (c.in_ok-read_u16-2.ensures.bytes ∙ c.in_ok-read_u16.ensures.bytes ∙ c.in_ok-name.ensures.bytes) class.1 r.there.2.2.2.1) in
-    let d4 = c.read_u32.new.decoder in
-    let len_form : List ℕ = to_be_bytes w16 h.len in
-    let len = c.in_err-len.ensures.only len_form r.there.2.2.2.2.0 refl (shows_here old.bytes d4.bytes r.there.2.2.2.0 d4.index r.there.2.2.2.2.0 len_form (c.in_ok-ttl.ensures.bytes ∙ c.in_ok-read_u16-2.ensures.bytes ∙ c.in_ok-read_u16.ensures.bytes ∙ c.in_ok-name.ensures.bytes) ttl.1 r.there.2.2.2.2.1) in
-    rw (p.1, p.2) len
-
-pub returns-clause-read : goal.returns-clause-read
-returns-clause-read c = search rules
-
-pub returns-clause-only : goal.returns-clause-only
-returns-clause-only c = λ head end r. head_same c.args.decoder.now.bytes c.args.decoder.now.index _ head _ end (returns-clause-read c) r
+    let d4 = c.read-4.new.decoder in
+    let ends : d1.index + 8 ≡ d4.index = omega (arith, c.in_ok-read.ensures.read.0.ends, c.in_ok-read-2.ensures.read.0.ends, c.in_ok-ttl.ensures.read.0.ends) in
+    rw few.0 (short_head c.in_ok-name.ensures.read (short d0.bytes d4.bytes d1.index d4.index 8 2 same ends few.1 (omega arith))))

@@ -2,17 +2,17 @@ use Rattle.std.proofs.Common.{arith}
 use Rattle.dns_names.proofs.BuildingLaws.{name_len-append, fits, overflows, not_refused}
 use Rattle.dns_names.proofs.name.Name.append_name.Goals as goal
 
-pub returns-then-encoded_len-clause-refused : goal.returns-then-encoded_len-clause-refused
-returns-then-encoded_len-clause-refused c =
+pub returns-then-encoded_len-clause-outcome : goal.returns-then-encoded_len-clause-outcome
+returns-then-encoded_len-clause-outcome c =
     λ _. overflows (record c.args.self { is_fqdn = c.args.other.now.is_fqdn }) c.args.other.now.labels
     (omega (arith, name_len-append c.args.self.labels c.args.other.now.labels, c.encoded_len.ensures.value, c.encoded_len-2.ensures.value, c.if-encoded_len.true))
 
 pub push_labels-requires : goal.push_labels-requires
 push_labels-requires c = omega (arith, name_len-append c.args.self.labels c.args.other.now.labels, c.encoded_len.ensures.value, c.encoded_len-2.ensures.value, c.if-encoded_len.false)
 
-pub returns-clause-ok : goal.returns-clause-ok
-returns-clause-ok c =
-    rw (c.set_fqdn.ensures, c.in_ok-push_labels.ensures, c.is_fqdn.ensures.value)
+pub returns-clause-outcome : goal.returns-clause-outcome
+returns-clause-outcome c =
+    rw (c.set_fqdn.ensures, c.in_ok-push_labels.ensures, c.is_fqdn.ensures)
     (fits (record c.args.self { is_fqdn = c.args.other.now.is_fqdn }) c.args.other.now.labels
     (omega (arith, name_len-append c.args.self.labels c.args.other.now.labels, c.encoded_len.ensures.value, c.encoded_len-2.ensures.value, c.if-encoded_len.false)))
 

@@ -1,11 +1,8 @@
 use Rattle.std.proofs.Common.{◌≡◌, ◌+◌, ◌≤◌, true, false, length, ap, arith}
 use Rattle.dns_wire.specs.Name.{name_len}
-use Rattle.dns_names.specs.Cut.{labels_from}
-use Rattle.dns_names.proofs.CutLaws.{are_labels, len_is, length-labels_from}
+use Rattle.dns_names.specs.internal.Name.{labels_from}
+use Rattle.dns_names.proofs.CutLaws.{len_is, length-labels_from}
 use Rattle.dns_names.proofs.name.Name.clone.Goals as goal
-
-pub returns-in_err-from_slice-clause-labels : goal.returns-in_err-from_slice-clause-labels
-returns-in_err-from_slice-clause-labels c = rw (← c.self.view_is) (are_labels _ _ c.self.invariant)
 
 pub returns-in_err-from_slice-clause-inline : goal.returns-in_err-from_slice-clause-inline
 returns-in_err-from_slice-clause-inline c =
@@ -19,9 +16,6 @@ returns-in_err-from_slice-clause-inline c =
     let clash : false ≡ true = c.in_err-from_slice.ensures.succeeds (omega (arith, copied, counted, fits, len_is bytes ends c.self.invariant, length-labels_from 0 bytes ends)) in
     absurd (cc))
 
-pub returns-in_err-from_slice-2-clause-labels : goal.returns-in_err-from_slice-2-clause-labels
-returns-in_err-from_slice-2-clause-labels c = rw (← c.self.view_is) (are_labels _ _ c.self.invariant)
-
 pub returns-in_err-from_slice-2-clause-inline : goal.returns-in_err-from_slice-2-clause-inline
 returns-in_err-from_slice-2-clause-inline c =
     let bytes = c.self.inside.label_data.items in
@@ -33,6 +27,3 @@ returns-in_err-from_slice-2-clause-inline c =
     let fits : name_len (labels_from 0 bytes ends) ≤ length (labels_from 0 bytes ends) + 33 = short in
     let clash : false ≡ true = c.in_err-from_slice-2.ensures.succeeds (omega (arith, copied, counted, fits, len_is bytes ends c.self.invariant, length-labels_from 0 bytes ends)) in
     absurd (cc))
-
-pub returns-clause-labels : goal.returns-clause-labels
-returns-clause-labels c = rw (← c.self.view_is) (are_labels _ _ c.self.invariant)

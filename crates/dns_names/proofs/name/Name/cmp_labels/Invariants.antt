@@ -1,6 +1,6 @@
 use Rattle.std.proofs.Common.{◌≡◌, ◌≤◌, ◌-◌, length, drop, reverse}
 use Rattle.std.specs.Cmp.Lexicographic.{slice_cmp}
-use Rattle.dns_names.specs.Order.{labels_order}
+use Rattle.dns_names.specs.Compare.{labels_order}
 use Rattle.dns_names.proofs.name.Name.cmp_labels.Given as goal
 
 -- the labels behind were equal

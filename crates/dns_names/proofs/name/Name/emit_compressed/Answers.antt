@@ -1,8 +1,8 @@
 use Rattle.std.proofs.Common.{◌≡◌, ◌<◌, ℕ, get_or, length, [], ap, sym, subst, ◌∙◌, arith, Some, None}
 use Rattle.std.specs.Prelude.{slice_get, slice_range}
 use Rattle.std.proofs.lemmas.Result.{on_ok_weaker, on_err_weaker, err_from_is_err_and}
-use Rattle.dns_wire.specs.Encoder.{Written, written, place_of, remember, trimmed, TakesBack}
-use Rattle.dns_wire.specs.Pieces.{sofar}
+use Rattle.dns_wire.specs.Encoder.{EncoderState, state_of, place_of, remember, trim_to_offset, CanRollBack}
+use Rattle.dns_wire.specs.Encodable.{position_of}
 use Rattle.dns_names.proofs.CutLaws.{slice_get_or}
 use Rattle.dns_names.proofs.EmitLaws.{reach-labels, reach-some_labels, tried-only_labels}
 use Rattle.dns_names.proofs.SeekLaws.{begins, place_within, place_next, at_end, takes_back_trimmed, next, points, pointer_end}
@@ -12,20 +12,19 @@ use Rattle.dns_names.proofs.name.Name.emit_compressed.Goals.{After-emit_u16}
 pub returns-in_err-emit_labels-clause-full : goal.returns-in_err-emit_labels-clause-full
 returns-in_err-emit_labels-clause-full c =
     let p = err_from_is_err_and c.from_residual.result c.from_residual.ensures.1 in
-    λ e. omega (arith, c.in_err-emit_labels.ensures.emits.full (cc (p.1, p.2, e)), reach-labels (sofar (written c.args.encoder.now)) c.args.self.now.labels)
+    λ e. omega (arith, c.in_err-emit_labels.ensures.emits.full (cc (p.1, p.2, e)), reach-labels (position_of (state_of c.args.encoder.now)) c.args.self.now.labels)
 
 pub returns-in_err-emit_labels-clause-attempts : goal.returns-in_err-emit_labels-clause-attempts
 returns-in_err-emit_labels-clause-attempts c =
     let p = err_from_is_err_and c.from_residual.result c.from_residual.ensures.1 in
-    λ e. c.in_err-emit_labels.ensures.emits.tries (cc (p.1, p.2, e)) ∙ tried-only_labels c.args.encoder.now.max_size (sofar (written c.args.encoder.now)) c.args.self.now.labels
+    λ e. c.in_err-emit_labels.ensures.emits.tries (cc (p.1, p.2, e)) ∙ tried-only_labels c.args.encoder.now.max_size (position_of (state_of c.args.encoder.now)) c.args.self.now.labels
 
 pub loop-index-init : goal.loop-index-init
 loop-index-init c =
     let place_is = c.offset-place.ensures.value in
     record {
-      seeking = rw place_is (begins (written c.args.encoder.now) (written c.emit_labels.new.encoder) c.args.self.now.labels c.requires c.in_ok-emit_labels.ensures.emits.ok);
+      seeking = rw place_is (begins (state_of c.args.encoder.now) (state_of c.emit_labels.new.encoder) c.args.self.now.labels c.requires c.in_ok-emit_labels.ensures.emits.ok);
       end_is = c.offset-end.ensures.value;
-      same_lender = c.emit_labels.ensures.lender;
     }
 
 pub get_label_pointer-requires-clause-order : goal.get_label_pointer-requires-clause-order
@@ -44,16 +43,15 @@ overflow_add-place-in-loop-index c =
 
 pub loop-index-preserved : goal.loop-index-preserved
 loop-index-preserved c =
-    let w = written c.loop-index.encoder in
+    let w = state_of c.loop-index.encoder in
     let so_far = c.loop-index.invariant in
     let end_is : c.offset-end.result ≡ w.offset = so_far.end_is in
     let none : place_of w.suffixes (slice_range w.bytes c.loop-index.place w.offset) ≡ None = ap (λ (n : ℕ). place_of w.suffixes (slice_range w.bytes c.loop-index.place n)) (sym end_is) ∙ sym c.in_default.ensures in
-    let stored : written c.store_label_pointer.new.self ≡ record w { suffixes = remember w.suffixes c.loop-index.place (slice_range w.bytes c.loop-index.place w.offset) } =
+    let stored : state_of c.store_label_pointer.new.self ≡ record w { suffixes = remember w.suffixes c.loop-index.place (slice_range w.bytes c.loop-index.place w.offset) } =
     c.in_ok-store_label_pointer.ensures.ok ∙ ap (λ (n : ℕ). record w { suffixes = remember w.suffixes c.loop-index.place (slice_range w.bytes c.loop-index.place n) }) end_is in
     record {
-      seeking = next c.requires so_far.seeking c.label.result.now c.label.ensures.value (written c.store_label_pointer.new.self) none stored;
-      end_is = end_is ∙ sym (ap (λ (v : Written). v.offset) stored);
-      same_lender = c.store_label_pointer.ensures.lender ∙ so_far.same_lender;
+      seeking = next c.requires so_far.seeking c.label.result.now c.label.ensures.value (state_of c.store_label_pointer.new.self) none stored;
+      end_is = end_is ∙ sym (ap (λ (v : EncoderState). v.offset) stored);
     }
 
 -- ---- where the labels that are left are remembered
@@ -64,18 +62,18 @@ within c = omega (arith, c.loop-index-test.true, c.label_count-index-end.ensures
 here : (c : After-emit_u16) → slice_get c.args.self.now.labels c.loop-index.index ≡ Some (get_or c.args.self.now.labels c.loop-index.index [])
 here c = slice_get_or c.args.self.now.labels c.loop-index.index (within c)
 
-found : (c : After-emit_u16) → place_of (written c.loop-index.encoder).suffixes (slice_range (written c.loop-index.encoder).bytes c.loop-index.place (written c.loop-index.encoder).offset) ≡ Some c.in-Some.target
+found : (c : After-emit_u16) → place_of (state_of c.loop-index.encoder).suffixes (slice_range (state_of c.loop-index.encoder).bytes c.loop-index.place (state_of c.loop-index.encoder).offset) ≡ Some c.in-Some.target
 found c =
-    let w = written c.loop-index.encoder in
+    let w = state_of c.loop-index.encoder in
     ap (λ (n : ℕ). place_of w.suffixes (slice_range w.bytes c.loop-index.place n)) (sym c.loop-index.invariant.end_is) ∙ sym c.in-Some.ensures
 
-cut : (c : After-emit_u16) → written c.trim.new.self ≡ trimmed (record (written c.loop-index.encoder) { offset = c.loop-index.place })
-cut c = c.trim.ensures.value ∙ ap trimmed c.set_offset.ensures.value
+cut : (c : After-emit_u16) → state_of c.trim.new.self ≡ trim_to_offset (record (state_of c.loop-index.encoder) { offset = c.loop-index.place })
+cut c = c.trim.ensures ∙ ap trim_to_offset c.set_offset.ensures
 
 pub returns-in-Some-clause-ok : goal.returns-in-Some-clause-ok
 returns-in-Some-clause-ok c =
     on_ok_weaker c.emit_u16.result
-    (λ e. points c.requires c.loop-index.invariant.seeking (get_or c.args.self.now.labels c.loop-index.index []) (here c) (written c.trim.new.self) (written c.emit_u16.new.self) c.in-Some.target (found c) (cut c) e)
+    (λ e. points c.requires c.loop-index.invariant.seeking (get_or c.args.self.now.labels c.loop-index.index []) (here c) (state_of c.trim.new.self) (state_of c.emit_u16.new.self) c.in-Some.target (found c) (cut c) e)
     c.emit_u16.ensures.ok
 
 pub returns-in-Some-clause-room : goal.returns-in-Some-clause-room
@@ -83,17 +81,17 @@ returns-in-Some-clause-room c =
     let seeking = c.loop-index.invariant.seeking in
     let end = pointer_end c.requires seeking (get_or c.args.self.now.labels c.loop-index.index []) (here c) c.in-Some.target (found c) in
     let whole = c.in_ok-emit_labels.ensures.emits.room in
-    let reaches = reach-some_labels (sofar (written c.args.encoder.now)) c.args.self.now.labels (omega (arith, within c)) in
-    on_ok_weaker c.emit_u16.result (λ room. omega (arith, room, end, whole, reaches, ap (λ (v : Written). v.offset) (cut c), ap (λ (v : Written). v.limit) (cut c), seeking.limit)) c.emit_u16.ensures.room
+    let reaches = reach-some_labels (position_of (state_of c.args.encoder.now)) c.args.self.now.labels (omega (arith, within c)) in
+    on_ok_weaker c.emit_u16.result (λ room. omega (arith, room, end, whole, reaches, ap (λ (v : EncoderState). v.offset) (cut c), ap (λ (v : EncoderState). v.limit) (cut c), ap (λ (v : EncoderState). v.limit) seeking.same)) c.emit_u16.ensures.room
 
 pub returns-in-Some-clause-full : goal.returns-in-Some-clause-full
 returns-in-Some-clause-full c =
     let seeking = c.loop-index.invariant.seeking in
     let end = pointer_end c.requires seeking (get_or c.args.self.now.labels c.loop-index.index []) (here c) c.in-Some.target (found c) in
-    λ e. omega (arith, c.emit_u16.ensures.full.0 e, end, ap (λ (v : Written). v.offset) (cut c), ap (λ (v : Written). v.limit) (cut c), seeking.limit)
+    λ e. omega (arith, c.emit_u16.ensures.full.0 e, end, ap (λ (v : EncoderState). v.offset) (cut c), ap (λ (v : EncoderState). v.limit) (cut c), ap (λ (v : EncoderState). v.limit) seeking.same)
 
 pub returns-in-Some-clause-err : goal.returns-in-Some-clause-err
 returns-in-Some-clause-err c =
     on_err_weaker c.emit_u16.result
-    (λ e. subst (TakesBack (written c.args.encoder.now)) (sym e) (takes_back_trimmed c.requires c.loop-index.invariant.seeking (written c.trim.new.self) (cut c)))
+    (λ e. subst (CanRollBack (state_of c.args.encoder.now)) (sym e) (takes_back_trimmed c.requires c.loop-index.invariant.seeking (state_of c.trim.new.self) (cut c)))
     c.emit_u16.ensures.err

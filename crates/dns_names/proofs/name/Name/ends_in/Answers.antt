@@ -1,7 +1,7 @@
 use Rattle.std.proofs.Common.{◌≡◌, ◌+◌, ◌-◌, ◌&&◌, drop, refl, sym, ◌∙◌, true, false, arith}
 use Rattle.std.specs.Str.{str_eq_ignore_ascii_case}
 use Rattle.std.proofs.lemmas.Grind.{common_steps}
-use Rattle.dns_names.specs.Comparison.{same_labels}
+use Rattle.dns_names.specs.Compare.{same_labels}
 use Rattle.dns_names.proofs.ComparisonLaws.{same_labels-next, same_text, other_text}
 use Rattle.dns_names.proofs.name.Name.ends_in.Goals as goal
 use Rattle.dns_names.proofs.name.Name.ends_in.Goals.{After-eq_ignore_ascii_case}

@@ -1,5 +1,5 @@
 use Rattle.std.proofs.Common.{◌≡◌, ◌-◌, drop}
-use Rattle.dns_names.specs.Comparison.{same_labels}
+use Rattle.dns_names.specs.Compare.{same_labels}
 use Rattle.dns_names.proofs.name.Name.ends_in.Given as goal
 
 -- the labels before the index are the same

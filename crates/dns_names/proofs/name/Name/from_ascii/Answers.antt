@@ -1,8 +1,8 @@
 use Rattle.std.proofs.Common.{◌≡◌, ◌-◌, ◌<◌, ◌∙◌, List, ℕ, length, take, drop, ap, length-drop, arith}
 use Rattle.std.proofs.lemmas.List.{take_all}
-use Rattle.dns_names.specs.BegunText.{begun}
-use Rattle.dns_names.specs.SymbolShown.{symbol_of}
-use Rattle.dns_names.specs.Text.{symbol, more_len}
+use Rattle.dns_names.specs.internal.Parse.{begun}
+use Rattle.dns_names.specs.internal.Symbol.{symbol_of}
+use Rattle.dns_names.specs.Parse.{symbol, more_len}
 use Rattle.dns_names.proofs.TextLaws.{goes_on}
 use Rattle.dns_names.proofs.name.Name.from_ascii.Goals as goal
 

@@ -1,6 +1,6 @@
 use Rattle.std.proofs.Common.{◌≡◌, ◌-◌, length, drop}
-use Rattle.dns_names.specs.BegunText.{begun}
-use Rattle.dns_names.specs.Text.{name_of_text, name_from, symbols_from}
+use Rattle.dns_names.specs.internal.Parse.{begun}
+use Rattle.dns_names.specs.Parse.{name_of_text, name_from, symbols_from}
 use Rattle.dns_names.proofs.name.Name.from_ascii.Given as goal
 
 -- what is left of the text completes the name that has begun

@@ -1,6 +1,6 @@
 use Rattle.std.proofs.Common.{◌∙◌, ◌++◌, ◌∷◌, [], rules}
 use Rattle.std.proofs.lemmas.Result.{err_from_is_err_and}
-use Rattle.dns_names.specs.Building.{root_name}
+use Rattle.dns_names.specs.Build.{root_name}
 use Rattle.dns_names.proofs.EachLaws.{one_more, Yields-push}
 use Rattle.dns_names.proofs.name.Name.from_labels.Goals as goal
 
@@ -8,7 +8,7 @@ pub loop-label-preserved : goal.loop-label-preserved
 loop-label-preserved g c = (
   search rules,
   search rules,
-  one_more g.L.IntoLabel.label root_name c.loop-label.name c.loop-label.yielded c.in-Some.label c.loop-label.invariant.2 ∙ c.in_ok-name.ensures.ok,
+  one_more g.L.IntoLabel.label root_name c.loop-label.name c.loop-label.yielded c.in-Some.label c.loop-label.invariant.2 ∙ c.in_ok-name.ensures,
 )
 
 pub returns-in_err-name-clause-refused : goal.returns-in_err-name-clause-refused
@@ -21,5 +21,5 @@ returns-in_err-name-clause-refused g c =
       c.next.new.self,
       c.into_iter-label-iterator.ensures.into_iter_gives,
       Yields-push g.I.IntoIter.Iterator.next_gives c.into_iter-label-iterator.result c.loop-label.yielded c.loop-label.label-iterator c.in-Some.label c.next.new.self c.loop-label.yielded_by c.in-Some.ensures.steps,
-      so_far ∙ c.in_err-name.ensures.refused not_memory,
+      so_far ∙ c.in_err-name.ensures not_memory,
     ))

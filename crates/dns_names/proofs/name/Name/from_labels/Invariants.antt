@@ -1,5 +1,5 @@
 use Rattle.std.proofs.Common.{◌≡◌, Ok}
-use Rattle.dns_names.specs.Building.{with_each, root_name}
+use Rattle.dns_names.specs.Build.{with_each, root_name}
 use Rattle.dns_names.proofs.name.Name.from_labels.Given as goal
 
 -- the labels so far

@@ -1,6 +1,6 @@
 use Rattle.std.proofs.Common.{◌≡◌, ◌≤◌, ◌+◌, ◌-◌, ◌*◌, ◌∷◌, [], true, drop}
 use Rattle.dns_wire.specs.Name.{name_len}
-use Rattle.dns_names.specs.Arpa.{reversed, decimal_label}
+use Rattle.dns_names.specs.Reverse.{reversed, decimal_label}
 use Rattle.dns_names.proofs.name.Name.from_v4.Given as goal
 
 -- the labels of the last octets

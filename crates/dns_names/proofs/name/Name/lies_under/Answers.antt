@@ -1,7 +1,7 @@
 use Rattle.std.proofs.Common.{◌≡◌, ◌∙◌, ◌∷◌, [], ◌-◌, ◌+◌, ℕ, List, length, ap, sym, arith, true}
 use Rattle.std.specs.Prelude.{slice_get, nat_lt, nat_le, codes}
 use Rattle.std.proofs.lemmas.Bool.Decides.{nat_tests}
-use Rattle.dns_names.specs.Comparison.{same_labels}
+use Rattle.dns_names.specs.Compare.{same_labels}
 use Rattle.dns_names.proofs.ArpaLaws.{last_two}
 use Rattle.dns_names.proofs.name.Name.lies_under.Goals as goal
 

@@ -1,7 +1,7 @@
 use Rattle.std.proofs.Common.{◌-◌, ◌∙◌, ap, sym, refl, arith}
 use Rattle.std.specs.Prelude.{option_map}
 use Rattle.std.proofs.lemmas.List.{drop_all}
-use Rattle.dns_names.specs.Arpa.{padded, numbers, under}
+use Rattle.dns_names.specs.Reverse.{padded, numbers, under}
 use Rattle.dns_names.proofs.ArpaLaws.{refused_at, read_more, zeros_less, zeros-small, small_more, all_read, length-under}
 use Rattle.dns_names.proofs.name.Name.numbers.Goals as goal
 

@@ -1,6 +1,6 @@
 use Rattle.std.proofs.Common.{◌≡◌, ◌-◌, ◌<◌, ℕ, take, drop, true, Some, replicate}
 use Rattle.std.specs.Prelude.{slice_index}
-use Rattle.dns_names.specs.Arpa.{numbers, under}
+use Rattle.dns_names.specs.Reverse.{numbers, under}
 use Rattle.dns_names.proofs.name.Name.numbers.Given as goal
 
 -- the numbers of the last labels, and zeros behind them

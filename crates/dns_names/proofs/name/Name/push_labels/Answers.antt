@@ -1,6 +1,6 @@
 use Rattle.std.proofs.Common.{◌++◌, List, ℕ, drop, ap, ◌∙◌, arith, ◌+◌}
 use Rattle.dns_wire.specs.Name.{name_len}
-use Rattle.dns_names.specs.DomainName.{DomainName}
+use Rattle.dns_names.specs.Name.{DomainName}
 use Rattle.dns_names.proofs.BuildingLaws.{room, moved}
 use Rattle.dns_names.proofs.name.Name.push_labels.Goals as goal
 

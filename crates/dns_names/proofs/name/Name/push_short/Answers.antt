@@ -1,6 +1,6 @@
 use Rattle.std.proofs.Common.{◌∙◌, ap}
 use Rattle.dns_wire.specs.Name.{name_len}
-use Rattle.dns_names.specs.DomainName.{DomainName}
+use Rattle.dns_names.specs.Name.{DomainName}
 use Rattle.dns_names.proofs.Underway.{name_len-push}
 use Rattle.dns_names.proofs.name.Name.push_short.Goals as goal
 

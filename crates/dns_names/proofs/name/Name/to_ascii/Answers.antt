@@ -1,5 +1,5 @@
 use Rattle.std.proofs.Common.{◌≡◌, string_bytes, ap, ◌∙◌, ◌++◌, List, ℕ}
-use Rattle.dns_names.specs.Printed.{text_of_name}
+use Rattle.dns_names.specs.Print.{text_of_name}
 use Rattle.dns_names.proofs.RoundTrip.{printed_is_read}
 use Rattle.dns_names.proofs.name.Name.to_ascii.Goals as goal
 

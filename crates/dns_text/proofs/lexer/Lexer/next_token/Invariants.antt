@@ -1,5 +1,5 @@
 use Rattle.std.proofs.Common.{length, Result, Option}
-use Rattle.dns_text.specs.Tokens.{Place, Lexeme, NextToken}
+use Rattle.dns_text.specs.Lexer.{Place, Lexeme, NextToken}
 use Rattle.dns_text.specs.declared.error.LexerError.{LexerError}
 use Rattle.dns_text.proofs.lexer.Lexer.next_token.Given as goal
 

@@ -4,7 +4,7 @@ use Rattle.dns_zone.proofs.RowLaws.{keys_tie}
 use Rattle.dns_zone.proofs.rows.RecordSet.is_at.Goals as goal
 
 pub returns-then-eq_ignore_root : goal.returns-then-eq_ignore_root
-returns-then-eq_ignore_root c = (λ i. c.if-eq_ignore_root.ensures.value i && (c.from.ensures i == c.from-then-eq_ignore_root.ensures i)) ∙ keys_tie c.args.name.now.labels c.args.self.now.name.labels c.args.record_type c.args.self.now.record_type
+returns-then-eq_ignore_root c = (λ i. c.if-eq_ignore_root.ensures i && (c.from.ensures i == c.from-then-eq_ignore_root.ensures i)) ∙ keys_tie c.args.name.now.labels c.args.self.now.name.labels c.args.record_type c.args.self.now.record_type
 
 pub returns-else-eq_ignore_root : goal.returns-else-eq_ignore_root
-returns-else-eq_ignore_root c = c.if-eq_ignore_root.false ∙ ap (λ b. b && (type_number c.args.record_type == type_number c.args.self.now.record_type)) c.if-eq_ignore_root.ensures.value ∙ keys_tie c.args.name.now.labels c.args.self.now.name.labels c.args.record_type c.args.self.now.record_type
+returns-else-eq_ignore_root c = c.if-eq_ignore_root.false ∙ ap (λ b. b && (type_number c.args.record_type == type_number c.args.self.now.record_type)) c.if-eq_ignore_root.ensures ∙ keys_tie c.args.name.now.labels c.args.self.now.name.labels c.args.record_type c.args.self.now.record_type

@@ -1,11 +1,14 @@
-use Rattle.std.proofs.Common.{◌≡◌, ◌<◌, sym, ap, ◌∙◌, subst, refl, length, arith, Err}
+use Rattle.std.proofs.Common.{◌≡◌, ◌<◌, sym, ap, ◌∙◌, subst, length, arith, Err}
 use Rattle.dns_messages.specs.Message.{message_form, cut_off}
 use Rattle.dns_zone.specs.Serving.{IsServed, reply_to}
-use Rattle.dns_zone.proofs.ServingLaws.{not_read, serves, question_fits}
+use Rattle.dns_zone.proofs.ServingLaws.{no_request, not_read, serves, question_fits}
 use Rattle.dns_zone.proofs.zone.Zone.serve.Goals as goal
 
-pub returns-in_default : goal.returns-in_default
-returns-in_default c = record { reply = not_read c.args.bytes.now c.in-Err.error c.in-Err.ensures.only c.in_default.not-Memory; same = refl }
+pub returns-then-not-has_request_header-clause-reply : goal.returns-then-not-has_request_header-clause-reply
+returns-then-not-has_request_header-clause-reply c = no_request c.args.bytes.now (sym c.has_request_header.ensures ∙ c.if-not-has_request_header.true)
+
+pub returns-in_default-clause-reply : goal.returns-in_default-clause-reply
+returns-in_default-clause-reply c = not_read c.args.bytes.now c.in-Err.error c.in-Err.ensures.only c.in_default.not-Memory
 
 pub returns-in_default-served_question-clause-reply : goal.returns-in_default-served_question-clause-reply
 returns-in_default-served_question-clause-reply c = λ m q request. c.in_default-served_question.ensures q (subst (λ x. IsServed x q) (sym (c.in-Ok.ensures.only m request.reads)) request.served)

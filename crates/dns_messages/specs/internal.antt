@@ -1,0 +1,3 @@
+-- Lemmas that the ghost members of impls cite.
+pub mod Questions
+pub mod Records

@@ -1,9 +1,0 @@
-use Rattle.std.proofs.Common.{◌≡◌, ℕ, List, ◌++◌, drop}
-use Rattle.std.specs.Fmt.{HasWritten, IsPlainFormatter}
-use Rattle.dns_names.specs.Printed.{octets_text}
-use Rattle.dns_names.proofs.display.write_octets.Given as goal
-
--- the octets that are left complete the text
-abbrev pub invariant-loop-octet : goal.invariant-loop-octet
-invariant-loop-octet g l = IsPlainFormatter l.initial.f
-    → (done : List ℕ) × HasWritten g.W.Write.write_str_gives l.initial.f done l.f × (done ++ octets_text l.is_first (drop l.octet-index l.octets) ≡ octets_text l.initial.is_first l.octets)

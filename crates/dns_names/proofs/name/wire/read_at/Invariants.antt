@@ -1,0 +1,18 @@
+use Rattle.std.proofs.Common.{◌≡◌, ◌+◌, ◌-◌, ◌*◌, ◌≤◌, length, true}
+use Rattle.std.specs.Prelude.{IfSome}
+use Rattle.dns_wire.specs.Name.{name_len}
+use Rattle.dns_names.proofs.Underway.{Underway}
+use Rattle.dns_names.proofs.name.wire.read_at.Given as goal
+
+abbrev pub invariant-loop-name : goal.invariant-loop-name
+invariant-loop-name l = record {
+  underway : Underway l.fn.decoder.bytes l.fn.decoder.index l.reader.index l.segment l.name.labels l.end;
+  same_bytes : l.reader.bytes ≡ l.fn.decoder.bytes;
+  within : l.segment ≤ length l.fn.decoder.bytes;
+  end_within : IfSome l.end (λ e. e ≤ length l.fn.decoder.bytes);
+  is_fqdn : l.name.is_fqdn ≡ true;
+}
+
+-- a pointer leads to a lower segment, and a label leaves less room in the same
+abbrev pub decreases-loop-name : goal.decreases-loop-name
+decreases-loop-name l = l.segment * 256 + (256 - name_len l.name.labels)

@@ -1,0 +1,57 @@
+-- What the code reads as a part of a name and the pieces that it writes for one, and that a name is read in one way.
+use Rattle.std.specs.Prelude.{◌≡◌, ℕ, ◌+◌, length, Result, Ok, Err, MatchResult, List, [], ◌∷◌, ◌++◌, max}
+use Rattle.dns_wire.specs.declared.error.DecodeError.{DecodeError}
+use Rattle.dns_names.specs.declared.name.wire.Part.{Part}
+use Rattle.dns_names.specs.declared.name.wire.Part.TheVariants.{Closing, Label, Pointer}
+use Rattle.dns_wire.specs.Encoder.{EncoderState}
+use Rattle.dns_wire.specs.Encodable.{Piece, Plain}
+use Rattle.dns_wire.specs.Writing.{labels_form, compressed_form, remember_labels}
+use Rattle.std.proofs.Common.{true, sym, ◌∙◌}
+use Rattle.dns_wire.specs.Reading.{ReadsName}
+use Rattle.dns_wire.proofs.ReadingLaws.{reads_same}
+use Rattle.dns_names.specs.Name.{DomainName}
+use Rattle.dns_wire.specs.Element as wire
+
+abbrev pub element_of : Part → wire.Element
+element_of Closing = wire.Closing
+element_of (Label bytes) = wire.Label bytes.now
+element_of (Pointer target) = wire.Pointer target
+
+-- how many bytes it takes
+abbrev pub part_len : Part → ℕ
+part_len Closing = 1
+part_len (Label bytes) = length bytes.now + 1
+part_len (Pointer target) = 2
+
+-- the part that was read is the element, or its fault the element's
+abbrev pub MatchesElement : Result Part DecodeError → Result wire.Element DecodeError → Type 0
+MatchesElement read element = MatchResult read (λ part. element ≡ Ok (element_of part)) (λ error. element ≡ Err error)
+
+-- a label: its length, and its bytes
+abbrev pub label_pieces : List ℕ → List Piece
+label_pieces label = Plain (length label ∷ []) ∷ Plain label ∷ []
+
+abbrev pub labels_pieces : List (List ℕ) → List Piece
+labels_pieces [] = []
+labels_pieces (label ∷ labels) = label_pieces label ++ labels_pieces labels
+
+-- the labels, and the closing zero
+abbrev pub whole_pieces : List (List ℕ) → List Piece
+whole_pieces labels = labels_pieces labels ++ Plain (0 ∷ []) ∷ []
+
+-- the name was written at the end, compressed
+abbrev pub after_compressed : EncoderState → List (List ℕ) → EncoderState
+after_compressed w labels = record w {
+  bytes = w.bytes ++ compressed_form w.suffixes labels;
+  offset = w.offset + length (compressed_form w.suffixes labels);
+  suffixes = remember_labels w.suffixes w.offset labels;
+}
+
+-- how far that reaches: its labels are written whole before a pointer takes their place
+abbrev pub compressed_reach : EncoderState → List (List ℕ) → ℕ
+compressed_reach w labels = w.offset + max (length (labels_form labels)) (length (compressed_form w.suffixes labels))
+
+pub one_name : (buffer : List ℕ) (place : ℕ) (a b : DomainName) (end end' : ℕ) → ReadsName buffer place a.labels end × (a.is_fqdn ≡ true) → ReadsName buffer place b.labels end' × (b.is_fqdn ≡ true) → (a ≡ b) × (end ≡ end')
+one_name buffer place a b end end' s t =
+    let same = reads_same s.0 t.0 in
+    (λ i. record { is_fqdn = (s.1 ∙ sym t.1) i; labels = same.0 i }, same.1)

@@ -1,0 +1,197 @@
+//! Names on the wire (RFC 1035 sections 3.1 and 4.1.4).
+
+ghost use Rattle.std.specs.Prelude.{◌≡◌, ◌≢◌, ℕ, List, true, length, ◌≤◌, MatchResult, IfOk, IfErr, OnErr, ◌<◌, OnOk};
+ghost use Rattle.dns_wire.specs.Decoder.{rest, Advances};
+ghost use Rattle.dns_wire.specs.Element.{element};
+ghost use Rattle.dns_wire.specs.Reading.{ReadsName, RefusesName};
+ghost use Rattle.dns_names.specs.internal.Wire.{MatchesElement, part_len};
+ghost use Rattle.dns_wire.specs.Encoder.{state_of, IsAtEnd, CanRollBack};
+ghost use Rattle.dns_wire.specs.Name.{IsLabel, AreLabels};
+ghost use Rattle.dns_wire.specs.Encodable.{Emits};
+ghost use Rattle.dns_names.specs.internal.Wire.{label_pieces, labels_pieces, whole_pieces, after_compressed, compressed_reach};
+
+use crate::name::Name;
+use dns_wire::{
+    BinDecodable, BinDecoder, BinEncodable, BinEncoder, DecodeError, EncodeError, NameEncoding,
+};
+use std::alloc::Global;
+
+/// A part of a written name.
+#[derive(Clone, Copy)]
+pub enum Part<'a> {
+    /// The zero byte at the end.
+    Closing,
+    /// A label, lent and not copied.
+    Label(&'a [u8]),
+    /// A pointer, with the place that it leads to.
+    Pointer(usize),
+}
+
+/// The next part of a name.
+fn read_part<'a>(reader: &mut BinDecoder<'a>) -> Result<Part<'a>, DecodeError>
+    ensures shows { MatchesElement result (element (rest reader.old)) }
+    ensures moved { IfOk result (λ part. Advances reader.old reader.new (part_len part)) }
+{
+    let code = reader.read_u8()?;
+    match code {
+        0 => Ok(Part::Closing),
+        1..64 => Ok(Part::Label(reader.read_slice(code as usize)?)),
+        64..192 => Err(DecodeError::UnrecognizedLabelCode),
+        192.. => {
+            let low = reader.read_u8()?;
+            Ok(Part::Pointer((code as usize - 192) * 256 + low as usize))
+        }
+    }
+}
+
+impl Name {
+    /// Reads a name, and goes on behind it. A refusal leaves the decoder as it was (RFC 1035 section 4.1.4).
+    pub fn read(alloc: Global, decoder: &mut BinDecoder<'_>) -> Result<Name, DecodeError>
+        // What is read stands there, and the decoder goes to its end.
+        ensures read { IfOk result (λ name. ReadsName decoder.old.bytes decoder.old.index name.labels decoder.new.index) }
+        ensures fqdn { IfOk result (λ name. name.is_fqdn ≡ true) }
+        // What stands there is read, unless memory runs out.
+        ensures only { (labels : List (List ℕ)) (end : ℕ) → ReadsName decoder.old.bytes decoder.old.index labels end
+            → MatchResult result (λ name. (name.labels ≡ labels) × (decoder.new.index ≡ end)) (λ error. error ≡ DecodeError.Memory) }
+        // Which refusal it is.
+        ensures refused { IfErr result (λ error. error ≢ DecodeError.Memory → RefusesName decoder.old.bytes decoder.old.index error) }
+        ensures bytes { decoder.new.bytes ≡ decoder.old.bytes }
+        ensures err { OnErr result (decoder.new ≡ decoder.old) }
+    {
+        let (name, end) = read_at(alloc, decoder.clone(decoder.index()))?;
+        *decoder = decoder.clone(end);
+        Ok(name)
+    }
+}
+
+impl BinDecodable for Name {
+    ghost use Rattle.std.specs.Prelude.{true};
+    ghost use Rattle.dns_wire.proofs.ReadingLaws.{reads_not_refused};
+    ghost use Rattle.dns_names.specs.internal.Wire.{one_name};
+
+    ghost decodes = { λ bytes place name end. ReadsName bytes place name.labels end × (name.is_fqdn ≡ true) };
+
+    ghost refuses = { RefusesName };
+
+    fn read(alloc: Global, decoder: &mut BinDecoder<'_>) -> Result<Name, DecodeError> {
+        Name::read(alloc, decoder)
+    }
+
+    ghost unambiguous = { one_name };
+
+    ghost not_refused = { λ bytes place value end error decodes refused. reads_not_refused decodes.0 refused };
+}
+
+/// The name at the decoder's place, and where it ends.
+fn read_at(alloc: Global, decoder: BinDecoder<'_>) -> Result<(Name, usize), DecodeError>
+    ensures read { IfOk result (λ found. ReadsName decoder.entry.bytes decoder.entry.index found.0.labels found.1) }
+    ensures fqdn { IfOk result (λ found. found.0.is_fqdn ≡ true) }
+    ensures end { IfOk result (λ found. found.1 ≤ length decoder.entry.bytes) }
+    ensures refused { IfErr result (λ error. error ≢ DecodeError.Memory → RefusesName decoder.entry.bytes decoder.entry.index error) }
+{
+    let mut name = Name::root(alloc);
+    let mut segment = decoder.index();
+    let mut reader = decoder;
+    // Where the name ends, once a pointer was followed.
+    let mut end = None;
+    loop {
+        match read_part(&mut reader)? {
+            Part::Closing => break,
+            Part::Label(label) => {
+                if name.encoded_len() + label.len() + 1 > Name::MAX_LENGTH {
+                    return Err(DecodeError::DomainNameTooLong);
+                }
+                name.push(label)?;
+            }
+            Part::Pointer(target) => {
+                if target >= segment {
+                    return Err(DecodeError::PointerNotPriorToLabel);
+                }
+                end = Some(end.unwrap_or(reader.index()));
+                reader = reader.clone(target);
+                segment = target;
+            }
+        }
+    }
+    Ok((name, end.unwrap_or(reader.index())))
+}
+
+impl BinEncodable for Name {
+    ghost use Rattle.std.specs.Prelude.{[], ◌∷◌};
+    ghost use Rattle.dns_wire.specs.Encodable.{Domain};
+
+    ghost pieces = { λ name _. Domain name.labels ∷ [] };
+
+    fn emit(&self, encoder: &mut BinEncoder<'_>) -> Result<(), EncodeError> {
+        match encoder.name_encoding() {
+            NameEncoding::Compressed => {
+                if encoder.begin_name() {
+                    self.emit_compressed(encoder)
+                } else {
+                    self.emit_whole(encoder)
+                }
+            }
+            NameEncoding::Uncompressed => self.emit_whole(encoder),
+            NameEncoding::UncompressedLowercase => self.to_lowercase()?.emit_whole(encoder),
+        }
+    }
+}
+
+impl Name {
+    /// Writes the name whole, as it is spelled.
+    fn emit_whole(&self, encoder: &mut BinEncoder<'_>) -> Result<(), EncodeError>
+        requires { IsAtEnd (state_of encoder.old) }
+        ensures emits { Emits (state_of encoder.old) (whole_pieces self.now.labels) result (state_of encoder.new) }
+        ensures labels { AreLabels self.now.labels }
+    {
+        self.emit_labels(encoder)?;
+        encoder.emit_u8(0)
+    }
+
+    /// Writes the labels, each behind its length.
+    fn emit_labels(&self, encoder: &mut BinEncoder<'_>) -> Result<(), EncodeError>
+        requires { IsAtEnd (state_of encoder.old) }
+        ensures emits { Emits (state_of encoder.old) (labels_pieces self.now.labels) result (state_of encoder.new) }
+        ensures labels { AreLabels self.now.labels }
+    {
+        for index in 0..self.label_count() {
+            emit_label(self.label(index), encoder)?;
+        }
+        Ok(())
+    }
+
+    /// Writes the labels, and then a pointer in the place of those that are remembered.
+    fn emit_compressed(&self, encoder: &mut BinEncoder<'_>) -> Result<(), EncodeError>
+        requires { IsAtEnd (state_of encoder.old) }
+        ensures ok { OnOk result (state_of encoder.new ≡ after_compressed (state_of encoder.old) self.now.labels) }
+        ensures room { OnOk result (compressed_reach (state_of encoder.old) self.now.labels ≤ (state_of encoder.old).limit) }
+        ensures full { result ≡ Err EncodeError.MaxBufferSizeExceeded → (state_of encoder.old).limit < compressed_reach (state_of encoder.old) self.now.labels }
+        ensures attempts { result ≡ Err EncodeError.MaxBufferSizeExceeded → (state_of encoder.new).attempts ≡ (state_of encoder.old).attempts }
+        ensures err { OnErr result (CanRollBack (state_of encoder.old) (state_of encoder.new)) }
+        ensures labels { AreLabels self.now.labels }
+    {
+        let mut place = encoder.offset();
+        self.emit_labels(encoder)?;
+        let end = encoder.offset();
+        for index in 0..self.label_count() {
+            if let Some(target) = encoder.get_label_pointer(place, end) {
+                encoder.set_offset(place);
+                encoder.trim();
+                return encoder.emit_u16(0xC000 | target);
+            }
+            encoder.store_label_pointer(place, end)?;
+            place += self.label(index).len() + 1;
+        }
+        encoder.emit(0)
+    }
+}
+
+/// Writes a label behind its length.
+fn emit_label(label: &[u8], encoder: &mut BinEncoder<'_>) -> Result<(), EncodeError>
+    requires at_end { IsAtEnd (state_of encoder.old) }
+    requires is_label { IsLabel label.now }
+    ensures { Emits (state_of encoder.old) (label_pieces label.now) result (state_of encoder.new) }
+{
+    encoder.emit_u8(label.len() as u8)?;
+    encoder.emit_vec(label)
+}

@@ -1,5 +1,0 @@
-use Rattle.dns_text.proofs.ReadingLaws.{each_shortens}
-use Rattle.dns_text.proofs.laws.each_token_shortens_the_text.Goals as goal
-
-pub returns : goal.returns
-returns c = each_shortens

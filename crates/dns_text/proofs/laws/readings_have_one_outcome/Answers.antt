@@ -1,5 +1,0 @@
-use Rattle.dns_text.proofs.ReadingLaws.{same_outcome, end_stays, fault_stays}
-use Rattle.dns_text.proofs.laws.readings_have_one_outcome.Goals as goal
-
-pub returns : goal.returns
-returns c = record { same = same_outcome; end_stays = end_stays; fault_stays = fault_stays }

@@ -1,0 +1,84 @@
+-- What a zone's text begins with (RFC 1035 section 5.1).
+use Rattle.std.specs.Prelude.{ℕ, ◌+◌, ◌==◌, ◌&&◌, ◌||◌, not, if◌then◌else◌, Bool, true, false, List, [], ◌∷◌, take, drop, Option, Some, None}
+use Rattle.std.specs.Str.{bytes_eq}
+
+-- ---- lines
+
+abbrev pub begins_with_feed : List ℕ → Bool
+begins_with_feed [] = false
+begins_with_feed (c ∷ cs) = c == 10
+
+-- how many characters in front end a line: a line feed, and a carriage return right before it
+abbrev pub line_end : List ℕ → ℕ
+line_end [] = 0
+line_end (c ∷ cs) = if c == 10 then 1 else if c == 13 && begins_with_feed cs then 2 else 0
+
+-- the place of the line's end, counted on from one
+abbrev pub line_from : ℕ → List ℕ → ℕ
+line_from place [] = place
+line_from place (c ∷ cs) = if line_end (c ∷ cs) == 0 then line_from (place + 1) cs else place
+
+-- ---- words and quoted strings
+
+-- blanks are space and tab
+abbrev pub is_blank : ℕ → Bool
+is_blank c = c == 32 || c == 9
+
+-- a run of characters: a word outside of quotes, or what stands between quotes
+pub data Run : Type 0 where
+  Bare : Run
+  InQuotes : Run
+
+-- what ends a word, and what ends a quoted string
+abbrev pub stops : Run → ℕ → Bool
+stops Bare c = is_blank c || c == 59 || c == 34 || c == 40 || c == 41
+stops InQuotes c = c == 34
+
+-- whether a run ends in front of a text: at a line's end, and where a character stops it that no backslash keeps
+abbrev pub ends_run : Run → Bool → List ℕ → Bool
+ends_run r is_escaped [] = true
+ends_run r is_escaped (c ∷ cs) = not (line_end (c ∷ cs) == 0) || (not is_escaped && stops r c)
+
+-- The place of a run's end, counted on from one, by whether a backslash stands just before. It keeps the character
+-- behind it, and there is no end where it has none to keep.
+abbrev pub run_from : Run → Bool → ℕ → List ℕ → Option ℕ
+run_from r is_escaped place [] = if is_escaped then None else Some place
+run_from r is_escaped place (c ∷ cs) =
+    if ends_run r is_escaped (c ∷ cs) then (if is_escaped then None else Some place)
+    else run_from r (not is_escaped && c == 92) (place + 1) cs
+
+-- What stands in front of a text: its end, or that of a line of so many characters, a blank, a comment of so many
+-- characters, a parenthesis, a quoted string of so many without its quotes, a word of so many, a quoted string that
+-- doesn't end on its line, or a run whose last backslash has nothing behind it.
+pub data Front : Type 0 where
+  TextEnd : Front
+  LineEnd : ℕ → Front
+  Gap : Front
+  Comment : ℕ → Front
+  Open : Front
+  Close : Front
+  Quoted : ℕ → Front
+  Word : ℕ → Front
+  Unclosed : Front
+  Broken : Front
+
+-- a quoted string has to end on its line
+abbrev pub quoted : Option ℕ → List ℕ → Front
+quoted None text = Broken
+quoted (Some n) text = if bytes_eq (take 1 (drop n text)) (34 ∷ []) then Quoted n else Unclosed
+
+abbrev pub word : Option ℕ → Front
+word None = Broken
+word (Some n) = Word n
+
+-- what stands in front of a text
+abbrev pub front : List ℕ → Front
+front [] = TextEnd
+front (c ∷ cs) =
+    if not (line_end (c ∷ cs) == 0) then LineEnd (line_end (c ∷ cs))
+    else if is_blank c then Gap
+    else if c == 59 then Comment (line_from 0 cs + 1)
+    else if c == 40 then Open
+    else if c == 41 then Close
+    else if c == 34 then quoted (run_from InQuotes false 0 cs) cs
+    else word (run_from Bare false 0 (c ∷ cs))

@@ -1,0 +1,76 @@
+-- The grammar of what stands in front of a zone's text (RFC 1035 section 5.1).
+use Rattle.std.specs.Prelude.{◌≡◌, ℕ, ◌+◌, ◌≢◌, true, false, List, [], ◌∷◌, take, drop}
+use Rattle.dns_text.specs.Front.{Run, Bare, InQuotes, is_blank, stops, Front}
+use Rattle.dns_text.specs.Front as by_len
+
+-- A line ends at a line feed, and at a carriage return with a line feed right behind it. The rest is the next line's.
+pub data EndsLine : List ℕ → List ℕ → Type 0 where
+  feed : {rest : List ℕ} → EndsLine (10 ∷ rest) rest
+  return_and_feed : {rest : List ℕ} → EndsLine (13 ∷ 10 ∷ rest) rest
+
+-- nothing more is on the line
+pub data IsLineOver : List ℕ → Type 0 where
+  by_text_end : IsLineOver []
+  by_line_end : {text rest : List ℕ} → EndsLine text rest → IsLineOver text
+
+-- what is left of a text where its first line is over
+pub data LineGoesTo : List ℕ → List ℕ → Type 0 where
+  line_over : {rest : List ℕ} → IsLineOver rest → LineGoesTo rest rest
+  on_line : {c : ℕ} {text rest : List ℕ} → ¬ IsLineOver (c ∷ text) → LineGoesTo text rest → LineGoesTo (c ∷ text) rest
+
+-- A text, characters of a run in front of it, and the rest. A backslash keeps the character behind it on the line, so
+-- that it stops no run, and both stay as written.
+pub data RunGoesTo : Run → List ℕ → List ℕ → List ℕ → Type 0 where
+  no_further : {r : Run} {rest : List ℕ} → RunGoesTo r rest [] rest
+  unescaped : {r : Run} {c : ℕ} {text run rest : List ℕ} → ¬ IsLineOver (c ∷ text) → stops r c ≡ false → c ≢ 92
+      → RunGoesTo r text run rest → RunGoesTo r (c ∷ text) (c ∷ run) rest
+  escaped : {r : Run} {c : ℕ} {text run rest : List ℕ} → ¬ IsLineOver (c ∷ text)
+      → RunGoesTo r text run rest → RunGoesTo r (92 ∷ c ∷ text) (92 ∷ c ∷ run) rest
+
+-- a run is over with its line, and at a character that stops it
+pub data IsRunOver : Run → List ℕ → Type 0 where
+  by_line : {r : Run} {rest : List ℕ} → IsLineOver rest → IsRunOver r rest
+  by_stop : {r : Run} {c : ℕ} {rest : List ℕ} → stops r c ≡ true → IsRunOver r (c ∷ rest)
+
+-- What stands in front of a text, and the rest behind it. A quoted string comes without its quotes.
+pub data FrontItem : Type 0 where
+  TextEnd : FrontItem
+  LineEnd : List ℕ → FrontItem
+  Blank : List ℕ → FrontItem
+  Comment : List ℕ → FrontItem
+  Open : List ℕ → FrontItem
+  Close : List ℕ → FrontItem
+  Quoted : List ℕ → List ℕ → FrontItem
+  Word : List ℕ → List ℕ → FrontItem
+  Unclosed : FrontItem
+  Broken : FrontItem
+
+pub data IsInFront : List ℕ → FrontItem → Type 0 where
+  text_end : IsInFront [] TextEnd
+  line_end : {text rest : List ℕ} → EndsLine text rest → IsInFront text (LineEnd rest)
+  blank : {c : ℕ} {rest : List ℕ} → is_blank c ≡ true → IsInFront (c ∷ rest) (Blank rest)
+  -- a comment leaves its line's end, as that may end an entry
+  comment : {text rest : List ℕ} → LineGoesTo text rest → IsInFront (59 ∷ text) (Comment rest)
+  opening : {rest : List ℕ} → IsInFront (40 ∷ rest) (Open rest)
+  closing : {rest : List ℕ} → IsInFront (41 ∷ rest) (Close rest)
+  quoted_string : {text string rest : List ℕ} → RunGoesTo InQuotes text string (34 ∷ rest) → IsInFront (34 ∷ text) (Quoted string rest)
+  -- a word has a character at least
+  word : {c : ℕ} {text run rest : List ℕ} → RunGoesTo Bare text (c ∷ run) rest → IsRunOver Bare rest → IsInFront text (Word (c ∷ run) rest)
+  -- the line is over before a quoted string is closed
+  unclosed : {text string rest : List ℕ} → RunGoesTo InQuotes text string rest → IsLineOver rest → IsInFront (34 ∷ text) Unclosed
+  -- the line is over right behind a backslash, which has nothing to keep
+  broken_string : {text string rest : List ℕ} → RunGoesTo InQuotes text string (92 ∷ rest) → IsLineOver rest → IsInFront (34 ∷ text) Broken
+  broken_word : {text run rest : List ℕ} → RunGoesTo Bare text run (92 ∷ rest) → IsLineOver rest → IsInFront text Broken
+
+-- what is counted in front of a text, as what it takes of it and leaves
+abbrev pub front_item : Front → List ℕ → FrontItem
+front_item by_len.TextEnd text = TextEnd
+front_item (by_len.LineEnd n) text = LineEnd (drop n text)
+front_item by_len.Gap text = Blank (drop 1 text)
+front_item (by_len.Comment n) text = Comment (drop n text)
+front_item by_len.Open text = Open (drop 1 text)
+front_item by_len.Close text = Close (drop 1 text)
+front_item (by_len.Quoted n) text = Quoted (take n (drop 1 text)) (drop (n + 2) text)
+front_item (by_len.Word n) text = Word (take n text) (drop n text)
+front_item by_len.Unclosed text = Unclosed
+front_item by_len.Broken text = Broken

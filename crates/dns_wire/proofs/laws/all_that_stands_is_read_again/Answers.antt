@@ -1,5 +1,0 @@
-use Rattle.dns_wire.proofs.CallLaws.{calls-read}
-use Rattle.dns_wire.proofs.laws.all_that_stands_is_read_again.Goals as goal
-
-pub returns : goal.returns
-returns c = λ old w parts end stand calls. calls-read old w parts end stand calls

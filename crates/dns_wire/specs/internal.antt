@@ -1,0 +1,2 @@
+-- Lemmas that the ghost members of impls cite.
+pub mod NumberLaws
