@@ -1,7 +1,7 @@
 -- What a reply gives to a lookup (RFC 2308 section 2).
 use Rattle.std.specs.Prelude.{◌==◌, ◌&&◌, filter, Bool, List, [], ◌∷◌, ℕ, Result, Ok, Err}
 use Rattle.dns_codes.specs.RecordType.{type_number}
-use Rattle.dns_names.specs.Comparison.{same_labels}
+use Rattle.dns_names.specs.Compare.{same_labels}
 use Rattle.dns_messages.specs.Data.{data_type}
 use Rattle.dns_messages.specs.declared.header.ResponseCode.{ResponseCode}
 use Rattle.dns_messages.specs.declared.header.ResponseCode.TheVariants.{NoError, NXDomain}

@@ -66,7 +66,7 @@ IsBeforeRun Write = ⊥
 -- a world over these rows, whose server's datagrams have at most 1,232 bytes, and whose ids count up from 1
 pub record IsWorldOver (rows : ZoneContent) (world : WorldContent) : Type 0 where
   pub zone : world.zone ≡ rows
-  pub limit : world.limit.value ≡ 1232
+  pub limit : world.limit ≡ 1232
   pub ids : EachIndex world.ids (λ k. slice_index world.ids k ≡ k + 1)
   pub all : length world.ids ≡ 65535
 

@@ -4,7 +4,7 @@ use Rattle.std.specs.Prelude.{◌==◌, ◌&&◌, ◌+◌, not, codes, if◌then
 use Rattle.std.specs.Str.{bytes_eq}
 use Rattle.std.specs.Str.Lines.{lines}
 use Rattle.dns_codes.specs.declared.record_type.RecordType.TheVariants.{A}
-use Rattle.dns_names.specs.DomainName.{DomainName}
+use Rattle.dns_names.specs.Name.{DomainName}
 use Rattle.dns_codes.specs.Decimal.{decimal_up_to}
 use Rattle.dns_zone.specs.ZoneText.{is_blank, words, fqdn_of}
 use Rattle.stub_run.specs.declared.event.Script.TheVariants.{Honest}

@@ -1,6 +1,5 @@
 -- The honest link: each datagram is delivered once, and its reply brought.
 use Rattle.std.specs.Prelude.{◌≡◌, List, [], ◌∷◌, ◌++◌, ℕ, map, Bool, true, Option, None, Result, Ok, Err}
-use Rattle.dns_zone.specs.declared.road.DatagramLimit.{DatagramLimit}
 use Rattle.dns_zone.specs.declared.road.Road.TheVariants.{Datagram}
 use Rattle.dns_zone.specs.Rows.{ZoneContent}
 use Rattle.dns_zone.specs.Serving.{Serves}
@@ -16,7 +15,7 @@ waiting_of link = map (λ bytes. bytes.items) link.waiting.items
 abbrev pub zone_of : ScriptedLink → ZoneContent
 zone_of link = link.zone
 
-abbrev pub limit_of : ScriptedLink → DatagramLimit
+abbrev pub limit_of : ScriptedLink → ℕ
 limit_of link = link.limit
 
 abbrev pub is_out_of_memory : ScriptedLink → Bool

@@ -203,7 +203,7 @@ fn request_bytes(alloc: Global, id: u16, query: &Query) -> Result<Vec<u8>, Alloc
     ensures form { IfOk result (λ bytes. bytes.items ≡ message_form (request id query.now)) }
     ensures reads { IfOk result (λ bytes. ReadsMessage bytes.items (request id query.now)) }
 {
-    let _named = query.name.is_fqdn();
+    let _named = query.name.encoded_len();
     let message = request_of(alloc, id, query)?;
     match message.to_vec(alloc, 65535) {
         Ok(bytes) => Ok(bytes),

@@ -8,7 +8,8 @@ use crate::lookup::{LinkFault, Lookup, NetError};
 use crate::scripted_link::ScriptedLink;
 use crate::wire_handle::WireHandle;
 use dns_messages::{Message, Query, a_message_is_read_one_way};
-use dns_wire::{RecordType, every_type_number_comes_back};
+use dns_wire::RecordType;
+use dns_wire::laws::type_number_round_trips;
 use dns_zone::{DatagramLimit, Zone};
 use std::alloc::{AllocError, Global};
 use std::marker::Model;
@@ -108,7 +109,7 @@ fn question(event: &Event) -> Result<Query, AllocError>
     ensures sound { IfOk result (λ query. query.name.is_fqdn ≡ true → IsSoundQuery query) }
     ensures inline { IsInline (question_of event.now).name → IsOk result }
 {
-    every_type_number_comes_back();
+    type_number_round_trips();
     match event {
         Event::Lookup { name, rtype, .. } => {
             let query_type = RecordType::from(u16::from(*rtype));
