@@ -23,7 +23,8 @@ pub fn each_token_consumes_text()
 pub fn lexing_is_deterministic()
     ensures same { (p q r : LexerState) (a b : Result (Option Lexeme) LexerError) → NextToken p a q
         → NextToken p b r → (a ≡ b) × (q ≡ r) }
-    ensures end_stays { (p end : LexerState) → NextToken p (Ok None) end → NextToken end (Ok None) end }
+    ensures end_stays { (p end : LexerState) → NextToken p (Ok None) end
+        → NextToken end (Ok None) end }
     ensures fault_stays { (p end : LexerState) (error : LexerError) → NextToken p (Err error) end
         → NextToken end (Err error) end }
 {}

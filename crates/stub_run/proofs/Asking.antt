@@ -18,7 +18,7 @@ use Rattle.stub_run.specs.ScriptedLink.{Sends, Receives}
 use Rattle.stub_run.specs.Lookup.{lookup_of}
 use Rattle.stub_run.specs.Wire.{accepted, Asks, AsksBy, Draws, DrawsNone, MaySend}
 use Rattle.stub_run.specs.World.{content, IsQuiet}
-use Rattle.stub_run.specs.Run.{Step, at_relative_name, at_no_id, at_reply, at_memory_before, at_memory_after, question_of, reply_to, found_by, told}
+use Rattle.stub_run.specs.Run.{Step, at_relative_name, at_no_id, at_reply, at_memory_before, at_memory_after, question_of, no_id_left, refusal_of, reply_to, found_by, told}
 use Rattle.stub_run.proofs.Replies.{OneWay, Ends, at_refused, at_taken, at_wanting, exchange-ends}
 
 abbrev Wire : Type 0
@@ -66,10 +66,30 @@ no_id-steps old e outcome fqdn none o =
     subst (λ (x : Result Message NetError). Steps old e x old.sent.items) (sym o)
     (λ questions h _. subst (λ (n : ℕ). Step (content old) old.sent.items e (told (Err (net.Link fault.NoId)) n) old.sent.items) (sym h) (at_no_id fqdn none))
 
-memory-steps : (old : Wire) (e : Event) (outcome : Result Message NetError) → outcome ≡ Err net.Memory → Steps old e outcome old.sent.items
-memory-steps old e outcome o =
+memory-steps : (old : Wire) (e : Event) (id : ℕ) (outcome : Result Message NetError) → (question_of e).name.is_fqdn ≡ true → slice_get old.ids.items (length old.sent.items) ≡ Some id
+    → outcome ≡ Err net.Memory → Steps old e outcome old.sent.items
+memory-steps old e id outcome fqdn next o =
+    let asks : refusal_of (content old) old.sent.items e ≡ None = rw (fqdn, next) refl in
     subst (λ (x : Result Message NetError). Steps old e x old.sent.items) (sym o)
-    (λ questions h fits. let none : 0 ≡ questions = omega arith in subst (λ (n : ℕ). Step (content old) old.sent.items e (told (Err net.Memory) n) old.sent.items) none at_memory_before)
+    (λ questions h fits. let none : 0 ≡ questions = omega arith in subst (λ (n : ℕ). Step (content old) old.sent.items e (told (Err net.Memory) n) old.sent.items) none (at_memory_before asks))
+
+-- a refusal is a step, whatever memory there is
+no_id-refusal : (next : Option ℕ) (error : NetError) → no_id_left next ≡ Some error → (next ≡ None) × (error ≡ net.Link fault.NoId)
+no_id-refusal None error h = (refl, (let same : Some (net.Link fault.NoId) ≡ Some error = h in cc same))
+no_id-refusal (Some id) error h = absurd (let none : None ≡ Some error = h in cc none)
+
+pub refusal-step : (old : Wire) (e : Event) (error : NetError) → refusal_of (content old) old.sent.items e ≡ Some error
+    → Step (content old) old.sent.items e (told (Err error) 0) old.sent.items
+refusal-step old e error h =
+    elim (cases_Bool (question_of e).name.is_fqdn) [
+      | inl fqdn ↦
+          (let none = no_id-refusal (slice_get old.ids.items (length old.sent.items)) error (rw fqdn at h) in
+          subst (λ (x : NetError). Step (content old) old.sent.items e (told (Err x) 0) old.sent.items) (sym none.1) (at_no_id fqdn none.0))
+      | inr relative ↦
+          (let is : Some net.Unsupported ≡ Some error = rw relative at h in
+          let same : net.Unsupported ≡ error = cc is in
+          subst (λ (x : NetError). Step (content old) old.sent.items e (told (Err x) 0) old.sent.items) same (at_relative_name relative))
+    ]
 
 -- ---- an id was drawn
 
@@ -137,7 +157,7 @@ sound-happened : OneWay → (old new : Wire) (e : Event) (next : Option ℕ) (ou
 sound-happened one_way old new e None outcome quiet fqdn next ids a = none-happened old new e outcome quiet ids a.1 (no_id-steps old e outcome fqdn next a.0)
 sound-happened one_way old new e (Some id) outcome quiet fqdn next ids a =
     elim a [
-      | inl u ↦ none-happened old new e outcome quiet ids u.1 (memory-steps old e outcome u.0)
+      | inl u ↦ none-happened old new e outcome quiet ids u.1 (memory-steps old e id outcome fqdn next u.0)
       | inr u ↦ drawn-happened one_way old new e id outcome quiet fqdn next ids u
     ]
 

@@ -13,6 +13,7 @@ use Rattle.stub_run.specs.declared.world.Stopped.TheVariants.{Moments}
 use Rattle.stub_run.specs.declared.world.Stopped.TheVariants as stops
 use Rattle.stub_run.specs.declared.playing.PlayFault.{PlayFault}
 use Rattle.stub_run.specs.declared.playing.PlayFault.TheVariants.{Write}
+use Rattle.stub_run.specs.declared.playing.PlayFault.TheVariants as plays
 use Rattle.dns_messages.specs.declared.query.Query.{Query}
 use Rattle.std.specs.Io.KnownBytes.{Appends}
 use Rattle.stub_run.specs.declared.world.EventReport.{EventReport}
@@ -20,7 +21,7 @@ use Rattle.stub_run.specs.World.{WorldContent}
 use Rattle.stub_run.specs.Run.{InOrder, Runs, memory_report}
 use Rattle.stub_run.specs.ReportText.{event_text, reply_text, report_text}
 use Rattle.stub_run.specs.ScriptText.{script_of_text, side_by_side}
-use Rattle.stub_run.specs.Playing.{events_of, lines_of, IsFirstOutOfOrder, IsLineOutOfOrder, IsZone, IsScript, IsAtFault, Faults, IsWorldOver, Tells, TellsAll, TellsFirst}
+use Rattle.stub_run.specs.Playing.{events_of, lines_of, IsFirstOutOfOrder, IsLineOutOfOrder, IsZone, IsScript, IsAtFault, Faults, IsWorldOver, IsPlayed, Tells, TellsAll, TellsFirst, script_fault}
 use Rattle.stub_run.proofs.OrderLaws.{in_order_if_not_out}
 
 pub events_beside : (numbers : List ℕ) (events : List Event) → length numbers ≡ length events → events_of (side_by_side numbers events) ≡ events
@@ -80,11 +81,6 @@ pub on_ok : {T E P : Type 0} (r : Result T E) → P → OnOk r P
 on_ok (Ok x) p = p
 on_ok (Err e) p = tt
 
-pub write_fault : {T : Type 0} (zone script : List ℕ) (r : Result T PlayFault) → IfErr r (λ fault. fault ≡ Write) → IsZone zone → IsScript script
-    → IfErr r (Faults zone script)
-write_fault zone script (Ok x) h z s = tt
-write_fault zone script (Err e) h z s = rw h (z, s)
-
 -- a run reports of each event once
 runs_len : (world : WorldContent) (sent : List (ℕ × Query)) (events : List Event) (reports : List EventReport) (after : List (ℕ × Query))
     → Runs world sent events reports after → length reports ≡ length events
@@ -139,12 +135,6 @@ module _ (found text : List ℕ) (rows : ZoneContent) (world : WorldContent) (sa
 pub stopped_is : (P : Report → Type 0) (error : Stopped) (report : Report) → error ≡ stops.Memory report → IfSome (memory_report (Err error)) P → P report
 stopped_is P error report is h = rw is at h
 
--- what was written is what is told
-pub on_ok_told : {T E : Type 0} (P : List ℕ → Type 0) (old new : Option (List ℕ)) (r : Result T E) (text : List ℕ) → P text → OnOk r (Appends old new text)
-    → OnOk r ((x : List ℕ) × P x × Appends old new x)
-on_ok_told P old new (Ok x) text p h = (text, p, h)
-on_ok_told P old new (Err e) text p h = tt
-
 module _ (found text : List ℕ) (numbers : List ℕ) (events : List Event) (same : found ≡ text)
     (read : script_of_text found ≡ Ok (side_by_side numbers events)) (beside : length numbers ≡ length events) (order : InOrder 0 events) where
   pub tells_all : (zone : List ℕ) (told : List ℕ) → Tells zone events told → TellsAll zone text told
@@ -166,3 +156,56 @@ module _ (found text : List ℕ) (numbers : List ℕ) (events : List Event) (sam
         front,
         rw (events_beside numbers events beside) h,
       )
+
+-- ---- how a whole run ends
+
+module _ (zone_text text : List ℕ) (same : Type 0) (old new : Option (List ℕ)) where
+  -- nothing was written, and this was the fault
+  pub silent_end : (fault : PlayFault) → Faults zone_text text fault → same → IsPlayed zone_text text same old new (Err fault)
+  silent_end fault faults unwritten = record {
+    zone = tt;
+    script = tt;
+    fault = faults;
+    silent = λ _. unwritten;
+    told = tt;
+    stopped = λ _. inl unwritten;
+  }
+
+  -- the report could not be written
+  pub unwritten_end : IsZone zone_text → IsScript text → IsPlayed zone_text text same old new (Err Write)
+  unwritten_end zone script = record {
+    zone = tt;
+    script = tt;
+    fault = (zone, script);
+    silent = λ before. absurd before;
+    told = tt;
+    stopped = λ e. absurd (cc e);
+  }
+
+  -- the whole report was written
+  pub told_end : (report : List ℕ) → IsZone zone_text → IsScript text → TellsAll zone_text text report → Appends old new report → IsPlayed zone_text text same old new (Ok tt)
+  told_end report zone script tells written = record {
+    zone = zone;
+    script = script;
+    fault = tt;
+    silent = tt;
+    told = (report, tells, written);
+    stopped = tt;
+  }
+
+  -- what was told before memory was refused was written
+  pub stopped_end : (report : List ℕ) → IsZone zone_text → TellsFirst zone_text text report → Appends old new report → IsPlayed zone_text text same old new (Err plays.Memory)
+  stopped_end report zone tells written = record {
+    zone = tt;
+    script = tt;
+    fault = zone;
+    silent = λ before. absurd before;
+    told = tt;
+    stopped = λ _. inr (report, tells, written);
+  }
+
+-- the script's fault is the run's
+pub script_faults : (zone_text found text : List ℕ) (fault : ScriptFault) → IsZone zone_text → found ≡ text → (fault ≢ Memory → script_of_text found ≡ Err fault)
+    → Faults zone_text text (script_fault fault)
+script_faults zone_text found text (Line line) zone same refused = (zone, line_is_at_fault found text (Line line) line same refl refused)
+script_faults zone_text found text Memory zone same refused = zone

@@ -6,10 +6,9 @@ use Rattle.std.specs.Cmp.Lexicographic.{pointwise}
 use Rattle.std.proofs.lemmas.Bool.{and_from, eq-eqb, true≢false}
 use Rattle.dns_codes.specs.RecordType.{type_number}
 use Rattle.dns_codes.specs.DNSClass.{class_number}
-use Rattle.dns_names.specs.Comparison.{same_labels}
+use Rattle.dns_names.specs.Compare.{same_labels}
 use Rattle.dns_messages.specs.declared.query.Query.{Query}
 use Rattle.dns_messages.specs.declared.message.Message.{Message}
-use Rattle.dns_zone.specs.declared.road.DatagramLimit.{DatagramLimit}
 use Rattle.dns_zone.specs.declared.road.Road.TheVariants.{Datagram}
 use Rattle.dns_zone.specs.Rows.{ZoneContent}
 use Rattle.dns_messages.specs.Question.{same_question}
@@ -46,7 +45,7 @@ cut-either P limit m whole off = by (nat_le (length (message_form m)) limit)
     by true = whole
     by false = off
 
-pub reply-matches : (zone : ZoneContent) (limit : DatagramLimit) (id : ℕ) (q : Query) → matches id q (sent_reply zone (Datagram limit) (request id q) q) ≡ true
+pub reply-matches : (zone : ZoneContent) (limit : ℕ) (id : ℕ) (q : Query) → matches id q (sent_reply zone (Datagram limit) (request id q) q) ≡ true
 reply-matches zone limit id q =
     let same = and_from (nat_eq id id) (same_question q q) (eq-eqb id id refl) (same_question-refl q) in
     cut-either (λ m. matches id q m ≡ true) (reply_limit (Datagram limit)) (reply zone (request id q) q) same same
@@ -78,7 +77,7 @@ took-ends one_way id q old mid new bytes dropped total next outcome reads b t =
       | inl u ↦ (at_taken (subst (Becomes old []) (sym u.4) b) (u.3 ∙ ap accepted (one_way bytes u.0 (reply-over old id q) u.1 reads)), u.5)
       | inr u ↦ elim u [
         | inl v ↦ absurd (true≢false (sym (reply-matches old.zone old.limit id q) ∙ v.0 (reply-over old id q) reads))
-        | inr v ↦ (at_wanting (subst (Becomes old []) (sym v.1) b) v.0, v.2)
+        | inr v ↦ (at_wanting (subst (Becomes old []) (sym v.2) b) v.1, v.3)
       ]
     ]
 

@@ -1,7 +1,7 @@
 -- What is appended in two steps, and item by item.
 use Rattle.std.proofs.Common.{◌≡◌, ℕ, List, [], ◌∷◌, ◌++◌, ◌+◌, ◌<◌, length, take, get_or, Option, Some, None, sym, ap, ◌∙◌, flat_map, subst, ◌⊎◌, inl, inr}
 use Rattle.std.proofs.lemmas.List.{append_assoc, append-nil, take_more, flat_map_more}
-use Rattle.std.specs.Io.KnownBytes.{Appends}
+use Rattle.std.specs.Io.KnownBytes.{Appends, Keeps}
 use Rattle.stub_run.specs.declared.event.Event.{Event}
 use Rattle.stub_run.specs.declared.world.EventReport.{EventReport}
 use Rattle.stub_run.specs.ReportText.{event_text, reply_text, report_text}
@@ -15,6 +15,13 @@ appends_then None b c xs ys h k = tt
 appends_then (Some a) None c xs ys h k = absurd h
 appends_then (Some a) (Some b) None xs ys h k = absurd k
 appends_then (Some a) (Some b) (Some c) xs ys h k = k ∙ (ap (λ (l : List ℕ). l ++ ys) h ∙ append_assoc a xs ys)
+
+-- what was appended stays
+pub appends_kept : (a b c : Option (List ℕ)) (xs : List ℕ) → Appends a b xs → Keeps b c → Appends a c xs
+appends_kept None b c xs h k = tt
+appends_kept (Some a) None c xs h k = absurd h
+appends_kept (Some a) (Some b) None xs h k = absurd k
+appends_kept (Some a) (Some b) (Some c) xs h k = k ∙ h
 
 -- one more item is appended
 pub appends_more : {X : Type 0} (f : X → List ℕ) (items : List X) (i : ℕ) (x : X) (a b c : Option (List ℕ)) → i < length items → get_or items i x ≡ x

@@ -2,7 +2,7 @@
 use Rattle.std.proofs.Common.{◌≡◌, ◌+◌, ◌≤◌, ◌<◌, ◌^◌, ◌++◌, ℕ, List, [], ◌∷◌, length, refl, sym, ap, subst, ◌∙◌, arith, length-append}
 use Rattle.std.proofs.lemmas.Bool.{le-leb}
 use Rattle.dns_wire.specs.Name.{name_len}
-use Rattle.dns_wire.specs.Pieces.{labels_form, whole_form}
+use Rattle.dns_wire.specs.Encodable.{labels_form, whole_form}
 use Rattle.dns_messages.specs.declared.header.Metadata.{Metadata}
 use Rattle.dns_messages.specs.declared.query.Query.{Query}
 use Rattle.dns_messages.specs.declared.message.Message.{Message}

@@ -1,5 +1,5 @@
 -- Waiting goes on.
-use Rattle.std.proofs.Common.{◌≡◌, ℕ, zero, suc, ◌-◌, ◌<◌, List, Option, Some, None, Result, Err, refl, subst, inl, inr, arith}
+use Rattle.std.proofs.Common.{◌≡◌, true, ℕ, zero, suc, ◌-◌, ◌<◌, List, Option, Some, None, Result, Err, refl, subst, inl, inr, arith}
 use Rattle.dns_messages.specs.declared.query.Query.{Query}
 use Rattle.dns_messages.specs.declared.message.Message.{Message}
 use Rattle.dns_messages.specs.Grammar.{ReadsMessage}
@@ -8,7 +8,7 @@ use Rattle.stub_run.specs.declared.lookup.LinkFault.TheVariants as fault
 use Rattle.stub_run.specs.declared.lookup.NetError.{NetError}
 use Rattle.stub_run.specs.declared.lookup.NetError.TheVariants as net
 use Rattle.dns_messages.specs.Message.{message_form}
-use Rattle.stub_run.specs.Wire.{Waits, Heard, Took, FindsReply, accepted, one_more, request, Exchanges, AfterSending}
+use Rattle.stub_run.specs.Wire.{Waits, Heard, Took, FindsReply, has_reply_header, accepted, one_more, request, Exchanges, AfterSending}
 
 abbrev pub Receives-of : Type 0 → Type 1
 Receives-of L = L → Result (Option (List ℕ)) LinkError → L → Type 0
@@ -41,9 +41,10 @@ took-reply id q bytes mid dropped next m f = inl (m, f.0, f.1, refl, refl, refl)
 pub took-other : {L : Type 0} (id : ℕ) (q : Query) (bytes : List ℕ) (mid : L) (dropped : ℕ) (next : ℕ → Result Message NetError → L → ℕ → Type 0) (outcome : Result Message NetError) (new : L) (total : ℕ) → FindsReply id q bytes None → next (one_more dropped) outcome new total → Took id q bytes mid dropped next outcome new total
 took-other id q bytes mid dropped next outcome new total f k = inr (inl (f, k))
 
--- memory was refused
-pub took-memory : {L : Type 0} (id : ℕ) (q : Query) (bytes : List ℕ) (mid : L) (dropped : ℕ) (next : ℕ → Result Message NetError → L → ℕ → Type 0) → Took id q bytes mid dropped next (Err net.Memory) mid dropped
-took-memory id q bytes mid dropped next = inr (inr (refl, refl, refl))
+-- memory was refused to a datagram with the header of a reply
+pub took-memory : {L : Type 0} (id : ℕ) (q : Query) (bytes : List ℕ) (mid : L) (dropped : ℕ) (next : ℕ → Result Message NetError → L → ℕ → Type 0) → has_reply_header id bytes ≡ true
+    → Took id q bytes mid dropped next (Err net.Memory) mid dropped
+took-memory id q bytes mid dropped next headed = inr (inr (headed, refl, refl, refl))
 
 -- the request was sent, or was not
 pub exchanged : {L : Type 0} (sends : L → List ℕ → Result (Unit {0}) LinkError → L → Type 0) (receives : Receives-of L) (id : ℕ) (q : Query) (old : L) (dropped : ℕ) (bytes slice : List ℕ) (told : Result (Unit {0}) LinkError) (mid : L) (outcome : Result Message NetError) (new : L) (total : ℕ)

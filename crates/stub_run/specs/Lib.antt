@@ -7,4 +7,5 @@ pub mod Run
 pub mod ScriptText
 pub mod Playing
 pub mod ReportText
+pub mod Program
 pub mod Words

@@ -1,5 +1,8 @@
 -- What a reply gives to a lookup (RFC 2308 section 2).
-use Rattle.std.specs.Prelude.{List, [], ◌∷◌, ℕ, Result, Ok, Err}
+use Rattle.std.specs.Prelude.{◌==◌, ◌&&◌, filter, Bool, List, [], ◌∷◌, ℕ, Result, Ok, Err}
+use Rattle.dns_codes.specs.RecordType.{type_number}
+use Rattle.dns_names.specs.Compare.{same_labels}
+use Rattle.dns_messages.specs.Data.{data_type}
 use Rattle.dns_messages.specs.declared.header.ResponseCode.{ResponseCode}
 use Rattle.dns_messages.specs.declared.header.ResponseCode.TheVariants.{NoError, NXDomain}
 use Rattle.dns_messages.specs.declared.query.Query.{Query}
@@ -32,6 +35,10 @@ abbrev pub lookup_of_answers : Query → ResponseCode → List Record → Result
 lookup_of_answers q code [] = Err (net.Dns (without_record q code))
 lookup_of_answers q code (r ∷ rs) = Ok (record { query = q; answers = r ∷ rs })
 
+-- a record of the asked type at the asked name, up to ASCII case
+abbrev pub is_answer : Query → Record → Bool
+is_answer q r = same_labels q.name.labels r.name.labels && (type_number q.query_type == type_number (data_type r.rdata))
+
 -- what a whole reply gives
 abbrev pub lookup_of : Query → Message → Result Lookup NetError
-lookup_of q reply = lookup_of_answers q reply.metadata.response_code reply.answers
+lookup_of q reply = lookup_of_answers q reply.metadata.response_code (filter (is_answer q) reply.answers)

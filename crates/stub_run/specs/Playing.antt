@@ -1,12 +1,15 @@
 -- What a run of the program's two texts comes to, and in which order its faults are looked for: the zone's text, the
 -- script's lines, the script's moments.
-use Rattle.std.specs.Prelude.{◌≡◌, ◌≢◌, ◌<◌, ◌≤◌, ◌+◌, ◌⊎◌, List, [], ℕ, map, length, take, slice_get, slice_index, EachIndex, Some, Ok, Err, ⊤, ◌++◌, codes}
+use Rattle.std.specs.Prelude.{◌≡◌, ◌≢◌, ◌<◌, ◌≤◌, ◌+◌, ◌⊎◌, List, [], ℕ, map, length, take, slice_get, slice_index, EachIndex, Option, Some, Result, Ok, Err, OnOk, IfErr, ⊤, ◌++◌, codes}
 use Rattle.std.specs.Fmt.{decimal}
+use Rattle.std.specs.Io.KnownBytes.{Appends}
 use Rattle.dns_zone.specs.Rows.{ZoneContent}
 use Rattle.dns_zone.specs.ZoneText.{zone_of_text}
 use Rattle.dns_zone.specs.declared.zone.ZoneFault.TheVariants as zones
 use Rattle.stub_run.specs.declared.event.Event.{Event}
+use Rattle.stub_run.specs.declared.script.ScriptFault.{ScriptFault}
 use Rattle.stub_run.specs.declared.script.ScriptFault.TheVariants.{Line}
+use Rattle.stub_run.specs.declared.script.ScriptFault.TheVariants as scripts
 use Rattle.stub_run.specs.declared.playing.PlayFault.{PlayFault}
 use Rattle.stub_run.specs.declared.playing.PlayFault.TheVariants.{Zone, Script, Memory, Write}
 use Rattle.dns_messages.specs.declared.query.Query.{Query}
@@ -63,7 +66,7 @@ IsBeforeRun Write = ⊥
 -- a world over these rows, whose server's datagrams have at most 1,232 bytes, and whose ids count up from 1
 pub record IsWorldOver (rows : ZoneContent) (world : WorldContent) : Type 0 where
   pub zone : world.zone ≡ rows
-  pub limit : world.limit.value ≡ 1232
+  pub limit : world.limit ≡ 1232
   pub ids : EachIndex world.ids (λ k. slice_index world.ids k ≡ k + 1)
   pub all : length world.ids ≡ 65535
 
@@ -88,6 +91,20 @@ abbrev pub TellsFirst : List ℕ → List ℕ → List ℕ → Type 0
 TellsFirst zone script text =
     (numbered : List (ℕ × Event)) × (n : ℕ) × (script_of_text script ≡ Ok numbered) × InOrder 0 (events_of numbered)
     × (n ≤ length numbered) × Tells zone (take n (events_of numbered)) text
+
+-- the fault of a whole run that a script's fault is
+abbrev pub script_fault : ScriptFault → PlayFault
+script_fault (Line line) = Script line
+script_fault scripts.Memory = Memory
+
+-- what a whole run of two texts comes to; `same` says that nothing was written
+pub record IsPlayed (zone_text script_text : List ℕ) (same : Type 0) (old new : Option (List ℕ)) (result : Result (Unit {0}) PlayFault) : Type 0 where
+  pub zone : OnOk result (IsZone zone_text)
+  pub script : OnOk result (IsScript script_text)
+  pub fault : IfErr result (Faults zone_text script_text)
+  pub silent : IfErr result (λ fault. IsBeforeRun fault → same)
+  pub told : OnOk result ((text : List ℕ) × TellsAll zone_text script_text text × Appends old new text)
+  pub stopped : IfErr result (λ fault. fault ≡ Memory → same ⊎ ((text : List ℕ) × TellsFirst zone_text script_text text × Appends old new text))
 
 -- the line that the program ends with
 abbrev pub fault_text : PlayFault → List ℕ

@@ -4,8 +4,8 @@ use Rattle.std.specs.Fmt.{decimal}
 use Rattle.dns_codes.specs.CodeText.{type_text}
 use Rattle.dns_codes.specs.RecordType.{type_number, type_of}
 use Rattle.dns_codes.specs.declared.record_type.RecordType.{RecordType}
-use Rattle.dns_names.specs.DomainName.{DomainName}
-use Rattle.dns_names.specs.Printed.{text_of_name}
+use Rattle.dns_names.specs.Name.{DomainName}
+use Rattle.dns_names.specs.Print.{text_of_name}
 use Rattle.dns_messages.specs.Data.{data_type}
 use Rattle.dns_messages.specs.Printed.{code_text, data_text}
 use Rattle.dns_messages.specs.declared.record.Record.{Record}

@@ -1,7 +1,9 @@
 -- What happens in a world, event by event.
-use Rattle.std.specs.Prelude.{◌≡◌, ◌≤◌, ◌^◌, true, false, List, [], ◌∷◌, ◌++◌, ℕ, length, slice_get, Option, Some, None, Result, Ok, Err, if◌then◌else◌}
+use Rattle.std.specs.Prelude.{◌≡◌, ◌≤◌, ◌+◌, ◌^◌, true, false, List, [], ◌∷◌, ◌++◌, ℕ, length, slice_get, Option, Some, None, Result, Ok, Err, if◌then◌else◌}
 use Rattle.dns_codes.specs.RecordType.{type_number, type_of}
 use Rattle.dns_codes.specs.declared.dns_class.DNSClass.TheVariants.{IN}
+use Rattle.dns_wire.specs.Name.{name_len}
+use Rattle.dns_names.specs.Name.{DomainName}
 use Rattle.dns_messages.specs.declared.query.Query.{Query}
 use Rattle.dns_messages.specs.declared.message.Message.{Message}
 use Rattle.dns_zone.specs.declared.road.Road.TheVariants.{Datagram}
@@ -33,6 +35,10 @@ InOrder last (e ∷ events) = (last ≤ moment_of e) × (moment_of e ≤ 2 ^ 62)
 abbrev pub question_of : Event → Query
 question_of (event.Lookup at name rtype script) = record { name = name; query_type = type_of (type_number rtype); query_class = IN }
 
+-- a name that is copied without memory: up to 24 labels, with up to 32 bytes together
+abbrev pub IsInline : DomainName → Type 0
+IsInline name = (length name.labels ≤ 24) × (name_len name.labels ≤ length name.labels + 33)
+
 -- what is left, under the datagram's limit, of the zone's answer to the question
 abbrev pub reply_to : WorldContent → ℕ → Query → Message
 reply_to world id q = sent_reply world.zone (Datagram world.limit) (request id q) q
@@ -54,11 +60,20 @@ faults_of outcome = 0
 abbrev pub told : Result Lookup NetError → ℕ → EventReport
 told outcome questions = record { reply = replies.Lookup outcome; faults = faults_of outcome; questions = questions }
 
+-- why nothing is asked, whatever memory there is: the name is relative, or no id is left
+abbrev pub no_id_left : Option ℕ → Option NetError
+no_id_left (Some id) = None
+no_id_left None = Some (net.Link fault.NoId)
+
+abbrev pub refusal_of : WorldContent → List (ℕ × Query) → Event → Option NetError
+refusal_of world sent e =
+    if (question_of e).name.is_fqdn then no_id_left (slice_get world.ids (length sent)) else Some net.Unsupported
+
 -- Step world sent event report after: with these ids drawn before, the event may have this report, and then these
 -- ids are drawn.
 --
 -- A relative name isn't asked. Without an id left nothing is asked. Else the next id is drawn, and the reply is the
--- zone's answer. Memory may be refused before an id is drawn, or after.
+-- zone's answer. Where there is something to ask, memory may be refused before an id is drawn, or after.
 pub data Step (world : WorldContent) : List (ℕ × Query) → Event → EventReport → List (ℕ × Query) → Type 0 where
   at_relative_name : {sent : List (ℕ × Query)} {e : Event} → (question_of e).name.is_fqdn ≡ false
       → Step world sent e (told (Err net.Unsupported) 0) sent
@@ -66,7 +81,8 @@ pub data Step (world : WorldContent) : List (ℕ × Query) → Event → EventRe
       → Step world sent e (told (Err (net.Link fault.NoId)) 0) sent
   at_reply : {sent : List (ℕ × Query)} {e : Event} {id : ℕ} → (question_of e).name.is_fqdn ≡ true → slice_get world.ids (length sent) ≡ Some id
       → Step world sent e (told (looked_up world id (question_of e)) 1) (sent ++ (id, question_of e) ∷ [])
-  at_memory_before : {sent : List (ℕ × Query)} {e : Event} → Step world sent e (told (Err net.Memory) 0) sent
+  at_memory_before : {sent : List (ℕ × Query)} {e : Event} → refusal_of world sent e ≡ None
+      → Step world sent e (told (Err net.Memory) 0) sent
   at_memory_after : {sent : List (ℕ × Query)} {e : Event} {id questions : ℕ} → (question_of e).name.is_fqdn ≡ true
       → slice_get world.ids (length sent) ≡ Some id → questions ≤ 1
       → Step world sent e (told (Err net.Memory) questions) (sent ++ (id, question_of e) ∷ [])

@@ -1,13 +1,12 @@
 -- The text of a script: a line is blank, a comment, or `<at> lookup <name> A` with a name that is fully qualified and a
 -- moment in decimal digits.
-use Rattle.std.specs.Prelude.{◌==◌, ◌&&◌, ◌+◌, codes, if◌then◌else◌, List, [], ◌∷◌, ℕ, Option, Some, Result, Ok, Err}
-use Rattle.std.specs.List.{list_any}
+use Rattle.std.specs.Prelude.{◌==◌, ◌&&◌, ◌+◌, not, codes, if◌then◌else◌, Bool, true, false, List, [], ◌∷◌, ℕ, Option, Some, Result, Ok, Err}
 use Rattle.std.specs.Str.{bytes_eq}
 use Rattle.std.specs.Str.Lines.{lines}
 use Rattle.dns_codes.specs.declared.record_type.RecordType.TheVariants.{A}
-use Rattle.dns_names.specs.DomainName.{DomainName}
+use Rattle.dns_names.specs.Name.{DomainName}
 use Rattle.dns_codes.specs.Decimal.{decimal_up_to}
-use Rattle.dns_zone.specs.ZoneText.{words, fqdn_of}
+use Rattle.dns_zone.specs.ZoneText.{is_blank, words, fqdn_of}
 use Rattle.stub_run.specs.declared.event.Script.TheVariants.{Honest}
 use Rattle.stub_run.specs.declared.event.Event.{Event}
 use Rattle.stub_run.specs.declared.event.Event.TheVariants.{Lookup}
@@ -31,13 +30,41 @@ content_of_words (at ∷ kind ∷ name ∷ rtype ∷ []) =
     if bytes_eq kind (codes "lookup") && bytes_eq rtype (codes "A") then lookup_at (moment at) (fqdn_of name) else Unreadable
 content_of_words line_words = Unreadable
 
--- a comment begins with `#`; no other line may have a semicolon
+-- a text without the blanks in front
+abbrev pub behind_blanks : List ℕ → List ℕ
+behind_blanks [] = []
+behind_blanks (c ∷ cs) = if is_blank c then behind_blanks cs else c ∷ cs
+
+-- whether the first character is `#`
+abbrev pub begins_comment : List ℕ → Bool
+begins_comment [] = false
+begins_comment (c ∷ cs) = c == 35
+
+-- a semicolon that is neither escaped nor quoted
+abbrev pub begins_link_script : Bool → Bool → ℕ → Bool
+begins_link_script escaped quoted c = not escaped && (not quoted && c == 59)
+
+-- a quote that isn't escaped opens, or closes
+abbrev pub is_quoted : Bool → Bool → ℕ → Bool
+is_quoted escaped quoted c = if not escaped && c == 34 then not quoted else quoted
+
+-- a backslash that isn't escaped escapes the next character
+abbrev pub is_escape : Bool → ℕ → Bool
+is_escape escaped c = not escaped && c == 92
+
+-- whether a link script begins in a text, by whether its first character is escaped and whether a quote is open
+abbrev pub has_link_script : Bool → Bool → List ℕ → Bool
+has_link_script escaped quoted [] = false
+has_link_script escaped quoted (c ∷ cs) =
+    if begins_link_script escaped quoted c then true
+    else has_link_script (is_escape escaped c) (is_quoted escaped quoted c) cs
+
+-- a comment begins with `#`, behind blanks or none; no other line may have a link script
 abbrev pub content_of_line : List ℕ → LineContent
-content_of_line [] = Nothing
-content_of_line (c ∷ cs) =
-    if c == 35 then Nothing
-    else if list_any (λ d. d == 59) (c ∷ cs) then Unreadable
-    else content_of_words (words (c ∷ cs))
+content_of_line line =
+    if begins_comment (behind_blanks line) then Nothing
+    else if has_link_script false false line then Unreadable
+    else content_of_words (words line)
 
 -- the events of the lines from this number on, each with its line, or the first line that can't be read
 abbrev pub then_events : LineContent → ℕ → Result (List (ℕ × Event)) ScriptFault → Result (List (ℕ × Event)) ScriptFault

@@ -1,6 +1,7 @@
 -- The honest link: each datagram is delivered once, and its reply brought.
-use Rattle.std.specs.Prelude.{◌≡◌, List, [], ◌∷◌, ◌++◌, ℕ, map, true, Option, None, Result, Ok, Err}
+use Rattle.std.specs.Prelude.{◌≡◌, List, [], ◌∷◌, ◌++◌, ℕ, map, Bool, true, Option, None, Result, Ok, Err}
 use Rattle.dns_zone.specs.declared.road.Road.TheVariants.{Datagram}
+use Rattle.dns_zone.specs.Rows.{ZoneContent}
 use Rattle.dns_zone.specs.Serving.{Serves}
 use Rattle.stub_run.specs.declared.link.LinkError.{LinkError}
 use Rattle.stub_run.specs.declared.link.LinkError.TheVariants.{Failed, Memory}
@@ -9,6 +10,16 @@ use Rattle.stub_run.specs.declared.scripted_link.ScriptedLink.{ScriptedLink}
 -- the datagrams that are under way, the oldest first
 abbrev pub waiting_of : ScriptedLink → List (List ℕ)
 waiting_of link = map (λ bytes. bytes.items) link.waiting.items
+
+-- the zone of the server, the limit of its datagrams, and whether memory was refused
+abbrev pub zone_of : ScriptedLink → ZoneContent
+zone_of link = link.zone
+
+abbrev pub limit_of : ScriptedLink → ℕ
+limit_of link = link.limit
+
+abbrev pub is_out_of_memory : ScriptedLink → Bool
+is_out_of_memory link = link.out_of_memory
 
 -- From old, the link is new with these datagrams under way; nothing else is different.
 pub record Becomes (old : ScriptedLink) (waiting : List (List ℕ)) (new : ScriptedLink) : Type 0 where

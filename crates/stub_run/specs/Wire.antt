@@ -1,12 +1,14 @@
 -- One question, asked over any link (RFC 1035 section 7.3, RFC 5452 section 3).
-use Rattle.std.specs.Prelude.{◌≡◌, ◌==◌, ◌&&◌, ◌+◌, ◌-◌, ◌≤◌, ◌^◌, ◌⊎◌, min, zero, suc, Bool, true, false, List, [], ◌∷◌, ◌++◌, ℕ, ⊤, length, slice_get, Option, Some, None, Result, Ok, Err, if◌then◌else◌}
+use Rattle.std.specs.Prelude.{◌≡◌, ◌==◌, ◌&&◌, ◌+◌, ◌-◌, ◌*◌, ◌≤◌, ◌^◌, ◌⊎◌, nat_le, min, zero, suc, Bool, true, false, List, [], ◌∷◌, ◌++◌, ℕ, ⊤, length, slice_get, Option, Some, None, Result, Ok, Err, if◌then◌else◌}
 use Rattle.dns_messages.specs.declared.header.MessageType.{MessageType}
 use Rattle.dns_messages.specs.declared.header.MessageType.TheVariants as kinds
 use Rattle.dns_messages.specs.declared.header.OpCode.{OpCode}
 use Rattle.dns_messages.specs.declared.header.OpCode.TheVariants as ops
 use Rattle.dns_messages.specs.declared.header.ResponseCode.TheVariants.{NoError}
+use Rattle.dns_messages.specs.declared.header.Metadata.{Metadata}
 use Rattle.dns_messages.specs.declared.query.Query.{Query}
 use Rattle.dns_messages.specs.declared.message.Message.{Message}
+use Rattle.dns_messages.specs.Header.{metadata_of}
 use Rattle.dns_messages.specs.Question.{same_question}
 use Rattle.dns_messages.specs.Message.{message_form}
 use Rattle.dns_messages.specs.Sound.{IsSoundQuery}
@@ -53,9 +55,27 @@ abbrev pub repeats : Query → List Query → Bool
 repeats q (asked ∷ []) = same_question q asked
 repeats q queries = false
 
+-- the header of a reply under this id
+abbrev pub is_reply_header : ℕ → Metadata → Bool
+is_reply_header id m = is_response m.message_type && (is_query_code m.op_code && (m.id == id))
+
+-- the header of bytes, if they are twelve at least: an id, two bytes of flags, and eight of counts (RFC 1035 section 4.1.1)
+abbrev pub header_of : List ℕ → Option Metadata
+header_of (first ∷ second ∷ third ∷ fourth ∷ counts) =
+    if nat_le 8 (length counts) then Some (metadata_of (256 * first + second) third fourth) else None
+header_of bytes = None
+
+abbrev pub is_reply_header_if : ℕ → Option Metadata → Bool
+is_reply_header_if id (Some m) = is_reply_header id m
+is_reply_header_if id None = false
+
+-- bytes with the header of a reply under this id
+abbrev pub has_reply_header : ℕ → List ℕ → Bool
+has_reply_header id bytes = is_reply_header_if id (header_of bytes)
+
 -- a reply to this question under this id
 abbrev pub matches : ℕ → Query → Message → Bool
-matches id q m = is_response m.metadata.message_type && (is_query_code m.metadata.op_code && ((m.metadata.id == id) && repeats q m.queries))
+matches id q m = is_reply_header id m.metadata && repeats q m.queries
 
 -- what bytes spell: the reply to this question under this id; or none, where no message that they spell is it
 abbrev pub FindsReply : ℕ → Query → List ℕ → Option Message → Type 0
@@ -70,13 +90,13 @@ accepted m = if m.metadata.truncation then Err (net.Link fault.Truncated) else O
 abbrev pub one_more : ℕ → ℕ
 one_more dropped = min (dropped + 1) (2 ^ 64 - 1)
 
--- A datagram came. It is the reply and ends the waiting; or it isn't, is dropped, and the waiting goes on; or memory
--- was refused.
+-- A datagram came. It is the reply and ends the waiting; or it isn't, is dropped, and the waiting goes on; or it has the
+-- header of a reply, and memory was refused.
 abbrev pub Took : {L : Type 0} → ℕ → Query → List ℕ → L → ℕ → (ℕ → Result Message NetError → L → ℕ → Type 0) → Result Message NetError → L → ℕ → Type 0
 Took id q bytes mid dropped next outcome new total =
     ((m : Message) × ReadsMessage bytes m × (matches id q m ≡ true) × (outcome ≡ accepted m) × (new ≡ mid) × (total ≡ dropped))
     ⊎ ((((m : Message) → ReadsMessage bytes m → matches id q m ≡ false) × next (one_more dropped) outcome new total)
-    ⊎ ((outcome ≡ Err net.Memory) × (new ≡ mid) × (total ≡ dropped)))
+    ⊎ ((has_reply_header id bytes ≡ true) × (outcome ≡ Err net.Memory) × (new ≡ mid) × (total ≡ dropped)))
 
 -- what a receive leads to
 abbrev pub Heard : {L : Type 0} → ℕ → Query → Result (Option (List ℕ)) LinkError → L → ℕ → (ℕ → Result Message NetError → L → ℕ → Type 0) → Result Message NetError → L → ℕ → Type 0
@@ -102,6 +122,24 @@ abbrev pub Exchanges : {L : Type 0} → (L → List ℕ → Result (Unit {0}) Li
 Exchanges {L} sends receives id q old dropped outcome new total =
     ((bytes : List ℕ) × (bytes ≡ message_form (request id q)) × ReadsMessage bytes (request id q) × (told : Result (Unit {0}) LinkError) × (mid : L) × sends old bytes told mid × AfterSending receives id q told mid dropped outcome new total)
     ⊎ ((outcome ≡ Err net.Memory) × (new ≡ old) × (total ≡ dropped))
+
+-- what contracts see of a handle: its link, the ids that questions draw, each drawn one with its question, and how many
+-- datagrams were dropped
+abbrev pub link_of : {L : Type 0} → WireHandle L → L
+link_of handle = handle.link
+
+abbrev pub ids_of : {L : Type 0} → WireHandle L → List ℕ
+ids_of handle = handle.ids.items
+
+abbrev pub sent_of : {L : Type 0} → WireHandle L → List (ℕ × Query)
+sent_of handle = handle.sent.items
+
+abbrev pub dropped_of : {L : Type 0} → WireHandle L → ℕ
+dropped_of handle = handle.dropped
+
+-- the handle with another link
+abbrev pub with_link : {L : Type 0} → WireHandle L → L → WireHandle L
+with_link handle link = record handle { link = link }
 
 -- nothing was drawn, and nothing happened on the link
 pub record DrawsNone {L : Type 0} (old new : WireHandle L) : Type 0 where

@@ -1,7 +1,6 @@
 -- What contracts see of a `World`.
 use Rattle.std.specs.Prelude.{◌≡◌, List, [], ℕ, false}
 use Rattle.dns_zone.specs.Rows.{ZoneContent}
-use Rattle.dns_zone.specs.declared.road.DatagramLimit.{DatagramLimit}
 use Rattle.stub_run.specs.declared.scripted_link.ScriptedLink.{ScriptedLink}
 use Rattle.stub_run.specs.declared.wire_handle.WireHandle.{WireHandle}
 use Rattle.stub_run.specs.ScriptedLink.{waiting_of}
@@ -9,7 +8,7 @@ use Rattle.stub_run.specs.ScriptedLink.{waiting_of}
 -- a zone, the limit of its server's datagrams, and the ids that questions draw
 pub record WorldContent : Type 0 where
   pub zone : ZoneContent
-  pub limit : DatagramLimit
+  pub limit : ℕ
   pub ids : List ℕ
 
 abbrev pub content : WireHandle ScriptedLink → WorldContent

@@ -7,13 +7,15 @@
 //! - `lookup`: what a lookup gives, and why it gives nothing;
 //! - `event`: what happens, and when; `world`: a world in which events happen, and the report of them;
 //! - `words`, `script`: the program's words, and the events of a script's text;
-//! - `report_text`: the text of a report; `playing`: a whole run, from two texts to what is printed.
+//! - `report_text`: the text of a report; `playing`: a whole run, from two texts to what is printed;
+//! - `program`: the files that the program reads, and how it reports each fault.
 #![tactic(auto)]
 
 mod event;
 mod link;
 mod lookup;
 mod playing;
+mod program;
 mod report_text;
 mod script;
 mod scripted_link;
@@ -24,7 +26,8 @@ mod world;
 pub use event::{Event, Script};
 pub use link::{Link, LinkError};
 pub use lookup::{DnsError, LinkFault, Lookup, NetError, NoRecords};
-pub use playing::{PlayFault, PlayInput, first_out_of_order, play};
+pub use playing::{PlayFault, PlayInput, play};
+pub use program::{Ending, InputFile, reading_order, unread_arguments};
 pub use report_text::write_report;
 pub use script::{ScriptFault, ScriptText, read_script};
 pub use scripted_link::ScriptedLink;

@@ -3,6 +3,8 @@
 ghost use Rattle.std.specs.Prelude.{◌≡◌, ◌≤◌, Err};
 ghost use Rattle.stub_run.specs.Link.{Rises, datagram_of};
 
+use std::alloc::AllocError;
+
 /// Why a call of a link gave nothing.
 #[derive(Clone, Copy, Debug, PartialEq, Eq)]
 pub enum LinkError {
@@ -10,6 +12,16 @@ pub enum LinkError {
     Failed,
     /// Memory was refused.
     Memory,
+}
+
+impl From<AllocError> for LinkError {
+    ghost use Rattle.stub_run.specs.declared.link.LinkError.TheVariants.{Memory};
+
+    ghost from_gives = { λ _ error. error ≡ Memory };
+
+    fn from(_error: AllocError) -> LinkError {
+        LinkError::Memory
+    }
 }
 
 /// Carries datagrams.

@@ -1,9 +1,10 @@
 //! What a lookup gives, and why it gives nothing.
 
-ghost use Rattle.std.specs.Prelude.{◌≡◌};
-ghost use Rattle.stub_run.specs.Lookup.{lookup_of, without_record};
+ghost use Rattle.std.specs.Prelude.{◌≡◌, filter};
+ghost use Rattle.stub_run.specs.Lookup.{is_answer, lookup_of, without_record};
 
 use dns_messages::{Message, Query, Record, ResponseCode, Section};
+use std::alloc::AllocError;
 use thiserror::Error;
 
 /// The records that a lookup found.
@@ -70,6 +71,16 @@ pub enum NetError {
     Memory,
 }
 
+impl From<AllocError> for NetError {
+    ghost use Rattle.stub_run.specs.declared.lookup.NetError.TheVariants.{Memory};
+
+    ghost from_gives = { λ _ error. error ≡ Memory };
+
+    fn from(_error: AllocError) -> NetError {
+        NetError::Memory
+    }
+}
+
 impl LinkFault {
     ghost use Rattle.stub_run.specs.Lookup.{fault_number};
 
@@ -103,8 +114,25 @@ fn without_record(query: Query, response_code: ResponseCode) -> DnsError
     }
 }
 
+/// Whether a record answers a question: it is of the asked type at the asked name, up to ASCII case.
+fn is_answer(query: &Query, found: &Record) -> bool
+    ensures { result ≡ is_answer query.now found.now }
+{
+    query.name.eq_ignore_root(&found.name)
+        && u16::from(query.query_type) == u16::from(found.rdata.record_type())
+}
+
+/// The records that answer a question, in their order.
+fn answers_to(query: &Query, found: Section<Record>) -> Section<Record>
+    ensures { result ≡ filter (is_answer query.now) found }
+{
+    let mut answers = found.into_vec();
+    answers.retain(|record| is_answer(query, record));
+    Section::from_vec(answers)
+}
+
 impl Lookup {
-    /// What a whole reply to a question gives (RFC 2308 section 2).
+    /// The records of a complete reply that answer the question (RFC 1034 section 5.3.3, RFC 2308 section 2).
     pub fn from_reply(query: Query, reply: Message) -> Result<Lookup, NetError>
         ensures { result ≡ lookup_of query reply }
     {
@@ -113,6 +141,7 @@ impl Lookup {
             answers,
             ..
         } = reply;
+        let answers = answers_to(&query, answers);
         if answers.as_slice().is_empty() {
             Err(NetError::Dns(without_record(query, metadata.response_code)))
         } else {

@@ -4,8 +4,9 @@ ghost use Rattle.std.specs.Prelude.{◌≡◌, ◌↔◌, ◌<◌, ◌+◌, ◌�
 ghost use Rattle.std.specs.Io.KnownBytes.{Appends};
 ghost use Rattle.stub_run.specs.ReportText.{report_text};
 ghost use Rattle.stub_run.specs.Run.{InOrder};
-ghost use Rattle.stub_run.specs.ScriptText.{side_by_side};
-ghost use Rattle.stub_run.specs.Playing.{IsFirstOutOfOrder, IsZone, IsScript, IsLineOutOfOrder, IsWorldOver, Faults, IsBeforeRun, TellsAll, TellsFirst, fault_text};
+ghost use Rattle.dns_zone.specs.ZoneText.{zone_of_text};
+ghost use Rattle.stub_run.specs.ScriptText.{script_of_text, side_by_side};
+ghost use Rattle.stub_run.specs.Playing.{IsFirstOutOfOrder, IsZone, IsScript, IsLineOutOfOrder, IsWorldOver, IsPlayed, Faults, IsBeforeRun, TellsAll, TellsFirst, fault_text};
 
 use crate::event::Event;
 use crate::report_text::write_report;
@@ -33,6 +34,49 @@ pub enum PlayFault {
     Memory,
     /// The report could not be written.
     Write,
+}
+
+impl From<ZoneFault> for PlayFault {
+    ghost use Rattle.stub_run.specs.declared.playing.PlayFault.TheVariants.{Zone};
+
+    ghost from_gives = { λ fault played. played ≡ Zone fault };
+
+    fn from(fault: ZoneFault) -> PlayFault {
+        PlayFault::Zone(fault)
+    }
+}
+
+impl From<ScriptFault> for PlayFault {
+    ghost use Rattle.stub_run.specs.Playing.{script_fault};
+
+    ghost from_gives = { λ fault played. played ≡ script_fault fault };
+
+    fn from(fault: ScriptFault) -> PlayFault {
+        match fault {
+            ScriptFault::Line(line) => PlayFault::Script(line),
+            ScriptFault::Memory => PlayFault::Memory,
+        }
+    }
+}
+
+impl From<AllocError> for PlayFault {
+    ghost use Rattle.stub_run.specs.declared.playing.PlayFault.TheVariants.{Memory};
+
+    ghost from_gives = { λ _ played. played ≡ Memory };
+
+    fn from(_error: AllocError) -> PlayFault {
+        PlayFault::Memory
+    }
+}
+
+impl From<io::Error> for PlayFault {
+    ghost use Rattle.stub_run.specs.declared.playing.PlayFault.TheVariants.{Write};
+
+    ghost from_gives = { λ _ played. played ≡ Write };
+
+    fn from(_error: io::Error) -> PlayFault {
+        PlayFault::Write
+    }
 }
 
 impl fmt::Display for PlayFault {
@@ -67,42 +111,60 @@ pub fn play<W: io::Write>(alloc: Global, input: &PlayInput, writer: &mut W) -> R
         ⊎ ((text : List ℕ) × TellsFirst (string_bytes input.now.zone) (string_bytes input.now.script) text
         × Appends (W.contents writer.old) (W.contents writer.new) text)) }
 {
-    let zone = match Zone::from_text(alloc, input.zone.as_str(), &[], None) {
-        Ok(zone) => zone,
-        Err(fault) => return Err(PlayFault::Zone(fault)),
-    };
-    let script = match read_script(alloc, input.script.as_str(), zone.origin()) {
-        Ok(script) => script,
-        Err(ScriptFault::Line(line)) => return Err(PlayFault::Script(line)),
-        Err(ScriptFault::Memory) => return Err(PlayFault::Memory),
-    };
-    let Ok(world) = new_world(alloc, zone) else {
-        return Err(PlayFault::Memory);
-    };
+    let zone = Zone::from_text(alloc, input.zone.as_str(), &[], None)?;
+    play_script(alloc, zone, input.script.as_str(), writer)
+}
+
+/// Reads the script, lets its events happen in a world over the zone, and writes what each gave.
+fn play_script<W: io::Write>(
+    alloc: Global,
+    zone: Zone,
+    text: &str,
+    writer: &mut W,
+) -> Result<(), PlayFault>
+    ensures { (zone_text : List ℕ) → zone_of_text zone_text ≡ Ok zone
+        → IsPlayed zone_text text.now (writer.new ≡ writer.old)
+        (W.contents writer.old) (W.contents writer.new) result }
+{
+    let script = read_script(alloc, text, zone.origin())?;
+    play_events(alloc, zone, &script, writer)
+}
+
+/// Lets a script's events happen in a world over the zone, and writes what each gave.
+fn play_events<W: io::Write>(
+    alloc: Global,
+    zone: Zone,
+    script: &ScriptText,
+    writer: &mut W,
+) -> Result<(), PlayFault>
+    requires { length script.now.lines.items ≡ length script.now.events.items }
+    ensures { (zone_text text : List ℕ) → zone_of_text zone_text ≡ Ok zone
+        → script_of_text text ≡ Ok (side_by_side script.now.lines.items script.now.events.items)
+        → IsPlayed zone_text text (writer.new ≡ writer.old)
+        (W.contents writer.old) (W.contents writer.new) result }
+{
+    let world = new_world(alloc, zone)?;
     match run(world, script.events.as_slice()) {
-        Ok(report) => print(&script, &report, writer),
+        Ok(report) => {
+            print(script, &report, writer)?;
+            Ok(())
+        }
         Err(Stopped::Memory(report)) => {
-            print(&script, &report, writer)?;
+            print(script, &report, writer)?;
+            // The run was stopped because memory was refused to it.
             Err(PlayFault::Memory)
         }
-        Err(Stopped::Moments) => Err(PlayFault::Script(line_out_of_order(&script))),
+        Err(Stopped::Moments) => Err(PlayFault::Script(line_out_of_order(script))),
     }
 }
 
-/// Writes the report of a script's events.
-fn print<W: io::Write>(
-    script: &ScriptText,
-    report: &Report,
-    writer: &mut W,
-) -> Result<(), PlayFault>
-    ensures fault { IfErr result (λ fault. fault ≡ PlayFault.Write) }
-    ensures written { OnOk result (Appends (W.contents writer.old) (W.contents writer.new)
+/// Writes the report of a script's events, and flushes the writer.
+fn print<W: io::Write>(script: &ScriptText, report: &Report, writer: &mut W) -> io::Result<()>
+    ensures { OnOk result (Appends (W.contents writer.old) (W.contents writer.new)
         (report_text script.now.events.items report.now.events.items)) }
 {
-    match write_report(script.events.as_slice(), report, writer) {
-        Ok(()) => Ok(()),
-        Err(_) => Err(PlayFault::Write),
-    }
+    write_report(script.events.as_slice(), report, writer)?;
+    writer.flush()
 }
 
 /// A world over a zone: its datagrams have at most 1,232 bytes, and its ids count up from 1.
@@ -124,7 +186,7 @@ fn line_out_of_order(script: &ScriptText) -> usize
 }
 
 /// The first event whose moment is less than an earlier one, or above 2^62.
-pub fn first_out_of_order(events: &[Event]) -> Option<usize>
+fn first_out_of_order(events: &[Event]) -> Option<usize>
     ensures none { (result ≡ None) ↔ InOrder 0 events.now }
     ensures first { IfSome result (IsFirstOutOfOrder events.now) }
 {

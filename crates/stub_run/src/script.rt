@@ -1,8 +1,8 @@
 //! Scripts: what happens in a world, line by line.
 
-ghost use Rattle.std.specs.Prelude.{◌≡◌, ◌≢◌, IfOk, IfErr, Ok, Err, map, length};
+ghost use Rattle.std.specs.Prelude.{◌≡◌, ◌≢◌, IfOk, IfErr, Ok, Err, false, map, length};
 ghost use Rattle.std.specs.Str.Lines.{lines};
-ghost use Rattle.stub_run.specs.ScriptText.{script_of_text, events_from, side_by_side, content_of_line, content_of_words};
+ghost use Rattle.stub_run.specs.ScriptText.{script_of_text, events_from, side_by_side, content_of_line, content_of_words, behind_blanks, begins_comment, has_link_script, begins_link_script, is_quoted, is_escape};
 
 use crate::event::{Event, Script};
 use dns_codes::parse_decimal;
@@ -99,15 +99,68 @@ fn lines_of(alloc: Global, text: &str) -> Result<Vec<&str>, AllocError>
     text.lines().collect(alloc)
 }
 
-/// What a line has.
+/// Whether a line is a comment: blanks may come before its `#`.
+fn is_comment(line: &[u8]) -> bool
+    ensures { result ≡ begins_comment (behind_blanks line.now) }
+{
+    for c in line {
+        if *c != b' ' && *c != b'\t' {
+            return *c == b'#';
+        }
+    }
+    false
+}
+
+/// Whether a link script begins in a line: at a semicolon that is neither quoted nor escaped.
+fn has_link_script(line: &[u8]) -> bool
+    ensures { result ≡ has_link_script false false line.now }
+{
+    let mut escaped = false;
+    let mut quoted = false;
+    for c in line {
+        if begins_link_script(escaped, quoted, *c) {
+            return true;
+        }
+        quoted = is_quoted(escaped, quoted, *c);
+        escaped = is_escape(escaped, *c);
+    }
+    false
+}
+
+/// Whether a character is a semicolon that is neither escaped nor quoted.
+fn begins_link_script(escaped: bool, quoted: bool, c: u8) -> bool
+    ensures { result ≡ begins_link_script escaped quoted c }
+{
+    !escaped && !quoted && c == b';'
+}
+
+/// Whether a quote is open behind a character.
+fn is_quoted(escaped: bool, quoted: bool, c: u8) -> bool
+    ensures { result ≡ is_quoted escaped quoted c }
+{
+    if !escaped && c == b'"' {
+        !quoted
+    } else {
+        quoted
+    }
+}
+
+/// Whether a character is a backslash that escapes the next one.
+fn is_escape(escaped: bool, c: u8) -> bool
+    ensures { result ≡ is_escape escaped c }
+{
+    !escaped && c == b'\\'
+}
+
+/// What a line has. Link scripts are not read yet, so a line with one is unreadable.
 fn read_line(alloc: Global, line: &str) -> Result<LineContent, AllocError>
     ensures { IfOk result (λ content. content ≡ content_of_line line.now) }
 {
     let bytes = line.as_bytes();
-    if !bytes.is_empty() && bytes[0] == b'#' {
+    if is_comment(bytes) {
         return Ok(LineContent::Nothing);
     }
-    if bytes.contains(&b';') {
+    if has_link_script(bytes) {
         return Ok(LineContent::Unreadable);
     }
     let line_words = split_words(alloc, bytes)?;

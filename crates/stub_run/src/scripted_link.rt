@@ -19,14 +19,14 @@ pub struct ScriptedLink {
 }
 
 impl ScriptedLink {
-    ghost use Rattle.stub_run.specs.ScriptedLink.{waiting_of};
+    ghost use Rattle.stub_run.specs.ScriptedLink.{waiting_of, zone_of, limit_of, is_out_of_memory};
 
     /// A link to a server of the zone, whose datagrams have at most so many bytes.
     pub fn new(alloc: Global, zone: Zone, limit: DatagramLimit) -> Self
-        ensures zone { result.zone ≡ zone }
-        ensures limit { result.limit ≡ limit }
+        ensures zone { zone_of result ≡ zone }
+        ensures limit { limit_of result ≡ limit }
         ensures waiting { waiting_of result ≡ [] }
-        ensures memory { result.out_of_memory ≡ false }
+        ensures memory { is_out_of_memory result ≡ false }
     {
         ScriptedLink {
             alloc,
@@ -39,7 +39,7 @@ impl ScriptedLink {
 
     /// Whether memory was refused to the link, or to its server.
     pub fn is_out_of_memory(&self) -> bool
-        ensures { result ≡ self.now.out_of_memory }
+        ensures { result ≡ is_out_of_memory self.now }
     {
         self.out_of_memory
     }
@@ -66,9 +66,9 @@ impl Link for ScriptedLink {
     fn send_datagram(&mut self, bytes: &[u8]) -> Result<(), LinkError> {
         match queue(self.alloc, &mut self.waiting, bytes) {
             Ok(()) => Ok(()),
-            Err(_) => {
+            Err(error) => {
                 self.out_of_memory = true;
-                Err(LinkError::Memory)
+                Err(LinkError::from(error))
             }
         }
     }
@@ -83,9 +83,9 @@ impl Link for ScriptedLink {
             .serve(bytes.as_slice(), Road::Datagram(self.limit))
         {
             Ok(came) => Ok(came),
-            Err(_) => {
+            Err(error) => {
                 self.out_of_memory = true;
-                Err(LinkError::Memory)
+                Err(LinkError::from(error))
             }
         }
     }

@@ -1,10 +1,10 @@
 //! Asking a question over a link.
 
-ghost use Rattle.std.specs.Prelude.{◌≡◌, ◌+◌, ◌≤◌, ◌∷◌, ◌++◌, [], Err, IfOk, OnOk, OnErr, length, vec_len, vec_capacity};
+ghost use Rattle.std.specs.Prelude.{◌≡◌, ◌+◌, ◌≤◌, ◌∷◌, ◌++◌, [], true, is_some, slice_get, Err, IfOk, OnOk, OnErr, length, vec_len, vec_capacity};
 ghost use Rattle.dns_messages.specs.Grammar.{ReadsMessage};
 ghost use Rattle.dns_messages.specs.Message.{message_form};
 ghost use Rattle.dns_messages.specs.Sound.{IsSoundQuery};
-ghost use Rattle.stub_run.specs.Wire.{request, matches, accepted, Waits, Exchanges, MaySend, FailsByLink, FindsReply};
+ghost use Rattle.stub_run.specs.Wire.{request, matches, accepted, Waits, Exchanges, MaySend, FailsByLink, FindsReply, header_of, is_reply_header, has_reply_header};
 
 use crate::link::{Link, LinkError};
 use crate::lookup::{LinkFault, NetError};
@@ -25,14 +25,16 @@ pub struct WireHandle<L> {
 }
 
 impl<L: Link> WireHandle<L> {
-    ghost use Rattle.stub_run.specs.Wire.{Asks, DrawsNone};
+    ghost use Rattle.std.specs.Borrow.{sem, Lends};
+    ghost use Rattle.stub_run.specs.contracts.wire_handle.WireHandle.{the_row as handle_row};
+    ghost use Rattle.stub_run.specs.Wire.{Asks, DrawsNone, link_of, ids_of, sent_of, dropped_of, with_link};
 
     /// A handle over a link, which draws these ids in order.
     pub fn new(alloc: Global, link: L, ids: Vec<u16>) -> Self
-        ensures link { result.link ≡ link }
-        ensures ids { result.ids ≡ ids }
-        ensures sent { result.sent.items ≡ [] }
-        ensures dropped { result.dropped ≡ 0 }
+        ensures link { link_of result ≡ link }
+        ensures ids { ids_of result ≡ ids.items }
+        ensures sent { sent_of result ≡ [] }
+        ensures dropped { dropped_of result ≡ 0 }
     {
         WireHandle {
             alloc,
@@ -43,8 +45,30 @@ impl<L: Link> WireHandle<L> {
         }
     }
 
+    /// The link.
+    pub fn link(&self) -> &L
+        ensures { result.now ≡ link_of self.now }
+    {
+        &self.link
+    }
+
+    /// The link, to be changed; all else stays.
+    pub fn link_mut(&mut self) -> &mut L
+        ensures* lends { sem 𝓛 (Lends (handle_row L.row) L.row self.entry result (with_link self.old)) }
+        ensures link { result.now ≡ link_of self.old }
+    {
+        &mut self.link
+    }
+
+    /// Whether an id is left for a question.
+    pub(crate) fn has_id(&self) -> bool
+        ensures { result ≡ is_some (slice_get self.now.ids.items (length self.now.sent.items)) }
+    {
+        self.sent.len() < self.ids.len()
+    }
+
     /// Makes room for so many more drawn ids.
-    pub fn reserve(&mut self, additional: usize) -> Result<(), AllocError>
+    pub(crate) fn reserve(&mut self, additional: usize) -> Result<(), AllocError>
         ensures room { OnOk result (vec_len self.new.sent + additional ≤ vec_capacity self.new.sent) }
         ensures ids { self.new.ids ≡ self.old.ids }
         ensures none { DrawsNone self.old self.new }
@@ -55,7 +79,8 @@ impl<L: Link> WireHandle<L> {
     /// Asks a question: the message that replies to it, whatever its code.
     pub fn send(&mut self, query: &Query) -> Result<Message, NetError>
         ensures asks { Asks L.sends L.receives self.old query.now result self.new }
-        ensures failed { FailsByLink result (L.failure_count self.old.link) (L.failure_count self.new.link) }
+        ensures failed { FailsByLink result
+            (L.failure_count (link_of self.old)) (L.failure_count (link_of self.new)) }
     {
         self.ask(query).outcome
     }
@@ -77,14 +102,14 @@ impl<L: Link> WireHandle<L> {
         }
         let id = self.ids[used];
         match remember(&mut self.sent, id, query) {
-            Err(_) => unsent(NetError::Memory),
+            Err(error) => unsent(NetError::from(error)),
             Ok(()) => exchange(self.alloc, &mut self.link, id, query, &mut self.dropped),
         }
     }
 
     /// How many datagrams came that were no reply to the open question; it stays at the greatest number.
     pub fn dropped(&self) -> u64
-        ensures { result ≡ self.now.dropped }
+        ensures { result ≡ dropped_of self.now }
     {
         self.dropped
     }
@@ -133,9 +158,10 @@ fn exchange<L: Link>(
     ensures one { result.questions ≤ 1 }
 {
     match request_bytes(alloc, id, query) {
-        Err(_) => unsent(NetError::Memory),
+        Err(error) => unsent(NetError::from(error)),
         Ok(bytes) => match link.send_datagram(bytes.as_slice()) {
             Err(LinkError::Failed) => unsent(NetError::Link(LinkFault::NotSent)),
+            // The link's want of memory is the ask's.
             Err(LinkError::Memory) => unsent(NetError::Memory),
             Ok(()) => Asked {
                 outcome: wait(alloc, link, id, query, dropped),
@@ -177,10 +203,11 @@ fn request_bytes(alloc: Global, id: u16, query: &Query) -> Result<Vec<u8>, Alloc
     ensures form { IfOk result (λ bytes. bytes.items ≡ message_form (request id query.now)) }
     ensures reads { IfOk result (λ bytes. ReadsMessage bytes.items (request id query.now)) }
 {
-    let _named = query.name.is_fqdn();
+    let _named = query.name.encoded_len();
     let message = request_of(alloc, id, query)?;
     match message.to_vec(alloc, 65535) {
         Ok(bytes) => Ok(bytes),
+        // The encoder's want of memory is this call's.
         Err(EncodeError::Memory) => Err(AllocError),
         Err(EncodeError::MaxBufferSizeExceeded) => unreachable!(),
     }
@@ -201,10 +228,11 @@ fn wait<L: Link>(
     for _looked in 0..16u8 {
         match link.next_datagram() {
             Err(LinkError::Failed) => return Err(NetError::Link(LinkFault::NotReceived)),
+            // The link's want of memory is the ask's.
             Err(LinkError::Memory) => return Err(NetError::Memory),
             Ok(None) => return Err(NetError::Link(LinkFault::Quiet)),
             Ok(Some(bytes)) => match reply_in(alloc, id, query, bytes.as_slice()) {
-                Err(_) => return Err(NetError::Memory),
+                Err(error) => return Err(NetError::from(error)),
                 Ok(Some(message)) => return accept(message),
                 Ok(None) => *dropped = dropped.saturating_add(1),
             },
@@ -220,10 +248,16 @@ fn reply_in(
     query: &Query,
     bytes: &[u8],
 ) -> Result<Option<Message>, AllocError>
-    ensures { IfOk result (λ found. FindsReply id query.now bytes.now found) }
+    ensures found { IfOk result (λ found. FindsReply id query.now bytes.now found) }
+    // Memory is taken only for a datagram whose header is that of a reply.
+    ensures headed { OnErr result (has_reply_header id bytes.now ≡ true) }
 {
+    if !has_reply_header(id, bytes) {
+        return Ok(None);
+    }
     match Message::from_vec(alloc, bytes) {
         Err(error) => match error {
+            // The message's want of memory is this call's.
             DecodeError::Memory => Err(AllocError),
             _ => Ok(None),
         },
@@ -237,13 +271,44 @@ fn reply_in(
     }
 }
 
+/// The header of a datagram, if it is long enough to have one (RFC 1035 section 4.1.1).
+fn header_of(bytes: &[u8]) -> Option<Metadata>
+    ensures { result ≡ header_of bytes.now }
+{
+    let [first, second, third, fourth, counts @ ..] = bytes else {
+        return None;
+    };
+    if counts.len() < 8 {
+        return None;
+    }
+    let id = 256 * u16::from(*first) + u16::from(*second);
+    Some(Metadata::from_bytes(id, *third, *fourth))
+}
+
+/// Whether a datagram has the header of a reply under this id.
+fn has_reply_header(id: u16, bytes: &[u8]) -> bool
+    ensures { result ≡ has_reply_header id bytes.now }
+{
+    match header_of(bytes) {
+        Some(header) => is_reply_header(id, header),
+        None => false,
+    }
+}
+
+/// Whether a header is that of a reply under this id: a response to a query (RFC 5452 section 3).
+fn is_reply_header(id: u16, header: Metadata) -> bool
+    ensures { result ≡ is_reply_header id header }
+{
+    header.message_type == MessageType::Response
+        && header.op_code == OpCode::Query
+        && header.id == id
+}
+
 /// Whether a message replies to this question under this id (RFC 5452 section 3).
 fn is_reply(id: u16, query: &Query, message: &Message) -> bool
     ensures { result ≡ matches id query.now message.now }
 {
-    message.metadata.message_type == MessageType::Response
-        && message.metadata.op_code == OpCode::Query
-        && message.metadata.id == id
+    is_reply_header(id, message.metadata)
         && match message.queries.as_slice() {
             [asked] => query.asks_same(asked),
             _ => false,

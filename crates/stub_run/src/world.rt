@@ -1,14 +1,15 @@
 //! A world, what happens in it, and the report of that.
 
-ghost use Rattle.std.specs.Prelude.{◌≡◌, ◌≤◌, ◌↔◌, IfOk, IfSome, IsTrue, true, [], ℕ, length, take, Err};
+ghost use Rattle.std.specs.Prelude.{◌≡◌, ◌≤◌, ◌<◌, ◌+◌, ◌++◌, ◌∷◌, ◌↔◌, IfOk, IfSome, IsOk, IsTrue, true, [], ℕ, length, take, vec_len, vec_capacity, Err};
 
 use crate::event::Event;
 use crate::link::Link;
-use crate::lookup::{Lookup, NetError};
+use crate::lookup::{LinkFault, Lookup, NetError};
 use crate::scripted_link::ScriptedLink;
 use crate::wire_handle::WireHandle;
 use dns_messages::{Message, Query, a_message_is_read_one_way};
-use dns_wire::{RecordType, every_type_number_comes_back};
+use dns_wire::RecordType;
+use dns_wire::laws::type_number_round_trips;
 use dns_zone::{DatagramLimit, Zone};
 use std::alloc::{AllocError, Global};
 use std::marker::Model;
@@ -84,7 +85,7 @@ impl World {
 }
 
 ghost use Rattle.dns_messages.specs.Sound.{IsSoundQuery};
-ghost use Rattle.stub_run.specs.Run.{Runs, Step, InOrder, question_of, found_by, told, memory_report};
+ghost use Rattle.stub_run.specs.Run.{Runs, Step, InOrder, IsInline, question_of, refusal_of, found_by, told, memory_report};
 ghost use Rattle.stub_run.specs.World.{content, IsQuiet};
 
 /// Whether the moments don't go back, and none passes 2^62.
@@ -102,12 +103,13 @@ fn is_in_order(events: &[Event]) -> bool
     true
 }
 
-/// What a lookup asks.
+/// What a lookup asks. A short name, of up to 24 labels with 32 bytes together, takes no memory.
 fn question(event: &Event) -> Result<Query, AllocError>
     ensures asks { IfOk result (λ query. query ≡ question_of event.now) }
     ensures sound { IfOk result (λ query. query.name.is_fqdn ≡ true → IsSoundQuery query) }
+    ensures inline { IsInline (question_of event.now).name → IsOk result }
 {
-    every_type_number_comes_back();
+    type_number_round_trips();
     match event {
         Event::Lookup { name, rtype, .. } => {
             let query_type = RecordType::from(u16::from(*rtype));
@@ -141,6 +143,22 @@ fn told(outcome: Result<Lookup, NetError>, questions: u64) -> EventReport
     }
 }
 
+/// Why an event asks nothing, whatever memory there is: its name is relative, or no id is left.
+fn refusal_of(handle: &WireHandle<ScriptedLink>, event: &Event) -> Option<NetError>
+    ensures { result ≡ refusal_of (content handle.now) handle.now.sent.items event.now }
+{
+    let is_fqdn = match event {
+        Event::Lookup { name, .. } => name.is_fqdn(),
+    };
+    if !is_fqdn {
+        Some(NetError::Unsupported)
+    } else if !handle.has_id() {
+        Some(NetError::Link(LinkFault::NoId))
+    } else {
+        None
+    }
+}
+
 /// Lets an event happen. None where memory was refused to the link or to its server.
 fn happen(handle: &mut WireHandle<ScriptedLink>, event: &Event) -> Option<EventReport>
     requires { IsQuiet handle.old.link }
@@ -151,9 +169,13 @@ fn happen(handle: &mut WireHandle<ScriptedLink>, event: &Event) -> Option<EventR
     ensures dropped { handle.new.dropped ≡ handle.old.dropped }
 {
     a_message_is_read_one_way();
+    match refusal_of(handle, event) {
+        Some(error) => return Some(told(Err(error), 0)),
+        None => {}
+    }
     let query = match question(event) {
         Ok(query) => query,
-        Err(_) => return Some(told(Err(NetError::Memory), 0)),
+        Err(error) => return Some(told(Err(NetError::from(error)), 0)),
     };
     let asked = handle.ask(&query);
     if handle.link.is_out_of_memory() {
@@ -186,7 +208,20 @@ fn before(mut handle: WireHandle<ScriptedLink>, drawn: usize, events: Vec<EventR
     finished(handle, events)
 }
 
-/// Lets the events happen in a world, in order.
+/// Adds a report, for which there is room.
+fn keep(reports: &mut Vec<EventReport>, report: EventReport)
+    requires { vec_len reports.old < vec_capacity reports.old }
+    ensures items { reports.new.items ≡ reports.old.items ++ report ∷ [] }
+    ensures len { vec_len reports.new ≡ vec_len reports.old + 1 }
+    ensures capacity { vec_capacity reports.old ≤ vec_capacity reports.new }
+{
+    match reports.push(report) {
+        Ok(()) => {}
+        Err(_) => unreachable!(),
+    }
+}
+
+/// Lets the events happen in a world, in order. Room for all reports and ids is made before the first.
 pub fn run(world: World, events: &[Event]) -> Result<Report, Stopped>
     // The moments are looked at first.
     ensures moments { (result ≡ Err Stopped.Moments) ↔ ¬ InOrder 0 events.now }
@@ -203,16 +238,15 @@ pub fn run(world: World, events: &[Event]) -> Result<Report, Stopped>
     let World { alloc, mut handle } = world;
     let mut reports = Vec::new(alloc);
     if reports.reserve(events.len()).is_err() || handle.reserve(events.len()).is_err() {
+        // Memory was refused to the room for reports and ids.
         return Err(Stopped::Memory(finished(handle, reports)));
     }
     for event in events {
         let drawn = handle.sent.len();
         match happen(&mut handle, event) {
+            // Memory was refused to the link or to its server.
             None => return Err(Stopped::Memory(before(handle, drawn, reports))),
-            Some(report) => match reports.push(report) {
-                Err(_) => return Err(Stopped::Memory(before(handle, drawn, reports))),
-                Ok(()) => {}
-            },
+            Some(report) => keep(&mut reports, report),
         }
     }
     Ok(finished(handle, reports))

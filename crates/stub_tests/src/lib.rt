@@ -1,7 +1,7 @@
 //! Tests of the client and of whole runs, on what neither a contract nor a row of data can say. The rows of `zone_rows`
 //! and `stub_rows` have the rest.
 //!
-//! - `calls`: room for ids, which a program may make before it asks;
+//! - `calls`: the link of a handle, which a program may use by itself;
 //! - `plays`: a writer that fails in the middle of a report;
 //! - `examples`: the examples of the README.
 #![tactic(auto)]

@@ -1,8 +1,7 @@
-use Rattle.std.proofs.Common.{sym, subst, ◌∙◌}
-use Rattle.stub_run.specs.declared.world.EventReport.{EventReport}
+use Rattle.std.proofs.Common.{◌≡◌, None, sym, ◌∙◌}
 use Rattle.stub_run.specs.World.{content}
-use Rattle.stub_run.specs.Run.{Step, at_memory_before}
-use Rattle.stub_run.proofs.Asking.{Happened, question-happened, goes-on, told-step}
+use Rattle.stub_run.specs.Run.{at_memory_before, refusal_of}
+use Rattle.stub_run.proofs.Asking.{Happened, question-happened, goes-on, told-step, refusal-step}
 use Rattle.stub_run.proofs.world.happen.Goals as goal
 
 pub returns-then-is_out_of_memory-clause-front : goal.returns-then-is_out_of_memory-clause-front
@@ -29,6 +28,11 @@ returns c =
       dropped = happened.dropped;
     }
 
+pub returns-in-Some-clause-step : goal.returns-in-Some-clause-step
+returns-in-Some-clause-step c =
+    rw c.told.ensures (refusal-step c.args.handle.now c.args.event.now c.in-Some.error (sym c.refusal_of.ensures ∙ c.in-Some.is))
+
 pub returns-in-Err-clause-step : goal.returns-in-Err-clause-step
 returns-in-Err-clause-step c =
-    subst (λ (report : EventReport). Step (content c.args.handle.now) c.args.handle.now.sent.items c.args.event.now report c.args.handle.now.sent.items) (sym c.told.ensures) at_memory_before
+    let asks : refusal_of (content c.args.handle.now) c.args.handle.now.sent.items c.args.event.now ≡ None = sym c.refusal_of.ensures ∙ c.in-None.is in
+    rw (c.told-in-Err.ensures, c.from.ensures) (at_memory_before asks)

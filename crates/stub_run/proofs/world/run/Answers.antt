@@ -1,4 +1,4 @@
-use Rattle.std.proofs.Common.{◌≡◌, ℕ, ◌+◌, List, [], ◌∷◌, ◌++◌, take, sym, ap, subst, ◌∙◌}
+use Rattle.std.proofs.Common.{◌≡◌, ℕ, ◌+◌, List, [], ◌∷◌, ◌++◌, take, sym, ap, subst, ◌∙◌, arith}
 use Rattle.std.proofs.lemmas.List.{take_more}
 use Rattle.dns_messages.specs.declared.query.Query.{Query}
 use Rattle.stub_run.specs.declared.event.Event.{Event}
@@ -22,7 +22,9 @@ loop-event-preserved c =
       quiet = c.in-Some.ensures.quiet;
       same = c.in-Some.ensures.same ∙ c.loop-event.invariant.same;
       dropped = c.happen.ensures.dropped ∙ c.loop-event.invariant.dropped;
-      runs = subst (λ (rs : List EventReport). Runs c.args.world [] (take (i + 1) events) rs after) (sym c.in-Ok.ensures.items)
+      count = c.keep.ensures.len ∙ ap (λ (n : ℕ). n + 1) c.loop-event.invariant.count;
+      room = omega (arith, c.loop-event.invariant.room, c.keep.ensures.capacity);
+      runs = subst (λ (rs : List EventReport). Runs c.args.world [] (take (i + 1) events) rs after) (sym c.keep.ensures.items)
           (subst (λ (es : List Event). Runs c.args.world [] es (c.loop-event.reports.items ++ c.in-Some.report ∷ []) after) (sym more)
           (Runs-push c.args.world (take i events) c.loop-event.reports.items [] c.loop-event.handle.sent.items after e c.in-Some.report c.loop-event.invariant.runs step));
     }
