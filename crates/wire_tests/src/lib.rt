@@ -1,20 +1,13 @@
-//! Tests of codes, the wire and names on it, on what no contract says: rows of the standard and of worked examples, printed texts,
-//! and that each call which takes memory succeeds where there is enough.
+//! Tests of the wire, labels and names, on what neither a contract nor a row of `wire_rows` says.
 //!
-//! - `codes`: types, classes and serial numbers, their numbers and their texts;
-//! - `numbers`: bytes and numbers, written, read, written over and cut back;
-//! - `places`: places that are filled later, modes, and lists of items;
-//! - `compression`: names on the wire;
-//! - `refusals`: the texts of what is refused.
+//! - `guards`: a mode that is restored when its guard is dropped;
+//! - `iterators`: the labels of a name, taken from both ends;
+//! - `memory`: calls that need no memory.
 #![tactic(auto)]
 
 #[cfg(test)]
-mod codes;
+mod guards;
 #[cfg(test)]
-mod compression;
+mod iterators;
 #[cfg(test)]
-mod numbers;
-#[cfg(test)]
-mod places;
-#[cfg(test)]
-mod refusals;
+mod memory;
