@@ -81,7 +81,8 @@ fn read_names(alloc: Global, count: u64) -> Result<u64> {
         let place = if turn % 2 == 0 { 21 } else { 25 };
         let mut decoder = BinDecoder::new(BYTES).clone(place);
         let name = Name::read(alloc, &mut decoder)?;
-        checksum = checksum.wrapping_add((name.len() + decoder.index()) as u64);
+        checksum = checksum.wrapping_add(name.len() as u64);
+        checksum = checksum.wrapping_add(decoder.index() as u64);
     }
     Ok(checksum)
 }
