@@ -1,0 +1,94 @@
+-- The fields of record data: a type has a fixed sequence of kinds, and data of the type has a value of each (RFC 1035
+-- section 3.3).
+use Rattle.std.specs.Prelude.{◌≡◌, ◌≢◌, ◌<◌, ◌^◌, ◌==◌, Bool, true, false, ℕ, List, [], ◌∷◌, ◌++◌, length, flat_map}
+use Rattle.std.specs.List.{AllByRecursion}
+use Rattle.std.specs.Int.{w16, w32, to_be_bytes}
+use Rattle.std.specs.Net.Addr.{ipv4_octets, ipv6_octets, ipv6_segments}
+use Rattle.std.specs.declared.net.ipv4_addr.Ipv4Addr.{Ipv4Addr}
+use Rattle.std.specs.declared.net.ipv6_addr.Ipv6Addr.{Ipv6Addr}
+use Rattle.dns_names.specs.Name.{DomainName}
+use Rattle.dns_wire.specs.Encodable.{Piece, Plain, Domain, Whole}
+
+-- the code and the data of an option (RFC 6891 section 6.1.2)
+pub record OptionValue : Type 0 where
+  pub code : ℕ
+  pub bytes : List ℕ
+
+-- Numbers of 16 and of 32 bits; a time of 32 bits in seconds, which text may state with units; addresses; a name that may
+-- be compressed, and one that never is (RFC 2782, RFC 3597 section 4); and what extends to the end of the data: character
+-- strings, options, or opaque bytes.
+pub data Kind : Type 0 where
+  Number16 : Kind
+  Number32 : Kind
+  Seconds : Kind
+  Address4 : Kind
+  Address6 : Kind
+  CompressibleName : Kind
+  WholeName : Kind
+  Strings : Kind
+  Options : Kind
+  Opaque : Kind
+
+abbrev pub ValueOf : Kind → Type 0
+ValueOf Number16 = ℕ
+ValueOf Number32 = ℕ
+ValueOf Seconds = ℕ
+ValueOf Address4 = Ipv4Addr
+ValueOf Address6 = Ipv6Addr
+ValueOf CompressibleName = DomainName
+ValueOf WholeName = DomainName
+ValueOf Strings = List (List ℕ)
+ValueOf Options = List OptionValue
+ValueOf Opaque = List ℕ
+
+-- one value of each kind
+abbrev pub Values : List Kind → Type 0
+Values [] = Unit {0}
+Values (kind ∷ kinds) = ValueOf kind × Values kinds
+
+-- ---- encodings
+
+-- a character string: its length in one byte, and its bytes (RFC 1035 section 3.3)
+abbrev pub string_form : List ℕ → List ℕ
+string_form string = length string ∷ string
+
+-- an option: its code and the length of its data, two bytes each, and the data (RFC 6891 section 6.1.2)
+abbrev pub option_form : OptionValue → List ℕ
+option_form option = to_be_bytes w16 option.code ++ (to_be_bytes w16 (length option.bytes) ++ option.bytes)
+
+abbrev pub value_piece : (kind : Kind) → ValueOf kind → Piece
+value_piece Number16 number = Plain (to_be_bytes w16 number)
+value_piece Number32 number = Plain (to_be_bytes w32 number)
+value_piece Seconds seconds = Plain (to_be_bytes w32 seconds)
+value_piece Address4 address = Plain (ipv4_octets address)
+value_piece Address6 address = Plain (ipv6_octets address)
+value_piece CompressibleName name = Domain name.labels
+value_piece WholeName name = Whole name.labels
+value_piece Strings strings = Plain (flat_map string_form strings)
+value_piece Options options = Plain (flat_map option_form options)
+value_piece Opaque bytes = Plain bytes
+
+-- the values one after another
+abbrev pub value_pieces : (kinds : List Kind) → Values kinds → List Piece
+value_pieces [] values = []
+value_pieces (kind ∷ kinds) values = value_piece kind values.0 ∷ value_pieces kinds values.1
+
+-- ---- sound values
+
+-- Numbers fit their bits, addresses their bytes, names are fully qualified, and a character string has at most 255 bytes
+-- (RFC 1035 section 3.3). There is at least one character string, and at least one opaque byte.
+abbrev pub IsSoundValue : (kind : Kind) → ValueOf kind → Type 0
+IsSoundValue Number16 number = number < 2 ^ 16
+IsSoundValue Number32 number = number < 2 ^ 32
+IsSoundValue Seconds seconds = seconds < 2 ^ 32
+IsSoundValue Address4 address = length (ipv4_octets address) ≡ 4
+IsSoundValue Address6 address = length (ipv6_segments address) ≡ 8
+IsSoundValue CompressibleName name = name.is_fqdn ≡ true
+IsSoundValue WholeName name = name.is_fqdn ≡ true
+IsSoundValue Strings strings = (strings ≢ []) × AllByRecursion (λ string. length string < 256) strings
+IsSoundValue Options options = AllByRecursion (λ option. (option.code < 2 ^ 16) × (length option.bytes < 2 ^ 16)) options
+IsSoundValue Opaque bytes = bytes ≢ []
+
+abbrev pub AreSoundValues : (kinds : List Kind) → Values kinds → Type 0
+AreSoundValues [] values = Unit {0}
+AreSoundValues (kind ∷ kinds) values = IsSoundValue kind values.0 × AreSoundValues kinds values.1

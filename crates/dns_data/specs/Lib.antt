@@ -1,0 +1,5 @@
+pub mod Error
+pub mod Field
+pub mod Wire
+pub mod Text
+pub mod rdata

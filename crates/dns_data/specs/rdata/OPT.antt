@@ -1,0 +1,9 @@
+-- The options of a message's extension (RFC 6891 section 6.1.2).
+use Rattle.std.specs.Prelude.{List, [], ◌∷◌}
+use Rattle.dns_data.specs.Field.{Kind, Values, Options, OptionValue}
+
+abbrev pub opt_kinds : List Kind
+opt_kinds = Options ∷ []
+
+abbrev pub opt_values : List OptionValue → Values opt_kinds
+opt_values o = (o, tt)

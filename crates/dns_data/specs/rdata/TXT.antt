@@ -1,0 +1,9 @@
+-- Texts: one or more character strings (RFC 1035 section 3.3.14).
+use Rattle.std.specs.Prelude.{ℕ, List, [], ◌∷◌}
+use Rattle.dns_data.specs.Field.{Kind, Values, Strings}
+
+abbrev pub txt_kinds : List Kind
+txt_kinds = Strings ∷ []
+
+abbrev pub txt_values : List (List ℕ) → Values txt_kinds
+txt_values t = (t, tt)

@@ -1,0 +1,10 @@
+//! Record data (RFC 1035 section 3.3): on the wire, and as the text of zone files.
+#![tactic(auto)]
+
+mod error;
+mod octets;
+mod rdata;
+
+pub use error::RDataParseError;
+pub use octets::{CharacterString, Octets, OptionData, TooLong};
+pub use rdata::{A, AAAA, CNAME, EdnsOption, MX, NS, OPT, PTR, RData, SOA, SRV, TXT};

@@ -1,0 +1,72 @@
+//! Byte strings of bounded length.
+
+ghost use Rattle.std.specs.Prelude.{◌≡◌, ◌≤◌, ◌<◌, ◌↔◌, length, IfOk, OnErr, IsOk};
+
+use std::alloc::{AllocError, Global};
+use std::marker::Model;
+use thiserror::Error;
+
+/// A byte string is longer than its type permits.
+#[derive(Clone, Copy, Debug, PartialEq, Eq, Error)]
+#[error("byte string is too long")]
+pub struct TooLong;
+
+/// Bytes, at most `MAX` of them.
+#[derive(Drop)]
+pub struct Octets<const MAX: usize> {
+    bytes: Vec<u8>,
+}
+
+/// A character string, of at most 255 bytes (RFC 1035 section 3.3).
+pub type CharacterString = Octets<255>;
+
+/// The data of an option, or of a record of a type without fields: at most 65,535 bytes (RFC 6891 section 6.1.2,
+/// RFC 1035 section 3.2.1).
+pub type OptionData = Octets<65535>;
+
+impl<const MAX: usize> Model for Octets<MAX> {
+    ghost use Rattle.std.specs.Prelude.{List, ℕ, ◌≤◌, length};
+
+    ghost Value = { List ℕ };
+
+    ghost view = { λ o. o.bytes.items };
+
+    ghost invariant = { λ o. length o.bytes.items ≤ MAX };
+}
+
+impl<const MAX: usize> Octets<MAX> {
+    /// The bytes of a vector, which is not copied. Refuses more than `MAX` bytes.
+    pub fn new(bytes: Vec<u8>) -> Result<Self, TooLong>
+        ensures ok { IfOk result (λ octets. octets ≡ bytes.items) }
+        ensures long { IsOk result ↔ (length bytes.items ≤ MAX) }
+    {
+        if bytes.len() > MAX {
+            return Err(TooLong);
+        }
+        Ok(Octets { bytes })
+    }
+
+    /// Returns the bytes.
+    pub fn as_slice(&self) -> &[u8]
+        ensures value { result.now ≡ self.now }
+        ensures bounded { length result.now ≤ MAX }
+    {
+        self.bytes.as_slice()
+    }
+
+    /// Returns the bytes as a vector, which is not copied.
+    pub fn into_vec(self) -> Vec<u8>
+        ensures { result.items ≡ self.entry }
+    {
+        self.bytes
+    }
+
+    /// Clones the bytes.
+    pub fn clone(&self) -> Result<Self, AllocError>
+        ensures { IfOk result (λ copy. copy ≡ self.now) }
+    {
+        Ok(Octets {
+            bytes: self.bytes.clone()?,
+        })
+    }
+}
