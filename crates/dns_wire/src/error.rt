@@ -24,6 +24,9 @@ pub enum DecodeError {
     /// Record data of a type that cannot be decoded.
     #[error("record data of an unsupported type")]
     UnsupportedRecordType,
+    /// The data of a record is empty in a message that is not an update (RFC 2136 section 2.4).
+    #[error("empty record data in a message that is not an update")]
+    InvalidEmptyRecord,
     /// Memory could not be allocated.
     #[error("out of memory")]
     Memory,
