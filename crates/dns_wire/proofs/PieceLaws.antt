@@ -31,6 +31,21 @@ pub after-encoding : (s : Position) (ps : List Piece) → (after s ps).encoding 
 after-encoding s [] = refl
 after-encoding s (p ∷ ps) = after-encoding (piece_next s p) ps
 
+pub after-canonical : (s : Position) (ps : List Piece) → (after s ps).canonical ≡ s.canonical
+after-canonical s [] = refl
+after-canonical s (p ∷ ps) = after-canonical (piece_next s p) ps
+
+-- no piece depends on whether record data has its canonical form
+pub piece_target-canonical : (s : Position) (canonical : Bool) (p : Piece) → piece_target (record s { canonical = canonical }) p ≡ piece_target s p
+piece_target-canonical s canonical (Plain bytes) = refl
+piece_target-canonical s canonical (Whole labels) = refl
+piece_target-canonical s canonical (Domain labels) = refl
+
+pub append_pieces-canonical : (w : EncoderState) (canonical : Bool) (p : Piece) → append_pieces (record w { canonical = canonical }) (p ∷ []) ≡ record (append_pieces w (p ∷ [])) { canonical = canonical }
+append_pieces-canonical w canonical (Plain bytes) = refl
+append_pieces-canonical w canonical (Whole labels) = refl
+append_pieces-canonical w canonical (Domain labels) = refl
+
 -- ---- where names are written whole
 
 not_compressed : (s : Position) → IsWholeEncoding s.encoding → is_compressed s ≡ false
@@ -137,7 +152,9 @@ attempts_at_limit-stops limit s (p ∷ ps) qs over = at (ltb limit (piece_reach 
 
 -- what was appended lies so far
 pub position_of-append_pieces : (w : EncoderState) (ps : List Piece) → position_of (append_pieces w ps) ≡ after (position_of w) ps
-position_of-append_pieces w ps = ap (λ (e : NameEncoding). record (after (position_of w) ps) { encoding = e }) (sym (after-encoding (position_of w) ps))
+position_of-append_pieces w ps =
+    let s : Position = after (position_of w) ps in
+    ap (λ (e : NameEncoding). record s { encoding = e; canonical = w.canonical }) (sym (after-encoding (position_of w) ps)) ∙ ap (λ (b : Bool). record s { canonical = b }) (sym (after-canonical (position_of w) ps))
 
 pub append_pieces-append : (w : EncoderState) (ps qs : List Piece) → append_pieces (append_pieces w ps) qs ≡ append_pieces w (ps ++ qs)
 append_pieces-append w ps qs =

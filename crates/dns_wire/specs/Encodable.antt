@@ -1,8 +1,9 @@
 -- What an encoder writes: a sequence of pieces, which are plain bytes and names.
 --
 -- The encoding of a piece depends on its position: the offset, how names are encoded, the remembered suffixes and the
--- number of names that were tried. It depends on no byte that was written before.
-use Rattle.std.specs.Prelude.{◌≡◌, ℕ, ◌+◌, ◌<◌, ◌≤◌, ◌↔◌, nat_lt, Bool, ◌&&◌, if◌then◌else◌, List, [], ◌∷◌, ◌++◌, length, max, Result, Ok, Err, OnOk, OnErr}
+-- number of names that were tried. It depends on no byte that was written before. Which pieces a value has can depend on
+-- the position too: names in record data are written whole and in lower case in canonical form (RFC 4034 section 6.2).
+use Rattle.std.specs.Prelude.{◌≡◌, ℕ, ◌+◌, ◌<◌, ◌≤◌, ◌↔◌, nat_lt, Bool, false, ◌&&◌, if◌then◌else◌, List, [], ◌∷◌, ◌++◌, length, max, Result, Ok, Err, OnOk, OnErr}
 use Rattle.std.specs.List.{AllByRecursion}
 use Rattle.dns_wire.specs.Encoder.{Suffix, EncoderState, IsAtEnd, CanRollBack, overwrite_at, max_compressed_names}
 pub use Rattle.dns_wire.specs.Decodable.{BytesAt}
@@ -21,10 +22,11 @@ pub data Piece : Type 0 where
   Domain : List (List ℕ) → Piece
   Whole : List (List ℕ) → Piece
 
--- all that the encoding of the next piece depends on
+-- all that the encoding of the next value depends on
 pub record Position : Type 0 where
   pub place : ℕ
   pub encoding : NameEncoding
+  pub canonical : Bool
   pub suffixes : List Suffix
   pub attempts : ℕ
 
@@ -32,13 +34,20 @@ abbrev pub position_of : EncoderState → Position
 position_of w = record {
   place = w.offset;
   encoding = w.encoding;
+  canonical = w.canonical;
   suffixes = w.suffixes;
   attempts = w.attempts;
 }
 
--- the start of an empty buffer, where names are compressed
+-- the start of an empty buffer, where names are compressed and record data does not have its canonical form
 abbrev pub start_position : Position
-start_position = record { place = 0; encoding = Compressed; suffixes = []; attempts = 0 }
+start_position = record {
+  place = 0;
+  encoding = Compressed;
+  canonical = false;
+  suffixes = [];
+  attempts = 0;
+}
 
 -- whether a name is compressed here: only in the compressing encoding, and only the first 120 names
 abbrev pub is_compressed : Position → Bool
