@@ -207,11 +207,25 @@ pub suffixes_before-after : (place : ℕ) (s : Position) (ps : List Piece) → p
 suffixes_before-after place s [] le = refl
 suffixes_before-after place s (p ∷ ps) le = suffixes_before-after place (piece_next s p) ps (omega arith) ∙ suffixes_before-next place s p le
 
+next-attempts : (s : Position) (p : Piece) → s.attempts ≤ piece_attempts s p
+next-attempts s (Plain bytes) = omega arith
+next-attempts s (Whole labels) = omega arith
+next-attempts s (Domain labels) = at (is_compressed s)
+  where
+    at : (b : Bool) → s.attempts ≤ cond b (s.attempts + 1) s.attempts
+    at true = omega arith
+    at false = omega arith
+
+attempts-after : (s : Position) (ps : List Piece) → s.attempts ≤ (after s ps).attempts
+attempts-after s [] = omega arith
+attempts-after s (p ∷ ps) = omega (arith, next-attempts s p, attempts-after (piece_next s p) ps)
+
 pub can_roll_back-append : (w : EncoderState) (ps : List Piece) → IsAtEnd w → CanRollBack w (append_pieces w ps)
 can_roll_back-append w ps end = record {
   bytes = take-append-le w.offset w.bytes (form (position_of w) ps) (omega arith);
   within = omega (arith, length-append w.bytes (form (position_of w) ps));
   suffixes = suffixes_before-after w.offset (position_of w) ps (omega arith);
+  attempts = attempts-after (position_of w) ps;
   same = refl;
 }
 
@@ -222,7 +236,7 @@ take-shorter (suc m) (suc n) [] le = refl
 take-shorter (suc m) (suc n) (x ∷ xs) le = ap (λ l. x ∷ l) (take-shorter m n xs (omega arith))
 
 pub can_roll_back-refl : (w : EncoderState) → IsAtEnd w → CanRollBack w w
-can_roll_back-refl w end = record { bytes = refl; within = omega (arith, end); suffixes = refl; same = refl }
+can_roll_back-refl w end = record { bytes = refl; within = omega (arith, end); suffixes = refl; attempts = omega arith; same = refl }
 
 -- a state with the bytes, the offset, the suffixes and the attempts of another
 abbrev rolled_to : EncoderState → EncoderState → EncoderState
@@ -233,6 +247,7 @@ can_roll_back-trans old mid new le a b = record {
   bytes = sym (take-shorter old.offset mid.offset new.bytes le) ∙ ap (take old.offset) b.bytes ∙ take-shorter old.offset mid.offset mid.bytes le ∙ a.bytes;
   within = omega (arith, b.within);
   suffixes = sym (suffixes_before-before old.offset mid.offset new.suffixes le) ∙ ap (suffixes_before old.offset) b.suffixes ∙ suffixes_before-before old.offset mid.offset mid.suffixes le ∙ a.suffixes;
+  attempts = omega (arith, a.attempts, b.attempts);
   same = b.same ∙ ap (λ (w : EncoderState). rolled_to w new) a.same;
 }
 
@@ -323,7 +338,7 @@ emits_whole old new encoding labels r whole e =
       room = subst (λ (n : ℕ). OnOk r (n ≤ old.limit)) same.2 e.room;
       full = λ is. subst (λ (n : ℕ). old.limit < n) same.2 (e.full is);
       tries = λ is. e.tries is ∙ attempts_at_limit-one old.limit t (Domain labels) ∙ attempts ∙ sym (attempts_at_limit-one old.limit s (Whole (spelling encoding labels)));
-      back = on_err_weaker r (λ b. record { bytes = b.bytes; within = b.within; suffixes = b.suffixes; same = ap (λ (w : EncoderState). record w { encoding = old.encoding }) b.same }) e.back;
+      back = on_err_weaker r (λ b. record { bytes = b.bytes; within = b.within; suffixes = b.suffixes; attempts = b.attempts; same = ap (λ (w : EncoderState). record w { encoding = old.encoding }) b.same }) e.back;
     }
 
 -- ---- bytes that follow change nothing

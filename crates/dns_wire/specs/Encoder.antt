@@ -108,11 +108,12 @@ trim_to_offset w = record w {
 }
 
 -- A refused write can be rolled back: returning to the old offset and trimming leaves the bytes and suffixes that were
--- before it.
+-- before it. The names that were tried still count.
 pub record CanRollBack (old new : EncoderState) : Type 0 where
   pub bytes : take old.offset new.bytes ≡ take old.offset old.bytes
   pub within : old.offset ≤ length new.bytes
   pub suffixes : suffixes_before old.offset new.suffixes ≡ suffixes_before old.offset old.suffixes
+  pub attempts : old.attempts ≤ new.attempts
   -- nothing else changes
   pub same : new ≡ record old {
     bytes = new.bytes;
