@@ -9,11 +9,14 @@ use Rattle.std.proofs.lemmas.List.{take-append-le, take_all, drop_at, drop-appen
 use Rattle.dns_wire.specs.declared.error.EncodeError.{EncodeError}
 use Rattle.dns_wire.specs.declared.name_encoding.NameEncoding.{NameEncoding}
 use Rattle.dns_wire.specs.declared.name_encoding.NameEncoding.TheVariants.{Compressed, Uncompressed, UncompressedLowercase}
+use Rattle.dns_wire.specs.declared.name_encoding.RDataEncoding.{RDataEncoding}
+use Rattle.dns_wire.specs.declared.name_encoding.RDataEncoding.TheVariants.{StandardRecord, Canonical, Other}
+use Rattle.dns_wire.specs.NameEncoding.{rdata_mode}
 use Rattle.dns_wire.specs.Encoder.{Suffix, EncoderState, IsAtEnd, CanRollBack, suffixes_before, place_of, remember, trim_to_offset}
 use Rattle.dns_wire.specs.Name.{AreLabels}
 use Rattle.dns_wire.specs.Reading.{ReadsName}
 use Rattle.dns_wire.specs.Writing.{labels_form, whole_form, spelling, compresses, IsWholeEncoding, pointer_form, compressed_form, remember_labels, IsPointerTarget, ArePointerTargets}
-use Rattle.dns_wire.specs.Encodable.{Piece, Plain, Domain, Whole, Position, position_of, is_compressed, name_form, piece_form, piece_suffixes, piece_attempts, piece_next, piece_reach, form, after, reach, attempts_at_limit, append_pieces, Emits, BytesAt, PieceAt, PiecesAt, IsWritable, AreWritable, AllBehind}
+use Rattle.dns_wire.specs.Encodable.{Piece, Plain, Domain, Whole, Position, position_of, is_compressed, name_form, piece_form, piece_suffixes, piece_attempts, piece_next, piece_reach, name_piece, form, after, reach, attempts_at_limit, append_pieces, Emits, BytesAt, PieceAt, PiecesAt, IsWritable, AreWritable, AllBehind}
 use Rattle.dns_wire.proofs.SuffixLaws.{suffixes_before-before, suffixes_before-remember, suffixes_before-all, all_weaker}
 use Rattle.dns_wire.proofs.ReadingLaws.{reads-append}
 use Rattle.dns_wire.proofs.NameLaws.{name_len-spelling, spelling-are_labels, length-labels_form, length-whole_form, whole_reads}
@@ -340,6 +343,35 @@ emits_whole old new encoding labels r whole e =
       tries = λ is. e.tries is ∙ attempts_at_limit-one old.limit t (Domain labels) ∙ attempts ∙ sym (attempts_at_limit-one old.limit s (Whole (spelling encoding labels)));
       back = on_err_weaker r (λ b. record { bytes = b.bytes; within = b.within; suffixes = b.suffixes; attempts = b.attempts; same = ap (λ (w : EncoderState). record w { encoding = old.encoding }) b.same }) e.back;
     }
+
+-- a write changes neither how names are encoded
+emits-encoding : (old new : EncoderState) (ps : List Piece) (r : Result (Unit {0}) EncodeError) → Emits old ps r new → new.encoding ≡ old.encoding
+emits-encoding old new ps (Ok u) e = ap (λ (w : EncoderState). w.encoding) e.ok
+emits-encoding old new ps (Err error) e = ap (λ (w : EncoderState). w.encoding) e.back.same
+
+emits-restored : (old new : EncoderState) (ps : List Piece) (r : Result (Unit {0}) EncodeError) → Emits old ps r new → Emits old ps r (record new { encoding = old.encoding })
+emits-restored old new ps r e = subst (λ (encoding : NameEncoding). Emits old ps r (record new { encoding = encoding })) (emits-encoding old new ps r e) e
+
+-- a name of record data, while the encoding that it requires is set for it alone
+pub emits_name_piece : (old new : EncoderState) (kind : RDataEncoding) (labels : List (List ℕ)) (r : Result (Unit {0}) EncodeError) → Emits (record old { encoding = rdata_mode kind old.canonical old.encoding }) (Domain labels ∷ []) r new
+    → Emits old (name_piece kind old.canonical labels ∷ []) r (record new { encoding = old.encoding })
+emits_name_piece old new kind labels r e = at kind old.canonical e
+  where
+    at : (k : RDataEncoding) (b : Bool) → Emits (record old { encoding = rdata_mode k b old.encoding }) (Domain labels ∷ []) r new → Emits old (name_piece k b labels ∷ []) r (record new { encoding = old.encoding })
+    at StandardRecord false e = emits-restored old new (Domain labels ∷ []) r e
+    at StandardRecord true e = emits_whole old new UncompressedLowercase labels r refl e
+    at Canonical false e = emits_whole old new Uncompressed labels r refl e
+    at Canonical true e = emits_whole old new UncompressedLowercase labels r refl e
+    at Other false e = emits_whole old new Uncompressed labels r refl e
+    at Other true e = emits_whole old new Uncompressed labels r refl e
+
+pub name_piece-writable : (kind : RDataEncoding) (canonical : Bool) (labels : List (List ℕ)) → AreLabels labels → IsWritable (name_piece kind canonical labels)
+name_piece-writable StandardRecord false labels are = are
+name_piece-writable StandardRecord true labels are = spelling-are_labels UncompressedLowercase labels are
+name_piece-writable Canonical false labels are = are
+name_piece-writable Canonical true labels are = spelling-are_labels UncompressedLowercase labels are
+name_piece-writable Other false labels are = are
+name_piece-writable Other true labels are = are
 
 -- ---- bytes that follow change nothing
 

@@ -11,8 +11,10 @@ use Rattle.dns_wire.specs.Name.{AreLabels}
 use Rattle.dns_wire.specs.Reading.{ReadsName}
 use Rattle.dns_wire.specs.Writing.{compresses, compressed_form, remember_labels}
 pub use Rattle.dns_wire.specs.Writing.{labels_form, whole_form, spelling, IsWholeEncoding}
+use Rattle.dns_wire.specs.NameEncoding.{rdata_mode}
 use Rattle.dns_wire.specs.declared.name_encoding.NameEncoding.{NameEncoding}
 use Rattle.dns_wire.specs.declared.name_encoding.NameEncoding.TheVariants.{Compressed}
+use Rattle.dns_wire.specs.declared.name_encoding.RDataEncoding.{RDataEncoding}
 use Rattle.dns_wire.specs.declared.error.EncodeError.{EncodeError}
 use Rattle.dns_wire.specs.declared.error.EncodeError.TheVariants.{MaxBufferSizeExceeded}
 
@@ -90,6 +92,15 @@ abbrev pub piece_reach : Position → Piece → ℕ
 piece_reach s (Plain bytes) = s.place + length bytes
 piece_reach s (Domain labels) = s.place + max (length (labels_form labels)) (length (name_form s labels))
 piece_reach s (Whole labels) = s.place + length (whole_form labels)
+
+-- ---- names in record data
+
+-- The piece of a name in record data, by the kind of the data and whether it has its canonical form: a name that is
+-- encoded as the position asks, or one that is written whole, as its kind requires.
+abbrev pub name_piece : RDataEncoding → Bool → List (List ℕ) → Piece
+name_piece kind canonical labels =
+    if compresses (rdata_mode kind canonical Compressed) then Domain labels
+    else Whole (spelling (rdata_mode kind canonical Compressed) labels)
 
 -- ---- sequences of pieces
 
