@@ -3,7 +3,7 @@
 -- The encoding of a piece depends on its position: the offset, how names are encoded, the remembered suffixes and the
 -- number of names that were tried. It depends on no byte that was written before. Which pieces a value has can depend on
 -- the position too: names in record data are written whole and in lower case in canonical form (RFC 4034 section 6.2).
-use Rattle.std.specs.Prelude.{◌≡◌, ℕ, ◌+◌, ◌<◌, ◌≤◌, ◌↔◌, nat_lt, Bool, false, ◌&&◌, if◌then◌else◌, List, [], ◌∷◌, ◌++◌, length, max, Result, Ok, Err, OnOk, OnErr}
+use Rattle.std.specs.Prelude.{◌≡◌, ℕ, ◌+◌, ◌<◌, ◌≤◌, ◌↔◌, ◌⊎◌, nat_lt, Bool, false, ◌&&◌, if◌then◌else◌, List, [], ◌∷◌, ◌++◌, length, max, Result, Ok, Err, OnOk, OnErr}
 use Rattle.std.specs.List.{AllByRecursion}
 use Rattle.dns_wire.specs.Encoder.{Suffix, EncoderState, IsAtEnd, CanRollBack, overwrite_at, max_compressed_names}
 pub use Rattle.dns_wire.specs.Decodable.{BytesAt}
@@ -155,6 +155,20 @@ pub record Puts (old : EncoderState) (bytes : List ℕ)
   pub full : (result ≡ Err MaxBufferSizeExceeded) ↔ (old.limit < old.offset + length bytes)
   pub err : OnErr result (new ≡ old)
   pub at_end : IsAtEnd old → Emits old (Plain bytes ∷ []) result new
+
+-- Writing a character string at the offset, a length byte and the bytes (RFC 1035 section 3.3): they overwrite or extend
+-- the buffer; or they would pass the limit, and nothing changes; or memory runs out, and the length byte may remain. At
+-- the end of the buffer they are two pieces, and a refused write can be rolled back.
+pub record PutsCharacterString {E : Type 0} (too_large : E) (old : EncoderState) (bytes : List ℕ)
+    (result : Result (Unit {0}) E) (new : EncoderState) : Type 0 where
+  pub ok : OnOk result (new ≡ overwrite_at (overwrite_at old (length bytes ∷ [])) bytes)
+  pub room : OnOk result (old.offset + 1 + length bytes ≤ old.limit)
+  pub full : (result ≡ Err too_large) ↔ (old.limit < old.offset + 1 + length bytes)
+  pub no_room : old.limit < old.offset + 1 + length bytes → new ≡ old
+  pub err : OnErr result ((new ≡ old) ⊎ (new ≡ overwrite_at old (length bytes ∷ [])))
+  pub appended : IsAtEnd old
+      → OnOk result (new ≡ append_pieces old (Plain (length bytes ∷ []) ∷ Plain bytes ∷ []))
+  pub back : IsAtEnd old → OnErr result (CanRollBack old new)
 
 -- the outcome of a call, without its value
 abbrev pub outcome : {X : Type 0} → Result X EncodeError → Result (Unit {0}) EncodeError

@@ -49,7 +49,7 @@ impl<'a> BinEncoder<'a> {
     ghost use Rattle.std.specs.Prelude.{◌≡◌, vec_len, ◌+◌, ◌<◌, ◌≤◌, ◌↔◌, ◌⊎◌, nat_lt, if◌then◌else◌, [], ◌∷◌, false, length, replicate, slice_range, IsTrue, IfErr, OnOk, OnErr};
     ghost use Rattle.std.specs.Int.{w16, w32, to_be_bytes, cast_unsigned};
     ghost use Rattle.dns_wire.specs.Encoder.{max_message_len, max_compressed_names, max_character_string_len, state_of, overwrite_at, put_at, place_of, remember, trim_to_offset, IsAtEnd, CanRollBack};
-    ghost use Rattle.dns_wire.specs.Encodable.{Plain, Emits, Puts, append_pieces};
+    ghost use Rattle.dns_wire.specs.Encodable.{Plain, Emits, Puts, PutsCharacterString};
     ghost use Rattle.dns_wire.specs.declared.name_encoding.NameEncoding.TheVariants.{Compressed};
 
     /// Creates an encoder at the start of the buffer. It compresses names, and its maximum size is 65,535 bytes.
@@ -237,18 +237,8 @@ impl<'a> BinEncoder<'a> {
     /// Writes a character string: a length byte and at most 255 bytes (RFC 1035 section 3.3).
     pub fn emit_character_data_unrestricted(&mut self, bytes: &[u8]) -> Result<(), EncodeError>
         requires { length bytes.now < 256 }
-        ensures ok { OnOk result (state_of self.new
-            ≡ overwrite_at (overwrite_at (state_of self.old) (length bytes.now ∷ [])) bytes.now) }
-        ensures room { OnOk result
-            ((state_of self.old).offset + 1 + length bytes.now ≤ (state_of self.old).limit) }
-        ensures full { (result ≡ Err EncodeError.MaxBufferSizeExceeded)
-            ↔ ((state_of self.old).limit < (state_of self.old).offset + 1 + length bytes.now) }
-        ensures no_room { (state_of self.old).limit
-            < (state_of self.old).offset + 1 + length bytes.now
-            → state_of self.new ≡ state_of self.old }
-        // If memory runs out, the length byte may remain.
-        ensures err { OnErr result ((state_of self.new ≡ state_of self.old)
-            ⊎ (state_of self.new ≡ overwrite_at (state_of self.old) (length bytes.now ∷ []))) }
+        ensures puts { PutsCharacterString EncodeError.MaxBufferSizeExceeded (state_of self.old)
+            bytes.now result (state_of self.new) }
         ensures at_end { IsAtEnd (state_of self.old)
             → Emits (state_of self.old) (Plain (length bytes.now ∷ []) ∷ Plain bytes.now ∷ [])
             result (state_of self.new) }
@@ -262,29 +252,16 @@ impl<'a> BinEncoder<'a> {
 
     /// Writes a character string: a length byte and the bytes (RFC 1035 section 3.3). More than 255 bytes are refused.
     pub fn emit_character_data(&mut self, bytes: &[u8]) -> Result<(), ProtoError>
-        ensures ok { OnOk result (state_of self.new
-            ≡ overwrite_at (overwrite_at (state_of self.old) (length bytes.now ∷ [])) bytes.now) }
-        ensures room { OnOk result
-            ((state_of self.old).offset + 1 + length bytes.now ≤ (state_of self.old).limit) }
+        ensures puts { length bytes.now < 256
+            → PutsCharacterString ProtoError.MaxBufferSizeExceeded (state_of self.old)
+            bytes.now result (state_of self.new) }
         ensures long { (result ≡ Err (ProtoError.CharacterDataTooLong (length bytes.now)))
             ↔ (max_character_string_len < length bytes.now) }
         ensures untouched { max_character_string_len < length bytes.now
             → state_of self.new ≡ state_of self.old }
-        ensures full { length bytes.now < 256 → ((result ≡ Err ProtoError.MaxBufferSizeExceeded)
-            ↔ ((state_of self.old).limit < (state_of self.old).offset + 1 + length bytes.now)) }
         ensures only { IfErr result (λ error. (error ≡ ProtoError.Memory)
             ⊎ (error ≡ ProtoError.MaxBufferSizeExceeded)
             ⊎ (error ≡ ProtoError.CharacterDataTooLong (length bytes.now))) }
-        ensures no_room { (state_of self.old).limit
-            < (state_of self.old).offset + 1 + length bytes.now
-            → state_of self.new ≡ state_of self.old }
-        ensures err { OnErr result ((state_of self.new ≡ state_of self.old)
-            ⊎ (state_of self.new ≡ overwrite_at (state_of self.old) (length bytes.now ∷ []))) }
-        ensures appended { IsAtEnd (state_of self.old) → OnOk result (state_of self.new
-            ≡ append_pieces (state_of self.old)
-            (Plain (length bytes.now ∷ []) ∷ Plain bytes.now ∷ [])) }
-        ensures back { IsAtEnd (state_of self.old)
-            → OnErr result (CanRollBack (state_of self.old) (state_of self.new)) }
     {
         if bytes.len() > MAX_CHARACTER_STRING_LEN {
             return Err(ProtoError::CharacterDataTooLong { len: bytes.len() });

@@ -64,8 +64,8 @@ pub fn whole_encodings_write_whole_names()
         (record new { encoding = old.encoding }) }
 {}
 
-/// A name that is emitted while the encoding that its record data requires is set for it alone is written as the piece of
-/// such a name (RFC 3597 section 4, RFC 4034 section 6.2), which is writable if the labels are those of a name.
+/// A name that is emitted while the encoding that its record data requires is set for it alone is written as its
+/// `name_piece` (RFC 3597 section 4, RFC 4034 section 6.2), which is writable if the labels are those of a name.
 pub fn record_data_encodings_write_name_pieces()
     ensures emits { (old new : EncoderState) (kind : RDataEncoding) (labels : List (List ℕ))
         (result : Result (Unit {0}) EncodeError)
