@@ -64,7 +64,8 @@ impl Name {
 
     /// Returns the name with a label prepended at the left.
     pub fn prepend_label<L: IntoLabel>(&self, label: L) -> Result<Name, ParseError>
-        ensures outcome { IsUnless ParseError.Memory (prepend_label (L.label label) self.now) result }
+        ensures outcome { IsUnless ParseError.Memory
+            (prepend_label (L.label label) self.now) result }
         ensures fault { (error : ParseError) → L.label label ≡ Err error → result ≡ Err error }
     {
         let label = label.into_label(self.allocator())?;
