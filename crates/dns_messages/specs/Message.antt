@@ -1,5 +1,5 @@
 -- What is written for a message, and what is left of it under a limit (RFC 1035 section 4.1).
-use Rattle.std.specs.Prelude.{◌++◌, nat_le, if◌then◌else◌, true, List, [], ◌∷◌, ℕ, length}
+use Rattle.std.specs.Prelude.{◌++◌, nat_le, if◌then◌else◌, true, false, List, [], ◌∷◌, ℕ, length}
 use Rattle.dns_wire.specs.Encodable.{Piece, Plain, Position, form, after}
 use Rattle.dns_wire.specs.declared.name_encoding.NameEncoding.TheVariants.{Uncompressed}
 use Rattle.dns_messages.specs.declared.header.Metadata.{Metadata}
@@ -12,7 +12,13 @@ use Rattle.dns_messages.specs.Record.{record_pieces}
 
 -- nothing is written yet, and names are written whole
 abbrev pub beginning : Position
-beginning = record { place = 0; encoding = Uncompressed; suffixes = []; attempts = 0 }
+beginning = record {
+  place = 0;
+  encoding = Uncompressed;
+  canonical = false;
+  suffixes = [];
+  attempts = 0;
+}
 
 abbrev pub queries_pieces : List Query → List Piece
 queries_pieces [] = []

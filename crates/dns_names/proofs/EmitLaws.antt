@@ -170,7 +170,7 @@ emits_compressed old start new labels r few is ok room full tries back =
       room = on_ok_weaker r (λ fits. omega (arith, fits, reach_is, bounds)) room;
       full = λ e. omega (arith, full e, reach_is, bounds);
       tries = λ e. tries e ∙ ap (λ (w : EncoderState). w.attempts) is ∙ sym (at (ltb old.limit (piece_reach (position_of old) (Domain labels))) (is_compressed (position_of old)) few);
-      back = on_err_weaker r (λ b. let b' : CanRollBack next new = subst (λ (w : EncoderState). CanRollBack w new) is b in record { bytes = b'.bytes; within = b'.within; suffixes = b'.suffixes; same = b'.same }) back;
+      back = on_err_weaker r (λ b. let b' : CanRollBack next new = subst (λ (w : EncoderState). CanRollBack w new) is b in record { bytes = b'.bytes; within = b'.within; suffixes = b'.suffixes; attempts = omega (arith, b'.attempts); same = b'.same }) back;
     }
   where
     at : (over b : Bool) → b ≡ true → cond over (cond b (old.attempts + 1) old.attempts) (cond b (old.attempts + 1) old.attempts) ≡ old.attempts + 1

@@ -127,6 +127,7 @@ module _ {old w : EncoderState} {labels : List (List ℕ)} {i place : ℕ} (end 
     bytes = ap (take old.offset) s.bytes ∙ take-append-le old.offset old.bytes (labels_form labels) (omega (arith, end));
     within = omega (arith, ap length s.bytes, length-append old.bytes (labels_form labels), end);
     suffixes = s.same_suffixes;
+    attempts = omega (arith, ap (λ (v : EncoderState). v.attempts) s.same);
     same = rolls_back old w s.same;
   }
 
@@ -139,6 +140,7 @@ module _ {old w : EncoderState} {labels : List (List ℕ)} {i place : ℕ} (end 
         bytes = ap (take old.offset) bytes ∙ take-append-le old.offset old.bytes front (omega (arith, end));
         within = omega (arith, ap length bytes, length-append old.bytes front, end);
         suffixes = ap (λ (v : EncoderState). suffixes_before old.offset v.suffixes) e ∙ suffixes_before-before old.offset place w.suffixes (omega (arith, s.place_is)) ∙ s.same_suffixes;
+        attempts = omega (arith, ap (λ (v : EncoderState). v.attempts) e, ap (λ (v : EncoderState). v.attempts) s.same);
         same = rolls_back old cut (changed old w cut _ _ _ s.same e);
       }
 

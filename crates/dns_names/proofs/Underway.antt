@@ -1,9 +1,10 @@
 -- A name that is being read: what is still read completes it, and what is still refused refuses it.
-use Rattle.std.proofs.Common.{◌≡◌, ◌≢◌, ℕ, ◌+◌, ◌-◌, ◌<◌, ◌≤◌, List, [], ◌∷◌, ◌++◌, length, Option, Some, None, Ok, Err, refl, subst, append_assoc, arith}
+use Rattle.std.proofs.Common.{◌≡◌, ◌≢◌, ℕ, ◌+◌, ◌-◌, ◌<◌, ◌≤◌, List, [], ◌∷◌, ◌++◌, length, Option, Some, None, Ok, Err, subst, append_assoc, arith}
 use Rattle.std.specs.Prelude.{unwrap_or, IfSome}
 use Rattle.std.proofs.lemmas.List.{append-nil}
 use Rattle.dns_wire.specs.declared.error.DecodeError.{DecodeError}
-use Rattle.dns_wire.specs.declared.error.DecodeError.TheVariants.{InsufficientBytes, PointerNotPriorToLabel, UnrecognizedLabelCode, DomainNameTooLong, IncorrectRDataLengthRead, UnsupportedRecordType, Memory}
+use Rattle.dns_wire.specs.declared.error.DecodeError.TheVariants.{PointerNotPriorToLabel, DomainNameTooLong, Memory}
+use Rattle.dns_wire.proofs.DecodeErrorLaws.{memory_alone}
 use Rattle.dns_wire.proofs.ReadingLaws.{reads_not_refused}
 use Rattle.dns_wire.specs.Element.{Closing, Label, Pointer, element_at}
 use Rattle.dns_wire.specs.Name.{name_len}
@@ -59,10 +60,4 @@ unwrap_or-within (Some e) x n within le = within
 
 -- where a name is read, only want of memory refuses it
 pub only_memory : {bytes : List ℕ} {start last : ℕ} {labels : List (List ℕ)} → (error : DecodeError) → ReadsName bytes start labels last → (error ≢ Memory → RefusesName bytes start error) → error ≡ Memory
-only_memory Memory r refused = refl
-only_memory InsufficientBytes r refused = absurd (reads_not_refused r (refused (λ e. cc)))
-only_memory PointerNotPriorToLabel r refused = absurd (reads_not_refused r (refused (λ e. cc)))
-only_memory UnrecognizedLabelCode r refused = absurd (reads_not_refused r (refused (λ e. cc)))
-only_memory DomainNameTooLong r refused = absurd (reads_not_refused r (refused (λ e. cc)))
-only_memory IncorrectRDataLengthRead r refused = absurd (reads_not_refused r (refused (λ e. cc)))
-only_memory UnsupportedRecordType r refused = absurd (reads_not_refused r (refused (λ e. cc)))
+only_memory error r refused = memory_alone error (λ other. reads_not_refused r (refused other))

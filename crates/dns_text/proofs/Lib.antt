@@ -1,3 +1,5 @@
+pub mod AddressLaws
+pub mod CharacterStringLaws
 pub mod FrontLaws
 pub mod TokenGrammarLaws
 pub mod TokenLaws

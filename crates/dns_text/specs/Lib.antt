@@ -1,7 +1,8 @@
+pub mod Address
+pub mod CharacterString
 pub mod Error
 pub mod Front
 pub mod FrontGrammar
-pub mod IntoName
 pub mod Lexer
 pub mod Token
 pub mod Ttl

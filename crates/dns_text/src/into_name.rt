@@ -3,11 +3,12 @@
 ghost use Rattle.std.specs.Prelude.{◌≡◌, Result, Option, Ok, None, string_bytes};
 ghost use Rattle.dns_wire.specs.Error.{IsUnless};
 ghost use Rattle.std.specs.declared.net.ip_addr.IpAddr.{IpAddr};
-ghost use Rattle.dns_text.specs.IntoName.{IsTextOf};
+ghost use Rattle.dns_text.specs.Address.{IsTextOf};
 ghost use Rattle.dns_names.specs.Name.{DomainName};
 ghost use Rattle.dns_names.specs.Parse.{name_of_text};
 ghost use Rattle.dns_names.specs.declared.error.ParseError.{ParseError};
 
+use crate::address::parse_ip;
 use dns_names::{Name, ParseError};
 use std::alloc::Global;
 use std::net::IpAddr;
@@ -67,7 +68,7 @@ impl<'a> IntoName for &'a str {
     }
 
     fn to_ip(&self) -> Option<IpAddr> {
-        ip_of(*self)
+        parse_ip(self.as_bytes())
     }
 }
 
@@ -81,13 +82,6 @@ impl IntoName for String {
     }
 
     fn to_ip(&self) -> Option<IpAddr> {
-        ip_of(self.as_str())
+        parse_ip(self.as_str().as_bytes())
     }
-}
-
-/// Returns the address that a text spells, if it spells one.
-fn ip_of(text: &str) -> Option<IpAddr>
-    ensures { IsTextOf text.now result }
-{
-    text.parse::<IpAddr>().ok()
 }

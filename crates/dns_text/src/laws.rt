@@ -1,7 +1,13 @@
 //! Theorems about the definitions of this crate, as functions with empty bodies.
 
 ghost use Rattle.std.specs.Prelude.{◌≡◌, ◌<◌, ◌++◌, ℕ, List, Result, Ok, Err, Option, Some, None, length};
+ghost use Rattle.std.specs.Net.Addr.{IsIpv4Addr, IsIpv6Addr, MatchIp};
+ghost use Rattle.std.specs.Net.Grammar.{IsIpText};
+ghost use Rattle.std.specs.declared.net.ip_addr.IpAddr.{IpAddr};
+ghost use Rattle.dns_text.specs.Address.{IsTextOf, ip_text};
 ghost use Rattle.dns_text.specs.declared.error.LexerError.{LexerError};
+ghost use Rattle.dns_names.specs.Print.{AreOctets};
+ghost use Rattle.dns_text.specs.CharacterString.{unescaped, escaped_text};
 ghost use Rattle.dns_text.specs.Front.{front};
 ghost use Rattle.dns_text.specs.Lexer.{LexerState, Lexeme, NextToken};
 ghost use Rattle.dns_text.specs.FrontGrammar.{FrontItem, IsInFront, front_item};
@@ -33,4 +39,16 @@ pub fn lexing_is_deterministic()
 pub fn prefixes_of_times_are_times()
     ensures { (read rest : List ℕ) → 0 < length read → time read ≡ None
         → time (read ++ rest) ≡ None }
+{}
+
+/// The text of an address spells this address, and parses back to it.
+pub fn printed_addresses_parse_back()
+    ensures spells { (a : IpAddr) → MatchIp a IsIpv4Addr IsIpv6Addr → IsIpText (ip_text a) a }
+    ensures parses { (a : IpAddr) (found : Option IpAddr) → MatchIp a IsIpv4Addr IsIpv6Addr
+        → IsTextOf (ip_text a) found → found ≡ Some a }
+{}
+
+/// The text of a quoted string denotes the octets of the string, whatever they are (RFC 1035 section 5.1).
+pub fn quoted_strings_parse_back()
+    ensures { (octets : List ℕ) → AreOctets octets → unescaped (escaped_text octets) ≡ Some octets }
 {}

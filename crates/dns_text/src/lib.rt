@@ -9,6 +9,8 @@
 //! - `laws`: theorems about these definitions
 #![tactic(auto)]
 
+mod address;
+mod character_string;
 mod error;
 mod front;
 mod into_name;
@@ -18,9 +20,11 @@ mod token;
 mod ttl;
 pub mod usage;
 
+pub use address::{parse_ip, parse_ipv4, parse_ipv6, write_ip};
+pub use character_string::{QuotedString, unescape};
 pub use error::LexerError;
 pub use into_name::IntoName;
 pub use lexer::Lexer;
 pub use token::Token;
-pub use ttl::parse_ttl;
+pub use ttl::{parse_ttl, parse_ttl_bytes};
 pub use usage::{ResolverUsage, ZoneUsage};

@@ -23,13 +23,19 @@ struct TtlSum {
 pub fn parse_ttl(text: &str) -> Result<u32, ParseError>
     ensures { result ≡ ttl_of_text text.now }
 {
-    let bytes = text.as_bytes();
-    if bytes.is_empty() {
+    parse_ttl_bytes(text.as_bytes())
+}
+
+/// Parses a time to live in seconds, as `parse_ttl` does.
+pub fn parse_ttl_bytes(text: &[u8]) -> Result<u32, ParseError>
+    ensures { result ≡ ttl_of_text text.now }
+{
+    if text.is_empty() {
         return Err(ParseError::Text(0));
     }
     let mut so_far = TtlSum { sum: 0, run: None };
-    for place in 0..bytes.len() {
-        so_far = match with_character(so_far, bytes[place]) {
+    for place in 0..text.len() {
+        so_far = match with_character(so_far, text[place]) {
             Some(next) if total_of(next) <= GREATEST => next,
             _ => return Err(ParseError::Text(place)),
         };

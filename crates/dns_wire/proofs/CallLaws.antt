@@ -10,7 +10,7 @@ use Rattle.dns_wire.specs.Encodable.{Piece, Plain, Position, position_of, piece_
 use Rattle.dns_wire.specs.Laws.{Part, Surviving, Lost, begin_piece, append_lost, state_after, IsLost, piece_target, TargetSurvives, TargetsSurvive, push_pieces, Calls, no_call, call_write, call_write_lost, call_roll_back, call_go_back, call_fill, call_set_mode, SurvivorsDecode, ArePointerTargetsUnlessLost}
 use Rattle.dns_wire.proofs.SuffixLaws.{suffixes_before-before, all_weaker, all-suffixes_before, all-rejoin, suffixes_before-behind}
 use Rattle.dns_wire.proofs.CompressionLaws.{unless_lost-append}
-use Rattle.dns_wire.proofs.PieceLaws.{after-place, append_pieces-append, append_pieces-none, append_pieces-end, piece_at-append, suffixes_before-after, piece_decodes, piece-behind, targets-behind, roll_back-restores, take-shorter}
+use Rattle.dns_wire.proofs.PieceLaws.{after-place, append_pieces-append, append_pieces-none, append_pieces-end, piece_at-append, suffixes_before-after, piece_target-canonical, append_pieces-canonical, piece_decodes, piece-behind, targets-behind, roll_back-restores, take-shorter}
 use Rattle.dns_wire.proofs.FillLaws.{fills}
 
 -- ---- the parts
@@ -216,8 +216,11 @@ agrees-targets {old} {parts} {w} end stand g =
 agrees-piece : {old : EncoderState} {parts : List Part} {w : EncoderState} (piece : Piece) → Agrees old parts w → IsWritable piece → TargetSurvives (IsLost old parts) (piece_target (position_of w) piece)
     → Agrees old (Surviving w.encoding w.attempts piece ∷ parts) (append_pieces w (piece ∷ []))
 agrees-piece {old} {parts} {w} piece g is clear =
-    let same : append_pieces w (piece ∷ []) ≡ append_pieces (record (state_after old parts) { limit = w.limit; encoding = w.encoding; canonical = w.canonical; attempts = w.attempts }) (piece ∷ []) = ap (λ (v : EncoderState). append_pieces v (piece ∷ [])) (agrees-is g) in
-    let clear' : TargetSurvives (IsLost old parts) (piece_target (position_of (begin_piece (state_after old parts) w.encoding w.attempts)) piece) = subst (λ (v : EncoderState). TargetSurvives (IsLost old parts) (piece_target (position_of v) piece)) (agrees-is g) clear in
+    let begun : EncoderState = begin_piece (state_after old parts) w.encoding w.attempts in
+    let same : append_pieces w (piece ∷ []) ≡ record (append_pieces (record begun { limit = w.limit }) (piece ∷ [])) { canonical = w.canonical } =
+    ap (λ (v : EncoderState). append_pieces v (piece ∷ [])) (agrees-is g) ∙ append_pieces-canonical (record begun { limit = w.limit }) w.canonical piece in
+    let clear' : TargetSurvives (IsLost old parts) (piece_target (position_of begun) piece) =
+    subst (TargetSurvives (IsLost old parts)) (piece_target-canonical (position_of begun) w.canonical piece) (subst (λ (v : EncoderState). TargetSurvives (IsLost old parts) (piece_target (position_of v) piece)) (agrees-is g) clear) in
     record {
       bytes = ap (λ (v : EncoderState). v.bytes) same;
       offset = ap (λ (v : EncoderState). v.offset) same;

@@ -9,11 +9,14 @@ use Rattle.std.proofs.lemmas.List.{take-append-le, take_all, drop_at, drop-appen
 use Rattle.dns_wire.specs.declared.error.EncodeError.{EncodeError}
 use Rattle.dns_wire.specs.declared.name_encoding.NameEncoding.{NameEncoding}
 use Rattle.dns_wire.specs.declared.name_encoding.NameEncoding.TheVariants.{Compressed, Uncompressed, UncompressedLowercase}
+use Rattle.dns_wire.specs.declared.name_encoding.RDataEncoding.{RDataEncoding}
+use Rattle.dns_wire.specs.declared.name_encoding.RDataEncoding.TheVariants.{StandardRecord, Canonical, Other}
+use Rattle.dns_wire.specs.NameEncoding.{rdata_mode}
 use Rattle.dns_wire.specs.Encoder.{Suffix, EncoderState, IsAtEnd, CanRollBack, suffixes_before, place_of, remember, trim_to_offset}
 use Rattle.dns_wire.specs.Name.{AreLabels}
 use Rattle.dns_wire.specs.Reading.{ReadsName}
 use Rattle.dns_wire.specs.Writing.{labels_form, whole_form, spelling, compresses, IsWholeEncoding, pointer_form, compressed_form, remember_labels, IsPointerTarget, ArePointerTargets}
-use Rattle.dns_wire.specs.Encodable.{Piece, Plain, Domain, Whole, Position, position_of, is_compressed, name_form, piece_form, piece_suffixes, piece_attempts, piece_next, piece_reach, form, after, reach, attempts_at_limit, append_pieces, Emits, BytesAt, PieceAt, PiecesAt, IsWritable, AreWritable, AllBehind}
+use Rattle.dns_wire.specs.Encodable.{Piece, Plain, Domain, Whole, Position, position_of, is_compressed, name_form, piece_form, piece_suffixes, piece_attempts, piece_next, piece_reach, name_piece, form, after, reach, attempts_at_limit, append_pieces, Emits, BytesAt, PieceAt, PiecesAt, IsWritable, AreWritable, AllBehind}
 use Rattle.dns_wire.proofs.SuffixLaws.{suffixes_before-before, suffixes_before-remember, suffixes_before-all, all_weaker}
 use Rattle.dns_wire.proofs.ReadingLaws.{reads-append}
 use Rattle.dns_wire.proofs.NameLaws.{name_len-spelling, spelling-are_labels, length-labels_form, length-whole_form, whole_reads}
@@ -30,6 +33,21 @@ after-place s (p ∷ ps) = omega (arith, after-place (piece_next s p) ps, length
 pub after-encoding : (s : Position) (ps : List Piece) → (after s ps).encoding ≡ s.encoding
 after-encoding s [] = refl
 after-encoding s (p ∷ ps) = after-encoding (piece_next s p) ps
+
+pub after-canonical : (s : Position) (ps : List Piece) → (after s ps).canonical ≡ s.canonical
+after-canonical s [] = refl
+after-canonical s (p ∷ ps) = after-canonical (piece_next s p) ps
+
+-- no piece depends on whether record data has its canonical form
+pub piece_target-canonical : (s : Position) (canonical : Bool) (p : Piece) → piece_target (record s { canonical = canonical }) p ≡ piece_target s p
+piece_target-canonical s canonical (Plain bytes) = refl
+piece_target-canonical s canonical (Whole labels) = refl
+piece_target-canonical s canonical (Domain labels) = refl
+
+pub append_pieces-canonical : (w : EncoderState) (canonical : Bool) (p : Piece) → append_pieces (record w { canonical = canonical }) (p ∷ []) ≡ record (append_pieces w (p ∷ [])) { canonical = canonical }
+append_pieces-canonical w canonical (Plain bytes) = refl
+append_pieces-canonical w canonical (Whole labels) = refl
+append_pieces-canonical w canonical (Domain labels) = refl
 
 -- ---- where names are written whole
 
@@ -137,7 +155,9 @@ attempts_at_limit-stops limit s (p ∷ ps) qs over = at (ltb limit (piece_reach 
 
 -- what was appended lies so far
 pub position_of-append_pieces : (w : EncoderState) (ps : List Piece) → position_of (append_pieces w ps) ≡ after (position_of w) ps
-position_of-append_pieces w ps = ap (λ (e : NameEncoding). record (after (position_of w) ps) { encoding = e }) (sym (after-encoding (position_of w) ps))
+position_of-append_pieces w ps =
+    let s : Position = after (position_of w) ps in
+    ap (λ (e : NameEncoding). record s { encoding = e; canonical = w.canonical }) (sym (after-encoding (position_of w) ps)) ∙ ap (λ (b : Bool). record s { canonical = b }) (sym (after-canonical (position_of w) ps))
 
 pub append_pieces-append : (w : EncoderState) (ps qs : List Piece) → append_pieces (append_pieces w ps) qs ≡ append_pieces w (ps ++ qs)
 append_pieces-append w ps qs =
@@ -190,11 +210,25 @@ pub suffixes_before-after : (place : ℕ) (s : Position) (ps : List Piece) → p
 suffixes_before-after place s [] le = refl
 suffixes_before-after place s (p ∷ ps) le = suffixes_before-after place (piece_next s p) ps (omega arith) ∙ suffixes_before-next place s p le
 
+next-attempts : (s : Position) (p : Piece) → s.attempts ≤ piece_attempts s p
+next-attempts s (Plain bytes) = omega arith
+next-attempts s (Whole labels) = omega arith
+next-attempts s (Domain labels) = at (is_compressed s)
+  where
+    at : (b : Bool) → s.attempts ≤ cond b (s.attempts + 1) s.attempts
+    at true = omega arith
+    at false = omega arith
+
+attempts-after : (s : Position) (ps : List Piece) → s.attempts ≤ (after s ps).attempts
+attempts-after s [] = omega arith
+attempts-after s (p ∷ ps) = omega (arith, next-attempts s p, attempts-after (piece_next s p) ps)
+
 pub can_roll_back-append : (w : EncoderState) (ps : List Piece) → IsAtEnd w → CanRollBack w (append_pieces w ps)
 can_roll_back-append w ps end = record {
   bytes = take-append-le w.offset w.bytes (form (position_of w) ps) (omega arith);
   within = omega (arith, length-append w.bytes (form (position_of w) ps));
   suffixes = suffixes_before-after w.offset (position_of w) ps (omega arith);
+  attempts = attempts-after (position_of w) ps;
   same = refl;
 }
 
@@ -205,7 +239,7 @@ take-shorter (suc m) (suc n) [] le = refl
 take-shorter (suc m) (suc n) (x ∷ xs) le = ap (λ l. x ∷ l) (take-shorter m n xs (omega arith))
 
 pub can_roll_back-refl : (w : EncoderState) → IsAtEnd w → CanRollBack w w
-can_roll_back-refl w end = record { bytes = refl; within = omega (arith, end); suffixes = refl; same = refl }
+can_roll_back-refl w end = record { bytes = refl; within = omega (arith, end); suffixes = refl; attempts = omega arith; same = refl }
 
 -- a state with the bytes, the offset, the suffixes and the attempts of another
 abbrev rolled_to : EncoderState → EncoderState → EncoderState
@@ -216,6 +250,7 @@ can_roll_back-trans old mid new le a b = record {
   bytes = sym (take-shorter old.offset mid.offset new.bytes le) ∙ ap (take old.offset) b.bytes ∙ take-shorter old.offset mid.offset mid.bytes le ∙ a.bytes;
   within = omega (arith, b.within);
   suffixes = sym (suffixes_before-before old.offset mid.offset new.suffixes le) ∙ ap (suffixes_before old.offset) b.suffixes ∙ suffixes_before-before old.offset mid.offset mid.suffixes le ∙ a.suffixes;
+  attempts = omega (arith, a.attempts, b.attempts);
   same = b.same ∙ ap (λ (w : EncoderState). rolled_to w new) a.same;
 }
 
@@ -306,8 +341,37 @@ emits_whole old new encoding labels r whole e =
       room = subst (λ (n : ℕ). OnOk r (n ≤ old.limit)) same.2 e.room;
       full = λ is. subst (λ (n : ℕ). old.limit < n) same.2 (e.full is);
       tries = λ is. e.tries is ∙ attempts_at_limit-one old.limit t (Domain labels) ∙ attempts ∙ sym (attempts_at_limit-one old.limit s (Whole (spelling encoding labels)));
-      back = on_err_weaker r (λ b. record { bytes = b.bytes; within = b.within; suffixes = b.suffixes; same = ap (λ (w : EncoderState). record w { encoding = old.encoding }) b.same }) e.back;
+      back = on_err_weaker r (λ b. record { bytes = b.bytes; within = b.within; suffixes = b.suffixes; attempts = b.attempts; same = ap (λ (w : EncoderState). record w { encoding = old.encoding }) b.same }) e.back;
     }
+
+-- a write changes neither how names are encoded
+emits-encoding : (old new : EncoderState) (ps : List Piece) (r : Result (Unit {0}) EncodeError) → Emits old ps r new → new.encoding ≡ old.encoding
+emits-encoding old new ps (Ok u) e = ap (λ (w : EncoderState). w.encoding) e.ok
+emits-encoding old new ps (Err error) e = ap (λ (w : EncoderState). w.encoding) e.back.same
+
+emits-restored : (old new : EncoderState) (ps : List Piece) (r : Result (Unit {0}) EncodeError) → Emits old ps r new → Emits old ps r (record new { encoding = old.encoding })
+emits-restored old new ps r e = subst (λ (encoding : NameEncoding). Emits old ps r (record new { encoding = encoding })) (emits-encoding old new ps r e) e
+
+-- a name of record data, while the encoding that it requires is set for it alone
+pub emits_name_piece : (old new : EncoderState) (kind : RDataEncoding) (labels : List (List ℕ)) (r : Result (Unit {0}) EncodeError) → Emits (record old { encoding = rdata_mode kind old.canonical old.encoding }) (Domain labels ∷ []) r new
+    → Emits old (name_piece kind old.canonical labels ∷ []) r (record new { encoding = old.encoding })
+emits_name_piece old new kind labels r e = at kind old.canonical e
+  where
+    at : (k : RDataEncoding) (b : Bool) → Emits (record old { encoding = rdata_mode k b old.encoding }) (Domain labels ∷ []) r new → Emits old (name_piece k b labels ∷ []) r (record new { encoding = old.encoding })
+    at StandardRecord false e = emits-restored old new (Domain labels ∷ []) r e
+    at StandardRecord true e = emits_whole old new UncompressedLowercase labels r refl e
+    at Canonical false e = emits_whole old new Uncompressed labels r refl e
+    at Canonical true e = emits_whole old new UncompressedLowercase labels r refl e
+    at Other false e = emits_whole old new Uncompressed labels r refl e
+    at Other true e = emits_whole old new Uncompressed labels r refl e
+
+pub name_piece-writable : (kind : RDataEncoding) (canonical : Bool) (labels : List (List ℕ)) → AreLabels labels → IsWritable (name_piece kind canonical labels)
+name_piece-writable StandardRecord false labels are = are
+name_piece-writable StandardRecord true labels are = spelling-are_labels UncompressedLowercase labels are
+name_piece-writable Canonical false labels are = are
+name_piece-writable Canonical true labels are = spelling-are_labels UncompressedLowercase labels are
+name_piece-writable Other false labels are = are
+name_piece-writable Other true labels are = are
 
 -- ---- bytes that follow change nothing
 

@@ -9,8 +9,9 @@ use Rattle.dns_wire.specs.Decodable.{Follow}
 use Rattle.dns_wire.specs.Encoder.{EncoderState, IsAtEnd, place_of}
 use Rattle.dns_wire.specs.Name.{name_len}
 use Rattle.dns_wire.specs.Writing.{labels_form, whole_form, spelling, pointer_form, compressed_form, ArePointerTargets}
-use Rattle.dns_wire.specs.Encodable.{Piece, Plain, Domain, Whole, Position, position_of, is_compressed, name_form, piece_next, piece_reach, form, after, reach, append_pieces, PieceAt, PiecesAt, AreWritable, AllBehind}
-use Rattle.dns_wire.specs.Items.{fitting_prefix, all_pieces, attempts_after, fitting_form, position_behind, fitting_items, fitting_pieces, append_fitting}
+use Rattle.dns_wire.specs.Encodable.{Piece, Plain, Domain, Whole, Position, position_of, is_compressed, name_form, piece_next, piece_reach, form, after, reach, append_pieces, PiecesAt, AreWritable, AllBehind}
+use Rattle.dns_wire.specs.Items.{fitting_prefix, all_pieces, attempts_after, fitting_pieces, append_fitting}
+use Rattle.dns_wire.specs.internal.Sections.{fitting_form, position_behind}
 use Rattle.dns_wire.proofs.NameLaws.{name_len-spelling, length-labels_form, length-whole_form}
 use Rattle.dns_wire.proofs.PieceLaws.{after-place, after-encoding, form-append, after-append, reach-append, position_of-append_pieces, append_pieces-end, pieces_decode}
 use Rattle.dns_wire.proofs.ItemLaws.{append_pieces-behind}
@@ -27,7 +28,7 @@ pub after-reach : (s : Position) (ps : List Piece) → (after s ps).place ≤ ma
 after-reach s [] = omega arith
 after-reach s (p ∷ ps) = omega (arith, after-reach (piece_next s p) ps, next-reach s p)
 
--- the greatest length of a piece: names are written without compression
+-- the maximum length of a piece: names are written without compression
 abbrev pub piece_max_len : Piece → ℕ
 piece_max_len (Plain bytes) = length bytes
 piece_max_len (Domain labels) = name_len labels

@@ -1,8 +1,9 @@
 -- What an encoder writes: a sequence of pieces, which are plain bytes and names.
 --
 -- The encoding of a piece depends on its position: the offset, how names are encoded, the remembered suffixes and the
--- number of names that were tried. It depends on no byte that was written before.
-use Rattle.std.specs.Prelude.{◌≡◌, ℕ, ◌+◌, ◌<◌, ◌≤◌, ◌↔◌, nat_lt, Bool, ◌&&◌, if◌then◌else◌, List, [], ◌∷◌, ◌++◌, length, max, Result, Ok, Err, OnOk, OnErr}
+-- number of names that were tried. It depends on no byte that was written before. Which pieces a value has can depend on
+-- the position too: names in record data are written whole and in lower case in canonical form (RFC 4034 section 6.2).
+use Rattle.std.specs.Prelude.{◌≡◌, ℕ, ◌+◌, ◌<◌, ◌≤◌, ◌↔◌, ◌⊎◌, nat_lt, Bool, false, ◌&&◌, if◌then◌else◌, List, [], ◌∷◌, ◌++◌, length, max, Result, Ok, Err, OnOk, OnErr}
 use Rattle.std.specs.List.{AllByRecursion}
 use Rattle.dns_wire.specs.Encoder.{Suffix, EncoderState, IsAtEnd, CanRollBack, overwrite_at, max_compressed_names}
 pub use Rattle.dns_wire.specs.Decodable.{BytesAt}
@@ -10,8 +11,10 @@ use Rattle.dns_wire.specs.Name.{AreLabels}
 use Rattle.dns_wire.specs.Reading.{ReadsName}
 use Rattle.dns_wire.specs.Writing.{compresses, compressed_form, remember_labels}
 pub use Rattle.dns_wire.specs.Writing.{labels_form, whole_form, spelling, IsWholeEncoding}
+use Rattle.dns_wire.specs.NameEncoding.{rdata_mode}
 use Rattle.dns_wire.specs.declared.name_encoding.NameEncoding.{NameEncoding}
 use Rattle.dns_wire.specs.declared.name_encoding.NameEncoding.TheVariants.{Compressed}
+use Rattle.dns_wire.specs.declared.name_encoding.RDataEncoding.{RDataEncoding}
 use Rattle.dns_wire.specs.declared.error.EncodeError.{EncodeError}
 use Rattle.dns_wire.specs.declared.error.EncodeError.TheVariants.{MaxBufferSizeExceeded}
 
@@ -21,10 +24,11 @@ pub data Piece : Type 0 where
   Domain : List (List ℕ) → Piece
   Whole : List (List ℕ) → Piece
 
--- all that the encoding of the next piece depends on
+-- all that the encoding of the next value depends on
 pub record Position : Type 0 where
   pub place : ℕ
   pub encoding : NameEncoding
+  pub canonical : Bool
   pub suffixes : List Suffix
   pub attempts : ℕ
 
@@ -32,13 +36,20 @@ abbrev pub position_of : EncoderState → Position
 position_of w = record {
   place = w.offset;
   encoding = w.encoding;
+  canonical = w.canonical;
   suffixes = w.suffixes;
   attempts = w.attempts;
 }
 
--- the start of an empty buffer, where names are compressed
+-- the start of an empty buffer, where names are compressed and record data does not have its canonical form
 abbrev pub start_position : Position
-start_position = record { place = 0; encoding = Compressed; suffixes = []; attempts = 0 }
+start_position = record {
+  place = 0;
+  encoding = Compressed;
+  canonical = false;
+  suffixes = [];
+  attempts = 0;
+}
 
 -- whether a name is compressed here: only in the compressing encoding, and only the first 120 names
 abbrev pub is_compressed : Position → Bool
@@ -81,6 +92,15 @@ abbrev pub piece_reach : Position → Piece → ℕ
 piece_reach s (Plain bytes) = s.place + length bytes
 piece_reach s (Domain labels) = s.place + max (length (labels_form labels)) (length (name_form s labels))
 piece_reach s (Whole labels) = s.place + length (whole_form labels)
+
+-- ---- names in record data
+
+-- The piece of a name in record data, by the kind of the data and whether it has its canonical form: a name that is
+-- encoded as the position asks, or one that is written whole, as its kind requires.
+abbrev pub name_piece : RDataEncoding → Bool → List (List ℕ) → Piece
+name_piece kind canonical labels =
+    if compresses (rdata_mode kind canonical Compressed) then Domain labels
+    else Whole (spelling (rdata_mode kind canonical Compressed) labels)
 
 -- ---- sequences of pieces
 
@@ -135,6 +155,20 @@ pub record Puts (old : EncoderState) (bytes : List ℕ)
   pub full : (result ≡ Err MaxBufferSizeExceeded) ↔ (old.limit < old.offset + length bytes)
   pub err : OnErr result (new ≡ old)
   pub at_end : IsAtEnd old → Emits old (Plain bytes ∷ []) result new
+
+-- Writing a character string at the offset, a length byte and the bytes (RFC 1035 section 3.3): they overwrite or extend
+-- the buffer; or they would pass the limit, and nothing changes; or memory runs out, and the length byte may remain. At
+-- the end of the buffer they are two pieces, and a refused write can be rolled back.
+pub record PutsCharacterString {E : Type 0} (too_large : E) (old : EncoderState) (bytes : List ℕ)
+    (result : Result (Unit {0}) E) (new : EncoderState) : Type 0 where
+  pub ok : OnOk result (new ≡ overwrite_at (overwrite_at old (length bytes ∷ [])) bytes)
+  pub room : OnOk result (old.offset + 1 + length bytes ≤ old.limit)
+  pub full : (result ≡ Err too_large) ↔ (old.limit < old.offset + 1 + length bytes)
+  pub no_room : old.limit < old.offset + 1 + length bytes → new ≡ old
+  pub err : OnErr result ((new ≡ old) ⊎ (new ≡ overwrite_at old (length bytes ∷ [])))
+  pub appended : IsAtEnd old
+      → OnOk result (new ≡ append_pieces old (Plain (length bytes ∷ []) ∷ Plain bytes ∷ []))
+  pub back : IsAtEnd old → OnErr result (CanRollBack old new)
 
 -- the outcome of a call, without its value
 abbrev pub outcome : {X : Type 0} → Result X EncodeError → Result (Unit {0}) EncodeError

@@ -8,7 +8,7 @@ use Rattle.dns_wire.specs.declared.name_encoding.NameEncoding.{NameEncoding}
 
 -- ---- limits
 
--- the greatest size of a message (RFC 1035 section 4.2.2: a length of 16 bits)
+-- the maximum size of a message (RFC 1035 section 4.2.2: a length of 16 bits)
 abbrev pub max_message_len : ℕ
 max_message_len = 65535
 
@@ -24,9 +24,9 @@ suffix_offset_limit = 16383
 abbrev pub max_compressed_names : ℕ
 max_compressed_names = 120
 
--- the greatest length of character data (RFC 1035 section 3.3)
-abbrev pub max_character_data_len : ℕ
-max_character_data_len = 255
+-- the maximum length of a character string (RFC 1035 section 3.3)
+abbrev pub max_character_string_len : ℕ
+max_character_string_len = 255
 
 -- ---- state
 
@@ -35,7 +35,7 @@ pub record Suffix : Type 0 where
   pub start : ℕ
   pub bytes : List ℕ
 
--- The state of an encoder: the buffer, the offset of the next byte, the greatest size of the buffer, how names are
+-- The state of an encoder: the buffer, the offset of the next byte, the maximum size of the buffer, how names are
 -- encoded, whether record data has its canonical form, the remembered suffixes in order, how many names it has tried to
 -- compress, and the identity of the borrowed vector.
 pub record EncoderState : Type 0 where
@@ -108,11 +108,12 @@ trim_to_offset w = record w {
 }
 
 -- A refused write can be rolled back: returning to the old offset and trimming leaves the bytes and suffixes that were
--- before it.
+-- before it. The names that were tried still count.
 pub record CanRollBack (old new : EncoderState) : Type 0 where
   pub bytes : take old.offset new.bytes ≡ take old.offset old.bytes
   pub within : old.offset ≤ length new.bytes
   pub suffixes : suffixes_before old.offset new.suffixes ≡ suffixes_before old.offset old.suffixes
+  pub attempts : old.attempts ≤ new.attempts
   -- nothing else changes
   pub same : new ≡ record old {
     bytes = new.bytes;

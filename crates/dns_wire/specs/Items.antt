@@ -1,8 +1,10 @@
 -- Sequences of items, written up to the first that does not fit.
-use Rattle.std.specs.Prelude.{ℕ, List, [], ◌∷◌, ◌++◌, nat_lt, if◌then◌else◌}
+use Rattle.std.specs.Prelude.{◌≡◌, ◌≢◌, ◌<◌, ◌⊎◌, ℕ, List, [], ◌∷◌, ◌++◌, length, nat_lt, if◌then◌else◌, Result, Err, IfOk, IfErr}
 use Rattle.std.specs.Borrow.{Bor}
 use Rattle.dns_wire.specs.Encoder.{EncoderState}
-use Rattle.dns_wire.specs.Encodable.{Piece, Position, position_of, form, after, reach, attempts_at_limit, append_pieces}
+use Rattle.dns_wire.specs.declared.error.ProtoError.{ProtoError}
+use Rattle.dns_wire.specs.declared.error.ProtoError.TheVariants.{Memory, NotAllRecordsWritten}
+use Rattle.dns_wire.specs.Encodable.{Piece, Position, position_of, after, reach, attempts_at_limit, append_pieces, AreWritable}
 
 -- the items before the first that would reach past the limit
 abbrev pub fitting_prefix : {X : Type 0} → (X → Position → List Piece) → ℕ → Position → List X → List X
@@ -23,18 +25,6 @@ attempts_after pieces limit s (x ∷ xs) =
     if nat_lt limit (reach s (pieces x s)) then attempts_at_limit limit s (pieces x s)
     else attempts_after pieces limit (after s (pieces x s)) xs
 
--- the encoding of the items that fit
-abbrev pub fitting_form : {X : Type 0} → (X → Position → List Piece) → ℕ → Position → List X → List ℕ
-fitting_form pieces limit s xs = form s (all_pieces pieces s (fitting_prefix pieces limit s xs))
-
--- The position after the items that fit. The names of the item that was dropped count as tried, and none of its suffixes
--- is remembered.
-abbrev pub position_behind : {X : Type 0} → (X → Position → List Piece) → ℕ → Position → List X → Position
-position_behind pieces limit s xs =
-    record (after s (all_pieces pieces s (fitting_prefix pieces limit s xs))) {
-      attempts = attempts_after pieces limit s xs;
-    }
-
 -- ---- written by an encoder
 
 -- the items that fit when they are written in a state
@@ -50,6 +40,17 @@ abbrev pub append_fitting : {X : Type 0} → (X → Position → List Piece) →
 append_fitting pieces w xs = record (append_pieces w (fitting_pieces pieces w xs)) {
   attempts = attempts_after pieces w.limit (position_of w) xs;
 }
+
+-- Writing items at the end: those before the first that does not fit are written, and their number is returned if they
+-- are all of the items, or reported in the error; or memory runs out.
+pub record WritesFitting {X : Type 0} (pieces : X → Position → List Piece) (old : EncoderState) (xs : List X)
+    (result : Result ℕ ProtoError) (new : EncoderState) : Type 0 where
+  pub wrote : result ≢ Err Memory → new ≡ append_fitting pieces old xs
+  pub writable : result ≢ Err Memory → AreWritable (fitting_pieces pieces old xs)
+  pub all : IfOk result (λ n. (n ≡ length xs) × (fitting_items pieces old xs ≡ xs))
+  pub not_all : IfErr result (λ error. (error ≡ Memory)
+      ⊎ ((error ≡ NotAllRecordsWritten (length (fitting_items pieces old xs)))
+      × (length (fitting_items pieces old xs) < length xs)))
 
 -- the pieces of an item behind a reference
 abbrev pub lent_pieces : {X : Type 0} → (X → Position → List Piece) → Bor X → Position → List Piece

@@ -2,7 +2,7 @@
 use Rattle.std.specs.Prelude.{ℕ, ◌+◌, ◌<◌, ◌≤◌, List, [], ◌∷◌, length}
 use Rattle.std.specs.List.{AllByRecursion}
 
--- the greatest length of a name, in bytes of its uncompressed form
+-- the maximum length of a name, in bytes of its uncompressed form
 abbrev pub max_name_len : ℕ
 max_name_len = 255
 

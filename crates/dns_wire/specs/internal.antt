@@ -1,2 +1,3 @@
--- Lemmas that the ghost members of impls cite.
+-- Definitions and lemmas that no public clause cites.
 pub mod NumberLaws
+pub mod Sections

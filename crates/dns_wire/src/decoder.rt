@@ -173,13 +173,13 @@ impl<'a> BinDecoder<'a> {
         Ok(bytes)
     }
 
-    /// Reads character data: a length byte and as many bytes, which are not copied (RFC 1035 section 3.3).
+    /// Reads a character string: a length byte and as many bytes, which are not copied (RFC 1035 section 3.3).
     pub fn read_character_data(&mut self) -> Result<&'a [u8], DecodeError>
         ensures ok { IfOk result
             (λ bytes. rest self.old ≡ length bytes.now ∷ (bytes.now ++ rest self.new)) }
         ensures moved { IfOk result (λ bytes. Advances self.old self.new (length bytes.now + 1)) }
         ensures short { IfErr result (λ error. error ≡ DecodeError.InsufficientBytes) }
-        ensures only { (bytes more : List ℕ) → length bytes < 256
+        ensures complete { (bytes more : List ℕ) → length bytes < 256
             → rest self.old ≡ length bytes ∷ (bytes ++ more) → IsOk result }
         ensures err { OnErr result (self.new ≡ self.old) }
     {

@@ -7,7 +7,7 @@ use crate::error::{EncodeError, ProtoError};
 use crate::name_encoding::NameEncoding;
 use std::alloc::{AllocError, Global};
 
-/// The greatest size of a message (RFC 1035 section 4.2.2).
+/// The maximum size of a message (RFC 1035 section 4.2.2).
 const MAX_MESSAGE_LEN: usize = 65_535;
 
 /// How many suffixes an encoder remembers.
@@ -19,8 +19,8 @@ const SUFFIX_OFFSET_LIMIT: usize = 0x3FFF;
 /// How many names an encoder tries to compress.
 const MAX_COMPRESSED_NAMES: usize = 120;
 
-/// The greatest length of character data (RFC 1035 section 3.3).
-const MAX_CHARACTER_DATA_LEN: usize = 255;
+/// The maximum length of a character string (RFC 1035 section 3.3).
+const MAX_CHARACTER_STRING_LEN: usize = 255;
 
 /// A suffix of a name that was written, which a compression pointer can refer to.
 #[derive(Drop)]
@@ -48,11 +48,11 @@ pub struct BinEncoder<'a> {
 impl<'a> BinEncoder<'a> {
     ghost use Rattle.std.specs.Prelude.{◌≡◌, vec_len, ◌+◌, ◌<◌, ◌≤◌, ◌↔◌, ◌⊎◌, nat_lt, if◌then◌else◌, [], ◌∷◌, false, length, replicate, slice_range, IsTrue, IfErr, OnOk, OnErr};
     ghost use Rattle.std.specs.Int.{w16, w32, to_be_bytes, cast_unsigned};
-    ghost use Rattle.dns_wire.specs.Encoder.{max_message_len, max_compressed_names, max_character_data_len, state_of, overwrite_at, put_at, place_of, remember, trim_to_offset, IsAtEnd, CanRollBack};
-    ghost use Rattle.dns_wire.specs.Encodable.{Plain, Emits, Puts, append_pieces};
+    ghost use Rattle.dns_wire.specs.Encoder.{max_message_len, max_compressed_names, max_character_string_len, state_of, overwrite_at, put_at, place_of, remember, trim_to_offset, IsAtEnd, CanRollBack};
+    ghost use Rattle.dns_wire.specs.Encodable.{Plain, Emits, Puts, PutsCharacterString};
     ghost use Rattle.dns_wire.specs.declared.name_encoding.NameEncoding.TheVariants.{Compressed};
 
-    /// Creates an encoder at the start of the buffer. It compresses names, and its greatest size is 65,535 bytes.
+    /// Creates an encoder at the start of the buffer. It compresses names, and its maximum size is 65,535 bytes.
     pub fn new(alloc: Global, buffer: &'a mut Vec<u8>) -> BinEncoder<'a>
         ensures { state_of result ≡ record {
           bytes = buffer.old.items;
@@ -68,7 +68,7 @@ impl<'a> BinEncoder<'a> {
         BinEncoder::with_offset(alloc, buffer, 0, NameEncoding::Compressed)
     }
 
-    /// Creates an encoder at an offset of the buffer, with this encoding of names and a greatest size of 65,535 bytes.
+    /// Creates an encoder at an offset of the buffer, with this encoding of names and a maximum size of 65,535 bytes.
     /// The offset must not be past the end of the buffer.
     pub fn with_offset(
         alloc: Global,
@@ -148,7 +148,7 @@ impl<'a> BinEncoder<'a> {
         self.offset = offset;
     }
 
-    /// Sets the greatest size of the buffer.
+    /// Sets the maximum size of the buffer.
     pub fn set_max_size(&mut self, max: u16)
         ensures { state_of self.new ≡ record (state_of self.old) { limit = max } }
     {
@@ -234,21 +234,11 @@ impl<'a> BinEncoder<'a> {
         self.emit_u8(byte)
     }
 
-    /// Writes character data: a length byte and at most 255 bytes (RFC 1035 section 3.3).
+    /// Writes a character string: a length byte and at most 255 bytes (RFC 1035 section 3.3).
     pub fn emit_character_data_unrestricted(&mut self, bytes: &[u8]) -> Result<(), EncodeError>
         requires { length bytes.now < 256 }
-        ensures ok { OnOk result (state_of self.new
-            ≡ overwrite_at (overwrite_at (state_of self.old) (length bytes.now ∷ [])) bytes.now) }
-        ensures room { OnOk result
-            ((state_of self.old).offset + 1 + length bytes.now ≤ (state_of self.old).limit) }
-        ensures full { (result ≡ Err EncodeError.MaxBufferSizeExceeded)
-            ↔ ((state_of self.old).limit < (state_of self.old).offset + 1 + length bytes.now) }
-        ensures no_room { (state_of self.old).limit
-            < (state_of self.old).offset + 1 + length bytes.now
-            → state_of self.new ≡ state_of self.old }
-        // If memory runs out, the length byte may remain.
-        ensures err { OnErr result ((state_of self.new ≡ state_of self.old)
-            ⊎ (state_of self.new ≡ overwrite_at (state_of self.old) (length bytes.now ∷ []))) }
+        ensures puts { PutsCharacterString EncodeError.MaxBufferSizeExceeded (state_of self.old)
+            bytes.now result (state_of self.new) }
         ensures at_end { IsAtEnd (state_of self.old)
             → Emits (state_of self.old) (Plain (length bytes.now ∷ []) ∷ Plain bytes.now ∷ [])
             result (state_of self.new) }
@@ -260,47 +250,34 @@ impl<'a> BinEncoder<'a> {
         self.emit_vec(bytes)
     }
 
-    /// Writes character data: a length byte and the bytes (RFC 1035 section 3.3). More than 255 bytes are refused.
+    /// Writes a character string: a length byte and the bytes (RFC 1035 section 3.3). More than 255 bytes are refused.
     pub fn emit_character_data(&mut self, bytes: &[u8]) -> Result<(), ProtoError>
-        ensures ok { OnOk result (state_of self.new
-            ≡ overwrite_at (overwrite_at (state_of self.old) (length bytes.now ∷ [])) bytes.now) }
-        ensures room { OnOk result
-            ((state_of self.old).offset + 1 + length bytes.now ≤ (state_of self.old).limit) }
+        ensures puts { length bytes.now < 256
+            → PutsCharacterString ProtoError.MaxBufferSizeExceeded (state_of self.old)
+            bytes.now result (state_of self.new) }
         ensures long { (result ≡ Err (ProtoError.CharacterDataTooLong (length bytes.now)))
-            ↔ (max_character_data_len < length bytes.now) }
-        ensures untouched { max_character_data_len < length bytes.now
+            ↔ (max_character_string_len < length bytes.now) }
+        ensures untouched { max_character_string_len < length bytes.now
             → state_of self.new ≡ state_of self.old }
-        ensures full { length bytes.now < 256 → ((result ≡ Err ProtoError.MaxBufferSizeExceeded)
-            ↔ ((state_of self.old).limit < (state_of self.old).offset + 1 + length bytes.now)) }
         ensures only { IfErr result (λ error. (error ≡ ProtoError.Memory)
             ⊎ (error ≡ ProtoError.MaxBufferSizeExceeded)
             ⊎ (error ≡ ProtoError.CharacterDataTooLong (length bytes.now))) }
-        ensures no_room { (state_of self.old).limit
-            < (state_of self.old).offset + 1 + length bytes.now
-            → state_of self.new ≡ state_of self.old }
-        ensures err { OnErr result ((state_of self.new ≡ state_of self.old)
-            ⊎ (state_of self.new ≡ overwrite_at (state_of self.old) (length bytes.now ∷ []))) }
-        ensures appended { IsAtEnd (state_of self.old) → OnOk result (state_of self.new
-            ≡ append_pieces (state_of self.old)
-            (Plain (length bytes.now ∷ []) ∷ Plain bytes.now ∷ [])) }
-        ensures back { IsAtEnd (state_of self.old)
-            → OnErr result (CanRollBack (state_of self.old) (state_of self.new)) }
     {
-        if bytes.len() > MAX_CHARACTER_DATA_LEN {
+        if bytes.len() > MAX_CHARACTER_STRING_LEN {
             return Err(ProtoError::CharacterDataTooLong { len: bytes.len() });
         }
         self.emit_character_data_unrestricted(bytes)?;
         Ok(())
     }
 
-    /// Returns `true` if `len` bytes at the offset are within the greatest size.
+    /// Returns `true` if `len` bytes at the offset are within the maximum size.
     fn has_room(&self, len: usize) -> bool
         ensures { IsTrue result ↔ ((state_of self.now).offset + len ≤ (state_of self.now).limit) }
     {
         len <= self.max_size && self.offset <= self.max_size - len
     }
 
-    /// Writes `len` zero bytes. Nothing is allocated if they would pass the greatest size.
+    /// Writes `len` zero bytes. Nothing is allocated if they would pass the maximum size.
     pub(crate) fn emit_zeros(&mut self, len: usize) -> Result<(), EncodeError>
         ensures { Puts (state_of self.old) (replicate len 0) result (state_of self.new) }
     {
@@ -311,7 +288,7 @@ impl<'a> BinEncoder<'a> {
         self.emit_vec(&zeros)
     }
 
-    /// Returns the greatest size of the buffer.
+    /// Returns the maximum size of the buffer.
     pub(crate) fn max_size(&self) -> usize
         ensures { result ≡ (state_of self.now).limit }
     {

@@ -24,6 +24,9 @@ pub enum DecodeError {
     /// Record data of a type that cannot be decoded.
     #[error("record data of an unsupported type")]
     UnsupportedRecordType,
+    /// The data of a record is empty, which is allowed only in updates (RFC 2136 section 2.4).
+    #[error("record data is empty, which is allowed only in updates")]
+    InvalidEmptyRecord,
     /// Memory could not be allocated.
     #[error("out of memory")]
     Memory,
@@ -54,7 +57,7 @@ impl<T: Drop> From<AllocFailed<T>> for DecodeError {
 /// An error of encoding.
 #[derive(Debug, Drop, Error)]
 pub enum EncodeError {
-    /// The write would exceed the greatest size of the buffer.
+    /// The write would exceed the maximum size of the buffer.
     #[error("maximum buffer size exceeded")]
     MaxBufferSizeExceeded,
     /// Memory could not be allocated.
@@ -84,16 +87,16 @@ impl<T: Drop> From<AllocFailed<T>> for EncodeError {
     }
 }
 
-/// An error of encoding a list or character data.
+/// An error of encoding a list or a character string.
 #[derive(Debug, Drop, Error)]
 pub enum ProtoError {
     /// An item of a list did not fit, after `count` items that did.
-    #[error("not all records could be written, only {count}")]
+    #[error("only {count} records fit the buffer")]
     NotAllRecordsWritten { count: usize },
-    /// Character data is longer than 255 bytes (RFC 1035 section 3.3).
-    #[error("character data of {len} bytes exceeds 255 bytes")]
+    /// A character string is longer than 255 bytes (RFC 1035 section 3.3).
+    #[error("character string of {len} bytes exceeds 255 bytes")]
     CharacterDataTooLong { len: usize },
-    /// The write would exceed the greatest size of the buffer.
+    /// The write would exceed the maximum size of the buffer.
     #[error("maximum buffer size exceeded")]
     MaxBufferSizeExceeded,
     /// Memory could not be allocated.

@@ -2,7 +2,7 @@
 
 ghost use Rattle.std.specs.Prelude.{◌≡◌, [], ◌∷◌, if◌then◌else◌, length, IfOk, IfErr, IsOk, OnErr};
 ghost use Rattle.dns_wire.specs.Encoder.{state_of, IsAtEnd, CanRollBack};
-ghost use Rattle.dns_wire.specs.Items.{fitting_items, fitting_pieces, append_fitting, lent_pieces};
+ghost use Rattle.dns_wire.specs.Items.{fitting_items, fitting_pieces, append_fitting, lent_pieces, WritesFitting};
 ghost use Rattle.dns_wire.specs.Encodable.{position_of, AllBehind, AreWritable};
 
 use crate::encodable::BinEncodable;
@@ -78,16 +78,10 @@ impl<'a> BinEncoder<'a> {
         requires behind { AllBehind (position_of (state_of self.old)) }
         requires can { I.can_next items }
         requires ends { IsFinite (I.remaining items) }
-        ensures gives { (xs : List (Bor T)) × (result ≢ Err ProtoError.Memory
-            → Drains I.next_gives items xs
-            × (state_of self.new ≡ append_fitting (lent_pieces T.pieces) (state_of self.old) xs)
-            × AreWritable (fitting_pieces (lent_pieces T.pieces) (state_of self.old) xs))
-            × IfOk result (λ n. (n ≡ length xs)
-            × (fitting_items (lent_pieces T.pieces) (state_of self.old) xs ≡ xs))
-            × IfErr result (λ error. (error ≡ ProtoError.Memory)
-            ⊎ ((error ≡ ProtoError.NotAllRecordsWritten
-            (length (fitting_items (lent_pieces T.pieces) (state_of self.old) xs)))
-            × (length (fitting_items (lent_pieces T.pieces) (state_of self.old) xs) < length xs))) }
+        ensures items { (xs : List (Bor T))
+            × (result ≢ Err ProtoError.Memory → Drains I.next_gives items xs)
+            × WritesFitting (lent_pieces T.pieces) (state_of self.old) xs
+            result (state_of self.new) }
         ensures at_end { result ≢ Err ProtoError.Memory → IsAtEnd (state_of self.new) }
         ensures behind { result ≢ Err ProtoError.Memory
             → AllBehind (position_of (state_of self.new)) }

@@ -1,12 +1,15 @@
 //! Laws: what the definitions of this crate imply, as functions with empty bodies.
 
-ghost use Rattle.std.specs.Prelude.{◌≡◌, ◌+◌, ◌≤◌, List, ℕ, [], ◌∷◌, ◌++◌, length, Result, Ok, Err};
+ghost use Rattle.std.specs.Prelude.{◌≡◌, ◌+◌, ◌≤◌, Bool, List, ℕ, [], ◌∷◌, ◌++◌, length, Result, Ok, Err};
 ghost use Rattle.dns_wire.specs.Laws.{Part, state_after, IsLost, Calls, SurvivorsDecode, ArePointerTargetsUnlessLost};
 ghost use Rattle.dns_wire.specs.Encoder.{EncoderState, IsAtEnd, CanRollBack, put_at, trim_to_offset};
-ghost use Rattle.dns_wire.specs.Encodable.{Piece, Plain, Domain, Whole, position_of, after, reach, append_pieces, Emits, PiecesAt, AreWritable, AllBehind};
+ghost use Rattle.dns_wire.specs.Encodable.{Piece, Plain, Domain, Whole, position_of, after, reach, append_pieces, name_piece, Emits, PiecesAt, IsWritable, AreWritable, AllBehind};
+ghost use Rattle.dns_wire.specs.Name.{AreLabels};
+ghost use Rattle.dns_wire.specs.NameEncoding.{rdata_mode};
 ghost use Rattle.dns_wire.specs.Writing.{ArePointerTargets, IsWholeEncoding, spelling};
 ghost use Rattle.dns_wire.specs.declared.error.EncodeError.{EncodeError};
 ghost use Rattle.dns_wire.specs.declared.name_encoding.NameEncoding.{NameEncoding};
+ghost use Rattle.dns_wire.specs.declared.name_encoding.RDataEncoding.{RDataEncoding};
 
 pub use dns_codes::laws::{
     class_number_round_trips, serials_compare_by_distance, type_number_round_trips,
@@ -26,7 +29,7 @@ pub fn pieces_decode_as_written()
 /// truncated. Every remembered suffix that was not truncated can be the target of a pointer (RFC 1035 section 4.1.4).
 ///
 /// The calls are writes at the end, refused writes that are rolled back, setting the offset back and trimming, filling
-/// places, and setting modes and the greatest size. No suffix is stored by hand.
+/// places, and setting modes and the maximum size. No suffix is stored by hand.
 pub fn surviving_writes_decode()
     ensures { (old w : EncoderState) (parts : List Part)
         → IsAtEnd old → ArePointerTargets old.bytes old.suffixes → Calls old parts w
@@ -59,6 +62,19 @@ pub fn whole_encodings_write_whole_names()
         → Emits (record old { encoding = encoding }) (Domain labels ∷ []) result new
         → Emits old (Whole (spelling encoding labels) ∷ []) result
         (record new { encoding = old.encoding }) }
+{}
+
+/// A name that is emitted while the encoding that its record data requires is set for it alone is written as its
+/// `name_piece` (RFC 3597 section 4, RFC 4034 section 6.2), which is writable if the labels are those of a name.
+pub fn record_data_encodings_write_name_pieces()
+    ensures emits { (old new : EncoderState) (kind : RDataEncoding) (labels : List (List ℕ))
+        (result : Result (Unit {0}) EncodeError)
+        → Emits (record old { encoding = rdata_mode kind old.canonical old.encoding })
+        (Domain labels ∷ []) result new
+        → Emits old (name_piece kind old.canonical labels ∷ []) result
+        (record new { encoding = old.encoding }) }
+    ensures writable { (kind : RDataEncoding) (canonical : Bool) (labels : List (List ℕ))
+        → AreLabels labels → IsWritable (name_piece kind canonical labels) }
 {}
 
 /// A write that can be rolled back can be rolled back together with those before it. Rolling back restores the state,
@@ -94,7 +110,7 @@ pub fn filling_a_place_is_writing_its_value()
 {}
 
 /// An emission whose bytes are later overwritten with as many others is the emission of the others, and so is a refused
-/// one. A place that was emitted lies within the greatest size.
+/// one. A place that was emitted lies within the maximum size.
 pub fn filled_emissions_are_emissions()
     ensures filled { (old middle new : EncoderState) (earlier later : List Piece) (a b : List ℕ)
         → IsAtEnd old → length a ≡ length b

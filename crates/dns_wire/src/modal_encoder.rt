@@ -27,12 +27,11 @@ impl<'a, 'e> ModalEncoder<'a, 'e> {
 }
 
 impl Drop for ModalEncoder<'_, '_> {
-    ghost use Rattle.dns_wire.specs.Encoder.{state_of};
-    ghost use Rattle.dns_wire.specs.ModalEncoder.{modal_state, saved_encoding};
+    ghost use Rattle.dns_wire.specs.ModalEncoder.{modal_state, saved_encoding, released_state};
 
     /// Sets the encoding that the guard holds.
     fn drop(self)
-        ensures { state_of self.exit.1.0.now
+        ensures { released_state self.exit
             ≡ record (modal_state self.entry) { encoding = saved_encoding self.entry } }
     {
         let ModalEncoder { previous, encoder } = self;
@@ -72,14 +71,23 @@ impl<'a> BinEncoder<'a> {
         ensures previous { saved_encoding result ≡ (state_of self.old).encoding }
         ensures borrow { modal_lender result ≡ self.entry.ghost_name }
     {
-        let name_encoding = match (rdata_encoding, self.is_canonical_form()) {
+        let name_encoding = self.rdata_name_encoding(rdata_encoding);
+        self.with_name_encoding(name_encoding)
+    }
+
+    /// Returns the encoding of names that this kind of record data requires. To encode a name with it alone, set it,
+    /// and set the previous encoding again afterwards.
+    pub fn rdata_name_encoding(&self, rdata_encoding: RDataEncoding) -> NameEncoding
+        ensures { result ≡ rdata_mode rdata_encoding
+            (state_of self.now).canonical (state_of self.now).encoding }
+    {
+        match (rdata_encoding, self.is_canonical_form()) {
             (RDataEncoding::StandardRecord, false) => self.name_encoding(),
             (RDataEncoding::StandardRecord | RDataEncoding::Canonical, true) => {
                 NameEncoding::UncompressedLowercase
             }
             (RDataEncoding::Canonical, false) | (RDataEncoding::Other, _) =>
                 NameEncoding::Uncompressed,
-        };
-        self.with_name_encoding(name_encoding)
+        }
     }
 }

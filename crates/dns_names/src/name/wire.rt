@@ -13,6 +13,7 @@ ghost use Rattle.dns_names.specs.internal.Wire.{label_pieces, labels_pieces, who
 use crate::name::Name;
 use dns_wire::{
     BinDecodable, BinDecoder, BinEncodable, BinEncoder, DecodeError, EncodeError, NameEncoding,
+    RDataEncoding,
 };
 use std::alloc::Global;
 
@@ -147,6 +148,31 @@ impl BinEncodable for Name {
 }
 
 impl Name {
+    ghost use Rattle.std.specs.Prelude.{[], ◌∷◌, IsOk};
+    ghost use Rattle.dns_wire.specs.Encodable.{name_piece, AreWritable};
+
+    /// Encodes the name as record data of this kind requires (RFC 3597 section 4, RFC 4034 section 6.2). The encoding of
+    /// names is set for this name alone, and restored on an error too.
+    pub fn emit_with_behavior(
+        &self,
+        behavior: RDataEncoding,
+        encoder: &mut BinEncoder<'_>,
+    ) -> Result<(), EncodeError>
+        requires { IsAtEnd (state_of encoder.old) }
+        ensures emits { Emits (state_of encoder.old)
+            (name_piece behavior (state_of encoder.old).canonical self.now.labels ∷ [])
+            result (state_of encoder.new) }
+        ensures writable { IsOk result → AreWritable
+            (name_piece behavior (state_of encoder.old).canonical self.now.labels ∷ []) }
+    {
+        let previous = encoder.name_encoding();
+        let required = encoder.rdata_name_encoding(behavior);
+        encoder.set_name_encoding(required);
+        let result = self.emit(encoder);
+        encoder.set_name_encoding(previous);
+        result
+    }
+
     /// Encodes the name without compression, with the case that it has.
     fn emit_whole(&self, encoder: &mut BinEncoder<'_>) -> Result<(), EncodeError>
         requires { IsAtEnd (state_of encoder.old) }

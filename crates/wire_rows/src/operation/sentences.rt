@@ -20,6 +20,7 @@ pub(crate) fn decode_error(alloc: Global, name: &str) -> Answer {
             "DomainNameTooLong" => DecodeError::DomainNameTooLong,
             "IncorrectRDataLengthRead" => DecodeError::IncorrectRDataLengthRead,
             "UnsupportedRecordType" => DecodeError::UnsupportedRecordType,
+            "InvalidEmptyRecord" => DecodeError::InvalidEmptyRecord,
             // The row names want of memory.
             "Memory" => DecodeError::Memory,
             _ => return Err(RowFault::MalformedInput),

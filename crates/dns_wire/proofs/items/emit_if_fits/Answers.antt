@@ -1,4 +1,4 @@
-use Rattle.std.proofs.Common.{◌≡◌, ℕ, refl, ap, ◌∙◌}
+use Rattle.std.proofs.Common.{ℕ, refl, ap, ◌∙◌}
 use Rattle.dns_wire.specs.Encoder.{state_of, trim_to_offset}
 use Rattle.dns_wire.proofs.ItemLaws.{one_written, one_dropped}
 use Rattle.dns_wire.proofs.items.emit_if_fits.Goals as goal

@@ -1,7 +1,7 @@
 use Rattle.std.proofs.Common.{◌≤◌}
 use Rattle.dns_text.specs.internal.Ttl.{total}
 use Rattle.dns_text.proofs.TtlLaws.{Underway}
-use Rattle.dns_text.proofs.ttl.parse_ttl.Given as goal
+use Rattle.dns_text.proofs.ttl.parse_ttl_bytes.Given as goal
 
 -- what was counted up to here is a time, and no fault came
 abbrev pub invariant-loop-place : goal.invariant-loop-place

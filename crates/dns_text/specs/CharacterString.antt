@@ -1,0 +1,50 @@
+-- Character strings in text (RFC 1035 section 5.1).
+use Rattle.std.specs.Prelude.{ℕ, zero, suc, ◌==◌, ◌||◌, ◌&&◌, nat_le, if◌then◌else◌, Bool, List, [], ◌∷◌, ◌++◌, Option, Some, None}
+use Rattle.dns_names.specs.Parse.{Symbol, Dot, Plain, Escaped, Broken, escape, escape_len}
+use Rattle.dns_names.specs.Print.{escape_sequence}
+
+-- ---- parsing
+
+abbrev pub escaped_octet : Symbol → Option ℕ
+escaped_octet (Escaped octet) = Some octet
+escaped_octet _ = None
+
+-- the octet that a text begins with: that of the escape after a backslash, or the first character itself
+abbrev pub first_octet : ℕ → List ℕ → Option ℕ
+first_octet c cs = if c == 92 then escaped_octet (escape cs) else Some c
+
+-- how many characters follow the first in the text of that octet
+abbrev pub more_len : ℕ → List ℕ → ℕ
+more_len c cs = if c == 92 then escape_len cs else 0
+
+-- an octet and the octets after it, if each is one
+abbrev pub octet_before : Option ℕ → Option (List ℕ) → Option (List ℕ)
+octet_before (Some octet) (Some octets) = Some (octet ∷ octets)
+octet_before _ _ = None
+
+-- the octets of a text, after `past` more characters of the octet before
+abbrev pub unescaped_after : ℕ → List ℕ → Option (List ℕ)
+unescaped_after past [] = Some []
+unescaped_after zero (c ∷ cs) = octet_before (first_octet c cs) (unescaped_after (more_len c cs) cs)
+unescaped_after (suc past) (c ∷ cs) = unescaped_after past cs
+
+-- The octets of a string, from its text without quotes. A backslash and three decimal digits up to 255 denote an octet, a
+-- backslash and another printable character that character, and any other character itself.
+abbrev pub unescaped : List ℕ → Option (List ℕ)
+unescaped text = unescaped_after 0 text
+
+-- ---- printing
+
+-- an octet between quotes: `"` and `\` after a backslash, other printable characters as themselves, and the rest as `\DDD`
+abbrev pub octet_text : ℕ → List ℕ
+octet_text c =
+    if c == 34 || c == 92 then 92 ∷ c ∷ []
+    else if nat_le 32 c && nat_le c 126 then c ∷ []
+    else escape_sequence c
+
+abbrev pub escaped_text : List ℕ → List ℕ
+escaped_text [] = []
+escaped_text (c ∷ cs) = octet_text c ++ escaped_text cs
+
+abbrev pub quoted_text : List ℕ → List ℕ
+quoted_text octets = 34 ∷ escaped_text octets ++ 34 ∷ []
