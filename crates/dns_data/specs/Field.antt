@@ -1,13 +1,14 @@
 -- The fields of record data: a type has a fixed sequence of kinds, and data of the type has a value of each (RFC 1035
 -- section 3.3).
-use Rattle.std.specs.Prelude.{◌≡◌, ◌≢◌, ◌<◌, ◌^◌, ◌==◌, Bool, true, false, ℕ, List, [], ◌∷◌, ◌++◌, length, flat_map}
+use Rattle.std.specs.Prelude.{◌≡◌, ◌≢◌, ◌<◌, ◌^◌, ◌==◌, Bool, true, false, ℕ, List, [], ◌∷◌, ◌++◌, length, map, flat_map}
 use Rattle.std.specs.List.{AllByRecursion}
 use Rattle.std.specs.Int.{w16, w32, to_be_bytes}
 use Rattle.std.specs.Net.Addr.{ipv4_octets, ipv6_octets, ipv6_segments}
 use Rattle.std.specs.declared.net.ipv4_addr.Ipv4Addr.{Ipv4Addr}
 use Rattle.std.specs.declared.net.ipv6_addr.Ipv6Addr.{Ipv6Addr}
 use Rattle.dns_names.specs.Name.{DomainName}
-use Rattle.dns_wire.specs.Encodable.{Piece, Plain, Domain, Whole}
+use Rattle.dns_wire.specs.Encodable.{Piece, Plain, name_piece}
+use Rattle.dns_wire.specs.declared.name_encoding.RDataEncoding.TheVariants.{StandardRecord, Canonical}
 
 -- the code and the data of an option (RFC 6891 section 6.1.2)
 pub record OptionValue : Type 0 where
@@ -56,22 +57,28 @@ string_form string = length string ∷ string
 abbrev pub option_form : OptionValue → List ℕ
 option_form option = to_be_bytes w16 option.code ++ (to_be_bytes w16 (length option.bytes) ++ option.bytes)
 
-abbrev pub value_piece : (kind : Kind) → ValueOf kind → Piece
-value_piece Number16 number = Plain (to_be_bytes w16 number)
-value_piece Number32 number = Plain (to_be_bytes w32 number)
-value_piece Seconds seconds = Plain (to_be_bytes w32 seconds)
-value_piece Address4 address = Plain (ipv4_octets address)
-value_piece Address6 address = Plain (ipv6_octets address)
-value_piece CompressibleName name = Domain name.labels
-value_piece WholeName name = Whole name.labels
-value_piece Strings strings = Plain (flat_map string_form strings)
-value_piece Options options = Plain (flat_map option_form options)
-value_piece Opaque bytes = Plain bytes
+abbrev pub option_pieces : OptionValue → List Piece
+option_pieces option =
+    Plain (to_be_bytes w16 option.code) ∷ Plain (to_be_bytes w16 (length option.bytes)) ∷ Plain option.bytes ∷ []
+
+-- The encoding of a value. In canonical form, names are written whole and in lower case (RFC 4034 section 6.2).
+abbrev pub value_pieces : Bool → (kind : Kind) → ValueOf kind → List Piece
+value_pieces canonical Number16 number = Plain (to_be_bytes w16 number) ∷ []
+value_pieces canonical Number32 number = Plain (to_be_bytes w32 number) ∷ []
+value_pieces canonical Seconds seconds = Plain (to_be_bytes w32 seconds) ∷ []
+value_pieces canonical Address4 address = Plain (ipv4_octets address) ∷ []
+value_pieces canonical Address6 address = Plain (ipv6_octets address) ∷ []
+value_pieces canonical CompressibleName name = name_piece StandardRecord canonical name.labels ∷ []
+value_pieces canonical WholeName name = name_piece Canonical canonical name.labels ∷ []
+value_pieces canonical Strings strings = map (λ string. Plain (string_form string)) strings
+value_pieces canonical Options options = flat_map option_pieces options
+value_pieces canonical Opaque bytes = Plain bytes ∷ []
 
 -- the values one after another
-abbrev pub value_pieces : (kinds : List Kind) → Values kinds → List Piece
-value_pieces [] values = []
-value_pieces (kind ∷ kinds) values = value_piece kind values.0 ∷ value_pieces kinds values.1
+abbrev pub values_pieces : Bool → (kinds : List Kind) → Values kinds → List Piece
+values_pieces canonical [] values = []
+values_pieces canonical (kind ∷ kinds) values =
+    value_pieces canonical kind values.0 ++ values_pieces canonical kinds values.1
 
 -- ---- sound values
 

@@ -3,10 +3,11 @@ use Rattle.std.specs.Prelude.{◌≡◌, ◌≢◌, ◌+◌, ◌<◌, ◌≤◌,
 use Rattle.std.specs.Int.{w16, w32, to_be_bytes}
 use Rattle.std.specs.Net.Addr.{ipv4_octets, ipv6_octets}
 use Rattle.dns_wire.specs.Reading.{ReadsName, RefusesName}
-use Rattle.dns_wire.specs.Decodable.{BytesAt}
+use Rattle.dns_wire.specs.Encodable.{BytesAt, PiecesAt}
+use Rattle.dns_wire.specs.declared.name_encoding.NameEncoding.TheVariants.{Uncompressed}
 use Rattle.dns_wire.specs.declared.error.DecodeError.{DecodeError}
 use Rattle.dns_wire.specs.declared.error.DecodeError.TheVariants.{InsufficientBytes, IncorrectRDataLengthRead}
-use Rattle.dns_data.specs.Field.{OptionValue, Kind, Number16, Number32, Seconds, Address4, Address6, CompressibleName, WholeName, Strings, Options, Opaque, ValueOf, Values, string_form, option_form}
+use Rattle.dns_data.specs.Field.{OptionValue, Kind, Number16, Number32, Seconds, Address4, Address6, CompressibleName, WholeName, Strings, Options, Opaque, ValueOf, Values, string_form, option_pieces}
 
 -- a character string
 abbrev pub StringAt : List ℕ → ℕ → List ℕ → ℕ → Type 0
@@ -15,7 +16,8 @@ StringAt bytes place string end = BytesAt bytes place (string_form string) end �
 -- an option
 abbrev pub OptionAt : List ℕ → ℕ → OptionValue → ℕ → Type 0
 OptionAt bytes place option end =
-    BytesAt bytes place (option_form option) end × (option.code < 2 ^ 16) × (length option.bytes < 2 ^ 16)
+    PiecesAt Uncompressed bytes place (option_pieces option) end
+    × (option.code < 2 ^ 16) × (length option.bytes < 2 ^ 16)
 
 -- Items follow one another until the data ends. The last may extend past its end.
 pub data ItemsUpTo {Item : Type 0} (ItemAt : ℕ → Item → ℕ → Type 0) (data_end : ℕ) : ℕ → List Item → ℕ → Type 0 where

@@ -9,7 +9,7 @@ pub mod PTR
 pub mod SOA
 pub mod SRV
 pub mod TXT
-use Rattle.std.specs.Prelude.{◌≡◌, ◌≢◌, ◌+◌, ◌/◌, ◌%◌, ◌<◌, ◌^◌, ℕ, List, [], ◌∷◌, ◌++◌, length, flat_map, codes, true, false, Option}
+use Rattle.std.specs.Prelude.{Bool, ◌≡◌, ◌≢◌, ◌+◌, ◌/◌, ◌%◌, ◌<◌, ◌^◌, ℕ, List, [], ◌∷◌, ◌++◌, length, flat_map, codes, true, false, Option}
 use Rattle.std.specs.Char.{digit_char}
 use Rattle.std.specs.Fmt.{decimal}
 use Rattle.dns_codes.specs.RecordType.{type_number, type_of}
@@ -20,7 +20,7 @@ use Rattle.dns_wire.specs.declared.name_encoding.NameEncoding.TheVariants.{Uncom
 use Rattle.dns_wire.specs.declared.error.DecodeError.{DecodeError}
 use Rattle.dns_names.specs.Name.{DomainName}
 use Rattle.dns_text.specs.Lexer.{Lexeme}
-use Rattle.dns_data.specs.Field.{Kind, Opaque, Values, option_form, value_pieces, AreSoundValues}
+use Rattle.dns_data.specs.Field.{Kind, Opaque, Values, option_form, values_pieces, AreSoundValues}
 use Rattle.dns_data.specs.Text.{AreParsed, RefusesTokens, values_text, has_text}
 use Rattle.dns_data.specs.declared.error.RDataParseError.{RDataParseError}
 use Rattle.dns_data.specs.declared.error.RDataParseError.TheVariants.{UnsupportedRecordType}
@@ -101,12 +101,13 @@ kinds_of_type other = Opaque ∷ []
 
 -- ---- encodings
 
-abbrev pub data_pieces : RData → List Piece
-data_pieces d = value_pieces (data_kinds d) (data_values d)
+-- the encoding of data, in canonical form or not
+abbrev pub data_pieces : Bool → RData → List Piece
+data_pieces canonical d = values_pieces canonical (data_kinds d) (data_values d)
 
 -- the length of data whose names are not compressed
 abbrev pub whole_len : RData → ℕ
-whole_len d = length (form (record start_position { encoding = Uncompressed }) (data_pieces d))
+whole_len d = length (form (record start_position { encoding = Uncompressed }) (data_pieces false d))
 
 -- ---- sound data
 
@@ -131,7 +132,7 @@ pub record IsSoundData (d : RData) : Type 0 where
 pub record ReadsData (bytes : List ℕ) (place : ℕ) (record_type : RecordType) (len : ℕ) (d : RData) : Type 0 where
   pub of_type : data_type d ≡ type_of (type_number record_type)
   pub sound : IsSoundData d
-  pub there : PiecesAt Uncompressed bytes place (data_pieces d) (place + len)
+  pub there : PiecesAt Uncompressed bytes place (data_pieces false d) (place + len)
 
 -- The first fault of data of a type. Empty data has none.
 abbrev pub RefusesData : List ℕ → ℕ → RecordType → ℕ → DecodeError → Type 0
