@@ -18,11 +18,11 @@ equal a b e = grind (arith, nat_tests)
 other : (a b : ℕ) → (a == b) ≡ false → a ≢ b
 other a b e q = grind (arith, nat_tests)
 
-tested : {P : Type 0} (t : Bool) → (t ≡ true → P) → (t ≡ false → P) → P
+pub tested : {P : Type 0} (t : Bool) → (t ≡ true → P) → (t ≡ false → P) → P
 tested true p q = p refl
 tested false p q = q refl
 
-unequal : (a b : ℕ) → a ≢ b → (a == b) ≡ false
+pub unequal : (a b : ℕ) → a ≢ b → (a == b) ≡ false
 unequal a b n = tested (a == b) (λ e. absurd (n (equal a b e))) (λ e. e)
 
 both : (a b : Bool) → (a && b) ≡ true → (a ≡ true) × (b ≡ true)
@@ -43,7 +43,7 @@ return_at c [] e f = absurd (cc)
 return_at c (d ∷ ds) e f =
     subst (λ (k : ℕ). IsLineOver (k ∷ d ∷ ds)) (sym (equal c 13 e)) (subst (λ (k : ℕ). IsLineOver (13 ∷ k ∷ ds)) (sym (equal d 10 f)) (by_line_end return_and_feed))
 
-no_line : (c : ℕ) (cs : List ℕ) → (c == 10) ≡ false → (c == 13 && begins_with_feed cs) ≡ false → line_end (c ∷ cs) ≡ 0
+pub no_line : (c : ℕ) (cs : List ℕ) → (c == 10) ≡ false → (c == 13 && begins_with_feed cs) ≡ false → line_end (c ∷ cs) ≡ 0
 no_line c cs e f = rw (e, f) refl
 
 over_or_not : (c : ℕ) (cs : List ℕ) → IsLineOver (c ∷ cs) ⊎ (line_end (c ∷ cs) ≡ 0)
@@ -67,7 +67,7 @@ stays_on c cs goes = at (over_or_not c cs)
     at (inl over) = absurd (goes over)
     at (inr e) = e
 
-goes_on : (c : ℕ) (cs : List ℕ) → line_end (c ∷ cs) ≡ 0 → ¬ IsLineOver (c ∷ cs)
+pub goes_on : (c : ℕ) (cs : List ℕ) → line_end (c ∷ cs) ≡ 0 → ¬ IsLineOver (c ∷ cs)
 goes_on c cs e over = let some : 0 < line_end (c ∷ cs) = over_some over (omega arith) in omega arith
 
 line_stays : {text : List ℕ} → IsLineOver text → (p : ℕ) → line_from p text ≡ p
@@ -130,7 +130,7 @@ run_stops (by_stop {r = r} {c = c} {rest = rest} e) = at (not (line_end (c ∷ r
     at true b e = refl
     at false b e = e
 
-run_read : {r : Run} {text run rest : List ℕ} → RunGoesTo r text run rest → IsRunOver r rest → run_from r false 0 text ≡ Some (length run)
+pub run_read : {r : Run} {text run rest : List ℕ} → RunGoesTo r text run rest → IsRunOver r rest → run_from r false 0 text ≡ Some (length run)
 run_read {r} {run = run} {rest = rest} goes over = run_on goes 0 ∙ run_ends r false (0 + length run) rest (run_stops over) ∙ ap (λ (n : ℕ). Some n) (omega arith)
 
 run_breaks : {r : Run} {text run rest : List ℕ} → RunGoesTo r text run (92 ∷ rest) → IsLineOver rest → run_from r false 0 text ≡ None
@@ -151,7 +151,7 @@ word_first c cs e f =
         → (if not (l == 0) then f1 else if s then f2 else if t then f3 else if u then f4 else if v then f5 else if w then f6 else f7) ≡ f7
     last l s t u v w f1 f2 f3 f4 f5 f6 f7 e1 e2 e3 e4 e5 e6 = rw (e1, e2, e3, e4, e5, e6) refl
 
-word_begun : {text run rest : List ℕ} → RunGoesTo Bare text run rest → 0 < length run → front text ≡ by_len.word (run_from Bare false 0 text)
+pub word_begun : {text run rest : List ℕ} → RunGoesTo Bare text run rest → 0 < length run → front text ≡ by_len.word (run_from Bare false 0 text)
 word_begun no_further some = absurd (omega arith)
 word_begun (unescaped {c = c} {text = text} goes e n more) some = word_first c text (stays_on c text goes) e
 word_begun (escaped {c = c} {text = text} goes more) some = word_first 92 (c ∷ text) refl refl
