@@ -1,12 +1,12 @@
 -- Names that are read from text.
-use Rattle.std.proofs.Common.{◌≡◌, ℕ, zero, suc, ◌+◌, ◌<◌, ◌≤◌, true, false, List, [], ◌∷◌, ◌++◌, length, drop, Ok, Err, refl, ap, ◌∙◌, arith, length-drop}
+use Rattle.std.proofs.Common.{◌≡◌, ◌≢◌, ℕ, zero, suc, ◌+◌, ◌<◌, ◌≤◌, true, false, List, [], ◌∷◌, ◌++◌, length, drop, Ok, Err, refl, ap, ◌∙◌, arith, length-drop}
 use Rattle.std.specs.Prelude.{◌==◌, nat_lt}
 use Rattle.std.proofs.lemmas.List.{drop-drop}
 use Rattle.std.proofs.lemmas.Bool.Decides.{nat_tests}
 use Rattle.dns_wire.specs.Name.{name_len}
 use Rattle.dns_names.proofs.Underway.{name_len-push}
-use Rattle.dns_names.specs.declared.error.ParseError.TheVariants.{DomainNameTooLong}
-use Rattle.dns_names.specs.Parse.{Symbol, PartialName, SymbolAt, end_label, push_symbol, name_of_symbols, symbols_from, symbol, more_len}
+use Rattle.dns_names.specs.declared.error.ParseError.TheVariants.{DomainNameTooLong, Text}
+use Rattle.dns_names.specs.Parse.{Symbol, Broken, PartialName, SymbolAt, end_label, push_symbol, name_of_symbols, symbols_from, symbol, more_len}
 
 pub ends_too_long : (b : PartialName) → (length b.label == 0) ≡ false → 255 < name_len b.labels + (length b.label + 1) → end_label b ≡ Err DomainNameTooLong
 ends_too_long b some over =
@@ -46,6 +46,11 @@ symbols-next place text within =
 
 pub taken : (b next : PartialName) (p : SymbolAt) (ps : List SymbolAt) → push_symbol b p ≡ Ok next → name_of_symbols b (p ∷ ps) ≡ name_of_symbols next ps
 taken b next p ps e = rw (e, name_of_symbols) refl
+
+-- a symbol that is taken is valid
+pub not_broken : (b next : PartialName) (place : ℕ) (s : Symbol) → push_symbol b (record { place = place; symbol = s }) ≡ Ok next → s ≢ Broken
+not_broken b next place s accepted broken =
+    let refused : push_symbol b (record { place = place; symbol = s }) ≡ Err (Text place) = rw broken refl in cc
 
 -- a symbol that is taken, and the text behind it
 pub goes_on : (b next : PartialName) (place : ℕ) (text : List ℕ) (s : Symbol) (more : ℕ) → place < length text → s ≡ symbol (drop place text) → more ≡ more_len (drop place text)

@@ -33,6 +33,10 @@ text_of_labels is_fqdn (label ∷ labels) = label_text label ++ (dotted_labels l
 abbrev pub text_of_name : DomainName → List ℕ
 text_of_name name = text_of_labels name.is_fqdn name.labels
 
+-- what `{:?}` writes: the type, and the text in parentheses and quotes
+abbrev pub debug_text : List ℕ → List ℕ → List ℕ
+debug_text type text = type ++ (40 ∷ 34 ∷ text) ++ 34 ∷ 41 ∷ []
+
 -- the bytes of a label are octets
 abbrev pub AreOctets : List ℕ → Type 0
 AreOctets label = AllByRecursion (λ c. c < 256) label

@@ -18,7 +18,7 @@ pub enum ParseError {
     /// The character at this byte offset is not allowed there, or is a backslash without a valid escape. In a time it
     /// is the first character such that the text up to and including it is not a time of 32 bits, or 0 if the text is
     /// empty. For a name that is not a reverse name it is 0.
-    #[error("invalid character at byte {0}")]
+    #[error("invalid text at byte {0}")]
     Text(usize),
     /// Memory could not be allocated.
     #[error("out of memory")]

@@ -1,6 +1,6 @@
 //! Conversion into labels.
 
-ghost use Rattle.std.specs.Prelude.{ℕ, List, Result, Ok, string_bytes};
+ghost use Rattle.std.specs.Prelude.{◌≡◌, ℕ, List, Result, Ok, Err, string_bytes};
 ghost use Rattle.dns_names.specs.Label.{label_of_bytes, label_of_text};
 ghost use Rattle.dns_names.specs.declared.error.ParseError.{ParseError};
 ghost use Rattle.dns_wire.specs.Error.{IsUnless};
@@ -16,7 +16,8 @@ pub trait IntoLabel: Sized {
 
     /// Converts the value into a label.
     fn into_label(self, alloc: Global) -> Result<Label, ParseError>
-        ensures { IsUnless ParseError.Memory (label self) result };
+        ensures outcome { IsUnless ParseError.Memory (label self) result }
+        ensures fault { (error : ParseError) → label self ≡ Err error → result ≡ Err error };
 }
 
 impl IntoLabel for Label {

@@ -1,6 +1,6 @@
 //! Labels (RFC 1035 sections 2.3.1 and 2.3.4).
 
-ghost use Rattle.std.specs.Prelude.{◌≡◌, ◌≢◌, ◌==◌, ◌≤◌, [], ◌∷◌, Err, length, IsOk, IfOk, IfErr};
+ghost use Rattle.std.specs.Prelude.{◌≡◌, ◌≢◌, ◌≤◌, false, [], ◌∷◌, Err, length, IsOk, IfOk, IfErr};
 ghost use Rattle.std.specs.Str.{str_to_ascii_lowercase, str_eq_ignore_ascii_case, bytes_eq};
 ghost use Rattle.dns_wire.specs.Name.{IsLabel};
 ghost use Rattle.dns_names.specs.Label.{label_of_bytes, label_of_text, refused_from};
@@ -58,12 +58,16 @@ impl Label {
     /// A dot separates labels, so it is not allowed (RFC 1035 section 5.1).
     pub fn from_ascii(alloc: Global, text: &str) -> Result<Label, ParseError>
         ensures outcome { IsUnless ParseError.Memory (label_of_text text.now) result }
+        ensures fault { (error : ParseError) → label_of_text text.now ≡ Err error
+            → result ≡ Err error }
         ensures inline { length text.now ≤ 24 → IfErr result (λ error. error ≢ ParseError.Memory) }
     {
-        let label = Label::from_raw_bytes(alloc, text.as_bytes())?;
-        match first_refused(text.as_bytes()) {
-            None => Ok(label),
-            Some(place) => Err(ParseError::Text(place)),
+        let bytes = text.as_bytes();
+        match first_refused(bytes) {
+            Some(place) if !bytes.is_empty() && bytes.len() <= Label::MAX_LENGTH => {
+                Err(ParseError::Text(place))
+            }
+            _ => Label::from_raw_bytes(alloc, bytes),
         }
     }
 
@@ -125,7 +129,7 @@ impl Label {
 
     /// Returns `false`: a label has at least one byte.
     pub fn is_empty(&self) -> bool
-        ensures { result ≡ (length self.now == 0) }
+        ensures { result ≡ false }
     {
         self.bytes.is_empty()
     }

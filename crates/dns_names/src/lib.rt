@@ -28,3 +28,4 @@ pub use label::compare::{CaseInsensitive, CaseSensitive, LabelCmp};
 pub use lower_name::LowerName;
 pub use name::{LabelIter, Name};
 pub use reverse::AddrPrefix;
+pub use text::escaped_octet;

@@ -1,6 +1,6 @@
 //! Names in lower case.
 
-ghost use Rattle.std.specs.Prelude.{◌≡◌, ◌==◌, ◌&&◌, length, IfOk};
+ghost use Rattle.std.specs.Prelude.{◌≡◌, ◌==◌, ◌&&◌, false, length, IfOk};
 ghost use Rattle.std.specs.Ordering.{as_partial_cmp};
 ghost use Rattle.std.proofs.Common.{refl};
 ghost use Rattle.dns_names.specs.Compare.{lower, at_or_below, same_name};
@@ -98,7 +98,7 @@ impl LowerName {
 
     /// Returns `false`: the length is at least 1.
     pub fn is_empty(&self) -> bool
-        ensures { result ≡ (labels_len self.now.labels == 0) }
+        ensures { result ≡ false }
     {
         self.name.is_empty()
     }

@@ -6,3 +6,4 @@ mod print;
 mod symbol;
 
 pub(crate) use parse::is_plain_octet;
+pub use symbol::escaped_octet;

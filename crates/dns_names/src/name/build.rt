@@ -1,9 +1,10 @@
 //! Names built from labels and other names (RFC 1035 sections 2.3.4 and 3.1).
 
-ghost use Rattle.std.specs.Prelude.{◌≡◌, ◌≢◌, ◌≤◌, ◌++◌, Ok, Err, drop, IfOk, IfErr, OnOk, List, ◌+◌, ◌<◌, length};
+ghost use Rattle.std.specs.Prelude.{◌≡◌, ◌≢◌, ◌≤◌, ◌++◌, ◌∷◌, [], Ok, Err, drop, IfOk, IfErr, OnOk, List, ◌+◌, ◌<◌, length};
 ghost use Rattle.dns_wire.specs.Name.{IsLabel, name_len, AreLabels, max_name_len};
 ghost use Rattle.dns_names.specs.Build.{append_label, prepend_label, append_name, append_domain, append_each, root_name};
 ghost use Rattle.std.specs.Iterator.{Drains, Yields, IsFinite};
+ghost use Rattle.dns_names.specs.Name.{DomainName};
 ghost use Rattle.dns_names.specs.Build.{trim_to, base_name, into_wildcard};
 ghost use Rattle.dns_wire.specs.Error.{IsUnless};
 
@@ -13,7 +14,8 @@ use crate::name::Name;
 use std::alloc::{AllocError, Global};
 
 impl Name {
-    /// Builds a fully qualified name from labels, left to right. The error is that of the first label that is refused.
+    /// Builds a fully qualified name from labels, left to right. The error is that of the first label that is refused;
+    /// it is the last label taken from the iterator.
     pub fn from_labels<I: IntoIterator<Item = L>, L: IntoLabel + Drop>(
         alloc: Global,
         labels: I,
@@ -25,10 +27,12 @@ impl Name {
             × Drains I.IntoIter.next_gives it given
             × (append_each L.label root_name given ≡ Ok name)) }
         ensures refused { IfErr result (λ error. error ≢ ParseError.Memory
-            → (it : I.IntoIter) × (given : List L) × (rest : I.IntoIter)
+            → (it : I.IntoIter) × (given : List L) × (last : L) × (rest : I.IntoIter)
+            × (name : DomainName)
             × I.into_iter_gives labels it
-            × Yields I.IntoIter.next_gives it given rest
-            × (append_each L.label root_name given ≡ Err error)) }
+            × Yields I.IntoIter.next_gives it (given ++ last ∷ []) rest
+            × (append_each L.label root_name given ≡ Ok name)
+            × (append_label name (L.label last) ≡ Err error)) }
     {
         let mut name = Name::root(alloc);
         for label in labels {
@@ -39,7 +43,8 @@ impl Name {
 
     /// Appends a label at the right.
     pub fn append_label<L: IntoLabel>(self, label: L) -> Result<Name, ParseError>
-        ensures { IsUnless ParseError.Memory (append_label self (L.label label)) result }
+        ensures outcome { IsUnless ParseError.Memory (append_label self (L.label label)) result }
+        ensures fault { (error : ParseError) → L.label label ≡ Err error → result ≡ Err error }
     {
         let label = label.into_label(self.allocator())?;
         self.append_bytes(label.as_bytes())
@@ -59,7 +64,9 @@ impl Name {
 
     /// Returns the name with a label prepended at the left.
     pub fn prepend_label<L: IntoLabel>(&self, label: L) -> Result<Name, ParseError>
-        ensures { IsUnless ParseError.Memory (prepend_label (L.label label) self.now) result }
+        ensures outcome { IsUnless ParseError.Memory
+            (prepend_label (L.label label) self.now) result }
+        ensures fault { (error : ParseError) → L.label label ≡ Err error → result ≡ Err error }
     {
         let label = label.into_label(self.allocator())?;
         self.prepend_bytes(label.as_bytes())

@@ -1,7 +1,7 @@
 //! The labels of a name: an iterator, counts, wildcards and `localhost` (RFC 1035 section 3.1,
 //! RFC 4592 section 2.1.1, RFC 6761 section 6.3).
 
-ghost use Rattle.std.specs.Prelude.{◌≡◌, ◌==◌, List, ℕ, length};
+ghost use Rattle.std.specs.Prelude.{◌≡◌, false, List, ℕ, length};
 ghost use Rattle.std.specs.Iterator.{YieldsFirstBy, YieldsLastBy, item_count};
 ghost use Rattle.dns_names.specs.Labels.{begins_with_star, num_labels, labels_len, ends_in_localhost};
 
@@ -97,7 +97,7 @@ impl Name {
 
     /// Returns `false`: the length is at least 1.
     pub fn is_empty(&self) -> bool
-        ensures { result ≡ (labels_len self.now.labels == 0) }
+        ensures { result ≡ false }
     {
         self.len() == 0
     }

@@ -109,13 +109,20 @@ pub(crate) fn is_plain_octet(is_first: bool, byte: u8) -> bool
 impl Name {
     /// Parses a name: labels separated by dots, with a trailing dot if it is fully qualified. `.` is the root, and the
     /// empty text is the relative name without labels. A label may contain ASCII letters, digits and `_`, `-` except
-    /// first, and `*` only first; any other octet must be escaped, as in `\.` or `\046` (RFC 1035 section 5.1).
-    #[tactic(auto, unfolding(crate::specs::Parse::name_of_text))]
+    /// first, and `*` only first; any other octet must be escaped, as in `\.` or `\046` (RFC 1035 section 5.1). That
+    /// exactly the texts of this grammar parse is the theorem `laws::parsing_follows_the_grammar`.
     pub fn from_ascii(alloc: Global, text: &str) -> Result<Name, ParseError>
         ensures { IsUnless ParseError.Memory (name_of_text text.now) result }
     {
-        let bytes = text.as_bytes();
-        if bytes == b".".as_slice() {
+        Name::from_ascii_bytes(alloc, text.as_bytes())
+    }
+
+    /// Parses a name from the bytes of a text, as `from_ascii` does. Bytes that are not ASCII are refused.
+    #[tactic(auto, unfolding(crate::specs::Parse::name_of_text))]
+    pub fn from_ascii_bytes(alloc: Global, text: &[u8]) -> Result<Name, ParseError>
+        ensures { IsUnless ParseError.Memory (name_of_text text.now) result }
+    {
+        if text == b".".as_slice() {
             return Ok(Name::root(alloc));
         }
         let mut partial = PartialName {
@@ -123,8 +130,8 @@ impl Name {
             label: SmallVec::new(alloc),
         };
         let mut place = 0;
-        while place < bytes.len() {
-            let (symbol, more) = next_symbol(&bytes[place..]);
+        while place < text.len() {
+            let (symbol, more) = next_symbol(&text[place..]);
             partial.push_symbol(place, symbol)?;
             place += 1 + more;
         }
@@ -137,7 +144,19 @@ impl Name {
         ensures { IsUnless ParseError.Memory
             (parse_name text.now (option_map (λ o. o.now) origin.entry)) result }
     {
-        let name = Name::from_ascii(alloc, text)?;
+        Name::parse_bytes(alloc, text.as_bytes(), origin)
+    }
+
+    /// Parses a name from the bytes of a text, as `parse` does.
+    pub fn parse_bytes(
+        alloc: Global,
+        text: &[u8],
+        origin: Option<&Name>,
+    ) -> Result<Name, ParseError>
+        ensures { IsUnless ParseError.Memory
+            (parse_name text.now (option_map (λ o. o.now) origin.entry)) result }
+    {
+        let name = Name::from_ascii_bytes(alloc, text)?;
         match origin {
             Some(origin) if !name.is_fqdn() => name.append_domain(origin),
             _ => Ok(name),

@@ -1,8 +1,8 @@
 //! Names and labels to text (RFC 1035 section 5.1).
 
-ghost use Rattle.std.specs.Prelude.{◌≡◌, ◌∷◌, Some, drop, ◌<◌, ◌++◌, Ok, IfOk, OnOk, string_bytes};
+ghost use Rattle.std.specs.Prelude.{◌≡◌, ◌∷◌, Some, drop, ◌<◌, ◌++◌, Ok, IfOk, OnOk, codes, string_bytes};
 ghost use Rattle.std.specs.Fmt.{WritesOnOk};
-ghost use Rattle.dns_names.specs.Print.{octet_text, escape_sequence, octets_text, label_text, dotted_labels, text_of_name, AreOctets};
+ghost use Rattle.dns_names.specs.Print.{octet_text, escape_sequence, octets_text, label_text, dotted_labels, text_of_name, debug_text, AreOctets};
 ghost use Rattle.std.specs.List.{AllByRecursion};
 ghost use Rattle.dns_names.specs.Parse.{name_of_text};
 
@@ -29,6 +29,8 @@ impl fmt::Display for Name {
 }
 
 impl fmt::Debug for Name {
+    ghost debug_output = { λ name. Some (debug_text (codes "Name") (text_of_name name)) };
+
     fn fmt<W: fmt::Write>(&self, f: &mut fmt::Formatter<W>) -> fmt::Result {
         write!(f, "Name(\"{self}\")")
     }
@@ -43,6 +45,8 @@ impl fmt::Display for LowerName {
 }
 
 impl fmt::Debug for LowerName {
+    ghost debug_output = { λ name. Some (debug_text (codes "LowerName") (text_of_name name)) };
+
     fn fmt<W: fmt::Write>(&self, f: &mut fmt::Formatter<W>) -> fmt::Result {
         write!(f, "LowerName(\"{self}\")")
     }
@@ -57,6 +61,8 @@ impl fmt::Display for Label {
 }
 
 impl fmt::Debug for Label {
+    ghost debug_output = { λ label. Some (debug_text (codes "Label") (label_text label)) };
+
     fn fmt<W: fmt::Write>(&self, f: &mut fmt::Formatter<W>) -> fmt::Result {
         write!(f, "Label(\"{self}\")")
     }

@@ -1,7 +1,8 @@
 //! The symbols of a name in text (RFC 1035 section 5.1).
 
-ghost use Rattle.std.specs.Prelude.{◌≡◌, ◌<◌, ◌≤◌, length};
-ghost use Rattle.dns_names.specs.Parse.{symbol, more_len, escape, escape_len, decimal_octet};
+ghost use Rattle.std.specs.Prelude.{◌≡◌, ◌≢◌, ◌<◌, ◌≤◌, length, IfSome};
+ghost use Rattle.std.specs.Option.{option_map_or};
+ghost use Rattle.dns_names.specs.Parse.{Escaped, Broken, symbol, more_len, escape, escape_len, decimal_octet};
 ghost use Rattle.dns_names.specs.internal.Symbol.{symbol_of};
 
 use dns_codes::parse_decimal;
@@ -23,7 +24,7 @@ pub(super) enum Symbol {
 pub(super) fn next_symbol(text: &[u8]) -> (Symbol, usize)
     requires { 0 < length text.now }
     ensures symbol { symbol_of result.0 ≡ symbol text.now }
-    ensures more { result.1 ≡ more_len text.now }
+    ensures more { symbol_of result.0 ≢ Broken → result.1 ≡ more_len text.now }
     ensures small { result.1 ≤ 3 }
 {
     match text[0] {
@@ -36,28 +37,44 @@ pub(super) fn next_symbol(text: &[u8]) -> (Symbol, usize)
 /// Returns the symbol of an escape, from the text after its backslash, and the length of that text.
 fn escape(text: &[u8]) -> (Symbol, usize)
     ensures symbol { symbol_of result.0 ≡ escape text.now }
-    ensures more { result.1 ≡ escape_len text.now }
+    ensures more { symbol_of result.0 ≢ Broken → result.1 ≡ escape_len text.now }
     ensures small { result.1 ≤ 3 }
 {
-    if text.is_empty() {
-        return (Symbol::Broken, 0);
-    }
-    match text[0] {
-        b'0'..=b'9' => (octet(text), 3),
-        byte @ 32..=126 => (Symbol::Escaped(byte), 1),
-        _ => (Symbol::Broken, 1),
+    match escaped_octet(text) {
+        Some((octet, len)) => (Symbol::Escaped(octet), len),
+        None => (Symbol::Broken, 0),
     }
 }
 
-/// Returns the octet that three decimal digits spell.
-fn octet(text: &[u8]) -> Symbol
-    ensures { symbol_of result ≡ decimal_octet text.now }
+/// Returns the octet that an escape denotes, from the text after its backslash, and how many characters of that text
+/// the escape takes: three decimal digits up to 255, or one other printable ASCII character (RFC 1035 section 5.1).
+/// Returns `None` if the text begins with neither.
+pub fn escaped_octet(text: &[u8]) -> Option<(u8, usize)>
+    ensures octet { escape text.now ≡ option_map_or (λ found. Escaped found.0) result Broken }
+    ensures len { IfSome result (λ found. found.1 ≡ escape_len text.now) }
+    ensures within { IfSome result (λ found. found.1 ≤ length text.now) }
+    ensures small { IfSome result (λ found. found.1 ≤ 3) }
+{
+    if text.is_empty() {
+        return None;
+    }
+    match text[0] {
+        b'0'..=b'9' => Some((decimal_octet(text)?, 3)),
+        byte @ 32..=126 => Some((byte, 1)),
+        _ => None,
+    }
+}
+
+/// Returns the octet that three decimal digits denote.
+fn decimal_octet(text: &[u8]) -> Option<u8>
+    ensures value { decimal_octet text.now ≡ option_map_or Escaped result Broken }
+    ensures within { IfSome result (λ _. 3 ≤ length text.now) }
 {
     if text.len() < 3 {
-        return Symbol::Broken;
+        return None;
     }
     match parse_decimal(&text[..3], 255) {
-        Some(number) => Symbol::Escaped(number as u8),
-        None => Symbol::Broken,
+        Some(number) => Some(number as u8),
+        None => None,
     }
 }
