@@ -6,7 +6,7 @@ use Rattle.std.proofs.Math.Seq.{take-append_seam, drop-append_seam, drop-append-
 use Rattle.std.proofs.lemmas.Bool.Decides.{nat_tests}
 use Rattle.dns_text.specs.Front.{Run, Bare, InQuotes, Front, line_end, line_from, begins_with_feed, is_blank, stops, ends_run, run_from, quoted, front}
 use Rattle.dns_text.specs.Front as by_len
-use Rattle.dns_text.specs.FrontGrammar.{EndsLine, feed, return_and_feed, IsLineOver, by_text_end, by_line_end, LineGoesTo, line_over, on_line, RunGoesTo, no_further, unescaped, escaped, IsRunOver, by_line, by_stop, FrontItem, TextEnd, LineEnd, Blank, Comment, Open, Close, Quoted, Word, Unclosed, Broken, IsInFront, text_end, blank, comment, opening, closing, quoted_string, word, unclosed, broken_string, broken_word, front_item}
+use Rattle.dns_text.specs.FrontGrammar.{EndsLine, feed, return_and_feed, IsLineOver, by_text_end, by_line_end, LineGoesTo, line_over, on_line, RunGoesTo, no_further, unescaped, escaped, IsRunOver, by_line, by_stop, FrontItem, TextEnd, LineEnd, Gap, Comment, Open, Close, Quoted, Word, Unclosed, Broken, IsInFront, text_end, gap, comment, opening, closing, quoted_string, word, unclosed, broken_string, broken_word, front_item}
 use Rattle.dns_text.specs.FrontGrammar as grammar
 use Rattle.dns_text.proofs.FrontLaws.{run_ends}
 
@@ -187,11 +187,11 @@ string_open string rest over =
     picks : (t : Bool) → t ≡ false → (if t then by_len.Quoted (length string) else by_len.Unclosed) ≡ by_len.Unclosed
     picks t e = rw e refl
 
-blank_stands : (c : ℕ) (rest : List ℕ) → is_blank c ≡ true → Blank rest ≡ front_item (front (c ∷ rest)) (c ∷ rest)
-blank_stands c rest e = tested (c == 32) (λ f. at 32 (equal c 32 f) refl) (λ f. at 9 (equal c 9 (rest_of (c == 32) (c == 9) f e)) refl)
+gap_stands : (c : ℕ) (rest : List ℕ) → is_blank c ≡ true → Gap rest ≡ front_item (front (c ∷ rest)) (c ∷ rest)
+gap_stands c rest e = tested (c == 32) (λ f. at 32 (equal c 32 f) refl) (λ f. at 9 (equal c 9 (rest_of (c == 32) (c == 9) f e)) refl)
   where
-    at : (k : ℕ) → c ≡ k → Blank rest ≡ front_item (front (k ∷ rest)) (k ∷ rest) → Blank rest ≡ front_item (front (c ∷ rest)) (c ∷ rest)
-    at k is q = subst (λ (n : ℕ). Blank rest ≡ front_item (front (n ∷ rest)) (n ∷ rest)) (sym is) q
+    at : (k : ℕ) → c ≡ k → Gap rest ≡ front_item (front (k ∷ rest)) (k ∷ rest) → Gap rest ≡ front_item (front (c ∷ rest)) (c ∷ rest)
+    at k is q = subst (λ (n : ℕ). Gap rest ≡ front_item (front (n ∷ rest)) (n ∷ rest)) (sym is) q
 
     rest_of : (a b : Bool) → a ≡ false → (a || b) ≡ true → b ≡ true
     rest_of true b f q = absurd (cc)
@@ -201,7 +201,7 @@ is_counted : {text : List ℕ} {a : FrontItem} → IsInFront text a → a ≡ fr
 is_counted text_end = refl
 is_counted (grammar.line_end feed) = refl
 is_counted (grammar.line_end return_and_feed) = refl
-is_counted (blank {c = c} {rest = rest} e) = blank_stands c rest e
+is_counted (gap {c = c} {rest = rest} e) = gap_stands c rest e
 is_counted (comment {text = text} {rest = rest} goes) =
     let read = line_read goes in
     let all : line_from 0 text + 1 ≡ suc read.0 = omega (arith, read.1.0 0) in
@@ -304,7 +304,7 @@ something (c ∷ cs) = at (over_or_not c cs)
     at : IsLineOver (c ∷ cs) ⊎ (line_end (c ∷ cs) ≡ 0) → Something (c ∷ cs)
     at (inl over) = line_over_found over
     at (inr e) =
-        tested (is_blank c) (λ s. (Blank cs, blank s)) (λ s.
+        tested (is_blank c) (λ s. (Gap cs, gap s)) (λ s.
         tested (c == 59) (λ t. let line = line_found cs in is 59 t (Comment line.0, comment line.1)) (λ t.
         tested (c == 40) (λ v. is 40 v (Open cs, opening)) (λ v.
         tested (c == 41) (λ w. is 41 w (Close cs, closing)) (λ w.
