@@ -1,14 +1,13 @@
 -- The text of data lexes to the data.
-use Rattle.std.proofs.Common.{◌≡◌, ℕ, suc, ◌+◌, ◌<◌, Bool, true, false, ◌&&◌, List, [], ◌∷◌, ◌++◌, length, take, drop, Option, Some, None, Result, Ok, refl, sym, ap, subst, ◌∙◌, append_assoc, arith}
-use Rattle.std.specs.Prelude.{◌≢◌, ◌==◌, if◌then◌else◌}
+use Rattle.std.proofs.Common.{◌≡◌, ℕ, suc, ◌+◌, ◌<◌, Bool, true, false, ◌&&◌, List, [], ◌∷◌, ◌++◌, length, take, drop, Option, Some, None, Ok, refl, sym, ap, subst, ◌∙◌, append_assoc, arith}
+use Rattle.std.specs.Prelude.{◌≢◌, if◌then◌else◌}
 use Rattle.std.specs.List.{AllByRecursion}
 use Rattle.std.specs.Str.{bytes_eq}
 use Rattle.std.proofs.Math.Seq.{take-append_seam, drop-append_seam, drop-append-add}
 use Rattle.std.proofs.lemmas.List.{append-nil}
-use Rattle.dns_text.specs.declared.error.LexerError.{LexerError}
-use Rattle.dns_text.specs.Front.{Run, Bare, InQuotes, Front, Quoted, Word, Unclosed, begins_with_feed, run_from, quoted, word, front}
+use Rattle.dns_text.specs.Front.{Run, Bare, InQuotes, Front, Quoted, Word, Unclosed, begins_with_feed, quoted, word, front}
 use Rattle.dns_text.specs.FrontGrammar.{IsLineOver, by_text_end, RunGoesTo, no_further, unescaped, escaped, IsRunOver, by_line, by_stop}
-use Rattle.dns_text.specs.Lexer.{LexerState, Lexeme, CharData, QuotedString, At, word_token, Step, Yields, past, step_past, step, NextToken, past_nothing, at_token, at_end}
+use Rattle.dns_text.specs.Lexer.{LexerState, Lexeme, CharData, QuotedString, At, word_token, Yields, step_past, step, NextToken, past_nothing, at_token, at_end}
 use Rattle.dns_text.specs.Tokens.{LexesTo, no_token, one_token, IsRun, no_character, one_character, one_escape, IsDatum, datum_text, data_text}
 use Rattle.dns_text.proofs.TokenGrammarLaws.{unequal, no_line, goes_on, run_read, word_begun}
 

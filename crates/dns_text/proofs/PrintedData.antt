@@ -1,5 +1,5 @@
 -- Printed names, numbers, addresses and strings are data of an entry.
-use Rattle.std.proofs.Common.{◌≡◌, ℕ, ◌+◌, ◌/◌, ◌%◌, ◌<◌, ◌≤◌, ◌^◌, Bool, true, false, ◌&&◌, ◌||◌, List, [], ◌∷◌, ◌++◌, length, get_or, decimal, All, refl, sym, ap, subst, ◌∙◌, arith, inl, inr, length-append}
+use Rattle.std.proofs.Common.{◌≡◌, ℕ, ◌+◌, ◌/◌, ◌%◌, ◌<◌, ◌≤◌, ◌^◌, Bool, true, false, ◌&&◌, ◌||◌, List, [], ◌∷◌, ◌++◌, length, get_or, decimal, All, refl, ap, subst, ◌∙◌, arith, inl, inr, length-append}
 use Rattle.std.specs.Prelude.{◌≢◌, ◌==◌, not, nat_le, codes, if◌then◌else◌}
 use Rattle.std.specs.List.{AllByRecursion}
 use Rattle.std.specs.Str.{bytes_eq}
@@ -22,7 +22,7 @@ use Rattle.dns_names.specs.Print as name
 use Rattle.dns_text.specs.Address.{ip_text}
 use Rattle.dns_text.specs.CharacterString.{octet_text, escaped_text}
 use Rattle.dns_text.specs.Front.{Run, Bare, InQuotes, stops}
-use Rattle.dns_text.specs.Lexer.{Lexeme, CharData, QuotedString, word_token}
+use Rattle.dns_text.specs.Lexer.{CharData, QuotedString, word_token}
 use Rattle.dns_text.specs.Tokens.{IsRun, no_character, one_character, one_escape, IsDatum}
 use Rattle.dns_text.proofs.TokenGrammarLaws.{unequal, tested}
 

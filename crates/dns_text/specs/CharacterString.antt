@@ -1,6 +1,6 @@
 -- Character strings in text (RFC 1035 section 5.1).
-use Rattle.std.specs.Prelude.{ℕ, zero, suc, ◌==◌, ◌||◌, ◌&&◌, nat_le, if◌then◌else◌, Bool, List, [], ◌∷◌, ◌++◌, Option, Some, None}
-use Rattle.dns_names.specs.Parse.{Symbol, Dot, Plain, Escaped, Broken, escape, more_len}
+use Rattle.std.specs.Prelude.{ℕ, zero, suc, ◌==◌, ◌||◌, ◌&&◌, nat_le, if◌then◌else◌, List, [], ◌∷◌, ◌++◌, Option, Some, None}
+use Rattle.dns_names.specs.Parse.{Symbol, Escaped, escape, more_len}
 use Rattle.dns_names.specs.Print.{escape_sequence}
 
 -- ---- parsing

@@ -1,5 +1,5 @@
 -- The tokens of a text one after another, and texts that consist of given tokens (RFC 1035 section 5.1).
-use Rattle.std.specs.Prelude.{◌≡◌, ◌≢◌, ◌<◌, ℕ, true, false, List, [], ◌∷◌, ◌++◌, length, Option, Some, None, Ok}
+use Rattle.std.specs.Prelude.{◌≡◌, ◌≢◌, ◌<◌, ℕ, true, false, List, [], ◌∷◌, ◌++◌, length, Some, None, Ok}
 use Rattle.dns_text.specs.Front.{Run, Bare, InQuotes, stops}
 use Rattle.dns_text.specs.Lexer.{Lexeme, CharData, QuotedString, word_token, LexerState, NextToken}
 

@@ -53,14 +53,16 @@ pub fn printed_addresses_parse_back()
 
 /// The text of a quoted string denotes the octets of the string, whatever they are (RFC 1035 section 5.1).
 pub fn quoted_strings_parse_back()
-    ensures { (octets : List ℕ) → AreOctets octets → unescaped (escaped_text octets) ≡ Some octets }
+    ensures { (octets : List ℕ) → AreOctets octets
+        → unescaped (escaped_text octets) ≡ Some octets }
 {}
 
 /// Words and quoted strings that are joined by blanks lex back to themselves, to the end of the text. A word is neither `@`
 /// nor a directive here.
 pub fn printed_tokens_lex_back()
-    ensures { (p : LexerState) (datum : Lexeme) (more : List Lexeme) → AllByRecursion IsDatum (datum ∷ more)
-        → p.is_open ≡ false → p.text ≡ data_text (datum ∷ more)
+    ensures { (p : LexerState) (datum : Lexeme) (more : List Lexeme)
+        → AllByRecursion IsDatum (datum ∷ more) → p.is_open ≡ false
+        → p.text ≡ data_text (datum ∷ more)
         → LexesTo p (datum ∷ more) (record p { text = []; is_front = false }) }
 {}
 
