@@ -4,9 +4,8 @@ use Rattle.std.specs.Prelude.{IfErr}
 use Rattle.dns_wire.specs.declared.error.EncodeError.{EncodeError}
 use Rattle.dns_wire.specs.declared.error.EncodeError.TheVariants.{MaxBufferSizeExceeded}
 use Rattle.dns_wire.specs.Encoder.{EncoderState, IsAtEnd}
-use Rattle.dns_wire.specs.declared.name_encoding.NameEncoding.{NameEncoding}
 use Rattle.dns_wire.specs.Encodable.{Piece, Plain, Position, position_of, form, after, reach, attempts_at_limit, append_pieces, Emits, AreWritable}
-use Rattle.dns_wire.proofs.PieceLaws.{emits_then, emits_stop, emits_none, append_pieces-end, after-encoding, writable-append}
+use Rattle.dns_wire.proofs.PieceLaws.{emits_then, emits_stop, emits_none, append_pieces-end, position_of-append_pieces, writable-append}
 
 pub emits_end : (old new : EncoderState) (ps : List Piece) → IsAtEnd old → Emits old ps (Ok tt) new → IsAtEnd new
 emits_end old new ps end e = subst (λ (w : EncoderState). IsAtEnd w) (sym e.ok) (append_pieces-end old ps end)
@@ -83,7 +82,7 @@ ends old now all u = u.completes (Ok tt) now (emits_none now)
 
 -- how far the writing has come behind what was written
 pub sofar-behind : (old new : EncoderState) (ps : List Piece) → Emits old ps (Ok tt) new → position_of new ≡ after (position_of old) ps
-sofar-behind old new ps e = ap position_of e.ok ∙ ap (λ (encoding : NameEncoding). record (after (position_of old) ps) { encoding = encoding }) (sym (after-encoding (position_of old) ps))
+sofar-behind old new ps e = ap position_of e.ok ∙ position_of-append_pieces old ps
 
 -- the next item of a list, in front of the others
 pub front : {A : Type 0} (xs : List A) (i : ℕ) (x : A) → x ≡ get_or xs i x → drop i xs ≡ get_or xs i x ∷ drop (i + 1) xs → drop i xs ≡ x ∷ drop (i + 1) xs
