@@ -2,9 +2,12 @@
 #![tactic(auto)]
 
 mod error;
+pub mod laws;
 mod octets;
 mod rdata;
+mod record_data;
 
 pub use error::RDataParseError;
 pub use octets::{CharacterString, Octets, OptionData, TooLong};
 pub use rdata::{A, AAAA, CNAME, EdnsOption, MX, NS, OPT, PTR, RData, SOA, SRV, TXT};
+pub use record_data::RecordData;

@@ -6,7 +6,7 @@ use dns_names::Name;
 use std::alloc::AllocError;
 
 /// The canonical name of an alias (RFC 1035 section 3.3.1).
-#[derive(Drop, PartialEq, Eq)]
+#[derive(Debug, Drop, PartialEq, Eq)]
 pub struct CNAME(pub Name);
 
 impl CNAME {

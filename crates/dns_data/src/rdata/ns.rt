@@ -6,7 +6,7 @@ use dns_names::Name;
 use std::alloc::AllocError;
 
 /// A name server of a zone (RFC 1035 section 3.3.11).
-#[derive(Drop, PartialEq, Eq)]
+#[derive(Debug, Drop, PartialEq, Eq)]
 pub struct NS(pub Name);
 
 impl NS {

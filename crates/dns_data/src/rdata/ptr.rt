@@ -6,7 +6,7 @@ use dns_names::Name;
 use std::alloc::AllocError;
 
 /// A pointer to a name (RFC 1035 section 3.3.12).
-#[derive(Drop, PartialEq, Eq)]
+#[derive(Debug, Drop, PartialEq, Eq)]
 pub struct PTR(pub Name);
 
 impl PTR {

@@ -6,7 +6,7 @@ use dns_names::Name;
 use std::alloc::AllocError;
 
 /// The location of a service (RFC 2782).
-#[derive(Drop, PartialEq, Eq)]
+#[derive(Debug, Drop, PartialEq, Eq)]
 pub struct SRV {
     /// The priority; lower values are preferred.
     pub priority: u16,
