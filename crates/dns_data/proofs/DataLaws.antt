@@ -1,20 +1,19 @@
 -- Data by type: what it decodes from, and that it is sound.
-use Rattle.std.proofs.Common.{◌≡◌, ◌≢◌, ℕ, ◌+◌, ◌-◌, ◌<◌, ◌≤◌, ◌^◌, zero, suc, false, List, [], ◌∷◌, ◌++◌, length, flat_map, refl, sym, ap, subst, ◌∙◌, arith, length-append}
+use Rattle.std.proofs.Common.{◌≡◌, ◌≢◌, ℕ, ◌+◌, ◌<◌, ◌≤◌, ◌^◌, false, List, [], ◌∷◌, ◌++◌, length, flat_map, refl, sym, ap, subst, ◌∙◌, arith}
 use Rattle.std.specs.List.{AllByRecursion}
 use Rattle.std.proofs.lemmas.List.{append-nil}
 use Rattle.dns_codes.specs.declared.record_type.RecordType.{RecordType}
 use Rattle.dns_codes.specs.declared.record_type.RecordType.TheVariants as types
 use Rattle.dns_codes.specs.RecordType.{type_number, type_of}
 use Rattle.dns_wire.specs.Encodable.{Piece, BytesAt, PiecesAt}
-use Rattle.dns_wire.specs.declared.error.DecodeError.{DecodeError}
 use Rattle.dns_wire.specs.declared.error.DecodeError.TheVariants.{IncorrectRDataLengthRead}
 use Rattle.dns_wire.specs.declared.name_encoding.NameEncoding.TheVariants.{Uncompressed}
 use Rattle.dns_wire.proofs.SectionLaws.{pieces_max_len}
-use Rattle.dns_data.specs.Field.{Kind, Opaque, OptionValue, Values, string_pieces, option_pieces, values_pieces, AreSoundValues}
+use Rattle.dns_data.specs.Field.{Kind, OptionValue, string_pieces, option_pieces, AreSoundValues}
 use Rattle.dns_data.specs.Wire.{StringAt, OptionAt, ItemsUpTo, no_more_items, one_more_item, ValuesAt, RefusesValues, wrong_length}
 use Rattle.dns_data.specs.declared.rdata.RData.{RData}
 use Rattle.dns_data.specs.declared.rdata.RData.TheVariants as of
-use Rattle.dns_data.specs.rdata.{data_type, data_kinds, data_values, kinds_of_type, empty_data, data_pieces, whole_len, HasFieldsOfType, IsSoundData, ReadsData, RefusesData}
+use Rattle.dns_data.specs.rdata.{data_type, data_kinds, data_values, kinds_of_type, empty_data, data_pieces, whole_len, HasFieldsOfType, ReadsData}
 use Rattle.dns_data.specs.rdata.A.{a_kinds, a_values}
 use Rattle.dns_data.specs.rdata.AAAA.{aaaa_kinds, aaaa_values}
 use Rattle.dns_data.specs.rdata.CNAME.{cname_kinds, cname_values}
@@ -23,10 +22,8 @@ use Rattle.dns_data.specs.rdata.NS.{ns_kinds, ns_values}
 use Rattle.dns_data.specs.rdata.PTR.{ptr_kinds, ptr_values}
 use Rattle.dns_data.specs.rdata.SOA.{soa_kinds, soa_values}
 use Rattle.dns_data.specs.rdata.SRV.{srv_kinds, srv_values}
-use Rattle.dns_data.specs.rdata.OPT.{opt_values}
-use Rattle.dns_data.specs.rdata.TXT.{txt_values}
 use Rattle.dns_data.proofs.ItemLaws.{no_item-ended, items-pieces, pieces-items}
-use Rattle.dns_data.proofs.WireLaws.{values_same, data_not_refused, values_pieces_at}
+use Rattle.dns_data.proofs.WireLaws.{values_pieces_at}
 use Rattle.dns_data.proofs.LengthLaws.{form-whole, items_len, pieces_max_len-append}
 use Rattle.dns_data.proofs.DecodingLaws.{string_ahead, option_ahead}
 use Rattle.dns_data.proofs.BoundedLaws.{bounded-onward, bounded-sound, bounded-len, bounded-at}

@@ -1,7 +1,7 @@
-use Rattle.std.proofs.Common.{◌≡◌, ℕ, List, [], ◌∷◌, length, sym, ap, subst, ◌∙◌, arith}
+use Rattle.std.proofs.Common.{◌≡◌, ℕ, List, length, sym, ap, subst, ◌∙◌, arith}
 use Rattle.std.specs.Net.Addr.{ipv6_octets}
 use Rattle.dns_wire.specs.Decodable.{BytesAt}
-use Rattle.dns_wire.specs.Decoder.{Decoder, Advances}
+use Rattle.dns_wire.specs.Decoder.{Advances}
 use Rattle.dns_wire.proofs.BytesAtLaws.{advances-bytes_at}
 use Rattle.dns_data.proofs.wire.read_ipv6.Goals as goal
 

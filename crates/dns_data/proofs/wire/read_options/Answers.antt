@@ -1,7 +1,7 @@
-use Rattle.std.proofs.Common.{◌≡◌, ℕ, ◌+◌, ◌<◌, ◌≤◌, List, sym, subst, ◌∙◌, arith}
+use Rattle.std.proofs.Common.{ℕ, ◌+◌, ◌<◌, ◌≤◌, List, subst, ◌∙◌, arith}
 use Rattle.std.proofs.lemmas.Result.{err_from_is_err_and}
 use Rattle.dns_data.specs.Wire.{NoneAt, OptionAt, no_item_there}
-use Rattle.dns_data.proofs.ItemLaws.{ReadsOn, reads_on-next, reads_on-end}
+use Rattle.dns_data.proofs.ItemLaws.{reads_on-next, reads_on-end}
 use Rattle.dns_data.proofs.DecodingLaws.{option_ahead}
 use Rattle.dns_data.proofs.wire.read_options.Goals as goal
 

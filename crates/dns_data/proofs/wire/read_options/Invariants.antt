@@ -1,4 +1,4 @@
-use Rattle.std.proofs.Common.{◌≡◌, ◌+◌, ◌-◌, length}
+use Rattle.std.proofs.Common.{◌≡◌, ◌+◌, ◌-◌}
 use Rattle.dns_data.specs.Wire.{OptionAt}
 use Rattle.dns_data.proofs.ItemLaws.{ReadsOn}
 use Rattle.dns_data.proofs.wire.read_options.Given as goal

@@ -1,4 +1,4 @@
-use Rattle.std.proofs.Common.{◌≡◌, ◌+◌, ◌-◌, length}
+use Rattle.std.proofs.Common.{◌≡◌, ◌+◌, ◌-◌}
 use Rattle.dns_data.specs.Wire.{StringAt}
 use Rattle.dns_data.proofs.ItemLaws.{ReadsOn}
 use Rattle.dns_data.proofs.wire.read_strings.Given as goal

@@ -1,6 +1,6 @@
-use Rattle.std.proofs.Common.{ℕ, List, ◌∷◌, ◌≡◌, ◌∙◌, refl, subst}
+use Rattle.std.proofs.Common.{ℕ, List, ◌∷◌, ◌∙◌, subst}
 use Rattle.std.proofs.lemmas.Result.{err_from_is_err_and}
-use Rattle.dns_data.specs.Field.{Kind, CompressibleName}
+use Rattle.dns_data.specs.Field.{CompressibleName}
 use Rattle.dns_data.specs.rdata.SOA.{number_kinds}
 use Rattle.dns_wire.specs.Reading.{ReadsName}
 use Rattle.dns_data.specs.Wire.{ValuesAt}

@@ -1,6 +1,6 @@
-use Rattle.std.proofs.Common.{List, [], ◌∷◌, refl}
+use Rattle.std.proofs.Common.{[], ◌∷◌}
 use Rattle.std.proofs.lemmas.Result.{err_from_is_err_and}
-use Rattle.dns_data.specs.Field.{Kind, Number16, WholeName}
+use Rattle.dns_data.specs.Field.{Number16, WholeName}
 use Rattle.dns_data.proofs.RefusalLaws.{refused_here, refused_past}
 use Rattle.dns_data.proofs.rdata.srv.SRV.read.Goals as goal
 
