@@ -7,3 +7,5 @@ pub mod BoundedLaws
 pub mod DataLaws
 pub mod UnambiguousLaws
 pub mod WritingLaws
+pub mod RefusalLaws
+pub mod TypeLaws
