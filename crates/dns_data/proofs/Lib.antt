@@ -1,1 +1,2 @@
 pub mod ParsedLaws
+pub mod PrintedLaws

@@ -1,13 +1,12 @@
 -- Tokens parse to one value of record data, and are then not refused.
-use Rattle.std.proofs.Common.{◌≡◌, ℕ, true, List, [], ◌∷◌, Option, Some, None, Result, Ok, Err, refl, sym, ap, subst, ◌∙◌}
-use Rattle.std.specs.Prelude.{◌≢◌}
+use Rattle.std.proofs.Common.{◌≡◌, ℕ, true, List, [], ◌∷◌, Option, Some, Result, Ok, Err, refl, sym, ap, subst, ◌∙◌}
 use Rattle.std.proofs.NetLemmas.Theorems.{IsIpv4Text_unique, IsIpv6Text_unique}
 use Rattle.dns_codes.specs.declared.record_type.RecordType.{RecordType}
 use Rattle.dns_codes.specs.declared.record_type.RecordType.TheVariants as types
 use Rattle.dns_codes.specs.RecordType.{type_number, type_of}
 use Rattle.dns_names.specs.Name.{DomainName}
 use Rattle.dns_text.specs.Lexer.{Lexeme, CharData}
-use Rattle.dns_data.specs.Field.{Kind, Number16, Number32, Seconds, Address4, Address6, CompressibleName, WholeName, Strings, Options, Opaque, ValueOf, Values}
+use Rattle.dns_data.specs.Field.{Kind, Number16, Number32, Seconds, Address4, Address6, CompressibleName, WholeName, Strings, ValueOf, Values}
 use Rattle.dns_data.specs.Text.{IsTokenOf, string_of_token, AreTokensOf, no_string, one_string, Takes, AreParsed, IsNoTokenOf, AreNoTokensOf, bad_string, past_string, RefusesToken, RefusesTokens, refused_token, past_token, tokens_left, has_text}
 use Rattle.dns_data.specs.declared.error.RDataParseError.{RDataParseError}
 use Rattle.dns_data.specs.declared.rdata.RData.{RData}
@@ -105,21 +104,18 @@ data_of types.TXT v = of.TXT v.0
 data_of types.OPT v = of.OPT v.0
 data_of other v = of.Unknown other v.0
 
-some_kind : (t : RecordType) → [] ≡ kinds_of_type t → ⊥
-some_kind t e = by t e
-  where
-    by : (t : RecordType) → [] ≡ kinds_of_type t → ⊥
-    by types.A e = absurd (cc)
-    by types.AAAA e = absurd (cc)
-    by types.CNAME e = absurd (cc)
-    by types.NS e = absurd (cc)
-    by types.PTR e = absurd (cc)
-    by types.MX e = absurd (cc)
-    by types.SOA e = absurd (cc)
-    by types.SRV e = absurd (cc)
-    by types.TXT e = absurd (cc)
-    by types.OPT e = absurd (cc)
-    by other e = absurd (cc)
+pub some_kind : (t : RecordType) → [] ≡ kinds_of_type t → ⊥
+some_kind types.A e = absurd (cc)
+some_kind types.AAAA e = absurd (cc)
+some_kind types.CNAME e = absurd (cc)
+some_kind types.NS e = absurd (cc)
+some_kind types.PTR e = absurd (cc)
+some_kind types.MX e = absurd (cc)
+some_kind types.SOA e = absurd (cc)
+some_kind types.SRV e = absurd (cc)
+some_kind types.TXT e = absurd (cc)
+some_kind types.OPT e = absurd (cc)
+some_kind other e = absurd (cc)
 
 module _ (origin : Option DomainName) (tokens : List Lexeme) where
   -- data is that of its type with values that are parsed from the tokens

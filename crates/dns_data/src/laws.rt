@@ -2,15 +2,17 @@
 
 // ---- text
 
-ghost use Rattle.std.specs.Prelude.{◌≡◌, List, Option};
+ghost use Rattle.std.specs.Prelude.{◌≡◌, false, true, [], List, Option};
 ghost use Rattle.dns_codes.specs.declared.record_type.RecordType.{RecordType};
 ghost use Rattle.dns_names.specs.Name.{DomainName};
-ghost use Rattle.dns_text.specs.Lexer.{Lexeme};
+ghost use Rattle.dns_text.specs.Lexer.{Lexeme, LexerState};
+ghost use Rattle.dns_text.specs.Tokens.{LexesTo};
+ghost use Rattle.dns_data.specs.Text.{AreValidValues, has_text};
 ghost use Rattle.dns_data.specs.declared.error.RDataParseError.{RDataParseError};
 ghost use Rattle.dns_data.specs.declared.rdata.RData.{RData};
-ghost use Rattle.dns_data.specs.rdata.{IsParsedData, RefusesText};
+ghost use Rattle.dns_data.specs.rdata.{data_type, data_kinds, data_values, data_text, kinds_of_type, IsSoundData, IsParsedData, RefusesText};
 
-/// Tokens parse to one value of a type, and tokens that parse are not refused.
+/// Tokens parse to at most one value of a type, and tokens that parse are not refused.
 pub fn parsed_data_is_unambiguous()
     ensures one { (origin : Option DomainName) (record_type : RecordType) (tokens : List Lexeme)
         (a b : RData) → IsParsedData origin record_type tokens a
@@ -18,4 +20,14 @@ pub fn parsed_data_is_unambiguous()
     ensures not_refused { (origin : Option DomainName) (record_type : RecordType)
         (tokens : List Lexeme) (d : RData) (error : RDataParseError)
         → IsParsedData origin record_type tokens d → ¬ RefusesText origin record_type tokens error }
+{}
+
+/// The text of data of a type with a text form lexes to tokens that parse back to the data, whatever the origin is.
+pub fn printed_data_parses_back()
+    ensures { (d : RData) (p : LexerState) → IsSoundData d
+        → AreValidValues (data_kinds d) (data_values d)
+        → has_text (data_kinds d) ≡ true → data_kinds d ≡ kinds_of_type (data_type d)
+        → p.is_open ≡ false → p.text ≡ data_text d
+        → (tokens : List Lexeme) × LexesTo p tokens (record p { text = []; is_front = false })
+        × ((origin : Option DomainName) → IsParsedData origin (data_type d) tokens d) }
 {}
