@@ -1,2 +1,11 @@
+pub mod ItemLaws
+pub mod WireLaws
+pub mod DecodingLaws
+pub mod EmissionLaws
+pub mod LengthLaws
+pub mod BoundedLaws
+pub mod DataLaws
+pub mod UnambiguousLaws
+pub mod WritingLaws
 pub mod ParsedLaws
 pub mod PrintedLaws

@@ -12,6 +12,7 @@ use Rattle.dns_data.specs.declared.error.RDataParseError.{RDataParseError}
 use Rattle.dns_data.specs.declared.rdata.RData.{RData}
 use Rattle.dns_data.specs.declared.rdata.RData.TheVariants as of
 use Rattle.dns_data.specs.rdata.{data_type, data_kinds, data_values, kinds_of_type, IsParsedData, RefusesText, no_text, bad_tokens}
+use Rattle.dns_data.proofs.UnambiguousLaws.{data_of}
 use Rattle.dns_data.specs.rdata.A.{a_values}
 use Rattle.dns_data.specs.rdata.AAAA.{aaaa_values}
 use Rattle.dns_data.specs.rdata.CNAME.{cname_values}
@@ -89,20 +90,6 @@ module _ (origin : Option DomainName) where
       parsed_not_refused kinds rest a.1 error (subst (λ (left : List Lexeme). AreParsed origin kinds left a.1) (takes_same kind tokens a.0 value h.0 rest h.1 takes).1 h.2) more
 
 -- ---- one value of data
-
--- the data of a type with some values
-abbrev data_of : (t : RecordType) → Values (kinds_of_type t) → RData
-data_of types.A v = of.A (record { 0 = v.0 })
-data_of types.AAAA v = of.AAAA (record { 0 = v.0 })
-data_of types.CNAME v = of.CNAME (record { 0 = v.0 })
-data_of types.NS v = of.NS (record { 0 = v.0 })
-data_of types.PTR v = of.PTR (record { 0 = v.0 })
-data_of types.MX v = of.MX (record { preference = v.0; exchange = v.1.0 })
-data_of types.SOA v = of.SOA (record { mname = v.0; rname = v.1.0; serial = v.1.1.0; refresh = v.1.1.1.0; retry = v.1.1.1.1.0; expire = v.1.1.1.1.1.0; minimum = v.1.1.1.1.1.1.0 })
-data_of types.SRV v = of.SRV (record { priority = v.0; weight = v.1.0; port = v.1.1.0; target = v.1.1.1.0 })
-data_of types.TXT v = of.TXT v.0
-data_of types.OPT v = of.OPT v.0
-data_of other v = of.Unknown other v.0
 
 pub some_kind : (t : RecordType) → [] ≡ kinds_of_type t → ⊥
 some_kind types.A e = absurd (cc)

@@ -5,6 +5,7 @@ mod error;
 pub mod laws;
 mod octets;
 mod rdata;
+mod wire;
 
 pub use error::RDataParseError;
 pub use octets::{CharacterString, Octets, OptionData, TooLong};
