@@ -9,3 +9,5 @@ pub mod UnambiguousLaws
 pub mod WritingLaws
 pub mod RefusalLaws
 pub mod TypeLaws
+pub mod ParsedLaws
+pub mod PrintedLaws
