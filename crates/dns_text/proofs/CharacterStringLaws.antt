@@ -1,14 +1,14 @@
 -- Character strings, octet by octet.
-use Rattle.std.proofs.Common.{◌≡◌, ℕ, zero, suc, ◌+◌, ◌/◌, ◌%◌, ◌<◌, ◌≤◌, Bool, true, false, ◌&&◌, ◌||◌, List, [], ◌∷◌, ◌++◌, length, drop, get_or, Option, Some, None, refl, sym, ap, subst, ◌∙◌, append_assoc, arith}
+use Rattle.std.proofs.Common.{◌≡◌, ℕ, zero, suc, ◌+◌, ◌/◌, ◌%◌, ◌<◌, Bool, true, false, ◌&&◌, ◌||◌, List, [], ◌∷◌, ◌++◌, length, drop, get_or, Option, Some, None, refl, sym, ap, subst, ◌∙◌, append_assoc, arith}
 use Rattle.std.specs.Prelude.{◌==◌, nat_le, nat_lt, if◌then◌else◌}
 use Rattle.std.proofs.Math.Seq.{drop-cons}
 use Rattle.std.proofs.lemmas.List.{drop-drop}
 use Rattle.std.proofs.lemmas.Bool.Decides.{nat_tests}
 use Rattle.dns_codes.specs.Decimal.{is_digit, decimal_up_to}
-use Rattle.dns_names.specs.Parse.{Symbol, Escaped, escape, escape_len}
+use Rattle.dns_names.specs.Parse.{Symbol, Escaped, escape, escape_len, more_len}
 use Rattle.dns_names.specs.Print.{escape_sequence, AreOctets}
 use Rattle.dns_names.proofs.RoundTrip.{digit, three_digits}
-use Rattle.dns_text.specs.CharacterString.{escaped_octet, first_octet, more_len, octet_before, unescaped_after, unescaped, octet_text, escaped_text}
+use Rattle.dns_text.specs.CharacterString.{octet_of, first_octet, octet_before, unescaped_after, unescaped, octet_text, escaped_text}
 
 -- ---- parsing
 
@@ -26,17 +26,17 @@ one_before : (done : List ℕ) (octet : ℕ) (more : Option (List ℕ)) → octe
 one_before done octet None = refl
 one_before done octet (Some octets) = ap (λ (l : List ℕ). Some l) (sym (append_assoc done (octet ∷ []) octets))
 
-first_is : (text : List ℕ) (octet len : ℕ) → 0 < length text → Some octet ≡ first_octet (get_or text 0 0) (drop 1 text) → len ≡ more_len (get_or text 0 0) (drop 1 text) + 1
+first_is : (text : List ℕ) (octet len : ℕ) → 0 < length text → Some octet ≡ first_octet text → len ≡ more_len text + 1
     → unescaped text ≡ octet_before (Some octet) (unescaped (drop len text))
 first_is [] octet len some is takes = absurd (omega arith)
 first_is (c ∷ cs) octet len some is takes =
-    let more : len ≡ suc (more_len c cs) = takes ∙ omega arith in
-    ap (λ (o : Option ℕ). octet_before o (unescaped_after (more_len c cs) cs)) (sym is)
-    ∙ ap (octet_before (Some octet)) (skips (more_len c cs) cs ∙ ap (λ (n : ℕ). unescaped (drop n (c ∷ cs))) (sym more))
+    let more : len ≡ suc (more_len (c ∷ cs)) = takes ∙ omega arith in
+    ap (λ (o : Option ℕ). octet_before o (unescaped_after (more_len (c ∷ cs)) cs)) (sym is)
+    ∙ ap (octet_before (Some octet)) (skips (more_len (c ∷ cs)) cs ∙ ap (λ (n : ℕ). unescaped (drop n (c ∷ cs))) (sym more))
 
 -- past an octet and its text
-pub octet_further : (text slice done : List ℕ) (place octet len : ℕ) (whole : Option (List ℕ)) → slice ≡ drop place text → 0 < length slice → Some octet ≡ first_octet (get_or slice 0 0) (drop 1 slice)
-    → len ≡ more_len (get_or slice 0 0) (drop 1 slice) + 1 → octets_before done (unescaped (drop place text)) ≡ whole → octets_before (done ++ octet ∷ []) (unescaped (drop (place + len) text)) ≡ whole
+pub octet_further : (text slice done : List ℕ) (place octet len : ℕ) (whole : Option (List ℕ)) → slice ≡ drop place text → 0 < length slice → Some octet ≡ first_octet slice → len ≡ more_len slice + 1
+    → octets_before done (unescaped (drop place text)) ≡ whole → octets_before (done ++ octet ∷ []) (unescaped (drop (place + len) text)) ≡ whole
 octet_further text slice done place octet len whole same some is takes so_far =
     sym (one_before done octet (unescaped (drop (place + len) text)))
     ∙ ap (octets_before done) (ap (λ (l : List ℕ). octet_before (Some octet) (unescaped l)) (sym (drop-drop len place text) ∙ ap (drop len) (sym same)) ∙ sym (first_is slice octet len some is takes) ∙ ap unescaped same) ∙ so_far
@@ -75,7 +75,7 @@ by_digits x y z c is e rest =
     let long : nat_lt (length (x ∷ y ∷ z ∷ rest)) 3 ≡ false = grind (arith, nat_tests) in
     let octet : escape (x ∷ y ∷ z ∷ rest) ≡ Escaped c = rw (is, long, e) refl in
     let takes : escape_len (x ∷ y ∷ z ∷ rest) ≡ 3 = rw is refl in
-    ap (λ (s : Symbol). octet_before (escaped_octet s) (unescaped_after (escape_len (x ∷ y ∷ z ∷ rest)) (x ∷ y ∷ z ∷ rest))) octet
+    ap (λ (s : Symbol). octet_before (octet_of s) (unescaped_after (escape_len (x ∷ y ∷ z ∷ rest)) (x ∷ y ∷ z ∷ rest))) octet
     ∙ ap (λ (n : ℕ). octet_before (Some c) (unescaped_after n (x ∷ y ∷ z ∷ rest))) takes
 
 reads_digits : (c : ℕ) → c < 256 → Reads (escape_sequence c) c

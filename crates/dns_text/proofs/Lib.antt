@@ -1,6 +1,8 @@
 pub mod AddressLaws
 pub mod CharacterStringLaws
+pub mod DataLexing
 pub mod FrontLaws
+pub mod PrintedData
 pub mod TokenGrammarLaws
 pub mod TokenLaws
 pub mod ReadingLaws

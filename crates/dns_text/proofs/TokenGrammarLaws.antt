@@ -6,7 +6,7 @@ use Rattle.std.proofs.Math.Seq.{take-append_seam, drop-append_seam, drop-append-
 use Rattle.std.proofs.lemmas.Bool.Decides.{nat_tests}
 use Rattle.dns_text.specs.Front.{Run, Bare, InQuotes, Front, line_end, line_from, begins_with_feed, is_blank, stops, ends_run, run_from, quoted, front}
 use Rattle.dns_text.specs.Front as by_len
-use Rattle.dns_text.specs.FrontGrammar.{EndsLine, feed, return_and_feed, IsLineOver, by_text_end, by_line_end, LineGoesTo, line_over, on_line, RunGoesTo, no_further, unescaped, escaped, IsRunOver, by_line, by_stop, FrontItem, TextEnd, LineEnd, Blank, Comment, Open, Close, Quoted, Word, Unclosed, Broken, IsInFront, text_end, blank, comment, opening, closing, quoted_string, word, unclosed, broken_string, broken_word, front_item}
+use Rattle.dns_text.specs.FrontGrammar.{EndsLine, feed, return_and_feed, IsLineOver, by_text_end, by_line_end, LineGoesTo, line_over, on_line, RunGoesTo, no_further, unescaped, escaped, IsRunOver, by_line, by_stop, FrontItem, TextEnd, LineEnd, Gap, Comment, Open, Close, Quoted, Word, Unclosed, Broken, IsInFront, text_end, gap, comment, opening, closing, quoted_string, word, unclosed, broken_string, broken_word, front_item}
 use Rattle.dns_text.specs.FrontGrammar as grammar
 use Rattle.dns_text.proofs.FrontLaws.{run_ends}
 
@@ -18,11 +18,11 @@ equal a b e = grind (arith, nat_tests)
 other : (a b : ℕ) → (a == b) ≡ false → a ≢ b
 other a b e q = grind (arith, nat_tests)
 
-tested : {P : Type 0} (t : Bool) → (t ≡ true → P) → (t ≡ false → P) → P
+pub tested : {P : Type 0} (t : Bool) → (t ≡ true → P) → (t ≡ false → P) → P
 tested true p q = p refl
 tested false p q = q refl
 
-unequal : (a b : ℕ) → a ≢ b → (a == b) ≡ false
+pub unequal : (a b : ℕ) → a ≢ b → (a == b) ≡ false
 unequal a b n = tested (a == b) (λ e. absurd (n (equal a b e))) (λ e. e)
 
 both : (a b : Bool) → (a && b) ≡ true → (a ≡ true) × (b ≡ true)
@@ -43,7 +43,7 @@ return_at c [] e f = absurd (cc)
 return_at c (d ∷ ds) e f =
     subst (λ (k : ℕ). IsLineOver (k ∷ d ∷ ds)) (sym (equal c 13 e)) (subst (λ (k : ℕ). IsLineOver (13 ∷ k ∷ ds)) (sym (equal d 10 f)) (by_line_end return_and_feed))
 
-no_line : (c : ℕ) (cs : List ℕ) → (c == 10) ≡ false → (c == 13 && begins_with_feed cs) ≡ false → line_end (c ∷ cs) ≡ 0
+pub no_line : (c : ℕ) (cs : List ℕ) → (c == 10) ≡ false → (c == 13 && begins_with_feed cs) ≡ false → line_end (c ∷ cs) ≡ 0
 no_line c cs e f = rw (e, f) refl
 
 over_or_not : (c : ℕ) (cs : List ℕ) → IsLineOver (c ∷ cs) ⊎ (line_end (c ∷ cs) ≡ 0)
@@ -67,7 +67,7 @@ stays_on c cs goes = at (over_or_not c cs)
     at (inl over) = absurd (goes over)
     at (inr e) = e
 
-goes_on : (c : ℕ) (cs : List ℕ) → line_end (c ∷ cs) ≡ 0 → ¬ IsLineOver (c ∷ cs)
+pub goes_on : (c : ℕ) (cs : List ℕ) → line_end (c ∷ cs) ≡ 0 → ¬ IsLineOver (c ∷ cs)
 goes_on c cs e over = let some : 0 < line_end (c ∷ cs) = over_some over (omega arith) in omega arith
 
 line_stays : {text : List ℕ} → IsLineOver text → (p : ℕ) → line_from p text ≡ p
@@ -130,7 +130,7 @@ run_stops (by_stop {r = r} {c = c} {rest = rest} e) = at (not (line_end (c ∷ r
     at true b e = refl
     at false b e = e
 
-run_read : {r : Run} {text run rest : List ℕ} → RunGoesTo r text run rest → IsRunOver r rest → run_from r false 0 text ≡ Some (length run)
+pub run_read : {r : Run} {text run rest : List ℕ} → RunGoesTo r text run rest → IsRunOver r rest → run_from r false 0 text ≡ Some (length run)
 run_read {r} {run = run} {rest = rest} goes over = run_on goes 0 ∙ run_ends r false (0 + length run) rest (run_stops over) ∙ ap (λ (n : ℕ). Some n) (omega arith)
 
 run_breaks : {r : Run} {text run rest : List ℕ} → RunGoesTo r text run (92 ∷ rest) → IsLineOver rest → run_from r false 0 text ≡ None
@@ -151,7 +151,7 @@ word_first c cs e f =
         → (if not (l == 0) then f1 else if s then f2 else if t then f3 else if u then f4 else if v then f5 else if w then f6 else f7) ≡ f7
     last l s t u v w f1 f2 f3 f4 f5 f6 f7 e1 e2 e3 e4 e5 e6 = rw (e1, e2, e3, e4, e5, e6) refl
 
-word_begun : {text run rest : List ℕ} → RunGoesTo Bare text run rest → 0 < length run → front text ≡ by_len.word (run_from Bare false 0 text)
+pub word_begun : {text run rest : List ℕ} → RunGoesTo Bare text run rest → 0 < length run → front text ≡ by_len.word (run_from Bare false 0 text)
 word_begun no_further some = absurd (omega arith)
 word_begun (unescaped {c = c} {text = text} goes e n more) some = word_first c text (stays_on c text goes) e
 word_begun (escaped {c = c} {text = text} goes more) some = word_first 92 (c ∷ text) refl refl
@@ -187,11 +187,11 @@ string_open string rest over =
     picks : (t : Bool) → t ≡ false → (if t then by_len.Quoted (length string) else by_len.Unclosed) ≡ by_len.Unclosed
     picks t e = rw e refl
 
-blank_stands : (c : ℕ) (rest : List ℕ) → is_blank c ≡ true → Blank rest ≡ front_item (front (c ∷ rest)) (c ∷ rest)
-blank_stands c rest e = tested (c == 32) (λ f. at 32 (equal c 32 f) refl) (λ f. at 9 (equal c 9 (rest_of (c == 32) (c == 9) f e)) refl)
+gap_stands : (c : ℕ) (rest : List ℕ) → is_blank c ≡ true → Gap rest ≡ front_item (front (c ∷ rest)) (c ∷ rest)
+gap_stands c rest e = tested (c == 32) (λ f. at 32 (equal c 32 f) refl) (λ f. at 9 (equal c 9 (rest_of (c == 32) (c == 9) f e)) refl)
   where
-    at : (k : ℕ) → c ≡ k → Blank rest ≡ front_item (front (k ∷ rest)) (k ∷ rest) → Blank rest ≡ front_item (front (c ∷ rest)) (c ∷ rest)
-    at k is q = subst (λ (n : ℕ). Blank rest ≡ front_item (front (n ∷ rest)) (n ∷ rest)) (sym is) q
+    at : (k : ℕ) → c ≡ k → Gap rest ≡ front_item (front (k ∷ rest)) (k ∷ rest) → Gap rest ≡ front_item (front (c ∷ rest)) (c ∷ rest)
+    at k is q = subst (λ (n : ℕ). Gap rest ≡ front_item (front (n ∷ rest)) (n ∷ rest)) (sym is) q
 
     rest_of : (a b : Bool) → a ≡ false → (a || b) ≡ true → b ≡ true
     rest_of true b f q = absurd (cc)
@@ -201,7 +201,7 @@ is_counted : {text : List ℕ} {a : FrontItem} → IsInFront text a → a ≡ fr
 is_counted text_end = refl
 is_counted (grammar.line_end feed) = refl
 is_counted (grammar.line_end return_and_feed) = refl
-is_counted (blank {c = c} {rest = rest} e) = blank_stands c rest e
+is_counted (gap {c = c} {rest = rest} e) = gap_stands c rest e
 is_counted (comment {text = text} {rest = rest} goes) =
     let read = line_read goes in
     let all : line_from 0 text + 1 ≡ suc read.0 = omega (arith, read.1.0 0) in
@@ -304,7 +304,7 @@ something (c ∷ cs) = at (over_or_not c cs)
     at : IsLineOver (c ∷ cs) ⊎ (line_end (c ∷ cs) ≡ 0) → Something (c ∷ cs)
     at (inl over) = line_over_found over
     at (inr e) =
-        tested (is_blank c) (λ s. (Blank cs, blank s)) (λ s.
+        tested (is_blank c) (λ s. (Gap cs, gap s)) (λ s.
         tested (c == 59) (λ t. let line = line_found cs in is 59 t (Comment line.0, comment line.1)) (λ t.
         tested (c == 40) (λ v. is 40 v (Open cs, opening)) (λ v.
         tested (c == 41) (λ w. is 41 w (Close cs, closing)) (λ w.

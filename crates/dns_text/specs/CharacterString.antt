@@ -1,31 +1,28 @@
 -- Character strings in text (RFC 1035 section 5.1).
-use Rattle.std.specs.Prelude.{ℕ, zero, suc, ◌==◌, ◌||◌, ◌&&◌, nat_le, if◌then◌else◌, Bool, List, [], ◌∷◌, ◌++◌, Option, Some, None}
-use Rattle.dns_names.specs.Parse.{Symbol, Dot, Plain, Escaped, Broken, escape, escape_len}
+use Rattle.std.specs.Prelude.{ℕ, zero, suc, ◌==◌, ◌||◌, ◌&&◌, nat_le, if◌then◌else◌, List, [], ◌∷◌, ◌++◌, Option, Some, None}
+use Rattle.dns_names.specs.Parse.{Symbol, Escaped, escape, more_len}
 use Rattle.dns_names.specs.Print.{escape_sequence}
 
 -- ---- parsing
 
-abbrev pub escaped_octet : Symbol → Option ℕ
-escaped_octet (Escaped octet) = Some octet
-escaped_octet _ = None
+abbrev pub octet_of : Symbol → Option ℕ
+octet_of (Escaped octet) = Some octet
+octet_of _ = None
 
 -- the octet that a text begins with: that of the escape after a backslash, or the first character itself
-abbrev pub first_octet : ℕ → List ℕ → Option ℕ
-first_octet c cs = if c == 92 then escaped_octet (escape cs) else Some c
-
--- how many characters follow the first in the text of that octet
-abbrev pub more_len : ℕ → List ℕ → ℕ
-more_len c cs = if c == 92 then escape_len cs else 0
+abbrev pub first_octet : List ℕ → Option ℕ
+first_octet [] = None
+first_octet (c ∷ cs) = if c == 92 then octet_of (escape cs) else Some c
 
 -- an octet and the octets after it, if each is one
 abbrev pub octet_before : Option ℕ → Option (List ℕ) → Option (List ℕ)
 octet_before (Some octet) (Some octets) = Some (octet ∷ octets)
 octet_before _ _ = None
 
--- the octets of a text, after `past` more characters of the octet before
+-- the octets of a text, after `past` more characters of the escape before
 abbrev pub unescaped_after : ℕ → List ℕ → Option (List ℕ)
 unescaped_after past [] = Some []
-unescaped_after zero (c ∷ cs) = octet_before (first_octet c cs) (unescaped_after (more_len c cs) cs)
+unescaped_after zero (c ∷ cs) = octet_before (first_octet (c ∷ cs)) (unescaped_after (more_len (c ∷ cs)) cs)
 unescaped_after (suc past) (c ∷ cs) = unescaped_after past cs
 
 -- The octets of a string, from its text without quotes. A backslash and three decimal digits up to 255 denote an octet, a

@@ -36,7 +36,7 @@ pub data IsRunOver : Run → List ℕ → Type 0 where
 pub data FrontItem : Type 0 where
   TextEnd : FrontItem
   LineEnd : List ℕ → FrontItem
-  Blank : List ℕ → FrontItem
+  Gap : List ℕ → FrontItem
   Comment : List ℕ → FrontItem
   Open : List ℕ → FrontItem
   Close : List ℕ → FrontItem
@@ -48,7 +48,7 @@ pub data FrontItem : Type 0 where
 pub data IsInFront : List ℕ → FrontItem → Type 0 where
   text_end : IsInFront [] TextEnd
   line_end : {text rest : List ℕ} → EndsLine text rest → IsInFront text (LineEnd rest)
-  blank : {c : ℕ} {rest : List ℕ} → is_blank c ≡ true → IsInFront (c ∷ rest) (Blank rest)
+  gap : {c : ℕ} {rest : List ℕ} → is_blank c ≡ true → IsInFront (c ∷ rest) (Gap rest)
   -- a comment leaves the end of its line, which may end an entry
   comment : {text rest : List ℕ} → LineGoesTo text rest → IsInFront (59 ∷ text) (Comment rest)
   opening : {rest : List ℕ} → IsInFront (40 ∷ rest) (Open rest)
@@ -66,7 +66,7 @@ pub data IsInFront : List ℕ → FrontItem → Type 0 where
 abbrev pub front_item : Front → List ℕ → FrontItem
 front_item by_len.TextEnd text = TextEnd
 front_item (by_len.LineEnd n) text = LineEnd (drop n text)
-front_item by_len.Gap text = Blank (drop 1 text)
+front_item by_len.Gap text = Gap (drop 1 text)
 front_item (by_len.Comment n) text = Comment (drop n text)
 front_item by_len.Open text = Open (drop 1 text)
 front_item by_len.Close text = Close (drop 1 text)

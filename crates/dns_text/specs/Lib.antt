@@ -5,6 +5,7 @@ pub mod Front
 pub mod FrontGrammar
 pub mod Lexer
 pub mod Token
+pub mod Tokens
 pub mod Ttl
 pub mod Usage
 pub mod internal

@@ -1,12 +1,12 @@
 //! Character strings in text (RFC 1035 section 5.1).
 
-ghost use Rattle.std.specs.Prelude.{◌≡◌, ◌+◌, ◌≤◌, ◌<◌, drop, slice_index, length, IfOk, IfSome, MatchOption, Option, Some, None, option_map};
+ghost use Rattle.std.specs.Prelude.{◌≡◌, ◌+◌, ◌≤◌, ◌<◌, length, IfOk, IfSome, MatchOption, Option, Some, None, option_map};
 ghost use Rattle.std.specs.Fmt.{WritesOnOk};
-ghost use Rattle.dns_names.specs.Parse.{escape, escape_len};
+ghost use Rattle.dns_names.specs.Parse.{more_len};
 ghost use Rattle.dns_names.specs.Print.{escape_sequence};
-ghost use Rattle.dns_text.specs.CharacterString.{unescaped, escaped_octet, first_octet, more_len, octet_text, escaped_text, quoted_text};
+ghost use Rattle.dns_text.specs.CharacterString.{unescaped, first_octet, octet_text, escaped_text, quoted_text};
 
-use dns_codes::parse_decimal;
+use dns_names::escaped_octet;
 use std::alloc::{AllocError, Global};
 use std::fmt;
 
@@ -32,10 +32,8 @@ pub fn unescape(alloc: Global, text: &[u8]) -> Result<Option<Vec<u8>>, AllocErro
 /// Returns the octet that a text begins with, and the length of its text.
 fn first_octet(text: &[u8]) -> Option<(u8, usize)>
     requires { 0 < length text.now }
-    ensures octet { option_map (λ found. found.0) result
-        ≡ first_octet (slice_index text.now 0) (drop 1 text.now) }
-    ensures len { IfSome result (λ found. found.1
-        ≡ more_len (slice_index text.now 0) (drop 1 text.now) + 1) }
+    ensures octet { option_map (λ found. found.0) result ≡ first_octet text.now }
+    ensures len { IfSome result (λ found. found.1 ≡ more_len text.now + 1) }
     ensures within { IfSome result (λ found. found.1 ≤ length text.now) }
 {
     if text[0] != b'\\' {
@@ -43,26 +41,6 @@ fn first_octet(text: &[u8]) -> Option<(u8, usize)>
     }
     let (octet, len) = escaped_octet(&text[1..])?;
     Some((octet, len + 1))
-}
-
-/// Returns the octet that the text after a backslash denotes, and how many characters it takes.
-fn escaped_octet(text: &[u8]) -> Option<(u8, usize)>
-    ensures octet { option_map (λ found. found.0) result ≡ escaped_octet (escape text.now) }
-    ensures len { IfSome result (λ found. found.1 ≡ escape_len text.now) }
-    ensures within { IfSome result (λ found. found.1 ≤ length text.now) }
-{
-    if text.is_empty() {
-        return None;
-    }
-    match text[0] {
-        b'0'..=b'9' if text.len() < 3 => None,
-        b'0'..=b'9' => match parse_decimal(&text[..3], 255) {
-            Some(number) => Some((number as u8, 3)),
-            None => None,
-        },
-        octet @ 32..=126 => Some((octet, 1)),
-        _ => None,
-    }
 }
 
 /// The octets of a character string, which `Display` writes between quotes: `"` and `\` after a backslash, and each octet

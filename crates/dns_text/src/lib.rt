@@ -1,11 +1,13 @@
-//! Names and zone files as text: tokens and times (RFC 1035 section 5.1), special-use names (RFC 6761), and conversion into
-//! names.
+//! Names and zone files as text: tokens, character strings and times (RFC 1035 section 5.1), addresses, special-use names
+//! (RFC 6761), and conversion into names.
 //!
 //! The lexer yields exactly the tokens that the definitions derive from the text, or its first fault with its line. A time
-//! parses to the sum of its runs, or fails at the first character that no time can have there.
+//! parses to the sum of its runs, or fails at the first character that no time can have there. Addresses and character
+//! strings print as text that parses back to them.
 //!
 //! - `lexer`: the tokens of a zone file; `token`: their type; `front`: what a text begins with; `error`: lexical errors
-//! - `ttl`: times to live; `into_name`: what converts into a name; `usage`: zones of special-use names
+//! - `character_string`: the octets of words and quoted strings; `address`: addresses; `ttl`: times to live
+//! - `into_name`: what converts into a name; `usage`: zones of special-use names
 //! - `laws`: theorems about these definitions
 #![tactic(auto)]
 

@@ -1,4 +1,4 @@
-use Rattle.std.proofs.Common.{◌≡◌, ◌+◌, ◌++◌, [], ◌∷◌, ℕ, List, drop, sym, ap, subst, ◌∙◌, arith, length-drop}
+use Rattle.std.proofs.Common.{◌≡◌, ◌+◌, ◌++◌, [], ◌∷◌, ℕ, List, drop, ap, ◌∙◌, arith, length-drop}
 use Rattle.dns_text.specs.CharacterString.{unescaped}
 use Rattle.dns_text.proofs.FrontLaws.{slice_is}
 use Rattle.dns_text.proofs.CharacterStringLaws.{octets_before, octet_further}

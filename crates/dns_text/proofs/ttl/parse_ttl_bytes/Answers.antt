@@ -1,4 +1,4 @@
-use Rattle.std.proofs.Common.{ℕ, ◌<◌, ◌∙◌, length, None, Some, Ok, sym, ap, arith}
+use Rattle.std.proofs.Common.{ℕ, ◌<◌, ◌∙◌, length, Ok, sym, ap, arith}
 use Rattle.std.proofs.lemmas.Bool.Decides.{nat_tests}
 use Rattle.dns_text.proofs.TtlLaws.{one_further, refused_for_character, refused_for_size, read_whole}
 use Rattle.dns_text.proofs.ttl.parse_ttl_bytes.Goals as goal
