@@ -1,1 +1,10 @@
 pub mod SoundLaws
+pub mod ItemLaws
+pub mod WireLaws
+pub mod DecodingLaws
+pub mod EmissionLaws
+pub mod LengthLaws
+pub mod BoundedLaws
+pub mod DataLaws
+pub mod UnambiguousLaws
+pub mod WritingLaws

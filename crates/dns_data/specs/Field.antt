@@ -1,6 +1,6 @@
 -- The fields of record data: a type has a fixed sequence of kinds, and data of the type has a value of each (RFC 1035
 -- section 3.3).
-use Rattle.std.specs.Prelude.{◌≡◌, ◌≢◌, ◌<◌, ◌^◌, ◌==◌, Bool, true, false, ℕ, List, [], ◌∷◌, ◌++◌, length, map, flat_map}
+use Rattle.std.specs.Prelude.{◌≡◌, ◌≢◌, ◌<◌, ◌^◌, ◌==◌, Bool, true, false, ℕ, List, [], ◌∷◌, ◌++◌, length, flat_map}
 use Rattle.std.specs.List.{AllByRecursion}
 use Rattle.std.specs.Int.{w16, w32, to_be_bytes}
 use Rattle.std.specs.Net.Addr.{ipv4_octets, ipv6_octets, ipv6_segments}
@@ -50,8 +50,8 @@ Values (kind ∷ kinds) = ValueOf kind × Values kinds
 -- ---- encodings
 
 -- a character string: its length in one byte, and its bytes (RFC 1035 section 3.3)
-abbrev pub string_form : List ℕ → List ℕ
-string_form string = length string ∷ string
+abbrev pub string_pieces : List ℕ → List Piece
+string_pieces string = Plain (length string ∷ []) ∷ Plain string ∷ []
 
 -- an option: its code and the length of its data, two bytes each, and the data (RFC 6891 section 6.1.2)
 abbrev pub option_form : OptionValue → List ℕ
@@ -70,7 +70,7 @@ value_pieces canonical Address4 address = Plain (ipv4_octets address) ∷ []
 value_pieces canonical Address6 address = Plain (ipv6_octets address) ∷ []
 value_pieces canonical CompressibleName name = name_piece StandardRecord canonical name.labels ∷ []
 value_pieces canonical WholeName name = name_piece Canonical canonical name.labels ∷ []
-value_pieces canonical Strings strings = map (λ string. Plain (string_form string)) strings
+value_pieces canonical Strings strings = flat_map string_pieces strings
 value_pieces canonical Options options = flat_map option_pieces options
 value_pieces canonical Opaque bytes = Plain bytes ∷ []
 

@@ -7,17 +7,17 @@ use Rattle.dns_wire.specs.Encodable.{BytesAt, PiecesAt}
 use Rattle.dns_wire.specs.declared.name_encoding.NameEncoding.TheVariants.{Uncompressed}
 use Rattle.dns_wire.specs.declared.error.DecodeError.{DecodeError}
 use Rattle.dns_wire.specs.declared.error.DecodeError.TheVariants.{InsufficientBytes, IncorrectRDataLengthRead}
-use Rattle.dns_data.specs.Field.{OptionValue, Kind, Number16, Number32, Seconds, Address4, Address6, CompressibleName, WholeName, Strings, Options, Opaque, ValueOf, Values, string_form, option_pieces}
+use Rattle.dns_data.specs.Field.{OptionValue, Kind, Number16, Number32, Seconds, Address4, Address6, CompressibleName, WholeName, Strings, Options, Opaque, ValueOf, Values, string_pieces, option_pieces}
 
 -- a character string
 abbrev pub StringAt : List ℕ → ℕ → List ℕ → ℕ → Type 0
-StringAt bytes place string end = BytesAt bytes place (string_form string) end × (length string < 256)
+StringAt bytes place string end = PiecesAt Uncompressed bytes place (string_pieces string) end × (length string < 256)
 
 -- an option
 abbrev pub OptionAt : List ℕ → ℕ → OptionValue → ℕ → Type 0
 OptionAt bytes place option end =
     PiecesAt Uncompressed bytes place (option_pieces option) end
-    × (option.code < 2 ^ 16) × (length option.bytes < 2 ^ 16)
+    × ((option.code < 2 ^ 16) × (length option.bytes < 2 ^ 16))
 
 -- Items follow one another until the data ends. The last may extend past its end.
 pub data ItemsUpTo {Item : Type 0} (ItemAt : ℕ → Item → ℕ → Type 0) (data_end : ℕ) : ℕ → List Item → ℕ → Type 0 where
@@ -25,9 +25,13 @@ pub data ItemsUpTo {Item : Type 0} (ItemAt : ℕ → Item → ℕ → Type 0) (d
   one_more_item : {place middle end : ℕ} {item : Item} {items : List Item} → place < data_end → ItemAt place item middle
       → ItemsUpTo ItemAt data_end middle items end → ItemsUpTo ItemAt data_end place (item ∷ items) end
 
+-- no item can be decoded at a place
+abbrev pub NoneAt : {Item : Type 0} → (ℕ → Item → ℕ → Type 0) → ℕ → Type 0
+NoneAt {Item} ItemAt place = (item : Item) (end : ℕ) → ¬ ItemAt place item end
+
 -- Before the data ends, there is a place at which no item can be decoded.
 pub data RefusesItems {Item : Type 0} (ItemAt : ℕ → Item → ℕ → Type 0) (data_end : ℕ) : ℕ → Type 0 where
-  no_item_there : {place : ℕ} → place < data_end → ((item : Item) (end : ℕ) → ¬ ItemAt place item end)
+  no_item_there : {place : ℕ} → place < data_end → NoneAt ItemAt place
       → RefusesItems ItemAt data_end place
   past_item : {place middle : ℕ} {item : Item} → place < data_end → ItemAt place item middle
       → RefusesItems ItemAt data_end middle → RefusesItems ItemAt data_end place

@@ -99,6 +99,12 @@ kinds_of_type types.TXT = txt_kinds
 kinds_of_type types.OPT = opt_kinds
 kinds_of_type other = Opaque ∷ []
 
+-- the data of a record whose data is empty: that of an OPT record without options, or of a record of an update (RFC 2136
+-- section 2.4)
+abbrev pub empty_data : RecordType → RData
+empty_data types.OPT = of.OPT []
+empty_data t = of.Update0 t
+
 -- ---- encodings
 
 -- the encoding of data, in canonical form or not

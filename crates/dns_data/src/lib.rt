@@ -2,8 +2,10 @@
 #![tactic(auto)]
 
 mod error;
+pub mod laws;
 mod octets;
 mod rdata;
+mod wire;
 
 pub use error::RDataParseError;
 pub use octets::{CharacterString, Octets, OptionData, TooLong};

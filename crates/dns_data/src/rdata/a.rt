@@ -1,7 +1,36 @@
 //! IPv4 addresses (RFC 1035 section 3.4.1).
 
+ghost use Rattle.std.specs.Prelude.{◌≡◌, ℕ, IfOk, IfErr};
+ghost use Rattle.dns_data.specs.Wire.{ValuesAt, RefusesFields};
+ghost use Rattle.dns_data.specs.rdata.A.{a_kinds, a_values};
+
+use crate::wire::read_ipv4;
+use dns_wire::{BinDecoder, BinEncodable, BinEncoder, DecodeError, EncodeError};
 use std::net::Ipv4Addr;
 
 /// An IPv4 address (RFC 1035 section 3.4.1).
 #[derive(Clone, Copy, Debug, PartialEq, Eq)]
 pub struct A(pub Ipv4Addr);
+
+impl A {
+    /// Reads the data.
+    pub(crate) fn read(decoder: &mut BinDecoder<'_>) -> Result<A, DecodeError>
+        ensures read { IfOk result (λ a. (data_end : ℕ) → ValuesAt decoder.old.bytes data_end
+            a_kinds decoder.old.index (a_values a) decoder.new.index) }
+        ensures refused { IfErr result (λ error. (data_end : ℕ)
+            → RefusesFields decoder.old.bytes data_end a_kinds decoder.old.index error) }
+        ensures bytes { decoder.new.bytes ≡ decoder.old.bytes }
+    {
+        Ok(A(read_ipv4(decoder)?))
+    }
+}
+
+impl BinEncodable for A {
+    ghost use Rattle.dns_data.specs.Field.{values_pieces};
+
+    ghost pieces = { λ a s. values_pieces s.canonical a_kinds (a_values a) };
+
+    fn emit(&self, encoder: &mut BinEncoder<'_>) -> Result<(), EncodeError> {
+        encoder.emit_vec(&self.0.octets())
+    }
+}

@@ -1,7 +1,36 @@
 //! IPv6 addresses (RFC 3596 section 2.2).
 
+ghost use Rattle.std.specs.Prelude.{◌≡◌, ℕ, IfOk, IfErr};
+ghost use Rattle.dns_data.specs.Wire.{ValuesAt, RefusesFields};
+ghost use Rattle.dns_data.specs.rdata.AAAA.{aaaa_kinds, aaaa_values};
+
+use crate::wire::read_ipv6;
+use dns_wire::{BinDecoder, BinEncodable, BinEncoder, DecodeError, EncodeError};
 use std::net::Ipv6Addr;
 
 /// An IPv6 address (RFC 3596 section 2.2).
 #[derive(Clone, Copy, Debug, PartialEq, Eq)]
 pub struct AAAA(pub Ipv6Addr);
+
+impl AAAA {
+    /// Reads the data.
+    pub(crate) fn read(decoder: &mut BinDecoder<'_>) -> Result<AAAA, DecodeError>
+        ensures read { IfOk result (λ a. (data_end : ℕ) → ValuesAt decoder.old.bytes data_end
+            aaaa_kinds decoder.old.index (aaaa_values a) decoder.new.index) }
+        ensures refused { IfErr result (λ error. (data_end : ℕ)
+            → RefusesFields decoder.old.bytes data_end aaaa_kinds decoder.old.index error) }
+        ensures bytes { decoder.new.bytes ≡ decoder.old.bytes }
+    {
+        Ok(AAAA(read_ipv6(decoder)?))
+    }
+}
+
+impl BinEncodable for AAAA {
+    ghost use Rattle.dns_data.specs.Field.{values_pieces};
+
+    ghost pieces = { λ a s. values_pieces s.canonical aaaa_kinds (aaaa_values a) };
+
+    fn emit(&self, encoder: &mut BinEncoder<'_>) -> Result<(), EncodeError> {
+        encoder.emit_vec(&self.0.octets())
+    }
+}

@@ -1,9 +1,14 @@
 //! Mail exchanges (RFC 1035 section 3.3.9).
 
-ghost use Rattle.std.specs.Prelude.{◌≡◌, IfOk};
+ghost use Rattle.std.specs.Prelude.{◌≡◌, ◌≢◌, ℕ, IfOk, IfErr};
+ghost use Rattle.dns_data.specs.Wire.{ValuesAt, RefusesFields};
+ghost use Rattle.dns_data.specs.rdata.MX.{mx_kinds, mx_values};
 
 use dns_names::Name;
-use std::alloc::AllocError;
+use dns_wire::{
+    BinDecodable, BinDecoder, BinEncodable, BinEncoder, DecodeError, EncodeError, RDataEncoding,
+};
+use std::alloc::{AllocError, Global};
 
 /// A mail exchange (RFC 1035 section 3.3.9).
 #[derive(Drop, PartialEq, Eq)]
@@ -25,5 +30,32 @@ impl MX {
             preference: self.preference,
             exchange: self.exchange.clone()?,
         })
+    }
+
+    /// Reads the data.
+    pub(crate) fn read(alloc: Global, decoder: &mut BinDecoder<'_>) -> Result<MX, DecodeError>
+        ensures read { IfOk result (λ mx. (data_end : ℕ) → ValuesAt decoder.old.bytes data_end
+            mx_kinds decoder.old.index (mx_values mx) decoder.new.index) }
+        ensures refused { IfErr result (λ error. error ≢ DecodeError.Memory → (data_end : ℕ)
+            → RefusesFields decoder.old.bytes data_end mx_kinds decoder.old.index error) }
+        ensures bytes { decoder.new.bytes ≡ decoder.old.bytes }
+    {
+        let preference = u16::read(alloc, decoder)?;
+        let exchange = Name::read(alloc, decoder)?;
+        Ok(MX {
+            preference,
+            exchange,
+        })
+    }
+}
+
+impl BinEncodable for MX {
+    ghost use Rattle.dns_data.specs.Field.{values_pieces};
+
+    ghost pieces = { λ mx s. values_pieces s.canonical mx_kinds (mx_values mx) };
+
+    fn emit(&self, encoder: &mut BinEncoder<'_>) -> Result<(), EncodeError> {
+        encoder.emit_u16(self.preference)?;
+        self.exchange.emit_with_behavior(RDataEncoding::StandardRecord, encoder)
     }
 }

@@ -1,9 +1,12 @@
 //! Name servers (RFC 1035 section 3.3.11).
 
-ghost use Rattle.std.specs.Prelude.{◌≡◌, IfOk};
+ghost use Rattle.std.specs.Prelude.{◌≡◌, ◌≢◌, ℕ, IfOk, IfErr};
+ghost use Rattle.dns_data.specs.Wire.{ValuesAt, RefusesFields};
+ghost use Rattle.dns_data.specs.rdata.NS.{ns_kinds, ns_values};
 
 use dns_names::Name;
-use std::alloc::AllocError;
+use dns_wire::{BinDecoder, BinEncodable, BinEncoder, DecodeError, EncodeError, RDataEncoding};
+use std::alloc::{AllocError, Global};
 
 /// A name server of a zone (RFC 1035 section 3.3.11).
 #[derive(Drop, PartialEq, Eq)]
@@ -17,5 +20,26 @@ impl NS {
         ensures { IfOk result (λ copy. copy ≡ self.now) }
     {
         Ok(NS(self.0.clone()?))
+    }
+
+    /// Reads the data.
+    pub(crate) fn read(alloc: Global, decoder: &mut BinDecoder<'_>) -> Result<NS, DecodeError>
+        ensures read { IfOk result (λ n. (data_end : ℕ) → ValuesAt decoder.old.bytes data_end
+            ns_kinds decoder.old.index (ns_values n) decoder.new.index) }
+        ensures refused { IfErr result (λ error. error ≢ DecodeError.Memory → (data_end : ℕ)
+            → RefusesFields decoder.old.bytes data_end ns_kinds decoder.old.index error) }
+        ensures bytes { decoder.new.bytes ≡ decoder.old.bytes }
+    {
+        Ok(NS(Name::read(alloc, decoder)?))
+    }
+}
+
+impl BinEncodable for NS {
+    ghost use Rattle.dns_data.specs.Field.{values_pieces};
+
+    ghost pieces = { λ n s. values_pieces s.canonical ns_kinds (ns_values n) };
+
+    fn emit(&self, encoder: &mut BinEncoder<'_>) -> Result<(), EncodeError> {
+        self.0.emit_with_behavior(RDataEncoding::StandardRecord, encoder)
     }
 }

@@ -1,9 +1,13 @@
 //! Options of a message's extension (RFC 6891 section 6.1.2).
 
-ghost use Rattle.std.specs.Prelude.{◌≡◌, IfOk};
+ghost use Rattle.std.specs.Prelude.{◌≡◌, ◌≢◌, ◌+◌, IfOk, IfErr};
+ghost use Rattle.dns_data.specs.Wire.{ValuesAt, RefusesFields};
+ghost use Rattle.dns_data.specs.rdata.OPT.{opt_kinds, opt_values};
 
 use crate::octets::OptionData;
-use std::alloc::AllocError;
+use crate::wire::{emit_options, read_options};
+use dns_wire::{BinDecoder, BinEncodable, BinEncoder, DecodeError, EncodeError};
+use std::alloc::{AllocError, Global};
 use std::marker::Model;
 
 /// An option (RFC 6891 section 6.1.2).
@@ -44,6 +48,19 @@ impl EdnsOption {
     }
 }
 
+impl BinEncodable for EdnsOption {
+    ghost use Rattle.dns_data.specs.Field.{option_pieces};
+
+    ghost pieces = { λ option _. option_pieces option };
+
+    fn emit(&self, encoder: &mut BinEncoder<'_>) -> Result<(), EncodeError> {
+        let bytes = self.data.as_slice();
+        encoder.emit_u16(self.code)?;
+        encoder.emit_u16(bytes.len() as u16)?;
+        encoder.emit_vec(bytes)
+    }
+}
+
 /// The options of a message's extension (RFC 6891 section 6.1.2).
 #[derive(Drop)]
 pub struct OPT {
@@ -72,5 +89,32 @@ impl OPT {
         ensures { result.now ≡ self.now }
     {
         self.options.as_slice()
+    }
+
+    /// Reads data of `len` bytes. The last option may extend past it.
+    pub(crate) fn read(
+        alloc: Global,
+        decoder: &mut BinDecoder<'_>,
+        len: u16,
+    ) -> Result<OPT, DecodeError>
+        ensures read { IfOk result (λ opt. ValuesAt decoder.old.bytes (decoder.old.index + len)
+            opt_kinds decoder.old.index (opt_values opt) decoder.new.index) }
+        ensures refused { IfErr result (λ error. error ≢ DecodeError.Memory
+            → RefusesFields decoder.old.bytes (decoder.old.index + len) opt_kinds
+            decoder.old.index error) }
+        ensures bytes { decoder.new.bytes ≡ decoder.old.bytes }
+    {
+        let options = read_options(alloc, decoder, usize::from(len))?;
+        Ok(OPT::new(options))
+    }
+}
+
+impl BinEncodable for OPT {
+    ghost use Rattle.dns_data.specs.Field.{values_pieces};
+
+    ghost pieces = { λ opt s. values_pieces s.canonical opt_kinds (opt_values opt) };
+
+    fn emit(&self, encoder: &mut BinEncoder<'_>) -> Result<(), EncodeError> {
+        emit_options(self.options(), encoder)
     }
 }

@@ -1,9 +1,17 @@
 //! Starts of authority (RFC 1035 section 3.3.13).
 
-ghost use Rattle.std.specs.Prelude.{◌≡◌, IfOk};
+ghost use Rattle.std.specs.Prelude.{◌≡◌, ◌≢◌, ℕ, false, IfOk, IfErr};
+ghost use Rattle.dns_wire.specs.Encoder.{state_of, IsAtEnd};
+ghost use Rattle.dns_wire.specs.Encodable.{Emits};
+ghost use Rattle.dns_data.specs.Field.{values_pieces};
+ghost use Rattle.dns_data.specs.Wire.{ValuesAt, RefusesFields};
+ghost use Rattle.dns_data.specs.rdata.SOA.{soa_kinds, number_kinds, number_values, soa_values};
 
 use dns_names::Name;
-use std::alloc::AllocError;
+use dns_wire::{
+    BinDecodable, BinDecoder, BinEncodable, BinEncoder, DecodeError, EncodeError, RDataEncoding,
+};
+use std::alloc::{AllocError, Global};
 
 /// The start of a zone's authority (RFC 1035 section 3.3.13). The times are in seconds.
 #[derive(Drop, PartialEq, Eq)]
@@ -40,5 +48,71 @@ impl SOA {
             expire: self.expire,
             minimum: self.minimum,
         })
+    }
+
+    /// Reads the data.
+    pub(crate) fn read(alloc: Global, decoder: &mut BinDecoder<'_>) -> Result<SOA, DecodeError>
+        ensures read { IfOk result (λ soa. (data_end : ℕ) → ValuesAt decoder.old.bytes data_end
+            soa_kinds decoder.old.index (soa_values soa) decoder.new.index) }
+        ensures refused { IfErr result (λ error. error ≢ DecodeError.Memory → (data_end : ℕ)
+            → RefusesFields decoder.old.bytes data_end soa_kinds decoder.old.index error) }
+        ensures bytes { decoder.new.bytes ≡ decoder.old.bytes }
+    {
+        let mname = Name::read(alloc, decoder)?;
+        let rname = Name::read(alloc, decoder)?;
+        let (serial, refresh, retry, expire, minimum) = SOA::read_numbers(alloc, decoder)?;
+        Ok(SOA {
+            mname,
+            rname,
+            serial,
+            refresh,
+            retry,
+            expire,
+            minimum,
+        })
+    }
+
+    /// Reads the serial number and the times.
+    fn read_numbers(
+        alloc: Global,
+        decoder: &mut BinDecoder<'_>,
+    ) -> Result<(u32, u32, u32, u32, u32), DecodeError>
+        ensures read { IfOk result (λ n. (data_end : ℕ) → ValuesAt decoder.old.bytes data_end
+            number_kinds decoder.old.index (n.0, (n.1, (n.2, (n.3, (n.4, tt)))))
+            decoder.new.index) }
+        ensures refused { IfErr result (λ error. error ≢ DecodeError.Memory → (data_end : ℕ)
+            → RefusesFields decoder.old.bytes data_end number_kinds decoder.old.index error) }
+        ensures bytes { decoder.new.bytes ≡ decoder.old.bytes }
+    {
+        let serial = u32::read(alloc, decoder)?;
+        let refresh = u32::read(alloc, decoder)?;
+        let retry = u32::read(alloc, decoder)?;
+        let expire = u32::read(alloc, decoder)?;
+        let minimum = u32::read(alloc, decoder)?;
+        Ok((serial, refresh, retry, expire, minimum))
+    }
+
+    /// Writes the serial number and the times.
+    fn emit_numbers(&self, encoder: &mut BinEncoder<'_>) -> Result<(), EncodeError>
+        requires { IsAtEnd (state_of encoder.old) }
+        ensures { Emits (state_of encoder.old)
+            (values_pieces false number_kinds (number_values self.now)) result
+            (state_of encoder.new) }
+    {
+        encoder.emit_u32(self.serial)?;
+        encoder.emit_u32(self.refresh)?;
+        encoder.emit_u32(self.retry)?;
+        encoder.emit_u32(self.expire)?;
+        encoder.emit_u32(self.minimum)
+    }
+}
+
+impl BinEncodable for SOA {
+    ghost pieces = { λ soa s. values_pieces s.canonical soa_kinds (soa_values soa) };
+
+    fn emit(&self, encoder: &mut BinEncoder<'_>) -> Result<(), EncodeError> {
+        self.mname.emit_with_behavior(RDataEncoding::StandardRecord, encoder)?;
+        self.rname.emit_with_behavior(RDataEncoding::StandardRecord, encoder)?;
+        self.emit_numbers(encoder)
     }
 }

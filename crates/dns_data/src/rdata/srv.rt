@@ -1,9 +1,14 @@
 //! Locations of services (RFC 2782).
 
-ghost use Rattle.std.specs.Prelude.{◌≡◌, IfOk};
+ghost use Rattle.std.specs.Prelude.{◌≡◌, ◌≢◌, ℕ, IfOk, IfErr};
+ghost use Rattle.dns_data.specs.Wire.{ValuesAt, RefusesFields};
+ghost use Rattle.dns_data.specs.rdata.SRV.{srv_kinds, srv_values};
 
 use dns_names::Name;
-use std::alloc::AllocError;
+use dns_wire::{
+    BinDecodable, BinDecoder, BinEncodable, BinEncoder, DecodeError, EncodeError, RDataEncoding,
+};
+use std::alloc::{AllocError, Global};
 
 /// The location of a service (RFC 2782).
 #[derive(Drop, PartialEq, Eq)]
@@ -30,5 +35,38 @@ impl SRV {
             port: self.port,
             target: self.target.clone()?,
         })
+    }
+
+    /// Reads the data.
+    pub(crate) fn read(alloc: Global, decoder: &mut BinDecoder<'_>) -> Result<SRV, DecodeError>
+        ensures read { IfOk result (λ srv. (data_end : ℕ) → ValuesAt decoder.old.bytes data_end
+            srv_kinds decoder.old.index (srv_values srv) decoder.new.index) }
+        ensures refused { IfErr result (λ error. error ≢ DecodeError.Memory → (data_end : ℕ)
+            → RefusesFields decoder.old.bytes data_end srv_kinds decoder.old.index error) }
+        ensures bytes { decoder.new.bytes ≡ decoder.old.bytes }
+    {
+        let priority = u16::read(alloc, decoder)?;
+        let weight = u16::read(alloc, decoder)?;
+        let port = u16::read(alloc, decoder)?;
+        let target = Name::read(alloc, decoder)?;
+        Ok(SRV {
+            priority,
+            weight,
+            port,
+            target,
+        })
+    }
+}
+
+impl BinEncodable for SRV {
+    ghost use Rattle.dns_data.specs.Field.{values_pieces};
+
+    ghost pieces = { λ srv s. values_pieces s.canonical srv_kinds (srv_values srv) };
+
+    fn emit(&self, encoder: &mut BinEncoder<'_>) -> Result<(), EncodeError> {
+        encoder.emit_u16(self.priority)?;
+        encoder.emit_u16(self.weight)?;
+        encoder.emit_u16(self.port)?;
+        self.target.emit_with_behavior(RDataEncoding::Canonical, encoder)
     }
 }

@@ -1,8 +1,13 @@
 //! Texts (RFC 1035 section 3.3.14).
 
-ghost use Rattle.std.specs.Prelude.{◌≡◌, IfOk};
+ghost use Rattle.std.specs.Prelude.{◌≡◌, ◌≢◌, ◌+◌, IfOk, IfErr};
+ghost use Rattle.dns_data.specs.Wire.{ValuesAt, RefusesFields};
+ghost use Rattle.dns_data.specs.rdata.TXT.{txt_kinds, txt_values};
 
 use crate::octets::CharacterString;
+use crate::wire::{emit_strings, read_strings};
+use dns_wire::{BinDecoder, BinEncodable, BinEncoder, DecodeError, EncodeError};
+use std::alloc::Global;
 use std::marker::Model;
 
 /// Character strings (RFC 1035 section 3.3.14).
@@ -39,5 +44,32 @@ impl TXT {
         ensures { result.items ≡ self }
     {
         self.strings
+    }
+
+    /// Reads data of `len` bytes. The last string may extend past it.
+    pub(crate) fn read(
+        alloc: Global,
+        decoder: &mut BinDecoder<'_>,
+        len: u16,
+    ) -> Result<TXT, DecodeError>
+        ensures read { IfOk result (λ txt. ValuesAt decoder.old.bytes (decoder.old.index + len)
+            txt_kinds decoder.old.index (txt_values txt) decoder.new.index) }
+        ensures refused { IfErr result (λ error. error ≢ DecodeError.Memory
+            → RefusesFields decoder.old.bytes (decoder.old.index + len) txt_kinds
+            decoder.old.index error) }
+        ensures bytes { decoder.new.bytes ≡ decoder.old.bytes }
+    {
+        let strings = read_strings(alloc, decoder, usize::from(len))?;
+        Ok(TXT::new(strings))
+    }
+}
+
+impl BinEncodable for TXT {
+    ghost use Rattle.dns_data.specs.Field.{values_pieces};
+
+    ghost pieces = { λ txt s. values_pieces s.canonical txt_kinds (txt_values txt) };
+
+    fn emit(&self, encoder: &mut BinEncoder<'_>) -> Result<(), EncodeError> {
+        emit_strings(self.strings(), encoder)
     }
 }

@@ -1,0 +1,45 @@
+-- How long encodings are.
+use Rattle.std.proofs.Common.{◌≡◌, ℕ, ◌+◌, ◌*◌, ◌<◌, ◌≤◌, List, [], ◌∷◌, ◌++◌, length, flat_map, refl, sym, ap, ◌∙◌, arith, length-append}
+use Rattle.dns_wire.specs.Encodable.{Piece, Plain, Domain, Whole, Position, start_position, piece_form, piece_next, form, PiecesAt}
+use Rattle.dns_wire.specs.declared.name_encoding.NameEncoding.TheVariants.{Uncompressed}
+use Rattle.dns_wire.proofs.NameLaws.{length-whole_form}
+use Rattle.dns_wire.proofs.PieceLaws.{form-encoding}
+use Rattle.dns_wire.proofs.SectionLaws.{piece_max_len, pieces_max_len, name_form-most}
+use Rattle.dns_data.specs.Wire.{ItemsUpTo, no_more_items, one_more_item}
+
+pub pieces_max_len-append : (ps qs : List Piece) → pieces_max_len (ps ++ qs) ≡ pieces_max_len ps + pieces_max_len qs
+pieces_max_len-append [] qs = omega arith
+pieces_max_len-append (p ∷ ps) qs = omega (arith, pieces_max_len-append ps qs)
+
+piece_form-most : (s : Position) (p : Piece) → length (piece_form s p) ≤ piece_max_len p
+piece_form-most s (Plain bytes) = omega arith
+piece_form-most s (Domain labels) = name_form-most s labels
+piece_form-most s (Whole labels) = omega (arith, length-whole_form labels)
+
+-- an encoding is no longer than with every name uncompressed
+pub form-most : (s : Position) (ps : List Piece) → length (form s ps) ≤ pieces_max_len ps
+form-most s [] = omega arith
+form-most s (p ∷ ps) = omega (arith, piece_form-most s p, form-most (piece_next s p) ps, length-append (piece_form s p) (form (piece_next s p) ps))
+
+abbrev pub whole_position : Position
+whole_position = record start_position { encoding = Uncompressed }
+
+piece_form-whole : (p : Piece) → length (piece_form whole_position p) ≡ piece_max_len p
+piece_form-whole (Plain bytes) = refl
+piece_form-whole (Domain labels) = length-whole_form labels
+piece_form-whole (Whole labels) = length-whole_form labels
+
+-- and as long without compression
+pub form-whole : (ps : List Piece) → length (form whole_position ps) ≡ pieces_max_len ps
+form-whole [] = refl
+form-whole (p ∷ ps) =
+    let next : Position = piece_next whole_position p in
+    let more = ap (λ (xs : List ℕ). length xs) (form-encoding next whole_position ps refl refl) in
+    omega (arith, piece_form-whole p, form-whole ps, more, length-append (piece_form whole_position p) (form next ps))
+
+-- items that are plain bytes take their length
+pub items_len : {Item : Type 0} (ItemAt : ℕ → Item → ℕ → Type 0) (pieces : Item → List Piece) → ((place : ℕ) (x : Item) (end : ℕ) → ItemAt place x end → place + pieces_max_len (pieces x) ≡ end)
+    → {data_end place end : ℕ} {xs : List Item} → ItemsUpTo ItemAt data_end place xs end → place + pieces_max_len (flat_map pieces xs) ≡ end
+items_len ItemAt pieces each (no_more_items stop) = omega arith
+items_len ItemAt pieces each {place = place} (one_more_item {middle = m} {item = x} {items = xs} less there more) =
+    omega (arith, each place x m there, items_len ItemAt pieces each more, pieces_max_len-append (pieces x) (flat_map pieces xs))
