@@ -8,6 +8,7 @@ use Rattle.dns_wire.specs.declared.name_encoding.NameEncoding.TheVariants.{Uncom
 use Rattle.dns_wire.proofs.NameLaws.{length-whole_form}
 use Rattle.dns_wire.proofs.SectionLaws.{name_form-most}
 use Rattle.dns_wire.proofs.PieceLaws.{form-append}
+use Rattle.dns_data.proofs.WireLaws.{length-octets_of}
 use Rattle.dns_data.specs.Field.{Kind, Number16, Number32, Seconds, Address4, Address6, CompressibleName, WholeName, Strings, Options, Opaque, ValueOf, Values, value_pieces, values_pieces, IsSoundValue, AreSoundValues}
 use Rattle.dns_data.specs.rdata.{data_type, data_kinds, data_values, HasFieldsOfType, IsSoundData}
 use Rattle.dns_data.specs.declared.rdata.RData.{RData}
@@ -24,10 +25,6 @@ IsShortValue kind value = Unit {0}
 abbrev pub AreShortValues : (kinds : List Kind) → Values kinds → Type 0
 AreShortValues [] values = Unit {0}
 AreShortValues (kind ∷ kinds) values = IsShortValue kind values.0 × AreShortValues kinds values.1
-
-length-octets_of : (segments : List ℕ) → length (octets_of segments) ≡ 2 * length segments
-length-octets_of [] = omega arith
-length-octets_of (segment ∷ segments) = omega (arith, length-octets_of segments)
 
 short_value : (s : Position) (kind : Kind) (value : ValueOf kind) → IsSoundValue kind value → IsShortValue kind value → length (form s (value_pieces false kind value)) ≤ 255
 short_value s Number16 number sound short = omega arith
