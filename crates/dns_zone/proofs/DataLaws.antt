@@ -1,5 +1,5 @@
 -- Data of rows: addresses in text, and what can be sent.
-use Rattle.std.proofs.Common.{◌≡◌, ◌<◌, ◌≤◌, ◌^◌, ℕ, true, List, [], ◌∷◌, ◌++◌, refl, sym, ap, ◌∙◌, subst, length, lit≤, arith, Option, Some, None}
+use Rattle.std.proofs.Common.{◌≡◌, ◌<◌, ◌≤◌, ◌^◌, ℕ, true, List, [], ◌∷◌, refl, sym, ap, ◌∙◌, subst, length, lit≤, ne_eqb, arith, Option, Some, None}
 use Rattle.std.specs.Prelude.{option_map, IfSome}
 use Rattle.std.specs.declared.net.ipv4_addr.Ipv4Addr.{Ipv4Addr}
 use Rattle.std.specs.Net.Addr.{ipv4_octets}
@@ -30,7 +30,9 @@ address_parsed text None h = by_read (read_ipv4 text) refl
     by_read (Some (octets, [])) e =
         let found = read_ipv4_sound text octets [] e in
         absurd (h (record { octets = octets }) (subst (λ front. IsDotted front octets) (sym (found.1 ∙ append-nil found.0)) found.2))
-    by_read (Some (octets, c ∷ rest)) e = sym (ap address_read e)
+    by_read (Some (octets, c ∷ rest)) e =
+        let left : address_read (Some (octets, c ∷ rest)) ≡ None = rw (ne_eqb (length (c ∷ rest)) 0 (omega arith)) refl in
+        sym (ap address_read e ∙ left)
 
 pub address_octets : (text : List ℕ) (r : Option Ipv4Addr) → IsTextOfIpv4 text r → IfSome r (λ a. length (ipv4_octets a) ≡ 4)
 address_octets text (Some a) h = ap length h.value

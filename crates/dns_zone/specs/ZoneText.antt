@@ -1,6 +1,6 @@
 -- The text of a zone (RFC 1035 section 5.1), as far as it is read: a line is blank, a comment, or
 -- `<owner> <ttl> IN <A or SOA> <data>` with names that are fully qualified and numbers in digits.
-use Rattle.std.specs.Prelude.{◌≡◌, ◌<◌, ◌^◌, ◌==◌, ◌&&◌, ◌||◌, ◌+◌, nat_lt, not, codes, if◌then◌else◌, Bool, true, false, List, [], ◌∷◌, ◌++◌, ℕ, Option, Some, None, option_map, Result, Ok, Err}
+use Rattle.std.specs.Prelude.{◌≡◌, ◌<◌, ◌^◌, ◌==◌, ◌&&◌, ◌||◌, ◌+◌, not, codes, if◌then◌else◌, Bool, true, false, List, [], ◌∷◌, ◌++◌, ℕ, Option, Some, None, option_map, Result, Ok, Err}
 use Rattle.std.specs.List.{list_any, AllByRecursion}
 use Rattle.std.specs.Str.{bytes_eq}
 use Rattle.std.specs.Str.Lines.{lines}
