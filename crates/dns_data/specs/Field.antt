@@ -1,7 +1,9 @@
 -- The fields of record data: a type has a fixed sequence of kinds, and data of the type has a value of each (RFC 1035
 -- section 3.3).
-use Rattle.std.specs.Prelude.{◌≡◌, ◌≢◌, ◌<◌, ◌^◌, ◌==◌, Bool, true, false, ℕ, List, [], ◌∷◌, ◌++◌, length, flat_map}
+use Rattle.std.specs.Prelude.{◌≡◌, ◌≢◌, ◌<◌, ◌^◌, nat_eq, Bool, true, ℕ, List, [], ◌∷◌, ◌++◌, length, flat_map}
 use Rattle.std.specs.List.{AllByRecursion}
+use Rattle.std.specs.Ordering.{on, eq_of_both}
+use Rattle.std.specs.Str.{bytes_eq}
 use Rattle.std.specs.Int.{w16, w32, to_be_bytes}
 use Rattle.std.specs.Net.Addr.{ipv4_octets, ipv6_octets, ipv6_segments}
 use Rattle.std.specs.declared.net.ipv4_addr.Ipv4Addr.{Ipv4Addr}
@@ -99,3 +101,9 @@ IsSoundValue Opaque bytes = bytes ≢ []
 abbrev pub AreSoundValues : (kinds : List Kind) → Values kinds → Type 0
 AreSoundValues [] values = Unit {0}
 AreSoundValues (kind ∷ kinds) values = IsSoundValue kind values.0 × AreSoundValues kinds values.1
+
+-- ---- equality
+
+-- options are equal if their codes and their data are
+abbrev pub same_option : OptionValue → OptionValue → Bool
+same_option = eq_of_both (on (λ option. option.code) nat_eq) (on (λ option. option.bytes) bytes_eq)

@@ -3,3 +3,4 @@ pub mod Field
 pub mod Wire
 pub mod Text
 pub mod rdata
+pub mod internal

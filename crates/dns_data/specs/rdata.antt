@@ -9,9 +9,11 @@ pub mod PTR
 pub mod SOA
 pub mod SRV
 pub mod TXT
-use Rattle.std.specs.Prelude.{Bool, ◌≡◌, ◌≢◌, ◌+◌, ◌/◌, ◌%◌, ◌<◌, ◌^◌, ℕ, List, [], ◌∷◌, ◌++◌, length, flat_map, codes, true, false, Option}
+use Rattle.std.specs.Prelude.{Bool, ◌≡◌, ◌≢◌, ◌+◌, ◌/◌, ◌%◌, ◌<◌, ◌^◌, ℕ, List, [], ◌∷◌, ◌++◌, length, flat_map, codes, true, false, Option, Some, None}
 use Rattle.std.specs.Char.{digit_char}
 use Rattle.std.specs.Fmt.{decimal}
+use Rattle.std.specs.declared.net.ip_addr.IpAddr.{IpAddr}
+use Rattle.std.specs.declared.net.ip_addr.IpAddr.TheVariants.{V4, V6}
 use Rattle.dns_codes.specs.RecordType.{type_number, type_of}
 use Rattle.dns_codes.specs.declared.record_type.RecordType.{RecordType}
 use Rattle.dns_codes.specs.declared.record_type.RecordType.TheVariants as types
@@ -25,6 +27,7 @@ use Rattle.dns_data.specs.Text.{AreParsed, RefusesTokens, values_text, has_text}
 use Rattle.dns_data.specs.declared.error.RDataParseError.{RDataParseError}
 use Rattle.dns_data.specs.declared.error.RDataParseError.TheVariants.{UnsupportedRecordType}
 use Rattle.dns_data.specs.Wire.{RefusesValues}
+use Rattle.dns_data.specs.contracts.rdata.RDataPartialEq.TheImpl.{eq-value}
 use Rattle.dns_data.specs.declared.rdata.RData.{RData}
 use Rattle.dns_data.specs.declared.rdata.RData.TheVariants as of
 use Rattle.dns_data.specs.rdata.A.{a_kinds, a_values}
@@ -104,6 +107,24 @@ kinds_of_type other = Opaque ∷ []
 abbrev pub empty_data : RecordType → RData
 empty_data types.OPT = of.OPT []
 empty_data t = of.Update0 t
+
+-- the address of data that is one
+abbrev pub data_addr : RData → Option IpAddr
+data_addr (of.A a) = Some (V4 a.0)
+data_addr (of.AAAA a) = Some (V6 a.0)
+data_addr d = None
+
+-- whether data has no fields, as in an update (RFC 2136 section 2.4)
+abbrev pub is_update_data : RData → Bool
+is_update_data (of.Update0 t) = true
+is_update_data d = false
+
+-- ---- equality
+
+-- Data are equal if they have the same variant and equal fields (RFC 2136 section 1.1.1): names are equal up to ASCII case,
+-- and all else only if it is identical. The law `equality_is_by_fields` lists the fields.
+abbrev pub same_data : RData → RData → Bool
+same_data = eq-value.it
 
 -- ---- encodings
 

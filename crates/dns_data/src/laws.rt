@@ -1,14 +1,30 @@
-//! Laws: what the definitions of this crate imply, as functions with empty bodies.
+//! Theorems about the definitions of this crate, as functions with empty bodies.
 
-ghost use Rattle.std.specs.Prelude.{◌≡◌, ◌≢◌, ◌-◌, ◌<◌, ◌^◌, ℕ, List, false};
-ghost use Rattle.dns_wire.specs.Encoder.{EncoderState, IsAtEnd};
+ghost use Rattle.std.specs.Prelude.{◌≡◌, ◌≢◌, ◌-◌, ◌<◌, ◌^◌, ◌&&◌, nat_eq, ℕ, List, false};
+ghost use Rattle.dns_codes.specs.declared.record_type.RecordType.{RecordType};
+ghost use Rattle.dns_data.specs.Field.{OptionValue, same_option};
+ghost use Rattle.dns_data.specs.declared.rdata.RData.{RData};
+ghost use Rattle.dns_data.specs.declared.rdata.a.A.{A};
+ghost use Rattle.dns_data.specs.declared.rdata.aaaa.AAAA.{AAAA};
+ghost use Rattle.dns_data.specs.declared.rdata.cname.CNAME.{CNAME};
+ghost use Rattle.dns_data.specs.declared.rdata.mx.MX.{MX};
+ghost use Rattle.dns_data.specs.declared.rdata.ns.NS.{NS};
+ghost use Rattle.dns_data.specs.declared.rdata.ptr.PTR.{PTR};
+ghost use Rattle.dns_data.specs.declared.rdata.soa.SOA.{SOA};
+ghost use Rattle.dns_data.specs.declared.rdata.srv.SRV.{SRV};
+ghost use Rattle.dns_names.specs.Compare.{same_name};
 ghost use Rattle.dns_wire.specs.Encodable.{append_pieces, AreWritable};
+ghost use Rattle.dns_wire.specs.Encoder.{EncoderState, IsAtEnd};
 ghost use Rattle.dns_wire.specs.Writing.{ArePointerTargets};
 ghost use Rattle.dns_wire.specs.declared.error.DecodeError.{DecodeError};
 ghost use Rattle.dns_wire.specs.declared.name_encoding.NameEncoding.TheVariants.{UncompressedLowercase};
-ghost use Rattle.dns_codes.specs.declared.record_type.RecordType.{RecordType};
-ghost use Rattle.dns_data.specs.declared.rdata.RData.{RData};
-ghost use Rattle.dns_data.specs.rdata.{data_type, data_pieces, IsSoundData, ReadsData, RefusesData};
+ghost use Rattle.std.specs.Cmp.Lexicographic.{pointwise};
+ghost use Rattle.std.specs.Cmp.{IsEquivalence};
+ghost use Rattle.std.specs.Net.Addr.{ipv4_octets, ipv6_segments};
+ghost use Rattle.std.specs.Str.{bytes_eq};
+ghost use Rattle.dns_data.specs.rdata.{data_type, data_pieces, same_data, IsSoundData, ReadsData, RefusesData};
+
+use dns_wire::RecordType;
 
 /// Bytes decode to at most one value of a type and a length, and are then not refused.
 pub fn data_decoding_is_unambiguous()
@@ -31,4 +47,43 @@ pub fn written_data_decodes()
         ((append_pieces w (data_pieces false d)).offset - w.offset) d }
     ensures fits { (w : EncoderState) (d : RData) → IsSoundData d
         → (append_pieces w (data_pieces false d)).offset - w.offset < 2 ^ 16 }
+{}
+
+/// Equality of record data is an equivalence.
+pub fn equality_of_data()
+    ensures { IsEquivalence same_data }
+{}
+
+/// Data of one type are equal if their fields are: names up to ASCII case, and all else only if it is identical.
+pub fn equality_is_by_fields()
+    ensures a { (x y : A) → same_data (RData.A x) (RData.A y)
+        ≡ bytes_eq (ipv4_octets x.0) (ipv4_octets y.0) }
+    ensures aaaa { (x y : AAAA) → same_data (RData.AAAA x) (RData.AAAA y)
+        ≡ pointwise nat_eq (ipv6_segments x.0) (ipv6_segments y.0) }
+    ensures cname { (x y : CNAME) → same_data (RData.CNAME x) (RData.CNAME y) ≡ same_name x.0 y.0 }
+    ensures ns { (x y : NS) → same_data (RData.NS x) (RData.NS y) ≡ same_name x.0 y.0 }
+    ensures ptr { (x y : PTR) → same_data (RData.PTR x) (RData.PTR y) ≡ same_name x.0 y.0 }
+    ensures mx { (x y : MX) → same_data (RData.MX x) (RData.MX y)
+        ≡ (nat_eq x.preference y.preference && same_name x.exchange y.exchange) }
+    ensures srv { (x y : SRV) → same_data (RData.SRV x) (RData.SRV y)
+        ≡ (nat_eq x.priority y.priority && (nat_eq x.weight y.weight
+        && (nat_eq x.port y.port && same_name x.target y.target))) }
+    ensures txt { (x y : List (List ℕ)) → same_data (RData.TXT x) (RData.TXT y)
+        ≡ pointwise bytes_eq x y }
+    ensures opt { (x y : List OptionValue) → same_data (RData.OPT x) (RData.OPT y)
+        ≡ pointwise same_option x y }
+    ensures update0 { (t u : RecordType) → same_data (RData.Update0 t) (RData.Update0 u)
+        ≡ ⟦<RecordType as PartialEq>⟧.eq t u }
+    ensures unknown { (t u : RecordType) (x y : List ℕ)
+        → same_data (RData.Unknown t x) (RData.Unknown u y)
+        ≡ (⟦<RecordType as PartialEq>⟧.eq t u && bytes_eq x y) }
+{}
+
+/// The fields of an SOA record are its names, its serial number and its times.
+pub fn equality_of_soa_is_by_fields()
+    ensures { (x y : SOA) → same_data (RData.SOA x) (RData.SOA y)
+        ≡ (same_name x.mname y.mname && (same_name x.rname y.rname
+        && (nat_eq x.serial y.serial && (nat_eq x.refresh y.refresh
+        && (nat_eq x.retry y.retry && (nat_eq x.expire y.expire
+        && nat_eq x.minimum y.minimum)))))) }
 {}

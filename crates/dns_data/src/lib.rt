@@ -5,8 +5,10 @@ mod error;
 pub mod laws;
 mod octets;
 mod rdata;
+mod record_data;
 mod wire;
 
 pub use error::RDataParseError;
 pub use octets::{CharacterString, Octets, OptionData, TooLong};
 pub use rdata::{A, AAAA, CNAME, EdnsOption, MX, NS, OPT, PTR, RData, SOA, SRV, TXT};
+pub use record_data::RecordData;

@@ -2,7 +2,8 @@
 
 ghost use Rattle.std.specs.Prelude.{◌≡◌, ◌≤◌, ◌<◌, ◌↔◌, length, IfOk, OnErr, IsOk};
 
-use std::alloc::{AllocError, Global};
+use std::alloc::AllocError;
+use std::fmt;
 use std::marker::Model;
 use thiserror::Error;
 
@@ -68,5 +69,44 @@ impl<const MAX: usize> Octets<MAX> {
         Ok(Octets {
             bytes: self.bytes.clone()?,
         })
+    }
+}
+
+impl<const MAX: usize> Clone for Octets<MAX> {
+    ghost is_clone = { λ octets copy. copy ≡ octets };
+
+    fn clone(&self) -> Result<Self, AllocError> {
+        Octets::clone(self)
+    }
+}
+
+impl<const MAX: usize> PartialEq for Octets<MAX> {
+    ghost use Rattle.std.specs.Str.{bytes_eq};
+    ghost use Rattle.std.specs.Cmp.{partial_equiv_from_equiv};
+    ghost use Rattle.std.specs.Cmp.Lexicographic.{nat_list_eq_equiv};
+
+    ghost eq = { bytes_eq };
+
+    ghost laws = { partial_equiv_from_equiv nat_list_eq_equiv };
+
+    fn eq(&self, other: &Self) -> bool {
+        self.bytes == other.bytes
+    }
+}
+
+impl<const MAX: usize> Eq for Octets<MAX> {
+    ghost use Rattle.std.specs.Cmp.Lexicographic.{nat_list_eq_equiv};
+
+    ghost laws = { nat_list_eq_equiv };
+}
+
+impl<const MAX: usize> fmt::Debug for Octets<MAX> {
+    ghost use Rattle.std.specs.Prelude.{Some};
+    ghost use Rattle.std.specs.Fmt.{decimal, debug_list};
+
+    ghost debug_output = { debug_list (λ byte. Some (decimal byte)) };
+
+    fn fmt<W: fmt::Write>(&self, f: &mut fmt::Formatter<W>) -> fmt::Result {
+        self.bytes.fmt(f)
     }
 }

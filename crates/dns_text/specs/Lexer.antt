@@ -15,7 +15,7 @@ pub data Lexeme : Type 0 where
   Include : Lexeme
   Origin : Lexeme
   Ttl : Lexeme
-  EntryEnd : Lexeme
+  EOL : Lexeme
 
 abbrev pub word_token : Bool → List ℕ → Lexeme
 word_token is_front text =
@@ -54,7 +54,7 @@ abbrev pub step_past : Front → LexerState → Step
 step_past TextEnd p = if p.is_open then Refuses (fault.UnclosedList p.entry) else Ends
 step_past (LineEnd n) p =
     if p.is_open then Skips (record p { text = drop n p.text; line = p.line + 1 })
-    else Yields EntryEnd (record { text = drop n p.text; line = p.line + 1; entry = p.line + 1; is_open = false; is_front = true })
+    else Yields EOL (record { text = drop n p.text; line = p.line + 1; entry = p.line + 1; is_open = false; is_front = true })
 step_past Gap p = if p.is_front then Yields Blank (past 1 p) else Skips (past 1 p)
 step_past (Comment n) p = Skips (record p { text = drop n p.text })
 step_past Open p = if p.is_open then Refuses (fault.NestedList p.line) else Skips (record (past 1 p) { is_open = true })

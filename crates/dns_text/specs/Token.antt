@@ -13,7 +13,7 @@ lexeme At = text.At
 lexeme Include = text.Include
 lexeme Origin = text.Origin
 lexeme Ttl = text.Ttl
-lexeme EOL = text.EntryEnd
+lexeme EOL = text.EOL
 
 -- the result of `next_token` in contracts
 abbrev pub answer : Result (Option Token) LexerError → Result (Option text.Lexeme) LexerError

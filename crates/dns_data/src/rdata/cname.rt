@@ -9,7 +9,7 @@ use dns_wire::{BinDecoder, BinEncodable, BinEncoder, DecodeError, EncodeError, R
 use std::alloc::{AllocError, Global};
 
 /// The canonical name of an alias (RFC 1035 section 3.3.1).
-#[derive(Drop, PartialEq, Eq)]
+#[derive(Debug, Drop, PartialEq, Eq)]
 pub struct CNAME(pub Name);
 
 impl CNAME {

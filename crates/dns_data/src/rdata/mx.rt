@@ -11,7 +11,7 @@ use dns_wire::{
 use std::alloc::{AllocError, Global};
 
 /// A mail exchange (RFC 1035 section 3.3.9).
-#[derive(Drop, PartialEq, Eq)]
+#[derive(Debug, Drop, PartialEq, Eq)]
 pub struct MX {
     /// The preference; lower values are preferred.
     pub preference: u16,

@@ -9,7 +9,7 @@ use dns_wire::{BinDecoder, BinEncodable, BinEncoder, DecodeError, EncodeError, R
 use std::alloc::{AllocError, Global};
 
 /// A name server of a zone (RFC 1035 section 3.3.11).
-#[derive(Drop, PartialEq, Eq)]
+#[derive(Debug, Drop, PartialEq, Eq)]
 pub struct NS(pub Name);
 
 impl NS {

@@ -11,10 +11,10 @@ use std::alloc::{AllocError, Global};
 use std::marker::Model;
 
 /// An option (RFC 6891 section 6.1.2).
-#[derive(Drop)]
+#[derive(Debug, Drop)]
 pub struct EdnsOption {
     code: u16,
-    data: OptionData,
+    value: OptionData,
 }
 
 impl Model for EdnsOption {
@@ -22,7 +22,7 @@ impl Model for EdnsOption {
 
     ghost Value = { OptionValue };
 
-    ghost view = { λ o. record { code = o.code; bytes = o.data } };
+    ghost view = { λ o. record { code = o.code; bytes = o.value } };
 }
 
 impl EdnsOption {
@@ -30,7 +30,7 @@ impl EdnsOption {
     pub fn new(code: u16, value: OptionData) -> EdnsOption
         ensures { result ≡ record { code = code; bytes = value } }
     {
-        EdnsOption { code, data: value }
+        EdnsOption { code, value }
     }
 
     /// Returns the code.
@@ -44,7 +44,24 @@ impl EdnsOption {
     pub fn data(&self) -> &[u8]
         ensures { result.now ≡ self.now.bytes }
     {
-        self.data.as_slice()
+        self.value.as_slice()
+    }
+
+    /// Returns the code and the data, which is not copied.
+    pub fn into_parts(self) -> (u16, OptionData)
+        ensures { result ≡ (self.code, self.bytes) }
+    {
+        (self.code, self.value)
+    }
+
+    /// Clones the option.
+    pub fn clone(&self) -> Result<EdnsOption, AllocError>
+        ensures { IfOk result (λ copy. copy ≡ self.now) }
+    {
+        Ok(EdnsOption {
+            code: self.code,
+            value: self.value.clone()?,
+        })
     }
 }
 
@@ -54,15 +71,43 @@ impl BinEncodable for EdnsOption {
     ghost pieces = { λ option _. option_pieces option };
 
     fn emit(&self, encoder: &mut BinEncoder<'_>) -> Result<(), EncodeError> {
-        let bytes = self.data.as_slice();
+        let bytes = self.value.as_slice();
         encoder.emit_u16(self.code)?;
         encoder.emit_u16(bytes.len() as u16)?;
         encoder.emit_vec(bytes)
     }
 }
 
+impl Clone for EdnsOption {
+    ghost is_clone = { λ option copy. copy ≡ option };
+
+    fn clone(&self) -> Result<EdnsOption, AllocError> {
+        EdnsOption::clone(self)
+    }
+}
+
+impl PartialEq for EdnsOption {
+    ghost use Rattle.std.specs.Cmp.{partial_equiv_from_equiv};
+    ghost use Rattle.dns_data.specs.Field.{same_option};
+    ghost use Rattle.dns_data.specs.internal.Equality.{same_option-equivalence};
+
+    ghost eq = { same_option };
+
+    ghost laws = { partial_equiv_from_equiv same_option-equivalence };
+
+    fn eq(&self, other: &EdnsOption) -> bool {
+        self.code == other.code && self.value == other.value
+    }
+}
+
+impl Eq for EdnsOption {
+    ghost use Rattle.dns_data.specs.internal.Equality.{same_option-equivalence};
+
+    ghost laws = { same_option-equivalence };
+}
+
 /// The options of a message's extension (RFC 6891 section 6.1.2).
-#[derive(Drop)]
+#[derive(Debug, Drop)]
 pub struct OPT {
     options: Vec<EdnsOption>,
 }
@@ -117,4 +162,44 @@ impl BinEncodable for OPT {
     fn emit(&self, encoder: &mut BinEncoder<'_>) -> Result<(), EncodeError> {
         emit_options(self.options(), encoder)
     }
+}
+
+impl OPT {
+    /// Returns the options as a vector, without copying them.
+    pub fn into_options(self) -> Vec<EdnsOption>
+        ensures { result.items ≡ self }
+    {
+        self.options
+    }
+
+    /// Clones the data.
+    pub fn clone(&self) -> Result<OPT, AllocError>
+        ensures { IfOk result (λ copy. copy ≡ self.now) }
+    {
+        Ok(OPT {
+            options: self.options.clone()?,
+        })
+    }
+}
+
+impl PartialEq for OPT {
+    ghost use Rattle.std.specs.Cmp.{partial_equiv_from_equiv};
+    ghost use Rattle.std.specs.Cmp.Lexicographic.{pointwise, lists_equiv};
+    ghost use Rattle.dns_data.specs.Field.{same_option};
+    ghost use Rattle.dns_data.specs.internal.Equality.{same_option-equivalence};
+
+    ghost eq = { pointwise same_option };
+
+    ghost laws = { partial_equiv_from_equiv (lists_equiv same_option-equivalence) };
+
+    fn eq(&self, other: &OPT) -> bool {
+        self.options == other.options
+    }
+}
+
+impl Eq for OPT {
+    ghost use Rattle.std.specs.Cmp.Lexicographic.{lists_equiv};
+    ghost use Rattle.dns_data.specs.internal.Equality.{same_option-equivalence};
+
+    ghost laws = { lists_equiv same_option-equivalence };
 }

@@ -9,7 +9,7 @@ use dns_wire::{BinDecoder, BinEncodable, BinEncoder, DecodeError, EncodeError, R
 use std::alloc::{AllocError, Global};
 
 /// A pointer to a name (RFC 1035 section 3.3.12).
-#[derive(Drop, PartialEq, Eq)]
+#[derive(Debug, Drop, PartialEq, Eq)]
 pub struct PTR(pub Name);
 
 impl PTR {

@@ -14,7 +14,7 @@ use dns_wire::{
 use std::alloc::{AllocError, Global};
 
 /// The start of a zone's authority (RFC 1035 section 3.3.13). The times are in seconds.
-#[derive(Drop, PartialEq, Eq)]
+#[derive(Debug, Drop, PartialEq, Eq)]
 pub struct SOA {
     /// The primary name server of the zone.
     pub mname: Name,

@@ -11,7 +11,7 @@ use dns_wire::{
 use std::alloc::{AllocError, Global};
 
 /// The location of a service (RFC 2782).
-#[derive(Drop, PartialEq, Eq)]
+#[derive(Debug, Drop, PartialEq, Eq)]
 pub struct SRV {
     /// The priority; lower values are preferred.
     pub priority: u16,

@@ -7,11 +7,11 @@ ghost use Rattle.dns_data.specs.rdata.TXT.{txt_kinds, txt_values};
 use crate::octets::CharacterString;
 use crate::wire::{emit_strings, read_strings};
 use dns_wire::{BinDecoder, BinEncodable, BinEncoder, DecodeError, EncodeError};
-use std::alloc::Global;
+use std::alloc::{AllocError, Global};
 use std::marker::Model;
 
 /// Character strings (RFC 1035 section 3.3.14).
-#[derive(Drop)]
+#[derive(Debug, Drop)]
 pub struct TXT {
     strings: Vec<CharacterString>,
 }
@@ -72,4 +72,35 @@ impl BinEncodable for TXT {
     fn emit(&self, encoder: &mut BinEncoder<'_>) -> Result<(), EncodeError> {
         emit_strings(self.strings(), encoder)
     }
+}
+
+impl TXT {
+    /// Clones the data.
+    pub fn clone(&self) -> Result<TXT, AllocError>
+        ensures { IfOk result (λ copy. copy ≡ self.now) }
+    {
+        Ok(TXT {
+            strings: self.strings.clone()?,
+        })
+    }
+}
+
+impl PartialEq for TXT {
+    ghost use Rattle.std.specs.Str.{bytes_eq};
+    ghost use Rattle.std.specs.Cmp.{partial_equiv_from_equiv};
+    ghost use Rattle.std.specs.Cmp.Lexicographic.{pointwise, lists_equiv, nat_list_eq_equiv};
+
+    ghost eq = { pointwise bytes_eq };
+
+    ghost laws = { partial_equiv_from_equiv (lists_equiv nat_list_eq_equiv) };
+
+    fn eq(&self, other: &TXT) -> bool {
+        self.strings == other.strings
+    }
+}
+
+impl Eq for TXT {
+    ghost use Rattle.std.specs.Cmp.Lexicographic.{lists_equiv, nat_list_eq_equiv};
+
+    ghost laws = { lists_equiv nat_list_eq_equiv };
 }
