@@ -1,3 +1,4 @@
+pub mod SoundLaws
 pub mod ItemLaws
 pub mod WireLaws
 pub mod DecodingLaws

@@ -1,3 +1,4 @@
+pub mod DataLaws
 pub mod MessageAgain
 pub mod MessageLaws
 pub mod MessageWriting

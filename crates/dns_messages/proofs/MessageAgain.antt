@@ -1,12 +1,12 @@
 -- A message that was written is read again.
-use Rattle.std.proofs.Common.{◌≡◌, ℕ, ◌+◌, ◌*◌, ◌/◌, ◌%◌, ◌<◌, Bool, true, false, cond, eqb, List, [], ◌∷◌, ◌++◌, length, refl, sym, ap, subst, ◌∙◌, append_assoc, arith, length-append}
+use Rattle.std.proofs.Common.{◌≡◌, ℕ, ◌+◌, ◌*◌, ◌/◌, ◌%◌, ◌<◌, ◌≤◌, Bool, true, false, cond, eqb, List, [], ◌∷◌, ◌++◌, length, refl, sym, ap, subst, ◌∙◌, append_assoc, arith, length-append}
 use Rattle.std.specs.Int.{w16, to_be_bytes}
 use Rattle.std.specs.List.{AllByRecursion}
 use Rattle.dns_wire.specs.declared.name_encoding.NameEncoding.{NameEncoding}
 use Rattle.dns_wire.specs.declared.name_encoding.NameEncoding.TheVariants.{Uncompressed}
 use Rattle.dns_wire.specs.Writing.{compresses}
 use Rattle.dns_wire.specs.Encodable.{Piece, Plain, Position, form, after, BytesAt, PiecesAt, AreWritable}
-use Rattle.dns_wire.proofs.PieceLaws.{after-place, after-encoding, after-append, form-append, whole_pieces_decode, pieces_at-append}
+use Rattle.dns_wire.proofs.PieceLaws.{after-place, after-encoding, after-canonical, after-append, form-append, whole_pieces_decode, pieces_at-append}
 use Rattle.dns_messages.specs.declared.header.MessageType.TheVariants as kinds
 use Rattle.dns_messages.specs.declared.header.MessageType.{MessageType}
 use Rattle.dns_messages.specs.declared.header.OpCode.{OpCode}
@@ -16,13 +16,14 @@ use Rattle.dns_messages.specs.declared.query.Query.{Query}
 use Rattle.dns_messages.specs.declared.record.Record.{Record}
 use Rattle.dns_messages.specs.declared.message.Message.{Message}
 use Rattle.dns_messages.specs.Header.{bit, kind_bit, op_number, op_of, code_number, code_of, third_byte, fourth_byte, metadata_of}
-use Rattle.dns_messages.specs.Data.{data_pieces}
+use Rattle.dns_data.specs.rdata.{data_pieces}
 use Rattle.dns_messages.specs.Question.{question_pieces}
 use Rattle.dns_messages.specs.Record.{head_pieces, data_len, record_pieces}
 use Rattle.dns_messages.specs.Message.{beginning, queries_pieces, records_pieces, header_bytes, message_pieces, message_form}
 use Rattle.dns_messages.specs.Sound.{IsSoundMetadata, IsSoundQuery, IsSoundRecord, IsSound}
 use Rattle.dns_messages.specs.Grammar.{ReadsQuestion, ReadsRecord, ReadsMessage}
 use Rattle.dns_wire.specs.Decodable.{Follow}
+use Rattle.dns_messages.proofs.DataLaws.{data-some}
 
 -- ---- the header's bits
 
@@ -104,9 +105,10 @@ record_stays bytes more place r end h = record {
   data_place = h.data_place;
   len = h.len;
   len_fits = h.len_fits;
+  not_empty = h.not_empty;
   head = pieces_at-append Uncompressed bytes more place (head_pieces r ++ Plain (to_be_bytes w16 h.len) ∷ []) h.data_place h.head;
   ends = h.ends;
-  rdata = pieces_at-append Uncompressed bytes more h.data_place (data_pieces r.rdata) end h.rdata;
+  rdata = pieces_at-append Uncompressed bytes more h.data_place (data_pieces false r.rdata) end h.rdata;
 }
 
 module _ {X : Type 0} (R : List ℕ → ℕ → X → ℕ → Type 0) (stays : (bytes more : List ℕ) (place : ℕ) (x : X) (end : ℕ) → R bytes place x end → R (bytes ++ more) place x end) where
@@ -142,32 +144,36 @@ queries_again bytes s (q ∷ qs) e end is sound =
     subst (λ (b : List ℕ). Follow (ReadsQuestion b) s.place (q ∷ qs) (after s (ps ++ rest)).place) same
     (subst (λ (n : ℕ). Follow (ReadsQuestion (grown ++ form next rest)) s.place (q ∷ qs) n) end' (next.place, question_stays grown (form next rest) s.place q next.place one, more))
 
-record_again : (bytes : List ℕ) (s : Position) (r : Record) → s.encoding ≡ Uncompressed → s.place ≡ length bytes → AreWritable (record_pieces s r) → IsSoundRecord r → (after s (record_pieces s r)).place < 65536
+-- in record data that is not in canonical form
+record_again : (bytes : List ℕ) (s : Position) (r : Record) → s.encoding ≡ Uncompressed → s.canonical ≡ false → s.place ≡ length bytes → AreWritable (record_pieces s r) → IsSoundRecord r → (after s (record_pieces s r)).place < 65536
     → ReadsRecord (bytes ++ form s (record_pieces s r)) s.place r (after s (record_pieces s r)).place
-record_again bytes s r e end is sound small =
+record_again bytes s r e plain end is sound small =
     let hs : List Piece = head_pieces r ++ Plain (to_be_bytes w16 (data_len s r)) ∷ [] in
-    let ds : List Piece = data_pieces r.rdata in
+    let ds : List Piece = data_pieces s.canonical r.rdata in
+    let same_data : ds ≡ data_pieces false r.rdata = ap (λ (canonical : Bool). data_pieces canonical r.rdata) plain in
     let w = split_writable hs ds is in
     let grown : List ℕ = bytes ++ form s hs in
     let one = whole_again bytes s hs e end w.0 in
     let two = whole_again grown (after s hs) ds (after-encoding s hs ∙ e) (omega (arith, after-place s hs, length-append bytes (form s hs), end)) w.1 in
     let same : grown ++ form (after s hs) ds ≡ bytes ++ form s (hs ++ ds) = append_assoc bytes (form s hs) (form (after s hs) ds) ∙ ap (λ (b : List ℕ). bytes ++ b) (sym (form-append s hs ds)) in
     let len : (after s hs).place + data_len s r ≡ (after (after s hs) ds).place = sym (after-place (after s hs) ds) in
+    let some : 1 ≤ data_len s r = subst (λ (ps : List Piece). 1 ≤ length (form (after s hs) ps)) (sym same_data) (data-some (after s hs) r.rdata sound.rdata sound.ordinary) in
     subst (λ (b : List ℕ). ReadsRecord b s.place r (after s (record_pieces s r)).place) same
     (record {
       sound = sound;
       data_place = (after s hs).place;
       len = data_len s r;
       len_fits = omega (arith, len, small);
+      not_empty = omega (arith, some);
       head = pieces_at-append Uncompressed grown (form (after s hs) ds) s.place hs (after s hs).place one;
       ends = len;
-      rdata = two;
+      rdata = subst (λ (ps : List Piece). PiecesAt Uncompressed (grown ++ form (after s hs) ds) (after s hs).place ps (after (after s hs) ds).place) same_data two;
     })
 
-records_again : (bytes : List ℕ) (s : Position) (rs : List Record) → s.encoding ≡ Uncompressed → s.place ≡ length bytes → AreWritable (records_pieces s rs) → AllByRecursion IsSoundRecord rs → (after s (records_pieces s rs)).place < 65536
+records_again : (bytes : List ℕ) (s : Position) (rs : List Record) → s.encoding ≡ Uncompressed → s.canonical ≡ false → s.place ≡ length bytes → AreWritable (records_pieces s rs) → AllByRecursion IsSoundRecord rs → (after s (records_pieces s rs)).place < 65536
     → Follow (ReadsRecord (bytes ++ form s (records_pieces s rs))) s.place rs (after s (records_pieces s rs)).place
-records_again bytes s [] e end is sound small = refl
-records_again bytes s (r ∷ rs) e end is sound small =
+records_again bytes s [] e plain end is sound small = refl
+records_again bytes s (r ∷ rs) e plain end is sound small =
     let ps : List Piece = record_pieces s r in
     let next : Position = after s ps in
     let rest : List Piece = records_pieces next rs in
@@ -175,8 +181,8 @@ records_again bytes s (r ∷ rs) e end is sound small =
     let grown : List ℕ = bytes ++ form s ps in
     let end' : (after next rest).place ≡ (after s (ps ++ rest)).place = ap (λ (v : Position). v.place) (sym (after-append s ps rest)) in
     let fits : (after next rest).place < 65536 = omega (arith, end', small) in
-    let one = record_again bytes s r e end w.0 sound.0 (omega (arith, fits, after-place next rest)) in
-    let more = records_again grown next rs (after-encoding s ps ∙ e) (omega (arith, after-place s ps, length-append bytes (form s ps), end)) w.1 sound.1 fits in
+    let one = record_again bytes s r e plain end w.0 sound.0 (omega (arith, fits, after-place next rest)) in
+    let more = records_again grown next rs (after-encoding s ps ∙ e) (after-canonical s ps ∙ plain) (omega (arith, after-place s ps, length-append bytes (form s ps), end)) w.1 sound.1 fits in
     let same : grown ++ form next rest ≡ bytes ++ form s (ps ++ rest) = append_assoc bytes (form s ps) (form next rest) ∙ ap (λ (b : List ℕ). bytes ++ b) (sym (form-append s ps rest)) in
     subst (λ (b : List ℕ). Follow (ReadsRecord b) s.place (r ∷ rs) (after s (ps ++ rest)).place) same
     (subst (λ (n : ℕ). Follow (ReadsRecord (grown ++ form next rest)) s.place (r ∷ rs) n) end' (next.place, record_stays grown (form next rest) s.place r next.place one, more))
@@ -199,7 +205,7 @@ message_again m sound is small =
     let same : whole ≡ message_form m = append_assoc head (form start qp) (form behind rp) ∙ ap (λ (b : List ℕ). head ++ b) (sym (form-append start qp rp)) in
     let fits : (after behind rp).place < 65536 = omega (arith, after-place behind rp, place, length-append front (form behind rp), ap (λ (b : List ℕ). length b) same, small) in
     let sounds : AllByRecursion IsSoundRecord rs = all-append IsSoundRecord m.answers (m.authorities ++ m.additionals) sound.answers (all-append IsSoundRecord m.authorities m.additionals sound.authorities sound.additionals) in
-    let tells = records_again front behind rs (after-encoding start qp) place w.1 sounds fits in
+    let tells = records_again front behind rs (after-encoding start qp) (after-canonical start qp) place w.1 sounds fits in
     let first = follow_split (ReadsRecord whole) behind.place m.answers (m.authorities ++ m.additionals) (after behind rp).place tells in
     let second = follow_split (ReadsRecord whole) first.0 m.authorities m.additionals (after behind rp).place first.2 in
     let heads : BytesAt whole 0 head 12 = record {

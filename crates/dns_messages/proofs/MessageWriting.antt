@@ -5,15 +5,16 @@ use Rattle.dns_wire.specs.Encoder.{EncoderState, IsAtEnd}
 use Rattle.std.specs.Int.{w16, w32, to_be_bytes}
 use Rattle.dns_codes.specs.RecordType.{type_number}
 use Rattle.dns_codes.specs.DNSClass.{class_number}
-use Rattle.dns_wire.specs.Encodable.{Piece, Plain, Domain, Position, position_of, name_form, piece_next, form, after, reach, Emits, AreWritable}
-use Rattle.dns_wire.proofs.PieceLaws.{after-append, after-place, form-append, name_form-some, reach-some}
+use Rattle.dns_wire.specs.Encodable.{Piece, Plain, Domain, Position, position_of, form, after, reach, Emits, AreWritable}
+use Rattle.dns_wire.proofs.PieceLaws.{after-append, after-place, form-append, reach-some}
 use Rattle.dns_messages.specs.declared.query.Query.{Query}
 use Rattle.dns_messages.specs.Question.{question_pieces}
-use Rattle.dns_messages.specs.Data.{data_type, data_pieces}
+use Rattle.dns_data.specs.rdata.{data_type, data_pieces}
 use Rattle.dns_messages.specs.declared.record.Record.{Record}
 use Rattle.dns_messages.specs.declared.message.Message.{Message}
 use Rattle.dns_messages.specs.Record.{data_len, record_pieces}
 use Rattle.dns_messages.specs.Message.{beginning, queries_pieces, records_pieces, header_bytes, front_pieces, message_pieces, message_form}
+use Rattle.dns_messages.proofs.DataLaws.{name-some}
 use Rattle.dns_messages.proofs.Steps.{Underway, begins, goes_on, stops, sofar-behind}
 
 pub records_pieces-append : (s : Position) (xs ys : List Record) → records_pieces s (xs ++ ys) ≡ records_pieces s xs ++ records_pieces (after s (records_pieces s xs)) ys
@@ -100,9 +101,6 @@ length-form m =
 
 -- each item takes a byte at least
 
-some-form : (s : Position) (labels : List (List ℕ)) (ps : List Piece) → 1 ≤ length (form s (Domain labels ∷ ps))
-some-form s labels ps = omega (arith, name_form-some s labels, length-append (name_form s labels) (form (piece_next s (Domain labels)) ps))
-
 abbrev tail_pieces_of : Query → List Piece
 tail_pieces_of q = Plain (to_be_bytes w16 (type_number q.query_type)) ∷ Plain (to_be_bytes w16 (class_number q.query_class)) ∷ []
 
@@ -111,10 +109,10 @@ queries-count s [] = omega arith
 queries-count s (q ∷ qs) =
     let ps : List Piece = question_pieces q in
     let rest : List Piece = queries_pieces qs in
-    omega (arith, ap (λ (xs : List ℕ). length xs) (form-append s ps rest), length-append (form s ps) (form (after s ps) rest), queries-count (after s ps) qs, some-form s q.name.labels (tail_pieces_of q))
+    omega (arith, ap (λ (xs : List ℕ). length xs) (form-append s ps rest), length-append (form s ps) (form (after s ps) rest), queries-count (after s ps) qs, name-some s q.name.labels (tail_pieces_of q))
 
 abbrev behind_owner : Position → Record → List Piece
-behind_owner s r = Plain (to_be_bytes w16 (type_number (data_type r.rdata))) ∷ Plain (to_be_bytes w16 (class_number r.dns_class)) ∷ Plain (to_be_bytes w32 r.ttl) ∷ Plain (to_be_bytes w16 (data_len s r)) ∷ data_pieces r.rdata
+behind_owner s r = Plain (to_be_bytes w16 (type_number (data_type r.rdata))) ∷ Plain (to_be_bytes w16 (class_number r.dns_class)) ∷ Plain (to_be_bytes w32 r.ttl) ∷ Plain (to_be_bytes w16 (data_len s r)) ∷ data_pieces s.canonical r.rdata
 
 records-count : (s : Position) (rs : List Record) → length rs ≤ length (form s (records_pieces s rs))
 records-count s [] = omega arith
@@ -122,7 +120,7 @@ records-count s (r ∷ rs) =
     let ps : List Piece = record_pieces s r in
     let next : Position = after s ps in
     let rest : List Piece = records_pieces next rs in
-    omega (arith, ap (λ (xs : List ℕ). length xs) (form-append s ps rest), length-append (form s ps) (form next rest), records-count next rs, some-form s r.name.labels (behind_owner s r))
+    omega (arith, ap (λ (xs : List ℕ). length xs) (form-append s ps rest), length-append (form s ps) (form next rest), records-count next rs, name-some s r.name.labels (behind_owner s r))
 
 -- no section has more items than the message has bytes
 pub record Bounds (m : Message) : Type 0 where

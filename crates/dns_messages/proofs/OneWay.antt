@@ -13,9 +13,7 @@ use Rattle.dns_messages.specs.internal.Questions.{question_same}
 use Rattle.dns_messages.specs.internal.Records.{record_same}
 use Rattle.dns_wire.specs.Decoder.{Decoder, rest}
 use Rattle.dns_wire.specs.internal.NumberLaws.{same_bytes, same_number_2}
-use Rattle.dns_wire.specs.Reading.{Reads, at_closing, at_label, at_pointer}
-use Rattle.dns_wire.specs.Encodable.{Piece, Plain, Domain, Whole, BytesAt, PiecesAt}
-use Rattle.dns_wire.specs.declared.name_encoding.NameEncoding.TheVariants.{Uncompressed}
+use Rattle.dns_wire.specs.Encodable.{BytesAt}
 
 -- ---- bytes at a place
 
@@ -42,27 +40,6 @@ took_then a b c xs ys one two = record {
 
 pub shows_took : (old new : Decoder) (bytes : List ℕ) → 0 < length bytes → Took old new bytes → BytesAt old.bytes old.index bytes new.index
 shows_took old new bytes some t = shows_read old new bytes some t.there t.moved
-
--- the same bytes, at the same place
-pub shows_here : (buffer here : List ℕ) (place index end : ℕ) (bytes : List ℕ) → here ≡ buffer → index ≡ place → BytesAt buffer place bytes end → BytesAt here index bytes end
-shows_here buffer here place index end bytes e f s = subst (λ (xs : List ℕ). BytesAt xs index bytes end) (sym e) (subst (λ (n : ℕ). BytesAt buffer n bytes end) (sym f) s)
-
--- so many bytes are left
-pub shows-room : (d : Decoder) (bytes : List ℕ) (end : ℕ) → BytesAt d.bytes d.index bytes end → length bytes ≤ length (rest d)
-shows-room d bytes end s = omega (arith, s.ends, s.within, length-drop d.index d.bytes)
-
--- ---- on to the end
-
-reads-on : {buffer : List ℕ} {place segment left end : ℕ} {labels : List (List ℕ)} → Reads buffer place segment left labels end → place ≤ end
-reads-on (at_closing e) = omega arith
-reads-on (at_label e room r) = omega (arith, reads-on r)
-reads-on (at_pointer e back r) = omega arith
-
-pub are_at-on : (buffer : List ℕ) (place end : ℕ) (ps : List Piece) → PiecesAt Uncompressed buffer place ps end → place ≤ end
-are_at-on buffer place end [] h = omega arith
-are_at-on buffer place end (Plain x ∷ ps) h = omega (arith, h.1.ends, are_at-on buffer h.0 end ps h.2)
-are_at-on buffer place end (Domain x ∷ ps) h = omega (arith, reads-on h.1, are_at-on buffer h.0 end ps h.2)
-are_at-on buffer place end (Whole x ∷ ps) h = omega (arith, reads-on h.1, are_at-on buffer h.0 end ps h.2)
 
 -- ---- one after another
 

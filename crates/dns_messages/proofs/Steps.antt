@@ -1,10 +1,10 @@
 -- Writing step by step.
-use Rattle.std.proofs.Common.{◌≡◌, ℕ, ◌+◌, Bool, true, false, cond, ltb, length, refl, List, [], ◌∷◌, ◌++◌, drop, get_or, Result, Ok, Err, sym, ap, subst, ◌∙◌, append_assoc, arith, length-append}
+use Rattle.std.proofs.Common.{◌≡◌, ℕ, ◌+◌, refl, List, [], ◌∷◌, ◌++◌, drop, get_or, Result, Ok, Err, sym, ap, subst, ◌∙◌}
 use Rattle.std.specs.Prelude.{IfErr}
 use Rattle.dns_wire.specs.declared.error.EncodeError.{EncodeError}
 use Rattle.dns_wire.specs.declared.error.EncodeError.TheVariants.{MaxBufferSizeExceeded}
 use Rattle.dns_wire.specs.Encoder.{EncoderState, IsAtEnd}
-use Rattle.dns_wire.specs.Encodable.{Piece, Plain, Position, position_of, form, after, reach, attempts_at_limit, append_pieces, Emits, AreWritable}
+use Rattle.dns_wire.specs.Encodable.{Piece, position_of, after, Emits, AreWritable}
 use Rattle.dns_wire.proofs.PieceLaws.{emits_then, emits_stop, emits_none, append_pieces-end, position_of-append_pieces, writable-append}
 
 pub emits_end : (old new : EncoderState) (ps : List Piece) → IsAtEnd old → Emits old ps (Ok tt) new → IsAtEnd new
@@ -13,48 +13,6 @@ emits_end old new ps end e = subst (λ (w : EncoderState). IsAtEnd w) (sym e.ok)
 -- pieces were written, and then more, or a part of them
 pub then_emits : (old mid new : EncoderState) (ps qs : List Piece) (r : Result (Unit {0}) EncodeError) → IsAtEnd old → Emits old ps (Ok tt) mid → (IsAtEnd mid → Emits mid qs r new) → Emits old (ps ++ qs) r new
 then_emits old mid new ps qs r end a b = emits_then old mid new ps qs r end a (b (emits_end old mid ps end a))
-
--- ---- bytes in two pieces, or in one
-
-one_piece : (s : Position) (a b : List ℕ) → (form s (Plain a ∷ Plain b ∷ []) ≡ form s (Plain (a ++ b) ∷ [])) × (after s (Plain a ∷ Plain b ∷ []) ≡ after s (Plain (a ++ b) ∷ [])) × (reach s (Plain a ∷ Plain b ∷ []) ≡ reach s (Plain (a ++ b) ∷ []))
-one_piece s a b = (sym (append_assoc a b []), ap (λ (n : ℕ). record s { place = n }) (omega (arith, length-append a b)), omega (arith, length-append a b))
-
-plain_tries : (limit : ℕ) (s : Position) (a b : List ℕ) → attempts_at_limit limit s (Plain a ∷ Plain b ∷ []) ≡ attempts_at_limit limit s (Plain (a ++ b) ∷ [])
-plain_tries limit s a b = at (ltb limit (s.place + length a)) (ltb limit (s.place + length a + length b)) (ltb limit (s.place + length (a ++ b)))
-  where
-    at : (x y z : Bool) → cond x s.attempts (cond y s.attempts s.attempts) ≡ cond z s.attempts s.attempts
-    at true y true = refl
-    at true y false = refl
-    at false true true = refl
-    at false true false = refl
-    at false false true = refl
-    at false false false = refl
-
-pub join_bytes : (old new : EncoderState) (a b : List ℕ) (r : Result (Unit {0}) EncodeError) → Emits old (Plain a ∷ Plain b ∷ []) r new → Emits old (Plain (a ++ b) ∷ []) r new
-join_bytes old new a b (Ok u) e =
-    let s : Position = position_of old in
-    let one = one_piece s a b in
-    record {
-      ok = e.ok ∙ ap (λ (xs : List ℕ). record (append_pieces old (Plain a ∷ Plain b ∷ [])) { bytes = old.bytes ++ xs }) one.0 ∙ ap (λ (t : Position). record (append_pieces old (Plain (a ++ b) ∷ [])) { offset = t.place; suffixes = t.suffixes; attempts = t.attempts }) one.1;
-      room = omega (arith, e.room, one.2);
-      full = λ is. absurd (cc);
-      tries = λ is. absurd (cc);
-      back = tt;
-    }
-join_bytes old new a b (Err error) e = record {
-  ok = tt;
-  room = tt;
-  full = λ is. omega (arith, e.full is, (one_piece (position_of old) a b).2);
-  tries = λ is. e.tries is ∙ plain_tries old.limit (position_of old) a b;
-  back = e.back;
-}
-
--- bytes were written, and then more behind them
-pub then_bytes : (old mid new : EncoderState) (a b : List ℕ) (r : Result (Unit {0}) EncodeError) → IsAtEnd old → Emits old (Plain a ∷ []) (Ok tt) mid → (IsAtEnd mid → Emits mid (Plain b ∷ []) r new) → Emits old (Plain (a ++ b) ∷ []) r new
-then_bytes old mid new a b r end one two = join_bytes old new a b r (then_emits old mid new (Plain a ∷ []) (Plain b ∷ []) r end one two)
-
-pub stop_bytes : (old new : EncoderState) (a b : List ℕ) (error : EncodeError) → Emits old (Plain a ∷ []) (Err error) new → Emits old (Plain (a ++ b) ∷ []) (Err error) new
-stop_bytes old new a b error e = join_bytes old new a b (Err error) (emits_stop old new (Plain a ∷ []) (Plain b ∷ []) error e)
 
 -- ---- item by item
 

@@ -1,28 +1,26 @@
 -- Which message bytes spell (RFC 1035 section 4.1). Bytes behind the last record are free.
-use Rattle.std.specs.Prelude.{◌≡◌, ◌≢◌, ◌+◌, ◌^◌, ◌<◌, ◌++◌, true, List, [], ◌∷◌, ℕ, length, drop}
+use Rattle.std.specs.Prelude.{◌≡◌, ◌≢◌, ◌+◌, ◌^◌, ◌<◌, ◌++◌, true, false, List, [], ◌∷◌, ℕ, length, drop}
 use Rattle.std.specs.Int.{w16, w32, to_be_bytes}
 use Rattle.dns_codes.specs.RecordType.{type_number, type_of}
 use Rattle.dns_codes.specs.DNSClass.{class_number, class_of}
+use Rattle.dns_codes.specs.declared.record_type.RecordType.TheVariants as types
 use Rattle.dns_wire.specs.Reading.{ReadsName, RefusesName}
 use Rattle.dns_wire.specs.Decodable.{BytesAt, Follow}
 use Rattle.dns_wire.specs.declared.error.DecodeError.{DecodeError}
-use Rattle.dns_wire.specs.declared.error.DecodeError.TheVariants.{InsufficientBytes, UnsupportedRecordType, IncorrectRDataLengthRead}
+use Rattle.dns_wire.specs.declared.error.DecodeError.TheVariants.{InsufficientBytes, UnsupportedRecordType, InvalidEmptyRecord}
 use Rattle.dns_wire.specs.Encodable.{Plain, Domain, PiecesAt}
 use Rattle.dns_wire.specs.declared.name_encoding.NameEncoding.TheVariants.{Uncompressed}
+use Rattle.dns_data.specs.rdata.{data_pieces, RefusesData}
 use Rattle.dns_messages.specs.declared.header.Metadata.{Metadata}
 use Rattle.dns_messages.specs.declared.reading.Counts.{Counts}
 use Rattle.dns_messages.specs.declared.query.Query.{Query}
-use Rattle.dns_messages.specs.declared.rdata.RData.{RData}
 use Rattle.dns_messages.specs.declared.record.Record.{Record}
 use Rattle.dns_messages.specs.declared.record.RecordHead.{RecordHead}
 use Rattle.dns_messages.specs.declared.message.Message.{Message}
 use Rattle.dns_messages.specs.Header.{metadata_of}
-use Rattle.dns_messages.specs.Data.{data_type, data_pieces}
-use Rattle.dns_codes.specs.declared.record_type.RecordType.{RecordType}
-use Rattle.dns_codes.specs.declared.record_type.RecordType.TheVariants as types
 use Rattle.dns_messages.specs.Question.{question_pieces}
 use Rattle.dns_messages.specs.Record.{head_pieces}
-use Rattle.dns_messages.specs.Sound.{IsSoundQuery, IsSoundData, IsSoundRecord}
+use Rattle.dns_messages.specs.Sound.{IsSoundQuery, IsSoundRecord}
 
 -- a name, a type and a class
 pub record ReadsQuestion (bytes : List ℕ) (place : ℕ) (q : Query) (end : ℕ) : Type 0 where
@@ -52,41 +50,29 @@ pub data RefusesHead (bytes : List ℕ) (place : ℕ) : DecodeError → Type 0 w
   short_head : {labels : List (List ℕ)} {name_end : ℕ} → ReadsName bytes place labels name_end
       → length (drop name_end bytes) < 10 → RefusesHead bytes place InsufficientBytes
 
--- record data
-pub record ReadsData (bytes : List ℕ) (place : ℕ) (d : RData) (end : ℕ) : Type 0 where
-  pub sound : IsSoundData d
-  pub there : PiecesAt Uncompressed bytes place (data_pieces d) end
-
--- No data of a type can be decoded: too few bytes are left for an address, one of the two names of a start of authority is
--- refused, too few bytes follow them for its five numbers, or the type is another one.
-pub data RefusesData (bytes : List ℕ) (place : ℕ) (rtype : RecordType) : DecodeError → Type 0 where
-  short_address : rtype ≡ types.A → length (drop place bytes) < 4 → RefusesData bytes place rtype InsufficientBytes
-  bad_mname : {error : DecodeError} → rtype ≡ types.SOA → RefusesName bytes place error → RefusesData bytes place rtype error
-  bad_rname : {error : DecodeError} {labels : List (List ℕ)} {middle : ℕ} → rtype ≡ types.SOA
-      → ReadsName bytes place labels middle → RefusesName bytes middle error → RefusesData bytes place rtype error
-  short_numbers : {labels more : List (List ℕ)} {middle name_end : ℕ} → rtype ≡ types.SOA
-      → ReadsName bytes place labels middle → ReadsName bytes middle more name_end
-      → length (drop name_end bytes) < 20 → RefusesData bytes place rtype InsufficientBytes
-  unsupported_type : rtype ≢ types.A → rtype ≢ types.SOA → RefusesData bytes place rtype UnsupportedRecordType
-
--- owner, type, class, TTL, a length, and data that takes exactly this length
+-- Owner, type, class, TTL, a length, and data that takes exactly this length (RFC 1035 section 4.1.3). A sound record is no
+-- OPT record (RFC 6891 section 6.1.1), and its data is not empty (RFC 2136 section 2.4).
 pub record ReadsRecord (bytes : List ℕ) (place : ℕ) (r : Record) (end : ℕ) : Type 0 where
   pub sound : IsSoundRecord r
   pub data_place : ℕ
   pub len : ℕ
   pub len_fits : len < 2 ^ 16
+  pub not_empty : 0 < len
   pub head : PiecesAt Uncompressed bytes place (head_pieces r ++ Plain (to_be_bytes w16 len) ∷ []) data_place
   pub ends : data_place + len ≡ end
-  pub rdata : PiecesAt Uncompressed bytes data_place (data_pieces r.rdata) end
+  pub rdata : PiecesAt Uncompressed bytes data_place (data_pieces false r.rdata) end
 
--- No record can be decoded: its head or its data is refused, or the data does not take exactly its length.
+-- No record can be decoded: its head is refused, it is an OPT record (RFC 6891 section 6.1.1), its data is empty, as it may
+-- be only in an update (RFC 2136 section 2.4), or its data is refused.
 pub data RefusesRecord (bytes : List ℕ) (place : ℕ) : DecodeError → Type 0 where
   bad_head : {error : DecodeError} → RefusesHead bytes place error → RefusesRecord bytes place error
+  opt_record : (h : RecordHead) {data_place : ℕ} → ReadsHead bytes place h data_place → h.record_type ≡ types.OPT
+      → RefusesRecord bytes place UnsupportedRecordType
+  empty_data : (h : RecordHead) {data_place : ℕ} → ReadsHead bytes place h data_place → h.record_type ≢ types.OPT
+      → h.len ≡ 0 → RefusesRecord bytes place InvalidEmptyRecord
   bad_data : {error : DecodeError} (h : RecordHead) {data_place : ℕ} → ReadsHead bytes place h data_place
-      → RefusesData bytes data_place h.record_type error → RefusesRecord bytes place error
-  bad_length : (h : RecordHead) (d : RData) {data_place data_end : ℕ} → ReadsHead bytes place h data_place
-      → data_type d ≡ h.record_type → ReadsData bytes data_place d data_end → data_place + h.len ≢ data_end
-      → RefusesRecord bytes place IncorrectRDataLengthRead
+      → h.record_type ≢ types.OPT → RefusesData bytes data_place h.record_type h.len error
+      → RefusesRecord bytes place error
 
 -- twelve bytes: id, two bytes of flags, and how many items each section has
 pub record ReadsHeader (bytes : List ℕ) (m : Message) : Type 0 where

@@ -1,4 +1,3 @@
-pub mod Data
 pub mod Printed
 pub mod Question
 pub mod Record

@@ -2,12 +2,11 @@
 -- fully qualified, and each number fits its place.
 use Rattle.std.specs.Prelude.{◌≡◌, ◌^◌, ◌<◌, true, length}
 use Rattle.std.specs.List.{AllByRecursion}
-use Rattle.std.specs.Net.Addr.{ipv4_octets}
 use Rattle.dns_codes.specs.RecordType.{type_number, type_of}
 use Rattle.dns_codes.specs.DNSClass.{class_number, class_of}
-use Rattle.dns_messages.specs.declared.rdata.SOA.{SOA}
-use Rattle.dns_messages.specs.declared.rdata.RData.{RData}
-use Rattle.dns_messages.specs.declared.rdata.RData.TheVariants as of
+use Rattle.dns_data.specs.rdata.{IsSoundData}
+use Rattle.dns_data.specs.declared.rdata.RData.{RData}
+use Rattle.dns_data.specs.declared.rdata.RData.TheVariants as of
 use Rattle.dns_messages.specs.declared.header.Metadata.{Metadata}
 use Rattle.dns_messages.specs.declared.query.Query.{Query}
 use Rattle.dns_messages.specs.declared.record.Record.{Record}
@@ -28,18 +27,12 @@ pub record IsSoundQuery (q : Query) : Type 0 where
   pub class_fits : class_number q.query_class < 2 ^ 16
   pub class_named : class_of (class_number q.query_class) ≡ q.query_class
 
-pub record IsSoundSoa (s : SOA) : Type 0 where
-  pub mname_fqdn : s.mname.is_fqdn ≡ true
-  pub rname_fqdn : s.rname.is_fqdn ≡ true
-  pub serial_fits : s.serial < 2 ^ 32
-  pub refresh_fits : s.refresh < 2 ^ 32
-  pub retry_fits : s.retry < 2 ^ 32
-  pub expire_fits : s.expire < 2 ^ 32
-  pub minimum_fits : s.minimum < 2 ^ 32
-
-abbrev pub IsSoundData : RData → Type 0
-IsSoundData (of.A address) = length (ipv4_octets address.0) ≡ 4
-IsSoundData (of.SOA soa) = IsSoundSoa soa
+-- Data of a record in a message: not that of an OPT record, which is no record of a zone (RFC 6891 section 6.1.1), and not
+-- empty, as it may be in an update (RFC 2136 section 2.4).
+abbrev pub IsOrdinaryData : RData → Type 0
+IsOrdinaryData (of.OPT options) = ⊥
+IsOrdinaryData (of.Update0 t) = ⊥
+IsOrdinaryData d = Unit {0}
 
 pub record IsSoundRecord (r : Record) : Type 0 where
   pub fqdn : r.name.is_fqdn ≡ true
@@ -47,6 +40,7 @@ pub record IsSoundRecord (r : Record) : Type 0 where
   pub class_named : class_of (class_number r.dns_class) ≡ r.dns_class
   pub ttl_fits : r.ttl < 2 ^ 32
   pub rdata : IsSoundData r.rdata
+  pub ordinary : IsOrdinaryData r.rdata
 
 pub record IsSound (m : Message) : Type 0 where
   pub metadata : IsSoundMetadata m.metadata

@@ -4,7 +4,7 @@
 //! under a limit, and these bytes spell just that.
 //!
 //! - `section`: a list as contracts see it;
-//! - `rdata`, `record`, `query`, `header`: what a message is made of;
+//! - `record`, `query`, `header`: what a message is made of; the data of records is in `dns_data`;
 //! - `message`, `reading`, `writing`: whole messages; `laws`: bytes spell one message at most.
 #![tactic(auto)]
 
@@ -12,7 +12,6 @@ mod header;
 mod laws;
 mod message;
 mod query;
-mod rdata;
 mod reading;
 mod record;
 mod section;
@@ -22,6 +21,5 @@ pub use header::{MessageType, Metadata, OpCode, ResponseCode};
 pub use laws::a_message_is_read_one_way;
 pub use message::Message;
 pub use query::Query;
-pub use rdata::{A, RData, SOA};
 pub use record::Record;
 pub use section::Section;

@@ -1,10 +1,10 @@
 //! Records (RFC 1035 section 4.1.3).
 
-ghost use Rattle.std.specs.Prelude.{◌≡◌, ◌≢◌, IfOk, IfErr, IsOk};
+ghost use Rattle.std.specs.Prelude.{◌≡◌, ◌≢◌, ◌↔◌, IfOk, IfErr, IsOk, IsTrue};
 ghost use Rattle.dns_wire.specs.Encoder.{state_of, IsAtEnd};
 ghost use Rattle.dns_wire.specs.Encodable.{Emits, AreWritable};
 
-use crate::rdata::RData;
+use dns_data::RData;
 use dns_names::Name;
 use dns_wire::laws::{class_number_round_trips, type_number_round_trips};
 use dns_wire::{
@@ -49,6 +49,13 @@ impl RecordHead {
             len,
         })
     }
+
+    /// Returns `true` for the head of an OPT record.
+    fn is_opt(&self) -> bool
+        ensures { IsTrue result ↔ (self.now.record_type ≡ RecordType.OPT) }
+    {
+        matches!(self.record_type, RecordType::OPT)
+    }
 }
 
 /// A record.
@@ -88,11 +95,13 @@ impl Record {
         ensures bytes { decoder.new.bytes ≡ decoder.old.bytes }
     {
         let head = RecordHead::read(alloc, decoder)?;
-        let start = decoder.index();
-        let rdata = RData::read(alloc, head.record_type, decoder)?;
-        if decoder.index() - start != usize::from(head.len) {
-            return Err(DecodeError::IncorrectRDataLengthRead);
+        if head.is_opt() {
+            return Err(DecodeError::UnsupportedRecordType);
         }
+        if head.len == 0 {
+            return Err(DecodeError::InvalidEmptyRecord);
+        }
+        let rdata = RData::read(alloc, decoder, head.record_type, head.len)?;
         Ok(Record {
             name: head.name,
             dns_class: head.dns_class,
@@ -122,7 +131,8 @@ impl BinDecodable for Record {
 
     ghost refuses = { RefusesRecord };
 
-    /// Reads a record of type A or SOA. Its data takes exactly the length before it.
+    /// Decodes a record, whose data takes exactly its length. An OPT record (RFC 6891 section 6.1.1) is refused, and so is
+    /// empty data, which only an update has (RFC 2136 section 2.4).
     fn read(alloc: Global, decoder: &mut BinDecoder<'_>) -> Result<Record, DecodeError> {
         let mut reader = decoder.clone(decoder.index());
         let row = Record::read_on(alloc, &mut reader)?;

@@ -1,5 +1,5 @@
-pub mod AddressLaws
 pub mod AnswerLaws
+pub mod DataLaws
 pub mod ListLaws
 pub mod RowLaws
 pub mod ServingLaws

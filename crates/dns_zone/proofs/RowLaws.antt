@@ -14,7 +14,7 @@ use Rattle.std.proofs.lemmas.List.Folds.{find_at, find-set, find_past}
 use Rattle.std.proofs.lemmas.List.Sums.{passes_at_first}
 use Rattle.std.proofs.lemmas.Option.{slice_get-get_or, slice_get_past}
 use Rattle.std.specs.List.{slice_get}
-use Rattle.dns_messages.specs.Data.{data_type, same_data}
+use Rattle.dns_data.specs.rdata.{data_type, same_data}
 use Rattle.dns_zone.proofs.ListLaws.{All-push, All-set, All-at}
 use Rattle.std.specs.FinMap.{IsAntisymmetric, slice_cmp-IsAntisymmetric, nat_cmp-IsAntisymmetric}
 use Rattle.std.specs.FinMap.Entries.{find, put, by_order}

@@ -26,7 +26,7 @@ use Rattle.dns_zone.specs.declared.road.Road.TheVariants as roads
 use Rattle.dns_messages.specs.Header.{op_number, op_of, has_bit, metadata_of}
 use Rattle.std.proofs.Common.{append_assoc, Some}
 use Rattle.dns_zone.specs.Rows.{ZoneContent}
-use Rattle.dns_messages.specs.Data.{data_type, data_pieces}
+use Rattle.dns_data.specs.rdata.{data_type, data_pieces}
 use Rattle.dns_messages.specs.Record.{data_len, record_pieces}
 use Rattle.dns_messages.specs.Message.{beginning, records_pieces, front_pieces, message_form, cut, cut_off}
 use Rattle.dns_messages.specs.Sound.{IsSound, IsSoundQuery, IsSoundMetadata}
@@ -114,7 +114,7 @@ name_long [] = refl
 name_long (label ∷ labels) = omega (arith, name_long labels, length-append label (labels_form labels), length-append (labels_form labels) (0 ∷ []), ap length (append_assoc label (labels_form labels) (0 ∷ [])), length-append label (labels_form labels ++ 0 ∷ []))
 
 record_long : (s : Position) (r : Record) → 0 < length (form s (record_pieces s r))
-record_long s r = omega (arith, name_form-some s r.name.labels, length-append (name_form s r.name.labels) (form (piece_next s (Domain r.name.labels)) (Plain (to_be_bytes w16 (type_number (data_type r.rdata))) ∷ Plain (to_be_bytes w16 (class_number r.dns_class)) ∷ Plain (to_be_bytes w32 r.ttl) ∷ Plain (to_be_bytes w16 (data_len s r)) ∷ data_pieces r.rdata)))
+record_long s r = omega (arith, name_form-some s r.name.labels, length-append (name_form s r.name.labels) (form (piece_next s (Domain r.name.labels)) (Plain (to_be_bytes w16 (type_number (data_type r.rdata))) ∷ Plain (to_be_bytes w16 (class_number r.dns_class)) ∷ Plain (to_be_bytes w32 r.ttl) ∷ Plain (to_be_bytes w16 (data_len s r)) ∷ data_pieces s.canonical r.rdata)))
 
 records_long : (s : Position) (rs : List Record) → length rs ≤ length (form s (records_pieces s rs))
 records_long s [] = omega arith

@@ -1,8 +1,5 @@
 -- The text of a zone, word by word and line by line.
-use Rattle.std.proofs.Common.{suc, map, ◌≡◌, ◌+◌, ◌<◌, ◌≤◌, ℕ, true, cond, List, [], ◌∷◌, ◌++◌, refl, sym, ap, ◌∙◌, length, drop, get_or, append_assoc, arith, Some, None, Result, Ok, Err}
-use Rattle.std.specs.List.{list_all}
-use borrow.Author.Tests.{lt-ltb}
-use Rattle.std.specs.Str.{IsAscii}
+use Rattle.std.proofs.Common.{map, ◌≡◌, ◌+◌, ◌<◌, ◌≤◌, ℕ, true, cond, List, [], ◌∷◌, ◌++◌, refl, sym, ap, ◌∙◌, length, drop, get_or, append_assoc, arith, Some, None, Result, Ok, Err}
 use Rattle.dns_names.specs.Name.{DomainName}
 use Rattle.dns_names.specs.Parse.{name_of_text}
 use Rattle.dns_zone.specs.declared.text.Entry.{Entry}
@@ -10,13 +7,13 @@ use Rattle.dns_zone.specs.declared.text.LineContent.{LineContent}
 use Rattle.dns_zone.specs.declared.text.LineContent.TheVariants.{Nothing, Holds, Unreadable}
 use Rattle.dns_zone.specs.declared.zone.ZoneFault.{ZoneFault}
 use Rattle.dns_zone.specs.declared.zone.ZoneFault.TheVariants.{Line}
-use Rattle.dns_zone.specs.ZoneText.{is_ascii, fqdn_of, fqdn_if_ok, entries_from, then_entries, content_of_line, entry_of}
+use Rattle.dns_zone.specs.ZoneText.{fqdn_of, fqdn_if_ok, entries_from, then_entries, content_of_line, entry_of}
 use Rattle.std.proofs.lemmas.List.{drop-map}
 use Rattle.dns_zone.proofs.ListLaws.{drop_at, drop_whole, get_or_inside}
 
-pub name_parsed : (text : List ℕ) (name : DomainName) → list_all is_ascii text ≡ true → name_of_text text ≡ Ok name → name.is_fqdn ≡ true → Some name ≡ fqdn_of text
+pub name_parsed : (text : List ℕ) (name : DomainName) → name_of_text text ≡ Ok name → name.is_fqdn ≡ true → Some name ≡ fqdn_of text
 unfolding fqdn_of
-name_parsed text name a e f = sym (ap (λ b. cond b (fqdn_if_ok (name_of_text text)) None) a ∙ ap fqdn_if_ok e ∙ ap (λ b. cond b (Some name) None) f)
+name_parsed text name e f = sym (ap fqdn_if_ok e ∙ ap (λ b. cond b (Some name) None) f)
 
 -- ---- line by line
 
@@ -57,12 +54,6 @@ nothing_behind (e ∷ es) = ap (λ xs. e ∷ xs) (nothing_behind es)
 pub entries_end : (es : List Entry) (lines : List (List ℕ)) (i number : ℕ) → length lines ≤ i → with_front es (entries_from number (drop i lines)) ≡ Ok es
 unfolding with_front
 entries_end es lines i number h = ap (λ xs. with_front es (entries_from number xs)) (drop_whole lines i h) ∙ ap Ok (nothing_behind es)
-
--- ---- ASCII
-
-pub all_ascii : (text : List ℕ) → IsAscii text → list_all is_ascii text ≡ true
-all_ascii [] h = refl
-all_ascii (c ∷ cs) h = rw (lt-ltb c 128 (h 0)) (all_ascii cs (λ i. h (suc i)))
 
 -- ---- words
 

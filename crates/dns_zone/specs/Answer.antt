@@ -11,8 +11,8 @@ use Rattle.dns_messages.specs.declared.header.ResponseCode.TheVariants.{NoError,
 use Rattle.dns_zone.specs.declared.answer.Answer.{Answer}
 use Rattle.dns_messages.specs.declared.query.Query.{Query}
 use Rattle.dns_messages.specs.declared.record.Record.{Record}
-use Rattle.dns_messages.specs.declared.rdata.RData.{RData}
-use Rattle.dns_messages.specs.declared.rdata.RData.TheVariants as of
+use Rattle.dns_data.specs.declared.rdata.RData.{RData}
+use Rattle.dns_data.specs.declared.rdata.RData.TheVariants as of
 use Rattle.dns_zone.specs.declared.rows.Row.{Row}
 use Rattle.std.specs.List.{AllByRecursion}
 use Rattle.dns_messages.specs.Header.{code_number, code_of}
@@ -30,7 +30,7 @@ record_of owner row = record { name = owner; dns_class = IN; ttl = row.ttl; rdat
 -- how long it may be kept that something isn't there: the lesser of the row's TTL and the minimum (RFC 2308 section 3)
 abbrev pub negative_ttl : ℕ → RData → ℕ
 negative_ttl ttl (of.SOA soa) = min ttl soa.minimum
-negative_ttl ttl (of.A address) = ttl
+negative_ttl ttl other = ttl
 
 abbrev pub authority_row : Row → Row
 authority_row row = record row { ttl = negative_ttl row.ttl row.rdata }

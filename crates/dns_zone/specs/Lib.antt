@@ -1,4 +1,3 @@
-pub mod Address
 pub mod Rows
 pub mod Answer
 pub mod ZoneText

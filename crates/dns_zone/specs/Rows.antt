@@ -9,12 +9,12 @@ use Rattle.dns_codes.specs.declared.record_type.RecordType.{RecordType}
 use Rattle.dns_codes.specs.RecordType.{type_number}
 use Rattle.dns_names.specs.Name.{DomainName}
 use Rattle.dns_names.specs.Compare.{lower, at_or_below}
-use Rattle.dns_messages.specs.declared.rdata.RData.{RData}
-use Rattle.dns_messages.specs.declared.rdata.RData.TheVariants as of
+use Rattle.dns_data.specs.declared.rdata.RData.{RData}
+use Rattle.dns_data.specs.declared.rdata.RData.TheVariants as of
 use Rattle.dns_zone.specs.declared.rows.Row.{Row}
 use Rattle.dns_zone.specs.declared.rows.RecordSet.{RecordSet}
-use Rattle.dns_messages.specs.Sound.{IsSoundData}
-use Rattle.dns_messages.specs.Data.{same_data, data_type}
+use Rattle.dns_data.specs.rdata.{same_data, data_type, IsSoundData}
+use Rattle.dns_messages.specs.Sound.{IsOrdinaryData}
 
 -- the place of a record set: its owner's labels in lower case, and its type's number
 abbrev pub Key : Type 0
@@ -40,7 +40,7 @@ some_row_below rows name = list_any (λ k. at_or_below name k.0) (rows_map.keys 
 -- whether data is a start of authority
 abbrev pub is_soa : RData → Bool
 is_soa (of.SOA soa) = true
-is_soa (of.A address) = false
+is_soa other = false
 
 -- whether new data replaces old: both are starts of authority, and the serial of the new one is the greater number
 abbrev pub supersedes : RData → RData → Bool
@@ -77,10 +77,14 @@ set_key s = key s.name.labels s.record_type
 abbrev pub rows_of_sets : List RecordSet → Rows
 rows_of_sets sets = rows_map.from_entries (map (λ s. (set_key s, s.rows.items)) sets)
 
--- what rows must be to be sent, and read again
+-- what the data of rows must be to be sent, and read again
+pub record IsSoundRowData (d : RData) : Type 0 where
+  pub sound : IsSoundData d
+  pub ordinary : IsOrdinaryData d
+
 pub record IsSoundRow (row : Row) : Type 0 where
   pub ttl_fits : row.ttl < 2 ^ 32
-  pub rdata : IsSoundData row.rdata
+  pub rdata : IsSoundRowData row.rdata
 
 abbrev pub AreSoundRows : List Row → Type 0
 AreSoundRows rows = AllByRecursion IsSoundRow rows

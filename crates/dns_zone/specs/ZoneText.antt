@@ -1,24 +1,25 @@
 -- The text of a zone (RFC 1035 section 5.1), as far as it is read: a line is blank, a comment, or
 -- `<owner> <ttl> IN <A or SOA> <data>` with names that are fully qualified and numbers in digits.
-use Rattle.std.specs.Prelude.{◌≡◌, ◌<◌, ◌^◌, ◌==◌, ◌&&◌, ◌||◌, ◌+◌, nat_lt, not, codes, if◌then◌else◌, Bool, true, false, List, [], ◌∷◌, ◌++◌, ℕ, Option, Some, None, Result, Ok, Err}
-use Rattle.std.specs.List.{list_any, list_all, AllByRecursion}
+use Rattle.std.specs.Prelude.{◌≡◌, ◌<◌, ◌^◌, ◌==◌, ◌&&◌, ◌||◌, ◌+◌, not, codes, if◌then◌else◌, Bool, true, false, List, [], ◌∷◌, ◌++◌, ℕ, Option, Some, None, option_map, Result, Ok, Err}
+use Rattle.std.specs.List.{list_any, AllByRecursion}
 use Rattle.std.specs.Str.{bytes_eq}
 use Rattle.std.specs.Str.Lines.{lines}
+use Rattle.std.specs.Net.Reader.{read_ipv4, whole_value}
+use Rattle.std.specs.declared.net.ipv4_addr.Ipv4Addr.{Ipv4Addr}
 use Rattle.std.specs.FinMap as map
 use Rattle.dns_names.specs.Name.{DomainName}
 use Rattle.dns_names.specs.Compare.{at_or_below, same_labels}
 use Rattle.dns_names.specs.Parse.{name_of_text}
 use Rattle.dns_codes.specs.Decimal.{decimal_up_to}
 use Rattle.dns_names.specs.declared.error.ParseError.{ParseError}
-use Rattle.dns_messages.specs.declared.rdata.RData.{RData}
-use Rattle.dns_messages.specs.declared.rdata.RData.TheVariants as of
+use Rattle.dns_data.specs.declared.rdata.RData.{RData}
+use Rattle.dns_data.specs.declared.rdata.RData.TheVariants as of
 use Rattle.dns_zone.specs.declared.text.Entry.{Entry}
 use Rattle.dns_zone.specs.declared.text.SoaNumbers.{SoaNumbers}
 use Rattle.dns_zone.specs.declared.text.LineContent.{LineContent}
 use Rattle.dns_zone.specs.declared.text.LineContent.TheVariants.{Nothing, Holds, Unreadable}
 use Rattle.dns_zone.specs.declared.zone.ZoneFault.{ZoneFault}
 use Rattle.dns_zone.specs.declared.zone.ZoneFault.TheVariants.{Line, OutsideOrigin, NoSoa, SoaElsewhere}
-use Rattle.dns_zone.specs.Address.{address_of, address_data}
 use Rattle.dns_zone.specs.Rows.{Rows, ZoneContent, with_row, is_soa, IsSoundRow}
 
 -- blanks are space and tab
@@ -46,12 +47,8 @@ abbrev pub fqdn_if_ok : Result DomainName ParseError → Option DomainName
 fqdn_if_ok (Ok name) = if name.is_fqdn then Some name else None
 fqdn_if_ok (Err error) = None
 
-abbrev pub is_ascii : ℕ → Bool
-is_ascii c = nat_lt c 128
-
--- names in a text have ASCII characters alone
 unfoldable pub fqdn_of : List ℕ → Option DomainName
-fqdn_of text = if list_all is_ascii text then fqdn_if_ok (name_of_text text) else None
+fqdn_of text = fqdn_if_ok (name_of_text text)
 
 -- a number of 32 bits
 unfoldable pub number_of : List ℕ → Option ℕ
@@ -74,6 +71,14 @@ soa_data numbers mname rname = None
 abbrev pub soa_of : List (List ℕ) → Option RData
 soa_of (mname ∷ rname ∷ numbers) = soa_data (numbers_of numbers) (fqdn_of mname) (fqdn_of rname)
 soa_of data_words = None
+
+-- the address that a text spells: four numbers from 0 to 255 without leading zeros, joined by dots
+unfoldable pub address_of : List ℕ → Option Ipv4Addr
+address_of text = option_map (λ octets. record { octets = octets }) (whole_value (read_ipv4 text))
+
+abbrev pub address_data : Option Ipv4Addr → Option RData
+address_data (Some address) = Some (of.A (record { 0 = address }))
+address_data None = None
 
 abbrev pub a_of : List (List ℕ) → Option RData
 a_of (text ∷ []) = address_data (address_of text)

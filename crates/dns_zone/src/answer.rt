@@ -6,7 +6,8 @@ ghost use Rattle.dns_zone.specs.Rows.{rows_of_sets, AreSoundRows, AreSoundSets};
 ghost use Rattle.dns_zone.specs.Answer.{answer, authority, authority_row, found, is_no_row_type, is_refused, negative, negative_ttl, record_of, refusal, AreSoundRecords, IsSoundAnswer};
 
 use crate::rows::{RecordSet, Row, has_row_below, rows_of};
-use dns_messages::{Query, RData, Record, ResponseCode, Section};
+use dns_data::RData;
+use dns_messages::{Query, Record, ResponseCode, Section};
 use dns_names::Name;
 use dns_wire::{DNSClass, RecordType};
 use std::alloc::{AllocError, Global};
@@ -32,7 +33,7 @@ fn lowered_ttl(row: &Row) -> u32
 {
     match &row.rdata {
         RData::SOA(soa) => row.ttl.min(soa.minimum),
-        RData::A(_) => row.ttl,
+        _ => row.ttl,
     }
 }
 

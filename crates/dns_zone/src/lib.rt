@@ -2,11 +2,10 @@
 //!
 //! A zone is the rows of its text, or its first fault; what is served is the zone's answer by one table.
 //!
-//! - `text`, `entries`, `address`: a zone's text; `rows`: record sets;
+//! - `text`, `entries`: a zone's text; `rows`: record sets;
 //! - `zone`: the zone; `answer`: its table; `serve`, `road`: its server.
 #![tactic(auto)]
 
-mod address;
 mod answer;
 mod entries;
 mod road;

@@ -5,9 +5,9 @@ ghost use Rattle.std.specs.FinMap as rows_map;
 ghost use Rattle.std.specs.List.{list_any, position_or_len};
 ghost use Rattle.std.specs.Ordering.{eq_by_cmp};
 ghost use Rattle.dns_zone.specs.Rows.{key, key_cmp, set_key, rows_of_sets, rows_at, some_row_below, with_row, joined, replaced, is_soa, supersedes, AreSoundRows, AreSoundSets, IsSoundRow};
-ghost use Rattle.dns_messages.specs.Data.{same_data};
+ghost use Rattle.dns_data.specs.rdata.{same_data};
 
-use dns_messages::RData;
+use dns_data::RData;
 use dns_names::Name;
 use dns_wire::RecordType;
 use std::alloc::{AllocError, Global};
@@ -54,7 +54,7 @@ pub fn is_start_of_authority(rdata: &RData) -> bool
 {
     match rdata {
         RData::SOA(_) => true,
-        RData::A(_) => false,
+        _ => false,
     }
 }
 
@@ -74,7 +74,7 @@ fn has_data(rows: &[Row], rdata: &RData) -> bool
     ensures { result ≡ list_any (λ r. same_data r.rdata rdata.now) rows.now }
 {
     for row in rows {
-        if row.rdata.is_same(rdata) {
+        if row.rdata == *rdata {
             return true;
         }
     }

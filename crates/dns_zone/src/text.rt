@@ -1,20 +1,20 @@
 //! The text of a zone, line by line (RFC 1035 section 5.1).
 
-ghost use Rattle.std.specs.Prelude.{◌≡◌, ◌≢◌, ◌<◌, ◌^◌, Option, true, [], map, IfOk, IfErr, IfSome, OnOk, Ok, Err, List, ℕ, ◌++◌};
+ghost use Rattle.std.specs.Prelude.{◌≡◌, ◌≢◌, ◌<◌, ◌^◌, Option, true, [], map, IfOk, IfErr, IfSome, OnOk, Ok, Err, List, ℕ, ◌++◌, length};
 ghost use Rattle.std.specs.List.{AllByRecursion};
 ghost use Rattle.std.specs.Str.Lines.{lines};
-ghost use Rattle.dns_zone.specs.Rows.{IsSoundRow};
-ghost use Rattle.dns_messages.specs.Sound.{IsSoundData};
-ghost use Rattle.dns_zone.specs.ZoneText.{is_blank, words, ended, fqdn_of, number_of, numbers_of, soa_of, a_of, rdata_of, entry_of, content_of_line, is_without_entry as has_no_entry, entries_from, IsSoundContent, AreSoundEntries, NumbersFit};
+ghost use Rattle.std.specs.Net.Addr.{ipv4_octets};
+ghost use Rattle.dns_zone.specs.Rows.{IsSoundRowData};
+ghost use Rattle.dns_zone.specs.ZoneText.{is_blank, words, ended, fqdn_of, number_of, numbers_of, soa_of, a_of, address_of, rdata_of, entry_of, content_of_line, is_without_entry as has_no_entry, entries_from, IsSoundContent, AreSoundEntries, NumbersFit};
 
-use crate::address::parse_ip;
 use crate::rows::Row;
 use crate::zone::ZoneFault;
 use dns_codes::parse_decimal;
-use dns_messages::{A, RData, SOA};
+use dns_data::{A, RData, SOA};
 use dns_names::{Name, ParseError};
+use dns_text::parse_ipv4;
 use std::alloc::{AllocError, Global};
-use std::str;
+use std::net::Ipv4Addr;
 
 /// An entry of a zone's text: an owner, and a row.
 #[derive(Drop)]
@@ -86,13 +86,7 @@ pub fn parse_name(alloc: Global, word: &[u8]) -> Result<Option<Name>, AllocError
     ensures name { IfOk result (λ name. name ≡ fqdn_of word.now) }
     ensures fqdn { IfOk result (λ name. IfSome name (λ n. n.is_fqdn ≡ true)) }
 {
-    if !word.is_ascii() {
-        return Ok(None);
-    }
-    let Ok(text) = str::from_utf8(word) else {
-        return Ok(None);
-    };
-    match Name::from_ascii(alloc, text) {
+    match Name::from_ascii_bytes(alloc, word) {
         Ok(name) => {
             if name.is_fqdn() {
                 Ok(Some(name))
@@ -138,7 +132,7 @@ fn parse_numbers(words: &[Vec<u8>]) -> Option<SoaNumbers>
 /// The data of a start of authority, by its words: two names, and five numbers (RFC 1035 section 3.3.13).
 fn parse_soa(alloc: Global, words: &[Vec<u8>]) -> Result<Option<RData>, AllocError>
     ensures rdata { IfOk result (λ rdata. rdata ≡ soa_of (map (λ v. v.items) words.now)) }
-    ensures sound { IfOk result (λ rdata. IfSome rdata IsSoundData) }
+    ensures sound { IfOk result (λ rdata. IfSome rdata IsSoundRowData) }
 {
     let [mname, rname, numbers @ ..] = words else {
         return Ok(None);
@@ -152,6 +146,8 @@ fn parse_soa(alloc: Global, words: &[Vec<u8>]) -> Result<Option<RData>, AllocErr
     let Some(rname) = parse_name(alloc, rname)? else {
         return Ok(None);
     };
+    prove!(mname.encoded_len() <= Name::MAX_LENGTH);
+    prove!(rname.encoded_len() <= Name::MAX_LENGTH);
     Ok(Some(RData::SOA(SOA {
         mname,
         rname,
@@ -163,15 +159,23 @@ fn parse_soa(alloc: Global, words: &[Vec<u8>]) -> Result<Option<RData>, AllocErr
     })))
 }
 
+/// The address that a word spells.
+fn parse_address(word: &[u8]) -> Option<Ipv4Addr>
+    ensures address { result ≡ address_of word.now }
+    ensures octets { IfSome result (λ address. length (ipv4_octets address) ≡ 4) }
+{
+    parse_ipv4(word)
+}
+
 /// The data of an address, by its word.
 fn parse_a(words: &[Vec<u8>]) -> Option<RData>
     ensures rdata { result ≡ a_of (map (λ v. v.items) words.now) }
-    ensures sound { IfSome result IsSoundData }
+    ensures sound { IfSome result IsSoundRowData }
 {
     let [text] = words else {
         return None;
     };
-    match parse_ip(text) {
+    match parse_address(text) {
         Some(address) => Some(RData::A(A(address))),
         None => None,
     }
@@ -184,7 +188,7 @@ fn parse_rdata(
     words: &[Vec<u8>],
 ) -> Result<Option<RData>, AllocError>
     ensures rdata { IfOk result (λ rdata. rdata ≡ rdata_of record_type.now (map (λ v. v.items) words.now)) }
-    ensures sound { IfOk result (λ rdata. IfSome rdata IsSoundData) }
+    ensures sound { IfOk result (λ rdata. IfSome rdata IsSoundRowData) }
 {
     if record_type == b"A".as_slice() {
         return Ok(parse_a(words));

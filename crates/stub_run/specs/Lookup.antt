@@ -2,7 +2,7 @@
 use Rattle.std.specs.Prelude.{◌==◌, ◌&&◌, filter, Bool, List, [], ◌∷◌, ℕ, Result, Ok, Err}
 use Rattle.dns_codes.specs.RecordType.{type_number}
 use Rattle.dns_names.specs.Compare.{same_labels}
-use Rattle.dns_messages.specs.Data.{data_type}
+use Rattle.dns_data.specs.rdata.{data_type}
 use Rattle.dns_messages.specs.declared.header.ResponseCode.{ResponseCode}
 use Rattle.dns_messages.specs.declared.header.ResponseCode.TheVariants.{NoError, NXDomain}
 use Rattle.dns_messages.specs.declared.query.Query.{Query}

@@ -4,7 +4,8 @@ use crate::header::header_text;
 use crate::hex::{bytes_of, digits_of};
 use crate::operation::lacks;
 use crate::question::question_text;
-use dns_messages::{A, Message, Query, Record, Section};
+use dns_data::A;
+use dns_messages::{Message, Query, Record, Section};
 use dns_wire::{BinDecodable, BinDecoder, DecodeError};
 use std::alloc::{AllocError, Global};
 use std::net::Ipv4Addr;
@@ -133,7 +134,7 @@ pub(crate) fn same_data(alloc: Global, input: &str) -> Result<String, AllocError
 fn compared(alloc: Global, found: &Record, digits: &str) -> Result<String, AllocError> {
     match record_of(alloc, digits)? {
         Some(other) => {
-            let is_same = found.rdata.is_same(&other.rdata);
+            let is_same = found.rdata == other.rdata;
             format!(in alloc; "{is_same}")
         }
         None => lacks(alloc, "two records"),

@@ -1,6 +1,6 @@
 use Rattle.std.proofs.Common.{◌≡◌, drop}
 use Rattle.std.specs.List.{list_any}
-use Rattle.dns_messages.specs.Data.{same_data}
+use Rattle.dns_data.specs.rdata.{same_data}
 use Rattle.dns_zone.specs.declared.rows.Row.{Row}
 use Rattle.dns_zone.proofs.rows.has_data.Given as goal
 
