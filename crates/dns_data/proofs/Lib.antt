@@ -9,3 +9,4 @@ pub mod UnambiguousLaws
 pub mod WritingLaws
 pub mod RefusalLaws
 pub mod TypeLaws
+pub mod CanonicalLaws

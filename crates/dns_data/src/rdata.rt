@@ -13,22 +13,21 @@ mod soa;
 mod srv;
 mod txt;
 
+use crate::octets::OptionData;
+use crate::wire::read_octets;
 pub use a::A;
 pub use aaaa::AAAA;
 pub use cname::CNAME;
+use dns_wire::laws::type_number_round_trips;
+use dns_wire::{BinDecoder, BinEncodable, BinEncoder, DecodeError, EncodeError, RecordType};
 pub use mx::MX;
 pub use ns::NS;
 pub use opt::{EdnsOption, OPT};
 pub use ptr::PTR;
 pub use soa::SOA;
 pub use srv::SRV;
-pub use txt::TXT;
-
-use crate::octets::OptionData;
-use crate::wire::read_octets;
-use dns_wire::laws::type_number_round_trips;
-use dns_wire::{BinDecoder, BinEncodable, BinEncoder, DecodeError, EncodeError, RecordType};
 use std::alloc::Global;
+pub use txt::TXT;
 
 /// The data of a record.
 #[derive(Drop)]
