@@ -48,11 +48,11 @@ some_string bytes place string end h = omega (arith, h.1.ends, h.2.1.ends, h.2.2
 some_option : (bytes : List ℕ) (place : ℕ) (option : OptionValue) (end : ℕ) → PiecesAt Uncompressed bytes place (option_pieces option) end → place < end
 some_option bytes place option end h = omega (arith, h.1.ends, h.2.1.ends, h.2.2.1.ends, h.2.2.2)
 
-strings_at : (bytes : List ℕ) (place end : ℕ) (strings : List (List ℕ)) → AllByRecursion IsShortString strings → PiecesAt Uncompressed bytes place (flat_map string_pieces strings ++ []) end → ItemsUpTo (StringAt bytes) end place strings end
+pub strings_at : (bytes : List ℕ) (place end : ℕ) (strings : List (List ℕ)) → AllByRecursion IsShortString strings → PiecesAt Uncompressed bytes place (flat_map string_pieces strings ++ []) end → ItemsUpTo (StringAt bytes) end place strings end
 strings_at bytes place end strings each h =
     pieces-items bytes string_pieces IsShortString (some_string bytes) place end strings (subst (λ (ps : List Piece). PiecesAt Uncompressed bytes place ps end) (append-nil (flat_map string_pieces strings)) h) each
 
-options_at : (bytes : List ℕ) (place end : ℕ) (options : List OptionValue) → AllByRecursion IsShortOption options → PiecesAt Uncompressed bytes place (flat_map option_pieces options ++ []) end → ItemsUpTo (OptionAt bytes) end place options end
+pub options_at : (bytes : List ℕ) (place end : ℕ) (options : List OptionValue) → AllByRecursion IsShortOption options → PiecesAt Uncompressed bytes place (flat_map option_pieces options ++ []) end → ItemsUpTo (OptionAt bytes) end place options end
 options_at bytes place end options each h =
     pieces-items bytes option_pieces IsShortOption (some_option bytes) place end options (subst (λ (ps : List Piece). PiecesAt Uncompressed bytes place ps end) (append-nil (flat_map option_pieces options)) h) each
 

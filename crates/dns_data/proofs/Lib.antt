@@ -12,3 +12,4 @@ pub mod RefusalLaws
 pub mod TypeLaws
 pub mod ParsedLaws
 pub mod PrintedLaws
+pub mod CanonicalLaws

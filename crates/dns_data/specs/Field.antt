@@ -1,10 +1,11 @@
 -- The fields of record data: a type has a fixed sequence of kinds, and data of the type has a value of each (RFC 1035
 -- section 3.3).
-use Rattle.std.specs.Prelude.{◌≡◌, ◌≢◌, ◌<◌, ◌^◌, nat_eq, Bool, true, ℕ, List, [], ◌∷◌, ◌++◌, length, flat_map}
+use Rattle.std.specs.Prelude.{◌≡◌, ◌≢◌, ◌<◌, ◌^◌, nat_eq, Bool, true, ℕ, List, [], ◌∷◌, ◌++◌, length, map, flat_map}
 use Rattle.std.specs.List.{AllByRecursion}
 use Rattle.std.specs.Ordering.{on, eq_of_both}
 use Rattle.std.specs.Str.{bytes_eq}
 use Rattle.std.specs.Int.{w16, w32, to_be_bytes}
+use Rattle.std.specs.Str.{str_to_ascii_lowercase}
 use Rattle.std.specs.Net.Addr.{ipv4_octets, ipv6_octets, ipv6_segments}
 use Rattle.std.specs.declared.net.ipv4_addr.Ipv4Addr.{Ipv4Addr}
 use Rattle.std.specs.declared.net.ipv6_addr.Ipv6Addr.{Ipv6Addr}
@@ -81,6 +82,20 @@ abbrev pub values_pieces : Bool → (kinds : List Kind) → Values kinds → Lis
 values_pieces canonical [] values = []
 values_pieces canonical (kind ∷ kinds) values =
     value_pieces canonical kind values.0 ++ values_pieces canonical kinds values.1
+
+-- a name in lower case
+abbrev pub lower_name : DomainName → DomainName
+lower_name name = record name { labels = map str_to_ascii_lowercase name.labels }
+
+-- values with their names in lower case, as their canonical form has them (RFC 4034 section 6.2)
+abbrev pub lower_value : (kind : Kind) → ValueOf kind → ValueOf kind
+lower_value CompressibleName name = lower_name name
+lower_value WholeName name = lower_name name
+lower_value kind value = value
+
+abbrev pub lower_values : (kinds : List Kind) → Values kinds → Values kinds
+lower_values [] values = values
+lower_values (kind ∷ kinds) values = (lower_value kind values.0, lower_values kinds values.1)
 
 -- ---- sound values
 

@@ -2,7 +2,7 @@
 
 ghost use Rattle.std.specs.Prelude.{◌≡◌, ◌≢◌, ◌-◌, ◌<◌, ◌^◌, ◌&&◌, nat_eq, ℕ, List, Option, [], false, true};
 ghost use Rattle.dns_codes.specs.declared.record_type.RecordType.{RecordType};
-ghost use Rattle.dns_data.specs.Field.{OptionValue, same_option};
+ghost use Rattle.dns_data.specs.Field.{OptionValue, same_option, lower_values};
 ghost use Rattle.dns_data.specs.declared.rdata.RData.{RData};
 ghost use Rattle.dns_data.specs.declared.rdata.a.A.{A};
 ghost use Rattle.dns_data.specs.declared.rdata.aaaa.AAAA.{AAAA};
@@ -18,8 +18,8 @@ ghost use Rattle.dns_text.specs.Lexer.{Lexeme, LexerState};
 ghost use Rattle.dns_text.specs.Tokens.{LexesTo};
 ghost use Rattle.dns_data.specs.Text.{AreValidValues, has_text};
 ghost use Rattle.dns_data.specs.declared.error.RDataParseError.{RDataParseError};
-ghost use Rattle.dns_wire.specs.Encodable.{append_pieces, AreWritable};
 ghost use Rattle.dns_wire.specs.Encoder.{EncoderState, IsAtEnd};
+ghost use Rattle.dns_wire.specs.Encodable.{append_pieces, AreWritable};
 ghost use Rattle.dns_wire.specs.Writing.{ArePointerTargets};
 ghost use Rattle.dns_wire.specs.declared.error.DecodeError.{DecodeError};
 ghost use Rattle.dns_wire.specs.declared.name_encoding.NameEncoding.TheVariants.{UncompressedLowercase};
@@ -28,6 +28,7 @@ ghost use Rattle.std.specs.Cmp.{IsEquivalence};
 ghost use Rattle.std.specs.Net.Addr.{ipv4_octets, ipv6_segments};
 ghost use Rattle.std.specs.Str.{bytes_eq};
 ghost use Rattle.dns_data.specs.rdata.{data_type, data_kinds, data_values, data_pieces, data_text, kinds_of_type, same_data, IsSoundData, ReadsData, RefusesData, IsParsedData, RefusesText};
+ghost use Rattle.dns_data.specs.Wire.{ValuesAt};
 
 use dns_wire::RecordType;
 
@@ -113,4 +114,15 @@ pub fn printed_data_parses_back()
         → p.is_open ≡ false → p.text ≡ data_text d
         → (tokens : List Lexeme) × LexesTo p tokens (record p { text = []; is_front = false })
         × ((origin : Option DomainName) → IsParsedData origin (data_type d) tokens d) }
+{}
+
+/// The canonical form of sound data decodes, and has the names of the data in lower case (RFC 4034 section 6.2).
+pub fn canonical_form_has_names_in_lower_case()
+    ensures { (w : EncoderState) (d : RData)
+        → IsAtEnd w → ArePointerTargets w.bytes w.suffixes
+        → IsSoundData d → AreWritable (data_pieces true d)
+        → ValuesAt (append_pieces w (data_pieces true d)).bytes
+        (append_pieces w (data_pieces true d)).offset (data_kinds d) w.offset
+        (lower_values (data_kinds d) (data_values d))
+        (append_pieces w (data_pieces true d)).offset }
 {}

@@ -75,10 +75,7 @@ pub(crate) fn read_octets<const MAX: usize>(
 // ---- character strings
 
 /// Reads a character string.
-fn read_string(
-    alloc: Global,
-    decoder: &mut BinDecoder<'_>,
-) -> Result<CharacterString, DecodeError>
+fn read_string(alloc: Global, decoder: &mut BinDecoder<'_>) -> Result<CharacterString, DecodeError>
     ensures read { IfOk result (λ string.
         StringAt decoder.old.bytes decoder.old.index string decoder.new.index) }
     ensures refused { IfErr result (λ error. error ≢ DecodeError.Memory
@@ -130,10 +127,7 @@ pub(crate) fn emit_strings(
 // ---- options
 
 /// Reads an option.
-fn read_option(
-    alloc: Global,
-    decoder: &mut BinDecoder<'_>,
-) -> Result<EdnsOption, DecodeError>
+fn read_option(alloc: Global, decoder: &mut BinDecoder<'_>) -> Result<EdnsOption, DecodeError>
     ensures read { IfOk result (λ option.
         OptionAt decoder.old.bytes decoder.old.index option decoder.new.index) }
     ensures refused { IfErr result (λ error. error ≢ DecodeError.Memory

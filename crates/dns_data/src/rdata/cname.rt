@@ -40,6 +40,7 @@ impl BinEncodable for CNAME {
     ghost pieces = { λ c s. values_pieces s.canonical cname_kinds (cname_values c) };
 
     fn emit(&self, encoder: &mut BinEncoder<'_>) -> Result<(), EncodeError> {
-        self.0.emit_with_behavior(RDataEncoding::StandardRecord, encoder)
+        self.0
+            .emit_with_behavior(RDataEncoding::StandardRecord, encoder)
     }
 }

@@ -56,6 +56,7 @@ impl BinEncodable for MX {
 
     fn emit(&self, encoder: &mut BinEncoder<'_>) -> Result<(), EncodeError> {
         encoder.emit_u16(self.preference)?;
-        self.exchange.emit_with_behavior(RDataEncoding::StandardRecord, encoder)
+        self.exchange
+            .emit_with_behavior(RDataEncoding::StandardRecord, encoder)
     }
 }

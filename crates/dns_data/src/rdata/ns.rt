@@ -40,6 +40,7 @@ impl BinEncodable for NS {
     ghost pieces = { λ n s. values_pieces s.canonical ns_kinds (ns_values n) };
 
     fn emit(&self, encoder: &mut BinEncoder<'_>) -> Result<(), EncodeError> {
-        self.0.emit_with_behavior(RDataEncoding::StandardRecord, encoder)
+        self.0
+            .emit_with_behavior(RDataEncoding::StandardRecord, encoder)
     }
 }

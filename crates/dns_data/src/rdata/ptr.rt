@@ -40,6 +40,7 @@ impl BinEncodable for PTR {
     ghost pieces = { λ p s. values_pieces s.canonical ptr_kinds (ptr_values p) };
 
     fn emit(&self, encoder: &mut BinEncoder<'_>) -> Result<(), EncodeError> {
-        self.0.emit_with_behavior(RDataEncoding::StandardRecord, encoder)
+        self.0
+            .emit_with_behavior(RDataEncoding::StandardRecord, encoder)
     }
 }

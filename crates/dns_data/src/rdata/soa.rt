@@ -111,8 +111,10 @@ impl BinEncodable for SOA {
     ghost pieces = { λ soa s. values_pieces s.canonical soa_kinds (soa_values soa) };
 
     fn emit(&self, encoder: &mut BinEncoder<'_>) -> Result<(), EncodeError> {
-        self.mname.emit_with_behavior(RDataEncoding::StandardRecord, encoder)?;
-        self.rname.emit_with_behavior(RDataEncoding::StandardRecord, encoder)?;
+        self.mname
+            .emit_with_behavior(RDataEncoding::StandardRecord, encoder)?;
+        self.rname
+            .emit_with_behavior(RDataEncoding::StandardRecord, encoder)?;
         self.emit_numbers(encoder)
     }
 }

@@ -67,6 +67,7 @@ impl BinEncodable for SRV {
         encoder.emit_u16(self.priority)?;
         encoder.emit_u16(self.weight)?;
         encoder.emit_u16(self.port)?;
-        self.target.emit_with_behavior(RDataEncoding::Canonical, encoder)
+        self.target
+            .emit_with_behavior(RDataEncoding::Canonical, encoder)
     }
 }

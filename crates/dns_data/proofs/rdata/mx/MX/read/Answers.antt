@@ -13,4 +13,4 @@ pub returns-in_err-exchange-clause-refused : goal.returns-in_err-exchange-clause
 returns-in_err-exchange-clause-refused c =
     let p = err_from_is_err_and c.from_residual-in_err-exchange.result c.from_residual-in_err-exchange.ensures.1 in
     rw (p.1, p.2) (λ other data_end. refused_past c.args.decoder.now c.read.new.decoder data_end Number16 (CompressibleName ∷ []) _ c.in_ok-preference.preference c.in_ok-preference.ensures.read c.in_ok-preference.ensures.bytes
-        (refused_here c.read.new.decoder.bytes data_end CompressibleName [] c.read.new.decoder.index _ (c.in_err-exchange.ensures.refused other)))
+    (refused_here c.read.new.decoder.bytes data_end CompressibleName [] c.read.new.decoder.index _ (c.in_err-exchange.ensures.refused other)))

@@ -16,14 +16,14 @@ pub returns-in_err-rname-clause-refused : goal.returns-in_err-rname-clause-refus
 returns-in_err-rname-clause-refused c =
     let p = err_from_is_err_and c.from_residual-in_err-rname.result c.from_residual-in_err-rname.ensures.1 in
     rw (p.1, p.2) (λ other data_end. refused_past c.args.decoder.now c.read.new.decoder data_end CompressibleName (CompressibleName ∷ number_kinds) _ c.in_ok-mname.mname (c.in_ok-mname.ensures.read, c.in_ok-mname.ensures.fqdn) c.in_ok-mname.ensures.bytes
-        (refused_here c.read.new.decoder.bytes data_end CompressibleName number_kinds c.read.new.decoder.index _ (c.in_err-rname.ensures.refused other)))
+    (refused_here c.read.new.decoder.bytes data_end CompressibleName number_kinds c.read.new.decoder.index _ (c.in_err-rname.ensures.refused other)))
 
 pub returns-in_err-serial-clause-refused : goal.returns-in_err-serial-clause-refused
 returns-in_err-serial-clause-refused c =
     let p = err_from_is_err_and c.from_residual-in_err-serial.result c.from_residual-in_err-serial.ensures.1 in
     rw (p.1, p.2) (λ other data_end. refused_past c.args.decoder.now c.read.new.decoder data_end CompressibleName (CompressibleName ∷ number_kinds) _ c.in_ok-mname.mname (c.in_ok-mname.ensures.read, c.in_ok-mname.ensures.fqdn) c.in_ok-mname.ensures.bytes
-        (refused_past c.read.new.decoder c.read-2.new.decoder data_end CompressibleName number_kinds _ c.in_ok-rname.rname (c.in_ok-rname.ensures.read, c.in_ok-rname.ensures.fqdn) c.in_ok-rname.ensures.bytes
-        (c.in_err-serial.ensures.refused other data_end)))
+    (refused_past c.read.new.decoder c.read-2.new.decoder data_end CompressibleName number_kinds _ c.in_ok-rname.rname (c.in_ok-rname.ensures.read, c.in_ok-rname.ensures.fqdn) c.in_ok-rname.ensures.bytes
+    (c.in_err-serial.ensures.refused other data_end)))
 
 pub returns-clause-read : goal.returns-clause-read
 returns-clause-read c = λ data_end.
