@@ -14,13 +14,9 @@ mod soa;
 mod srv;
 mod txt;
 
-use crate::octets::OptionData;
-use crate::wire::read_octets;
 pub use a::A;
 pub use aaaa::AAAA;
 pub use cname::CNAME;
-use dns_wire::laws::type_number_round_trips;
-use dns_wire::{BinDecoder, BinEncodable, BinEncoder, DecodeError, EncodeError, RecordType};
 pub use mx::MX;
 pub use ns::NS;
 pub use opt::{EdnsOption, OPT};
