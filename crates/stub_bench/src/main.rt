@@ -2,6 +2,7 @@
 //! it can be timed from outside. `all` stands for every operation, one after another.
 #![tactic(auto)]
 
+mod data;
 mod operation;
 
 use anyhow::{Result, bail};
@@ -12,13 +13,17 @@ use std::env;
 use std::process::ExitCode;
 
 /// What may be repeated.
-const WHAT: [&str; 6] = [
+const WHAT: [&str; 10] = [
     "all",
     "name-read",
     "name-write",
     "name-parse",
     "name-print",
     "name-compare",
+    "data-read",
+    "data-write",
+    "data-parse",
+    "data-print",
 ];
 
 fn main(rt: HostRuntime) -> Result<ExitCode> {

@@ -2,6 +2,7 @@
 
 ghost use Rattle.std.specs.Prelude.{◌≡◌, []};
 
+use crate::data::{parse_data, print_data, read_data, write_data};
 use anyhow::Result;
 use dns_names::Name;
 use dns_wire::{BinDecoder, BinEncoder};
@@ -20,6 +21,14 @@ pub(crate) enum Operation {
     NamePrint,
     /// Compares two names of four labels that are equal up to ASCII case.
     NameCompare,
+    /// Decodes four record data.
+    DataRead,
+    /// Encodes four record data, compressed.
+    DataWrite,
+    /// Parses four record data from tokens.
+    DataParse,
+    /// Prints four record data.
+    DataPrint,
 }
 
 /// Two names of four labels, equal up to ASCII case.
@@ -44,12 +53,16 @@ const BYTES: &[u8; 29] = b"\x03com\x00\x07example\xC0\x00\x03www\xC0\x05\x01a\xC
 
 impl Operation {
     /// All of them.
-    pub(crate) const ALL: [Operation; 5] = [
+    pub(crate) const ALL: [Operation; 9] = [
         Operation::NameRead,
         Operation::NameWrite,
         Operation::NameParse,
         Operation::NamePrint,
         Operation::NameCompare,
+        Operation::DataRead,
+        Operation::DataWrite,
+        Operation::DataParse,
+        Operation::DataPrint,
     ];
 
     /// The word that means it.
@@ -60,6 +73,10 @@ impl Operation {
             Operation::NameParse => "name-parse",
             Operation::NamePrint => "name-print",
             Operation::NameCompare => "name-compare",
+            Operation::DataRead => "data-read",
+            Operation::DataWrite => "data-write",
+            Operation::DataParse => "data-parse",
+            Operation::DataPrint => "data-print",
         }
     }
 
@@ -71,6 +88,10 @@ impl Operation {
             Operation::NameParse => parse_names(alloc, count),
             Operation::NamePrint => print_names(alloc, count),
             Operation::NameCompare => compare_names(alloc, count),
+            Operation::DataRead => read_data(alloc, count),
+            Operation::DataWrite => write_data(alloc, count),
+            Operation::DataParse => parse_data(alloc, count),
+            Operation::DataPrint => print_data(alloc, count),
         }
     }
 }

@@ -1,0 +1,59 @@
+//! Types, addresses and equality of record data.
+
+use super::items::item_of;
+use dns_data::{A, AAAA, CNAME, MX, NS, OPT, PTR, RData, RecordData, SOA, SRV, TXT};
+use rows::{Answer, RowFault, made_or_none, push_answer, shown, split};
+use std::alloc::Global;
+
+/// `same DATA | DATA`: whether data are equal.
+pub(crate) fn same(alloc: Global, input: &str) -> Answer {
+    let (one, other) = split(input, " | ", "other data")?;
+    let one = item_of(alloc, one)?;
+    let other = item_of(alloc, other)?;
+    shown(alloc, one == other)
+}
+
+/// `address DATA`: the address that data is, or `none`.
+pub(crate) fn address(alloc: Global, input: &str) -> Answer {
+    let rdata = item_of(alloc, input)?;
+    made_or_none(alloc, rdata.ip_addr())
+}
+
+/// `held DATA`: the type of data, as it is borrowed by that type, and `update` for absent data.
+pub(crate) fn held(alloc: Global, input: &str) -> Answer {
+    let rdata = item_of(alloc, input)?;
+    let mut answers = String::new(alloc);
+    push_name_types(alloc, &mut answers, &rdata)?;
+    push_held::<A>(alloc, &mut answers, &rdata)?;
+    push_held::<AAAA>(alloc, &mut answers, &rdata)?;
+    push_held::<SOA>(alloc, &mut answers, &rdata)?;
+    push_held::<TXT>(alloc, &mut answers, &rdata)?;
+    push_held::<OPT>(alloc, &mut answers, &rdata)?;
+    if RecordData::is_update(&rdata) {
+        push_answer(&mut answers, "update")?;
+    }
+    Ok(answers)
+}
+
+/// Adds the type of data whose last field is a name.
+fn push_name_types(alloc: Global, answers: &mut String, rdata: &RData) -> Result<(), RowFault> {
+    push_held::<CNAME>(alloc, answers, rdata)?;
+    push_held::<NS>(alloc, answers, rdata)?;
+    push_held::<PTR>(alloc, answers, rdata)?;
+    push_held::<MX>(alloc, answers, rdata)?;
+    push_held::<SRV>(alloc, answers, rdata)
+}
+
+/// Adds the type of data that is of one type.
+fn push_held<R: RecordData>(
+    alloc: Global,
+    answers: &mut String,
+    rdata: &RData,
+) -> Result<(), RowFault> {
+    if let Some(held) = R::try_borrow(rdata) {
+        let kind = held.record_type();
+        let word = format!(in alloc; "{kind}")?;
+        push_answer(answers, word.as_str())?;
+    }
+    Ok(())
+}
