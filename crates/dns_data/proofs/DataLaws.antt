@@ -1,20 +1,19 @@
 -- Data by type: what it decodes from, and that it is sound.
-use Rattle.std.proofs.Common.{◌≡◌, ◌≢◌, ℕ, ◌+◌, ◌-◌, ◌<◌, ◌≤◌, ◌^◌, zero, suc, false, List, [], ◌∷◌, ◌++◌, length, flat_map, refl, sym, ap, subst, ◌∙◌, arith, length-append}
+use Rattle.std.proofs.Common.{◌≡◌, ◌≢◌, ℕ, ◌+◌, ◌<◌, ◌≤◌, ◌^◌, false, List, [], ◌∷◌, ◌++◌, length, flat_map, refl, sym, ap, subst, ◌∙◌, arith}
 use Rattle.std.specs.List.{AllByRecursion}
 use Rattle.std.proofs.lemmas.List.{append-nil}
 use Rattle.dns_codes.specs.declared.record_type.RecordType.{RecordType}
 use Rattle.dns_codes.specs.declared.record_type.RecordType.TheVariants as types
 use Rattle.dns_codes.specs.RecordType.{type_number, type_of}
 use Rattle.dns_wire.specs.Encodable.{Piece, BytesAt, PiecesAt}
-use Rattle.dns_wire.specs.declared.error.DecodeError.{DecodeError}
 use Rattle.dns_wire.specs.declared.error.DecodeError.TheVariants.{IncorrectRDataLengthRead}
 use Rattle.dns_wire.specs.declared.name_encoding.NameEncoding.TheVariants.{Uncompressed}
 use Rattle.dns_wire.proofs.SectionLaws.{pieces_max_len}
-use Rattle.dns_data.specs.Field.{Kind, Opaque, OptionValue, Values, string_pieces, option_pieces, values_pieces, AreSoundValues}
+use Rattle.dns_data.specs.Field.{Kind, OptionValue, string_pieces, option_pieces, AreSoundValues}
 use Rattle.dns_data.specs.Wire.{StringAt, OptionAt, ItemsUpTo, no_more_items, one_more_item, ValuesAt, RefusesValues, wrong_length}
 use Rattle.dns_data.specs.declared.rdata.RData.{RData}
 use Rattle.dns_data.specs.declared.rdata.RData.TheVariants as of
-use Rattle.dns_data.specs.rdata.{data_type, data_kinds, data_values, kinds_of_type, empty_data, data_pieces, whole_len, HasFieldsOfType, IsSoundData, ReadsData, RefusesData}
+use Rattle.dns_data.specs.rdata.{data_type, data_kinds, data_values, kinds_of_type, empty_data, data_pieces, whole_len, HasFieldsOfType, ReadsData}
 use Rattle.dns_data.specs.rdata.A.{a_kinds, a_values}
 use Rattle.dns_data.specs.rdata.AAAA.{aaaa_kinds, aaaa_values}
 use Rattle.dns_data.specs.rdata.CNAME.{cname_kinds, cname_values}
@@ -23,12 +22,11 @@ use Rattle.dns_data.specs.rdata.NS.{ns_kinds, ns_values}
 use Rattle.dns_data.specs.rdata.PTR.{ptr_kinds, ptr_values}
 use Rattle.dns_data.specs.rdata.SOA.{soa_kinds, soa_values}
 use Rattle.dns_data.specs.rdata.SRV.{srv_kinds, srv_values}
-use Rattle.dns_data.specs.rdata.OPT.{opt_values}
-use Rattle.dns_data.specs.rdata.TXT.{txt_values}
 use Rattle.dns_data.proofs.ItemLaws.{no_item-ended, items-pieces, pieces-items}
-use Rattle.dns_data.proofs.WireLaws.{values_same, data_not_refused, values_pieces_at}
+use Rattle.dns_data.proofs.WireLaws.{values_pieces_at}
 use Rattle.dns_data.proofs.LengthLaws.{form-whole, items_len, pieces_max_len-append}
-use Rattle.dns_data.proofs.BoundedLaws.{IsBounded, bounded-ahead, bounded-sound, bounded-len, bounded-at}
+use Rattle.dns_data.proofs.DecodingLaws.{string_ahead, option_ahead}
+use Rattle.dns_data.proofs.BoundedLaws.{bounded-onward, bounded-sound, bounded-len, bounded-at}
 
 -- ---- strings and options
 
@@ -61,6 +59,10 @@ options_at bytes place end options each h =
 pub items-ahead : {Item : Type 0} (ItemAt : ℕ → Item → ℕ → Type 0) {data_end place end : ℕ} {x : Item} {xs : List Item} → ItemsUpTo ItemAt data_end place (x ∷ xs) end → place < data_end
 items-ahead ItemAt (one_more_item less there more) = less
 
+items-onward : {Item : Type 0} (ItemAt : ℕ → Item → ℕ → Type 0) → ((place : ℕ) (x : Item) (end : ℕ) → ItemAt place x end → place < end) → {data_end place end : ℕ} {xs : List Item} → ItemsUpTo ItemAt data_end place xs end → place ≤ end
+items-onward ItemAt ahead (no_more_items stop) = omega arith
+items-onward ItemAt ahead {place = place} (one_more_item {middle = m} {item = x} less there more) = omega (arith, ahead place x m there, items-onward ItemAt ahead more)
+
 -- ---- data decodes from its pieces
 
 module _ (bytes : List ℕ) (place len : ℕ) where
@@ -77,6 +79,20 @@ module _ (bytes : List ℕ) (place len : ℕ) where
   data_at (of.OPT o) sound h = (place + len, options_at bytes place (place + len) o sound.0 h, refl)
   data_at (of.Update0 t) sound h = h
   data_at (of.Unknown code bs) sound h = (place + len, (subst (λ (n : ℕ). BytesAt bytes place bs n) h.2 h.1, refl), refl)
+
+  pub data_onward : (d : RData) (end : ℕ) → ValuesAt bytes (place + len) (data_kinds d) place (data_values d) end → place ≤ end
+  data_onward (of.A a) end h = bounded-onward bytes (place + len) a_kinds place (a_values a) end (tt, tt) h
+  data_onward (of.AAAA a) end h = bounded-onward bytes (place + len) aaaa_kinds place (aaaa_values a) end (tt, tt) h
+  data_onward (of.CNAME c) end h = bounded-onward bytes (place + len) cname_kinds place (cname_values c) end (tt, tt) h
+  data_onward (of.NS n) end h = bounded-onward bytes (place + len) ns_kinds place (ns_values n) end (tt, tt) h
+  data_onward (of.PTR p) end h = bounded-onward bytes (place + len) ptr_kinds place (ptr_values p) end (tt, tt) h
+  data_onward (of.MX m) end h = bounded-onward bytes (place + len) mx_kinds place (mx_values m) end (tt, (tt, tt)) h
+  data_onward (of.SOA s) end h = bounded-onward bytes (place + len) soa_kinds place (soa_values s) end (tt, (tt, (tt, (tt, (tt, (tt, (tt, tt))))))) h
+  data_onward (of.SRV s) end h = bounded-onward bytes (place + len) srv_kinds place (srv_values s) end (tt, (tt, (tt, (tt, tt)))) h
+  data_onward (of.TXT t) end h = omega (arith, items-onward (StringAt bytes) (string_ahead bytes) h.1, h.2)
+  data_onward (of.OPT o) end h = omega (arith, items-onward (OptionAt bytes) (option_ahead bytes) h.1, h.2)
+  data_onward (of.Update0 t) end h = omega (arith, h)
+  data_onward (of.Unknown code bs) end h = omega (arith, h.1.0.ends, h.2)
 
   -- ---- decoded data is sound
 

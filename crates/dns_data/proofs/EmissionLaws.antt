@@ -36,16 +36,25 @@ module _ {X : Type 0} (pieces : X → List Piece) where
   pieces_next : (xs : List X) (i : ℕ) (d : X) → i < length xs → flat_map pieces (take (i + 1) xs) ≡ flat_map pieces (take i xs) ++ pieces (get_or xs i d)
   pieces_next xs i d lt = ap (λ (ys : List X). flat_map pieces ys) (take_more xs i d lt) ∙ flat_map-append pieces (take i xs) (get_or xs i d ∷ []) ∙ ap (λ (ps : List Piece). flat_map pieces (take i xs) ++ ps) (append-nil (pieces (get_or xs i d)))
 
-  pub emits_next : (old mid new : EncoderState) (xs : List X) (i : ℕ) (d : X) → IsAtEnd old → i < length xs → Emits old (flat_map pieces (take i xs)) (Ok tt) mid → Emits mid (pieces (get_or xs i d)) (Ok tt) new → Emits old (flat_map pieces (take (i + 1) xs)) (Ok tt) new
+  emits_next : (old mid new : EncoderState) (xs : List X) (i : ℕ) (d : X) → IsAtEnd old → i < length xs → Emits old (flat_map pieces (take i xs)) (Ok tt) mid → Emits mid (pieces (get_or xs i d)) (Ok tt) new → Emits old (flat_map pieces (take (i + 1) xs)) (Ok tt) new
   emits_next old mid new xs i d end lt so_far e =
       subst (λ (ps : List Piece). Emits old ps (Ok tt) new) (sym (pieces_next xs i d lt)) (emits_then old mid new (flat_map pieces (take i xs)) (pieces (get_or xs i d)) (Ok tt) end so_far e)
 
-  pub emits_fails : (old mid new : EncoderState) (xs : List X) (i : ℕ) (d : X) (error : EncodeError) → IsAtEnd old → i < length xs → Emits old (flat_map pieces (take i xs)) (Ok tt) mid → Emits mid (pieces (get_or xs i d)) (Err error) new → Emits old (flat_map pieces xs) (Err error) new
+  emits_fails : (old mid new : EncoderState) (xs : List X) (i : ℕ) (d : X) (error : EncodeError) → IsAtEnd old → i < length xs → Emits old (flat_map pieces (take i xs)) (Ok tt) mid → Emits mid (pieces (get_or xs i d)) (Err error) new → Emits old (flat_map pieces xs) (Err error) new
   emits_fails old mid new xs i d error end lt so_far e =
       let first : List Piece = flat_map pieces (take i xs) ++ pieces (get_or xs i d) in
       let more : List Piece = flat_map pieces (drop (i + 1) xs) in
       let all : first ++ more ≡ flat_map pieces xs = ap (λ (ps : List Piece). ps ++ more) (sym (pieces_next xs i d lt)) ∙ sym (flat_map-append pieces (take (i + 1) xs) (drop (i + 1) xs)) ∙ ap (λ (ys : List X). flat_map pieces ys) (take-append-drop (i + 1) xs) in
       subst (λ (ps : List Piece). Emits old ps (Err error) new) all (emits_stop old new first more error (emits_then old mid new (flat_map pieces (take i xs)) (pieces (get_or xs i d)) (Err error) end so_far e))
+
+  -- the same of an item that is equal to the one at the index
+  pub item_emitted : (old mid new : EncoderState) (xs : List X) (i : ℕ) (x d : X) → x ≡ get_or xs i d → IsAtEnd old → i < length xs → Emits old (flat_map pieces (take i xs)) (Ok tt) mid → (IsAtEnd mid → Emits mid (pieces x) (Ok tt) new) → Emits old (flat_map pieces (take (i + 1) xs)) (Ok tt) new
+  item_emitted old mid new xs i x d same end lt so_far e =
+      emits_next old mid new xs i d end lt so_far (subst (λ (y : X). Emits mid (pieces y) (Ok tt) new) same (e (emits_end old mid (flat_map pieces (take i xs)) end so_far)))
+
+  pub item_refused : (old mid new : EncoderState) (xs : List X) (i : ℕ) (x d : X) (error : EncodeError) → x ≡ get_or xs i d → IsAtEnd old → i < length xs → Emits old (flat_map pieces (take i xs)) (Ok tt) mid → (IsAtEnd mid → Emits mid (pieces x) (Err error) new) → Emits old (flat_map pieces xs) (Err error) new
+  item_refused old mid new xs i x d error same end lt so_far e =
+      emits_fails old mid new xs i d error end lt so_far (subst (λ (y : X). Emits mid (pieces y) (Err error) new) same (e (emits_end old mid (flat_map pieces (take i xs)) end so_far)))
 
   pub pieces_writable : ((x : X) → AreWritable (pieces x)) → (xs : List X) → AreWritable (flat_map pieces xs)
   pieces_writable each [] = tt

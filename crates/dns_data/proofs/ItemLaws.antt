@@ -1,11 +1,11 @@
 -- Items that follow one another until the data ends.
-use Rattle.std.proofs.Common.{◌≡◌, ◌≢◌, ℕ, ◌+◌, ◌<◌, ◌≤◌, List, [], ◌∷◌, ◌++◌, length, flat_map, refl, sym, ap, subst, ◌∙◌, append_assoc, arith}
+use Rattle.std.proofs.Common.{◌≡◌, ℕ, ◌<◌, ◌≤◌, List, [], ◌∷◌, ◌++◌, flat_map, refl, sym, ap, subst, ◌∙◌, append_assoc, arith}
 use Rattle.std.specs.List.{AllByRecursion}
 use Rattle.std.proofs.lemmas.List.{append-nil}
 use Rattle.dns_wire.specs.Encodable.{Piece, PiecesAt}
 use Rattle.dns_wire.specs.declared.name_encoding.NameEncoding.TheVariants.{Uncompressed}
 use Rattle.dns_wire.proofs.PieceLaws.{pieces_at-join, pieces_at-split}
-use Rattle.dns_data.specs.Wire.{NoneAt, ItemsUpTo, no_more_items, one_more_item, RefusesItems, no_item_there, past_item}
+use Rattle.dns_data.specs.Wire.{ItemsUpTo, no_more_items, one_more_item, RefusesItems, no_item_there, past_item}
 
 -- at most one item is found at a place, up to one end
 abbrev pub IsUnambiguous : {Item : Type 0} → (ℕ → Item → ℕ → Type 0) → Type 0

@@ -1,6 +1,6 @@
 -- How long encodings are.
-use Rattle.std.proofs.Common.{◌≡◌, ℕ, ◌+◌, ◌*◌, ◌<◌, ◌≤◌, List, [], ◌∷◌, ◌++◌, length, flat_map, refl, sym, ap, ◌∙◌, arith, length-append}
-use Rattle.dns_wire.specs.Encodable.{Piece, Plain, Domain, Whole, Position, start_position, piece_form, piece_next, form, PiecesAt}
+use Rattle.std.proofs.Common.{◌≡◌, ℕ, ◌+◌, ◌≤◌, List, [], ◌∷◌, ◌++◌, length, flat_map, refl, ap, arith, length-append}
+use Rattle.dns_wire.specs.Encodable.{Piece, Plain, Domain, Whole, Position, start_position, piece_form, piece_next, form}
 use Rattle.dns_wire.specs.declared.name_encoding.NameEncoding.TheVariants.{Uncompressed}
 use Rattle.dns_wire.proofs.NameLaws.{length-whole_form}
 use Rattle.dns_wire.proofs.PieceLaws.{form-encoding}

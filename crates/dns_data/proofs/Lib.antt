@@ -8,3 +8,7 @@ pub mod BoundedLaws
 pub mod DataLaws
 pub mod UnambiguousLaws
 pub mod WritingLaws
+pub mod RefusalLaws
+pub mod TypeLaws
+pub mod ParsedLaws
+pub mod PrintedLaws

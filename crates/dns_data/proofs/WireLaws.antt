@@ -1,23 +1,19 @@
 -- Values of fields: bytes decode to one at most, and are those of its pieces.
-use Rattle.std.proofs.Common.{◌≡◌, ◌≢◌, ℕ, ◌+◌, ◌*◌, ◌/◌, ◌%◌, ◌<◌, ◌≤◌, ◌^◌, Bool, true, false, List, [], ◌∷◌, ◌++◌, length, drop, get_or, flat_map, zero, suc, refl, sym, ap, subst, ◌∙◌, append_assoc, arith, length-append, length-drop}
-use Rattle.std.specs.List.{AllByRecursion}
+use Rattle.std.proofs.Common.{◌≡◌, ℕ, ◌+◌, ◌*◌, ◌/◌, ◌%◌, ◌<◌, ◌^◌, Bool, true, false, List, [], ◌∷◌, length, get_or, zero, suc, refl, sym, ap, subst, ◌∙◌, arith, length-drop}
 use Rattle.std.specs.Int.{w16, w32, to_be_bytes}
 use Rattle.std.specs.Net.Addr.{segments_of, octets_of, ipv4_octets, ipv6_octets, ipv6_segments}
 use Rattle.std.specs.declared.net.ipv4_addr.Ipv4Addr.{Ipv4Addr}
 use Rattle.std.specs.declared.net.ipv6_addr.Ipv6Addr.{Ipv6Addr}
-use Rattle.std.proofs.lemmas.List.{append-nil}
 use Rattle.dns_names.specs.Name.{DomainName}
-use Rattle.dns_wire.specs.Encodable.{Piece, Plain, Domain, Whole, BytesAt, PiecesAt}
-use Rattle.dns_wire.specs.Reading.{Reads, at_closing, at_label, at_pointer}
+use Rattle.dns_wire.specs.Encodable.{BytesAt, PiecesAt}
 use Rattle.dns_wire.specs.internal.NumberLaws.{same_bytes, one_byte, one_of_two, one_of_four, not_short}
 use Rattle.dns_wire.specs.declared.error.DecodeError.{DecodeError}
-use Rattle.dns_wire.specs.declared.error.DecodeError.TheVariants.{IncorrectRDataLengthRead}
 use Rattle.dns_wire.specs.declared.name_encoding.NameEncoding.TheVariants.{Uncompressed}
 use Rattle.dns_wire.proofs.ReadingLaws.{reads_same, reads_not_refused}
-use Rattle.dns_wire.proofs.PieceLaws.{pieces_at-join, pieces_at-split}
-use Rattle.dns_data.specs.Field.{OptionValue, Kind, Number16, Number32, Seconds, Address4, Address6, CompressibleName, WholeName, Strings, Options, Opaque, ValueOf, Values, string_pieces, option_pieces, value_pieces, values_pieces, IsSoundValue, AreSoundValues}
-use Rattle.dns_data.specs.Wire.{StringAt, OptionAt, ItemsUpTo, ValueAt, ValuesAt, RefusesValue, RefusesFields, refused_value, past_value, RefusesValues, refused_field, wrong_length}
-use Rattle.dns_data.proofs.ItemLaws.{items_same, items_not_refused, no_item-ended, items-pieces, pieces-items}
+use Rattle.dns_wire.proofs.PieceLaws.{pieces_at-join}
+use Rattle.dns_data.specs.Field.{OptionValue, Kind, Number16, Number32, Seconds, Address4, Address6, CompressibleName, WholeName, Strings, Options, Opaque, ValueOf, Values, string_pieces, option_pieces, value_pieces, values_pieces}
+use Rattle.dns_data.specs.Wire.{StringAt, OptionAt, ValueAt, ValuesAt, RefusesValue, RefusesFields, refused_value, past_value, RefusesValues, refused_field, wrong_length}
+use Rattle.dns_data.proofs.ItemLaws.{items_same, items_not_refused, items-pieces}
 
 -- ---- addresses
 

@@ -1,6 +1,6 @@
 //! Theorems about the definitions of this crate, as functions with empty bodies.
 
-ghost use Rattle.std.specs.Prelude.{◌≡◌, ◌≢◌, ◌-◌, ◌<◌, ◌^◌, ◌&&◌, nat_eq, ℕ, List, false};
+ghost use Rattle.std.specs.Prelude.{◌≡◌, ◌≢◌, ◌-◌, ◌<◌, ◌^◌, ◌&&◌, nat_eq, ℕ, List, Option, [], false, true};
 ghost use Rattle.dns_codes.specs.declared.record_type.RecordType.{RecordType};
 ghost use Rattle.dns_data.specs.Field.{OptionValue, same_option};
 ghost use Rattle.dns_data.specs.declared.rdata.RData.{RData};
@@ -13,6 +13,11 @@ ghost use Rattle.dns_data.specs.declared.rdata.ptr.PTR.{PTR};
 ghost use Rattle.dns_data.specs.declared.rdata.soa.SOA.{SOA};
 ghost use Rattle.dns_data.specs.declared.rdata.srv.SRV.{SRV};
 ghost use Rattle.dns_names.specs.Compare.{same_name};
+ghost use Rattle.dns_names.specs.Name.{DomainName};
+ghost use Rattle.dns_text.specs.Lexer.{Lexeme, LexerState};
+ghost use Rattle.dns_text.specs.Tokens.{LexesTo};
+ghost use Rattle.dns_data.specs.Text.{AreValidValues, has_text};
+ghost use Rattle.dns_data.specs.declared.error.RDataParseError.{RDataParseError};
 ghost use Rattle.dns_wire.specs.Encodable.{append_pieces, AreWritable};
 ghost use Rattle.dns_wire.specs.Encoder.{EncoderState, IsAtEnd};
 ghost use Rattle.dns_wire.specs.Writing.{ArePointerTargets};
@@ -22,7 +27,7 @@ ghost use Rattle.std.specs.Cmp.Lexicographic.{pointwise};
 ghost use Rattle.std.specs.Cmp.{IsEquivalence};
 ghost use Rattle.std.specs.Net.Addr.{ipv4_octets, ipv6_segments};
 ghost use Rattle.std.specs.Str.{bytes_eq};
-ghost use Rattle.dns_data.specs.rdata.{data_type, data_pieces, same_data, IsSoundData, ReadsData, RefusesData};
+ghost use Rattle.dns_data.specs.rdata.{data_type, data_kinds, data_values, data_pieces, data_text, kinds_of_type, same_data, IsSoundData, ReadsData, RefusesData, IsParsedData, RefusesText};
 
 use dns_wire::RecordType;
 
@@ -86,4 +91,26 @@ pub fn equality_of_soa_is_by_fields()
         && (nat_eq x.serial y.serial && (nat_eq x.refresh y.refresh
         && (nat_eq x.retry y.retry && (nat_eq x.expire y.expire
         && nat_eq x.minimum y.minimum)))))) }
+{}
+
+// ---- text
+
+/// Tokens parse to at most one value of a type, and tokens that parse are not refused.
+pub fn parsed_data_is_unambiguous()
+    ensures one { (origin : Option DomainName) (record_type : RecordType) (tokens : List Lexeme)
+        (a b : RData) → IsParsedData origin record_type tokens a
+        → IsParsedData origin record_type tokens b → a ≡ b }
+    ensures not_refused { (origin : Option DomainName) (record_type : RecordType)
+        (tokens : List Lexeme) (d : RData) (error : RDataParseError)
+        → IsParsedData origin record_type tokens d → ¬ RefusesText origin record_type tokens error }
+{}
+
+/// The text of data of a type with a text form lexes to tokens that parse back to the data, whatever the origin is.
+pub fn printed_data_parses_back()
+    ensures { (d : RData) (p : LexerState) → IsSoundData d
+        → AreValidValues (data_kinds d) (data_values d)
+        → has_text (data_kinds d) ≡ true → data_kinds d ≡ kinds_of_type (data_type d)
+        → p.is_open ≡ false → p.text ≡ data_text d
+        → (tokens : List Lexeme) × LexesTo p tokens (record p { text = []; is_front = false })
+        × ((origin : Option DomainName) → IsParsedData origin (data_type d) tokens d) }
 {}

@@ -1,6 +1,7 @@
 //! The fields of record data on the wire (RFC 1035 section 3.3).
 
 ghost use Rattle.std.specs.Prelude.{◌≡◌, ◌≢◌, ◌+◌, ◌≤◌, ℕ, length, flat_map, IsOk, IfOk, IfErr};
+ghost use Rattle.std.specs.Net.Addr.{ipv6_octets};
 ghost use Rattle.dns_wire.specs.Encoder.{state_of, IsAtEnd};
 ghost use Rattle.dns_wire.specs.Encodable.{Emits, BytesAt, AreWritable};
 ghost use Rattle.dns_data.specs.Field.{Address4, Address6, string_pieces, option_pieces};
@@ -36,7 +37,15 @@ pub(crate) fn read_ipv6(decoder: &mut BinDecoder<'_>) -> Result<Ipv6Addr, Decode
 {
     let mut octets = [0; 16];
     octets.copy_from_slice(decoder.read_slice(16)?);
-    Ok(Ipv6Addr::from_octets(octets))
+    Ok(ipv6_from_octets(octets))
+}
+
+/// Creates an IPv6 address from its octets.
+fn ipv6_from_octets(octets: [u8; 16]) -> Ipv6Addr
+    ensures octets { ipv6_octets result ≡ octets }
+    ensures len { length octets ≡ 16 }
+{
+    Ipv6Addr::from_octets(octets)
 }
 
 // ---- bytes

@@ -1,0 +1,15 @@
+use Rattle.std.proofs.Common.{ℕ, ◌+◌, [], subst}
+use Rattle.std.proofs.lemmas.Result.{err_from_is_err_and}
+use Rattle.dns_data.specs.Field.{Options}
+use Rattle.dns_data.specs.Wire.{OptionAt, RefusesItems}
+use Rattle.dns_data.proofs.RefusalLaws.{refused_here}
+use Rattle.dns_data.proofs.rdata.opt.OPT.read.Goals as goal
+
+pub returns-in_err-options-clause-refused : goal.returns-in_err-options-clause-refused
+returns-in_err-options-clause-refused c =
+    let p = err_from_is_err_and c.from_residual.result c.from_residual.ensures.1 in
+    let old = c.args.decoder.now in
+    rw (p.1, p.2) (λ other.
+    let refused = c.in_err-options.ensures.refused other in
+    let items = subst (λ (n : ℕ). RefusesItems (OptionAt old.bytes) (old.index + n) old.index) c.from.ensures refused.1 in
+    refused_here old.bytes (old.index + c.args.len) Options [] old.index _ (refused.0, items))
