@@ -5,7 +5,7 @@ use Rattle.dns_wire.specs.Encoder.{EncoderState, IsAtEnd}
 use Rattle.std.specs.Int.{w16, w32, to_be_bytes}
 use Rattle.dns_codes.specs.RecordType.{type_number}
 use Rattle.dns_codes.specs.DNSClass.{class_number}
-use Rattle.dns_wire.specs.Encodable.{Piece, Plain, Domain, Position, position_of, form, after, reach, Emits, AreWritable}
+use Rattle.dns_wire.specs.Encodable.{Piece, Plain, Position, position_of, form, after, reach, Emits, AreWritable}
 use Rattle.dns_wire.proofs.PieceLaws.{after-append, after-place, form-append, reach-some}
 use Rattle.dns_messages.specs.declared.query.Query.{Query}
 use Rattle.dns_messages.specs.Question.{question_pieces}

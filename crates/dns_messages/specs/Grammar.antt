@@ -51,7 +51,7 @@ pub data RefusesHead (bytes : List ℕ) (place : ℕ) : DecodeError → Type 0 w
       → length (drop name_end bytes) < 10 → RefusesHead bytes place InsufficientBytes
 
 -- Owner, type, class, TTL, a length, and data that takes exactly this length (RFC 1035 section 4.1.3). A sound record is no
--- OPT record (RFC 6891 section 6.1.1), and its data is not empty (RFC 2136 section 2.4).
+-- OPT record (RFC 6891 section 6.1.1), and its data is not empty, as only that of updates is (RFC 2136 section 2.4).
 pub record ReadsRecord (bytes : List ℕ) (place : ℕ) (r : Record) (end : ℕ) : Type 0 where
   pub sound : IsSoundRecord r
   pub data_place : ℕ
@@ -62,8 +62,8 @@ pub record ReadsRecord (bytes : List ℕ) (place : ℕ) (r : Record) (end : ℕ)
   pub ends : data_place + len ≡ end
   pub rdata : PiecesAt Uncompressed bytes data_place (data_pieces false r.rdata) end
 
--- No record can be decoded: its head is refused, it is an OPT record (RFC 6891 section 6.1.1), its data is empty, as it may
--- be only in an update (RFC 2136 section 2.4), or its data is refused.
+-- No record can be decoded: its head is refused, it is an OPT record (RFC 6891 section 6.1.1), its data is empty, which is
+-- allowed only in updates (RFC 2136 section 2.4), or its data is refused.
 pub data RefusesRecord (bytes : List ℕ) (place : ℕ) : DecodeError → Type 0 where
   bad_head : {error : DecodeError} → RefusesHead bytes place error → RefusesRecord bytes place error
   opt_record : (h : RecordHead) {data_place : ℕ} → ReadsHead bytes place h data_place → h.record_type ≡ types.OPT

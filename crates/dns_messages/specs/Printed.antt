@@ -1,5 +1,5 @@
 -- Response codes as they are printed.
-use Rattle.std.specs.Prelude.{ℕ, List, ◌∷◌, ◌++◌, codes}
+use Rattle.std.specs.Prelude.{ℕ, List, ◌++◌, codes}
 use Rattle.std.specs.Fmt.{decimal}
 use Rattle.dns_messages.specs.declared.header.ResponseCode.{ResponseCode}
 use Rattle.dns_messages.specs.declared.header.ResponseCode.TheVariants as code

@@ -27,8 +27,8 @@ pub record IsSoundQuery (q : Query) : Type 0 where
   pub class_fits : class_number q.query_class < 2 ^ 16
   pub class_named : class_of (class_number q.query_class) ≡ q.query_class
 
--- Data of a record in a message: not that of an OPT record, which is no record of a zone (RFC 6891 section 6.1.1), and not
--- empty, as it may be in an update (RFC 2136 section 2.4).
+-- Data that a record has outside of updates: not that of an OPT record (RFC 6891 section 6.1.1), and not empty, as only
+-- records of updates are (RFC 2136 section 2.4).
 abbrev pub IsOrdinaryData : RData → Type 0
 IsOrdinaryData (of.OPT options) = ⊥
 IsOrdinaryData (of.Update0 t) = ⊥

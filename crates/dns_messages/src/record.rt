@@ -131,8 +131,8 @@ impl BinDecodable for Record {
 
     ghost refuses = { RefusesRecord };
 
-    /// Decodes a record, whose data takes exactly its length. An OPT record (RFC 6891 section 6.1.1) is refused, and so is
-    /// empty data, which only an update has (RFC 2136 section 2.4).
+    /// Decodes a record, whose data takes exactly its length. Refuses an OPT record (RFC 6891 section 6.1.1), and empty data,
+    /// which is allowed only in updates (RFC 2136 section 2.4).
     fn read(alloc: Global, decoder: &mut BinDecoder<'_>) -> Result<Record, DecodeError> {
         let mut reader = decoder.clone(decoder.index());
         let row = Record::read_on(alloc, &mut reader)?;

@@ -1,10 +1,10 @@
 -- Bytes decode to one record at most, and what decodes is not refused.
-use Rattle.std.proofs.Common.{◌≡◌, ◌≢◌, ℕ, ◌+◌, ◌<◌, ◌^◌, false, List, [], ◌∷◌, refl, sym, ap, subst, ◌∙◌, arith, length-drop}
+use Rattle.std.proofs.Common.{◌≡◌, ◌≢◌, ℕ, false, List, [], ◌∷◌, refl, sym, ap, subst, ◌∙◌, arith, length-drop}
 use Rattle.std.specs.Int.{w16, w32, to_be_bytes}
 use Rattle.dns_codes.specs.declared.record_type.RecordType.{RecordType}
 use Rattle.dns_codes.specs.declared.record_type.RecordType.TheVariants as types
 use Rattle.dns_codes.specs.declared.dns_class.DNSClass.{DNSClass}
-use Rattle.dns_codes.specs.RecordType.{type_number, type_of}
+use Rattle.dns_codes.specs.RecordType.{type_number}
 use Rattle.dns_codes.specs.DNSClass.{class_number}
 use Rattle.dns_names.specs.Name.{DomainName}
 use Rattle.dns_wire.specs.internal.NumberLaws.{same_number_2, same_number_4}
@@ -12,8 +12,8 @@ use Rattle.dns_wire.specs.Encodable.{Piece, Plain, Domain, PiecesAt}
 use Rattle.dns_wire.specs.declared.error.DecodeError.{DecodeError}
 use Rattle.dns_wire.specs.declared.name_encoding.NameEncoding.TheVariants.{Uncompressed}
 use Rattle.dns_wire.proofs.ReadingLaws.{reads_same, reads_not_refused}
-use Rattle.dns_data.specs.Field.{Kind, Opaque}
-use Rattle.dns_data.specs.rdata.{data_type, data_pieces, kinds_of_type, IsSoundData, ReadsData, RefusesData}
+use Rattle.dns_data.specs.Field.{Opaque}
+use Rattle.dns_data.specs.rdata.{data_type, data_pieces, kinds_of_type, IsSoundData, ReadsData}
 use Rattle.dns_data.specs.declared.rdata.RData.{RData}
 use Rattle.dns_data.specs.declared.rdata.RData.TheVariants as of
 use Rattle.dns_data.proofs.UnambiguousLaws.{data_same, read_data_not_refused}
