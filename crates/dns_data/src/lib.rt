@@ -4,6 +4,7 @@
 mod error;
 mod octets;
 mod rdata;
+mod text;
 
 pub use error::RDataParseError;
 pub use octets::{CharacterString, Octets, OptionData, TooLong};

@@ -1,0 +1,3 @@
+pub mod PrintingLaws
+pub mod TextLaws
+pub mod TextSteps
