@@ -2,6 +2,7 @@
 #![tactic(auto)]
 
 mod error;
+mod generic;
 mod octets;
 mod rdata;
 mod text;

@@ -1,9 +1,14 @@
 //! Mail exchanges (RFC 1035 section 3.3.9).
 
-ghost use Rattle.std.specs.Prelude.{◌≡◌, IfOk};
+ghost use Rattle.std.specs.Prelude.{◌≡◌, ◌≢◌, option_map, IfOk, IfErr};
+ghost use Rattle.dns_data.specs.Text.{AreParsed, RefusesTokens};
+ghost use Rattle.dns_data.specs.rdata.MX.{mx_kinds, mx_values};
 
+use crate::error::RDataParseError;
+use crate::text::DataTokens;
 use dns_names::Name;
-use std::alloc::AllocError;
+use std::alloc::{AllocError, Global};
+use std::fmt;
 
 /// A mail exchange (RFC 1035 section 3.3.9).
 #[derive(Drop, PartialEq, Eq)]
@@ -25,5 +30,40 @@ impl MX {
             preference: self.preference,
             exchange: self.exchange.clone()?,
         })
+    }
+}
+
+impl MX {
+    /// Parses the data from its tokens.
+    pub(crate) fn parse(
+        alloc: Global,
+        tokens: &mut DataTokens<'_, '_>,
+        origin: Option<&Name>,
+    ) -> Result<MX, RDataParseError>
+        ensures parsed { IfOk result (λ m. AreParsed (option_map (λ o. o.now) origin.entry)
+            mx_kinds tokens.old (mx_values m)) }
+        ensures refused { IfErr result (λ error. error ≢ RDataParseError.Memory
+            → RefusesTokens (option_map (λ o. o.now) origin.entry)
+            mx_kinds tokens.old error) }
+    {
+        let preference = tokens.number16()?;
+        let exchange = tokens.only_name(alloc, origin)?;
+        Ok(MX {
+            preference,
+            exchange,
+        })
+    }
+}
+
+impl fmt::Display for MX {
+    ghost use Rattle.std.specs.Prelude.{Some};
+    ghost use Rattle.dns_data.specs.Text.{values_text};
+    ghost use Rattle.dns_data.specs.rdata.MX.{mx_kinds, mx_values};
+
+    ghost output = { λ m. Some (values_text mx_kinds (mx_values m)) };
+
+    fn fmt<W: fmt::Write>(&self, f: &mut fmt::Formatter<W>) -> fmt::Result {
+        let (preference, exchange) = (self.preference, &self.exchange);
+        write!(f, "{preference} {exchange}")
     }
 }
