@@ -3,6 +3,7 @@
 
 mod error;
 mod generic;
+pub mod laws;
 mod octets;
 mod rdata;
 mod text;
