@@ -1,15 +1,13 @@
 -- The text of the fields of record data in zone files (RFC 1035 section 5.1).
 use Rattle.std.specs.Prelude.{◌≡◌, ◌≢◌, nat_lt, if◌then◌else◌, Bool, true, false, ℕ, List, [], ◌∷◌, ◌++◌, length, Option, Some, None, Result, Ok, Err}
 use Rattle.std.specs.Fmt.{decimal}
-use Rattle.std.specs.List.{AllByRecursion}
-use Rattle.std.specs.Net.Addr.{ipv4_octets, ipv6_segments, IsIpv4Addr, IsIpv6Addr}
+use Rattle.std.specs.Net.Addr.{ipv4_octets, ipv6_segments}
 use Rattle.std.specs.Net.Text.{ipv4_text, hex_groups_text}
 use Rattle.std.specs.Net.Grammar.{IsIpv4Text, IsIpv6Text}
 use Rattle.dns_codes.specs.Decimal.{decimal_up_to}
-use Rattle.dns_wire.specs.Name.{AreLabels}
 use Rattle.dns_names.specs.Name.{DomainName}
 use Rattle.dns_names.specs.Build.{parse_name, append_domain}
-use Rattle.dns_names.specs.Print.{text_of_name, AreOctets}
+use Rattle.dns_names.specs.Print.{text_of_name}
 use Rattle.dns_names.specs.declared.error.ParseError.{ParseError}
 use Rattle.dns_text.specs.Lexer.{Lexeme, CharData, QuotedString, At}
 use Rattle.dns_text.specs.Ttl.{time}
@@ -135,18 +133,3 @@ has_text [] = true
 has_text (Options ∷ kinds) = false
 has_text (Opaque ∷ kinds) = false
 has_text (kind ∷ kinds) = has_text kinds
-
--- ---- values whose text parses back
-
--- Octets are below 256, the segments of an address below 65,536, and the labels of a name are labels.
-abbrev pub IsPrintable : (kind : Kind) → ValueOf kind → Type 0
-IsPrintable Address4 address = IsIpv4Addr address
-IsPrintable Address6 address = IsIpv6Addr address
-IsPrintable CompressibleName name = AreLabels name.labels × AllByRecursion AreOctets name.labels
-IsPrintable WholeName name = AreLabels name.labels × AllByRecursion AreOctets name.labels
-IsPrintable Strings strings = AllByRecursion AreOctets strings
-IsPrintable kind value = Unit {0}
-
-abbrev pub ArePrintable : (kinds : List Kind) → Values kinds → Type 0
-ArePrintable [] values = Unit {0}
-ArePrintable (kind ∷ kinds) values = IsPrintable kind values.0 × ArePrintable kinds values.1

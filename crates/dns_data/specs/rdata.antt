@@ -19,8 +19,7 @@ use Rattle.dns_wire.specs.Encodable.{Piece, PiecesAt, Position, start_position, 
 use Rattle.dns_wire.specs.declared.name_encoding.NameEncoding.TheVariants.{Uncompressed}
 use Rattle.dns_wire.specs.declared.error.DecodeError.{DecodeError}
 use Rattle.dns_names.specs.Name.{DomainName}
-use Rattle.dns_text.specs.Lexer.{Lexeme, LexerState}
-use Rattle.dns_text.specs.Tokens.{LexesTo}
+use Rattle.dns_text.specs.Lexer.{Lexeme}
 use Rattle.dns_data.specs.Field.{Kind, Opaque, Values, option_form, values_pieces, AreSoundValues}
 use Rattle.dns_data.specs.Text.{AreParsed, RefusesTokens, values_text, has_text}
 use Rattle.dns_data.specs.declared.error.RDataParseError.{RDataParseError}
@@ -171,15 +170,3 @@ data_text (of.OPT options) = generic_text (flat_map option_form options)
 data_text (of.Update0 t) = generic_text []
 data_text (of.Unknown code bytes) = generic_text bytes
 data_text d = values_text (data_kinds d) (data_values d)
-
--- ---- text that parses back
-
--- data with the fields of its type, which has a text form
-abbrev pub HasText : RData → Type 0
-HasText d = (data_kinds d ≡ kinds_of_type (data_type d)) × (has_text (kinds_of_type (data_type d)) ≡ true)
-
--- the rest of a zone file lexes to tokens that parse to the data
-abbrev pub ParsesBack : Option DomainName → RData → LexerState → Type 0
-ParsesBack origin d p =
-    (tokens : List Lexeme) × LexesTo p tokens (record p { text = []; is_front = false })
-    × IsParsedData origin (data_type d) tokens d

@@ -3,7 +3,6 @@
 
 mod error;
 mod generic;
-pub mod laws;
 mod octets;
 mod rdata;
 mod text;
