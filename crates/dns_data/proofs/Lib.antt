@@ -1,4 +1,3 @@
-pub mod SoundLaws
 pub mod ItemLaws
 pub mod WireLaws
 pub mod DecodingLaws
@@ -12,4 +11,8 @@ pub mod RefusalLaws
 pub mod TypeLaws
 pub mod ParsedLaws
 pub mod PrintedLaws
+pub mod PrintingLaws
+pub mod TextLaws
+pub mod TextSteps
 pub mod CanonicalLaws
+pub mod SoundLaws

@@ -1,3 +1,4 @@
+pub mod internal
 pub mod Error
 pub mod Field
 pub mod Wire

@@ -1,2 +1,3 @@
 -- Definitions that no public clause cites.
 pub mod Equality
+pub mod Text

@@ -2,10 +2,12 @@
 #![tactic(auto)]
 
 mod error;
+mod generic;
 pub mod laws;
 mod octets;
 mod rdata;
 mod record_data;
+mod text;
 mod wire;
 
 pub use error::RDataParseError;

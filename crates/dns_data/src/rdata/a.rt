@@ -1,11 +1,16 @@
 //! IPv4 addresses (RFC 1035 section 3.4.1).
 
-ghost use Rattle.std.specs.Prelude.{◌≡◌, ℕ, IfOk, IfErr};
+ghost use Rattle.std.specs.Prelude.{◌≡◌, ℕ, IfOk, IfErr, Option};
 ghost use Rattle.dns_data.specs.Wire.{ValuesAt, RefusesFields};
 ghost use Rattle.dns_data.specs.rdata.A.{a_kinds, a_values};
+ghost use Rattle.dns_names.specs.Name.{DomainName};
+ghost use Rattle.dns_data.specs.Text.{AreParsed, RefusesTokens};
 
+use crate::error::RDataParseError;
+use crate::text::DataTokens;
 use crate::wire::read_ipv4;
 use dns_wire::{BinDecoder, BinEncodable, BinEncoder, DecodeError, EncodeError};
+use std::fmt;
 use std::net::Ipv4Addr;
 
 /// An IPv4 address (RFC 1035 section 3.4.1).
@@ -32,5 +37,32 @@ impl BinEncodable for A {
 
     fn emit(&self, encoder: &mut BinEncoder<'_>) -> Result<(), EncodeError> {
         encoder.emit_vec(&self.0.octets())
+    }
+}
+
+impl A {
+    /// Parses the data from its tokens.
+    pub(crate) fn parse(tokens: &mut DataTokens<'_, '_>) -> Result<A, RDataParseError>
+        ensures parsed { (o : Option DomainName)
+            → IfOk result (λ a. AreParsed o a_kinds tokens.old (a_values a)) }
+        ensures refused { (o : Option DomainName)
+            → IfErr result (λ error. RefusesTokens o a_kinds tokens.old error) }
+    {
+        let address = tokens.ipv4()?;
+        tokens.finish()?;
+        Ok(A(address))
+    }
+}
+
+impl fmt::Display for A {
+    ghost use Rattle.std.specs.Prelude.{Some};
+    ghost use Rattle.dns_data.specs.Text.{values_text};
+    ghost use Rattle.dns_data.specs.rdata.A.{a_kinds, a_values};
+
+    ghost output = { λ a. Some (values_text a_kinds (a_values a)) };
+
+    fn fmt<W: fmt::Write>(&self, f: &mut fmt::Formatter<W>) -> fmt::Result {
+        let address = self.0;
+        write!(f, "{address}")
     }
 }

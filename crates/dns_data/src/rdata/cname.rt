@@ -1,12 +1,16 @@
 //! Canonical names of aliases (RFC 1035 section 3.3.1).
 
-ghost use Rattle.std.specs.Prelude.{◌≡◌, ◌≢◌, ℕ, IfOk, IfErr};
+ghost use Rattle.std.specs.Prelude.{◌≡◌, ◌≢◌, ℕ, IfOk, IfErr, option_map};
 ghost use Rattle.dns_data.specs.Wire.{ValuesAt, RefusesFields};
 ghost use Rattle.dns_data.specs.rdata.CNAME.{cname_kinds, cname_values};
+ghost use Rattle.dns_data.specs.Text.{AreParsed, RefusesTokens};
 
+use crate::error::RDataParseError;
+use crate::text::DataTokens;
 use dns_names::Name;
 use dns_wire::{BinDecoder, BinEncodable, BinEncoder, DecodeError, EncodeError, RDataEncoding};
 use std::alloc::{AllocError, Global};
+use std::fmt;
 
 /// The canonical name of an alias (RFC 1035 section 3.3.1).
 #[derive(Debug, Drop, PartialEq, Eq)]
@@ -42,5 +46,34 @@ impl BinEncodable for CNAME {
     fn emit(&self, encoder: &mut BinEncoder<'_>) -> Result<(), EncodeError> {
         self.0
             .emit_with_behavior(RDataEncoding::StandardRecord, encoder)
+    }
+}
+
+impl CNAME {
+    /// Parses the data from its tokens.
+    pub(crate) fn parse(
+        alloc: Global,
+        tokens: &mut DataTokens<'_, '_>,
+        origin: Option<&Name>,
+    ) -> Result<CNAME, RDataParseError>
+        ensures parsed { IfOk result (λ c. AreParsed (option_map (λ o. o.now) origin.entry)
+            cname_kinds tokens.old (cname_values c)) }
+        ensures refused { IfErr result (λ error. error ≢ RDataParseError.Memory
+            → RefusesTokens (option_map (λ o. o.now) origin.entry)
+            cname_kinds tokens.old error) }
+    {
+        Ok(CNAME(tokens.only_name(alloc, origin)?))
+    }
+}
+
+impl fmt::Display for CNAME {
+    ghost use Rattle.std.specs.Prelude.{Some};
+    ghost use Rattle.dns_data.specs.Text.{values_text};
+    ghost use Rattle.dns_data.specs.rdata.CNAME.{cname_kinds, cname_values};
+
+    ghost output = { λ c. Some (values_text cname_kinds (cname_values c)) };
+
+    fn fmt<W: fmt::Write>(&self, f: &mut fmt::Formatter<W>) -> fmt::Result {
+        self.0.fmt(f)
     }
 }

@@ -1,14 +1,18 @@
 //! Mail exchanges (RFC 1035 section 3.3.9).
 
-ghost use Rattle.std.specs.Prelude.{◌≡◌, ◌≢◌, ℕ, IfOk, IfErr};
+ghost use Rattle.std.specs.Prelude.{◌≡◌, ◌≢◌, ℕ, IfOk, IfErr, option_map};
 ghost use Rattle.dns_data.specs.Wire.{ValuesAt, RefusesFields};
 ghost use Rattle.dns_data.specs.rdata.MX.{mx_kinds, mx_values};
+ghost use Rattle.dns_data.specs.Text.{AreParsed, RefusesTokens};
 
+use crate::error::RDataParseError;
+use crate::text::DataTokens;
 use dns_names::Name;
 use dns_wire::{
     BinDecodable, BinDecoder, BinEncodable, BinEncoder, DecodeError, EncodeError, RDataEncoding,
 };
 use std::alloc::{AllocError, Global};
+use std::fmt;
 
 /// A mail exchange (RFC 1035 section 3.3.9).
 #[derive(Debug, Drop, PartialEq, Eq)]
@@ -58,5 +62,40 @@ impl BinEncodable for MX {
         encoder.emit_u16(self.preference)?;
         self.exchange
             .emit_with_behavior(RDataEncoding::StandardRecord, encoder)
+    }
+}
+
+impl MX {
+    /// Parses the data from its tokens.
+    pub(crate) fn parse(
+        alloc: Global,
+        tokens: &mut DataTokens<'_, '_>,
+        origin: Option<&Name>,
+    ) -> Result<MX, RDataParseError>
+        ensures parsed { IfOk result (λ m. AreParsed (option_map (λ o. o.now) origin.entry)
+            mx_kinds tokens.old (mx_values m)) }
+        ensures refused { IfErr result (λ error. error ≢ RDataParseError.Memory
+            → RefusesTokens (option_map (λ o. o.now) origin.entry)
+            mx_kinds tokens.old error) }
+    {
+        let preference = tokens.number16()?;
+        let exchange = tokens.only_name(alloc, origin)?;
+        Ok(MX {
+            preference,
+            exchange,
+        })
+    }
+}
+
+impl fmt::Display for MX {
+    ghost use Rattle.std.specs.Prelude.{Some};
+    ghost use Rattle.dns_data.specs.Text.{values_text};
+    ghost use Rattle.dns_data.specs.rdata.MX.{mx_kinds, mx_values};
+
+    ghost output = { λ m. Some (values_text mx_kinds (mx_values m)) };
+
+    fn fmt<W: fmt::Write>(&self, f: &mut fmt::Formatter<W>) -> fmt::Result {
+        let (preference, exchange) = (self.preference, &self.exchange);
+        write!(f, "{preference} {exchange}")
     }
 }

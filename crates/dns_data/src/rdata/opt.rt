@@ -1,13 +1,19 @@
 //! Options of a message's extension (RFC 6891 section 6.1.2).
 
-ghost use Rattle.std.specs.Prelude.{◌≡◌, ◌≢◌, ◌+◌, IfOk, IfErr};
+ghost use Rattle.std.specs.Prelude.{◌≡◌, ◌≢◌, ◌+◌, IfOk, IfErr, ◌++◌, ◌<◌, ◌^◌, List, length, flat_map};
 ghost use Rattle.dns_data.specs.Wire.{ValuesAt, RefusesFields};
 ghost use Rattle.dns_data.specs.rdata.OPT.{opt_kinds, opt_values};
+ghost use Rattle.std.specs.Int.{w16, to_be_bytes};
+ghost use Rattle.std.specs.Fmt.{WritesOnOk};
+ghost use Rattle.dns_data.specs.Field.{option_form};
+ghost use Rattle.dns_data.specs.rdata.{hex_text};
 
+use crate::generic::write_hex;
 use crate::octets::OptionData;
 use crate::wire::{emit_options, read_options};
 use dns_wire::{BinDecoder, BinEncodable, BinEncoder, DecodeError, EncodeError};
 use std::alloc::{AllocError, Global};
+use std::fmt;
 use std::marker::Model;
 
 /// An option (RFC 6891 section 6.1.2).
@@ -42,7 +48,8 @@ impl EdnsOption {
 
     /// Returns the data.
     pub fn data(&self) -> &[u8]
-        ensures { result.now ≡ self.now.bytes }
+        ensures value { result.now ≡ self.now.bytes }
+        ensures bounded { length result.now < 2 ^ 16 }
     {
         self.value.as_slice()
     }
@@ -202,4 +209,55 @@ impl Eq for OPT {
     ghost use Rattle.dns_data.specs.internal.Equality.{same_option-equivalence};
 
     ghost laws = { lists_equiv same_option-equivalence };
+}
+
+impl fmt::Display for OPT {
+    ghost use Rattle.std.specs.Prelude.{Some, flat_map};
+    ghost use Rattle.dns_data.specs.Field.{option_form};
+    ghost use Rattle.dns_data.specs.rdata.{generic_text};
+
+    ghost output = { λ o. Some (generic_text (flat_map option_form o)) };
+
+    /// Writes the encoding of the options in the form of RFC 3597 section 5.
+    fn fmt<W: fmt::Write>(&self, f: &mut fmt::Formatter<W>) -> fmt::Result {
+        let options = self.options.as_slice();
+        if options.is_empty() {
+            return f.write_str("\\# 0");
+        }
+        let len = encoded_len(options);
+        write!(f, "\\# {len} ")?;
+        write_options(options, f)
+    }
+}
+
+/// Returns the length of the encoding of options.
+fn encoded_len(options: &[EdnsOption]) -> u128
+    ensures { result ≡ length (flat_map option_form options.now) }
+{
+    let mut len = 0u128;
+    for option in options {
+        len += 4 + option.data().len() as u128;
+    }
+    len
+}
+
+/// Writes the encoding of options in hexadecimal digits.
+fn write_options<W: fmt::Write>(options: &[EdnsOption], f: &mut fmt::Formatter<W>) -> fmt::Result
+    ensures { WritesOnOk W.write_str_gives f.old result
+        (hex_text (flat_map option_form options.now)) f.new }
+{
+    for option in options {
+        write_option(option, f)?;
+    }
+    Ok(())
+}
+
+/// Writes the encoding of an option in hexadecimal digits.
+fn write_option<W: fmt::Write>(option: &EdnsOption, f: &mut fmt::Formatter<W>) -> fmt::Result
+    ensures { WritesOnOk W.write_str_gives f.old result (hex_text (option_form option.now)) f.new }
+{
+    let bytes = option.data();
+    write_hex(&option.code().to_be_bytes(), f)?;
+    write_hex(&(bytes.len() as u16).to_be_bytes(), f)?;
+    write_hex(bytes, f)
 }

@@ -1,17 +1,23 @@
 //! Starts of authority (RFC 1035 section 3.3.13).
 
-ghost use Rattle.std.specs.Prelude.{◌≡◌, ◌≢◌, ℕ, false, IfOk, IfErr};
+ghost use Rattle.std.specs.Prelude.{◌≡◌, ◌≢◌, ℕ, false, IfOk, IfErr, Option, option_map};
 ghost use Rattle.dns_wire.specs.Encoder.{state_of, IsAtEnd};
 ghost use Rattle.dns_wire.specs.Encodable.{Emits};
 ghost use Rattle.dns_data.specs.Field.{values_pieces};
 ghost use Rattle.dns_data.specs.Wire.{ValuesAt, RefusesFields};
 ghost use Rattle.dns_data.specs.rdata.SOA.{soa_kinds, number_kinds, number_values, soa_values};
+ghost use Rattle.dns_names.specs.Name.{DomainName};
+ghost use Rattle.dns_data.specs.internal.Text.{number_kinds, number_values};
+ghost use Rattle.dns_data.specs.Text.{AreParsed, RefusesTokens};
 
+use crate::error::RDataParseError;
+use crate::text::DataTokens;
 use dns_names::Name;
 use dns_wire::{
     BinDecodable, BinDecoder, BinEncodable, BinEncoder, DecodeError, EncodeError, RDataEncoding,
 };
 use std::alloc::{AllocError, Global};
+use std::fmt;
 
 /// The start of a zone's authority (RFC 1035 section 3.3.13). The times are in seconds.
 #[derive(Debug, Drop, PartialEq, Eq)]
@@ -116,5 +122,98 @@ impl BinEncodable for SOA {
         self.rname
             .emit_with_behavior(RDataEncoding::StandardRecord, encoder)?;
         self.emit_numbers(encoder)
+    }
+}
+
+impl SOA {
+    /// Parses the data from its tokens.
+    pub(crate) fn parse(
+        alloc: Global,
+        tokens: &mut DataTokens<'_, '_>,
+        origin: Option<&Name>,
+    ) -> Result<SOA, RDataParseError>
+        ensures parsed { IfOk result (λ s. AreParsed (option_map (λ o. o.now) origin.entry)
+            soa_kinds tokens.old (soa_values s)) }
+        ensures refused { IfErr result (λ error. error ≢ RDataParseError.Memory
+            → RefusesTokens (option_map (λ o. o.now) origin.entry)
+            soa_kinds tokens.old error) }
+    {
+        let mname = tokens.name(alloc, origin)?;
+        let rname = tokens.name(alloc, origin)?;
+        SOA::with_names(mname, rname, tokens)
+    }
+
+    /// Parses the numbers that follow the names.
+    fn with_names(
+        mname: Name,
+        rname: Name,
+        tokens: &mut DataTokens<'_, '_>,
+    ) -> Result<SOA, RDataParseError>
+        ensures names { IfOk result (λ s. (s.mname ≡ mname) × (s.rname ≡ rname)) }
+        ensures parsed { (o : Option DomainName) → IfOk result (λ s. AreParsed o
+            number_kinds tokens.old (number_values s)) }
+        ensures refused { (o : Option DomainName) → IfErr result (λ error.
+            RefusesTokens o number_kinds tokens.old error) }
+    {
+        let numbers = numbers(tokens)?;
+        Ok(SOA {
+            mname,
+            rname,
+            serial: numbers.serial,
+            refresh: numbers.refresh,
+            retry: numbers.retry,
+            expire: numbers.expire,
+            minimum: numbers.minimum,
+        })
+    }
+}
+
+/// The numbers that follow the names.
+#[derive(Clone, Copy)]
+struct SoaNumbers {
+    serial: u32,
+    refresh: u32,
+    retry: u32,
+    expire: u32,
+    minimum: u32,
+}
+
+/// Parses the numbers that follow the names.
+fn numbers(tokens: &mut DataTokens<'_, '_>) -> Result<SoaNumbers, RDataParseError>
+    ensures parsed { (o : Option DomainName) → IfOk result (λ n. AreParsed o number_kinds
+        tokens.old (n.serial, (n.refresh, (n.retry, (n.expire, (n.minimum, tt)))))) }
+    ensures refused { (o : Option DomainName) → IfErr result (λ error.
+        RefusesTokens o number_kinds tokens.old error) }
+{
+    let serial = tokens.number32()?;
+    let refresh = tokens.seconds()?;
+    let retry = tokens.seconds()?;
+    let expire = tokens.seconds()?;
+    let minimum = tokens.seconds()?;
+    tokens.finish()?;
+    Ok(SoaNumbers {
+        serial,
+        refresh,
+        retry,
+        expire,
+        minimum,
+    })
+}
+
+impl fmt::Display for SOA {
+    ghost use Rattle.std.specs.Prelude.{Some};
+    ghost use Rattle.dns_data.specs.Text.{values_text};
+    ghost use Rattle.dns_data.specs.rdata.SOA.{soa_kinds, soa_values};
+
+    ghost output = { λ s. Some (values_text soa_kinds (soa_values s)) };
+
+    fn fmt<W: fmt::Write>(&self, f: &mut fmt::Formatter<W>) -> fmt::Result {
+        let (mname, rname) = (&self.mname, &self.rname);
+        let (serial, refresh, retry) = (self.serial, self.refresh, self.retry);
+        let (expire, minimum) = (self.expire, self.minimum);
+        write!(
+            f,
+            "{mname} {rname} {serial} {refresh} {retry} {expire} {minimum}"
+        )
     }
 }

@@ -1,14 +1,18 @@
 //! Locations of services (RFC 2782).
 
-ghost use Rattle.std.specs.Prelude.{◌≡◌, ◌≢◌, ℕ, IfOk, IfErr};
+ghost use Rattle.std.specs.Prelude.{◌≡◌, ◌≢◌, ℕ, IfOk, IfErr, option_map};
 ghost use Rattle.dns_data.specs.Wire.{ValuesAt, RefusesFields};
 ghost use Rattle.dns_data.specs.rdata.SRV.{srv_kinds, srv_values};
+ghost use Rattle.dns_data.specs.Text.{AreParsed, RefusesTokens};
 
+use crate::error::RDataParseError;
+use crate::text::DataTokens;
 use dns_names::Name;
 use dns_wire::{
     BinDecodable, BinDecoder, BinEncodable, BinEncoder, DecodeError, EncodeError, RDataEncoding,
 };
 use std::alloc::{AllocError, Global};
+use std::fmt;
 
 /// The location of a service (RFC 2782).
 #[derive(Debug, Drop, PartialEq, Eq)]
@@ -69,5 +73,45 @@ impl BinEncodable for SRV {
         encoder.emit_u16(self.port)?;
         self.target
             .emit_with_behavior(RDataEncoding::Canonical, encoder)
+    }
+}
+
+impl SRV {
+    /// Parses the data from its tokens.
+    pub(crate) fn parse(
+        alloc: Global,
+        tokens: &mut DataTokens<'_, '_>,
+        origin: Option<&Name>,
+    ) -> Result<SRV, RDataParseError>
+        ensures parsed { IfOk result (λ s. AreParsed (option_map (λ o. o.now) origin.entry)
+            srv_kinds tokens.old (srv_values s)) }
+        ensures refused { IfErr result (λ error. error ≢ RDataParseError.Memory
+            → RefusesTokens (option_map (λ o. o.now) origin.entry)
+            srv_kinds tokens.old error) }
+    {
+        let priority = tokens.number16()?;
+        let weight = tokens.number16()?;
+        let port = tokens.number16()?;
+        let target = tokens.only_name(alloc, origin)?;
+        Ok(SRV {
+            priority,
+            weight,
+            port,
+            target,
+        })
+    }
+}
+
+impl fmt::Display for SRV {
+    ghost use Rattle.std.specs.Prelude.{Some};
+    ghost use Rattle.dns_data.specs.Text.{values_text};
+    ghost use Rattle.dns_data.specs.rdata.SRV.{srv_kinds, srv_values};
+
+    ghost output = { λ s. Some (values_text srv_kinds (srv_values s)) };
+
+    fn fmt<W: fmt::Write>(&self, f: &mut fmt::Formatter<W>) -> fmt::Result {
+        let (priority, weight) = (self.priority, self.weight);
+        let (port, target) = (self.port, &self.target);
+        write!(f, "{priority} {weight} {port} {target}")
     }
 }

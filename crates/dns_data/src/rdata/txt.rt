@@ -1,13 +1,22 @@
 //! Texts (RFC 1035 section 3.3.14).
 
-ghost use Rattle.std.specs.Prelude.{◌≡◌, ◌≢◌, ◌+◌, IfOk, IfErr};
+ghost use Rattle.std.specs.Prelude.{◌≡◌, ◌≢◌, ◌+◌, IfOk, IfErr, ◌∷◌, Option};
 ghost use Rattle.dns_data.specs.Wire.{ValuesAt, RefusesFields};
 ghost use Rattle.dns_data.specs.rdata.TXT.{txt_kinds, txt_values};
+ghost use Rattle.std.specs.Fmt.{WritesOnOk};
+ghost use Rattle.dns_names.specs.Name.{DomainName};
+ghost use Rattle.dns_text.specs.CharacterString.{quoted_text};
+ghost use Rattle.dns_data.specs.Text.{AreParsed, RefusesTokens};
+ghost use Rattle.dns_data.specs.internal.Text.{more_strings_text};
 
+use crate::error::RDataParseError;
 use crate::octets::CharacterString;
+use crate::text::DataTokens;
 use crate::wire::{emit_strings, read_strings};
+use dns_text::QuotedString;
 use dns_wire::{BinDecoder, BinEncodable, BinEncoder, DecodeError, EncodeError};
 use std::alloc::{AllocError, Global};
+use std::fmt;
 use std::marker::Model;
 
 /// Character strings (RFC 1035 section 3.3.14).
@@ -103,4 +112,60 @@ impl Eq for TXT {
     ghost use Rattle.std.specs.Cmp.Lexicographic.{lists_equiv, nat_list_eq_equiv};
 
     ghost laws = { lists_equiv nat_list_eq_equiv };
+}
+
+impl TXT {
+    /// Parses the data from its tokens.
+    pub(crate) fn parse(
+        alloc: Global,
+        tokens: &mut DataTokens<'_, '_>,
+    ) -> Result<TXT, RDataParseError>
+        ensures parsed { (o : Option DomainName)
+            → IfOk result (λ t. AreParsed o txt_kinds tokens.old (txt_values t)) }
+        ensures refused { (o : Option DomainName) → IfErr result (λ error.
+            error ≢ RDataParseError.Memory → RefusesTokens o txt_kinds tokens.old error) }
+    {
+        Ok(TXT {
+            strings: tokens.strings(alloc)?,
+        })
+    }
+}
+
+impl fmt::Display for TXT {
+    ghost use Rattle.std.specs.Prelude.{Some};
+    ghost use Rattle.dns_data.specs.Text.{values_text};
+    ghost use Rattle.dns_data.specs.rdata.TXT.{txt_kinds, txt_values};
+
+    ghost output = { λ t. Some (values_text txt_kinds (txt_values t)) };
+
+    fn fmt<W: fmt::Write>(&self, f: &mut fmt::Formatter<W>) -> fmt::Result {
+        let strings = self.strings.as_slice();
+        if strings.is_empty() {
+            return Ok(());
+        }
+        let first = QuotedString(strings[0].as_slice());
+        write!(f, "{first}")?;
+        write_more_strings(&strings[1..], f)
+    }
+}
+
+/// Writes the strings after the first, each after a blank.
+fn write_more_strings<W: fmt::Write>(
+    strings: &[CharacterString],
+    f: &mut fmt::Formatter<W>,
+) -> fmt::Result
+    ensures { WritesOnOk W.write_str_gives f.old result (more_strings_text strings.now) f.new }
+{
+    for string in strings {
+        write_after_blank(string.as_slice(), f)?;
+    }
+    Ok(())
+}
+
+/// Writes a blank and a string.
+fn write_after_blank<W: fmt::Write>(string: &[u8], f: &mut fmt::Formatter<W>) -> fmt::Result
+    ensures { WritesOnOk W.write_str_gives f.old result (32 ∷ quoted_text string.now) f.new }
+{
+    let string = QuotedString(string);
+    write!(f, " {string}")
 }
