@@ -1,8 +1,8 @@
 -- The canonical form of data decodes to its values with their names in lower case.
-use Rattle.std.proofs.Common.{◌≡◌, ℕ, ◌+◌, ◌<◌, true, false, List, [], ◌∷◌, ◌++◌, flat_map, refl, subst}
+use Rattle.std.proofs.Common.{ℕ, true, false, List, [], ◌∷◌, flat_map, refl, subst}
 use Rattle.dns_wire.specs.Encoder.{EncoderState, IsAtEnd}
 use Rattle.dns_wire.specs.Writing.{ArePointerTargets}
-use Rattle.dns_wire.specs.Encodable.{Piece, BytesAt, position_of, append_pieces, PiecesAt, AreWritable}
+use Rattle.dns_wire.specs.Encodable.{BytesAt, position_of, append_pieces, PiecesAt, AreWritable}
 use Rattle.dns_wire.specs.declared.name_encoding.NameEncoding.{NameEncoding}
 use Rattle.dns_wire.specs.declared.name_encoding.NameEncoding.TheVariants.{Uncompressed}
 use Rattle.dns_wire.proofs.PieceLaws.{pieces_decode, pieces_at-join, pieces_at-split}

@@ -1,12 +1,11 @@
 -- Writing fields one after another.
-use Rattle.std.proofs.Common.{◌≡◌, ℕ, ◌+◌, ◌<◌, ◌≤◌, Bool, List, [], ◌∷◌, ◌++◌, length, get_or, take, drop, flat_map, Result, Ok, Err, refl, sym, ap, subst, ◌∙◌, append_assoc, arith}
-use Rattle.std.specs.List.{AllByRecursion}
+use Rattle.std.proofs.Common.{◌≡◌, ℕ, ◌+◌, ◌<◌, Bool, List, [], ◌∷◌, ◌++◌, length, get_or, take, drop, flat_map, Result, Ok, Err, sym, ap, subst, ◌∙◌}
 use Rattle.std.proofs.lemmas.Grind.{flat_map-append}
-use Rattle.std.proofs.lemmas.List.{append-nil, take_more, take-append-drop, take_all}
+use Rattle.std.proofs.lemmas.List.{append-nil, take_more, take-append-drop}
 use Rattle.dns_wire.specs.declared.error.EncodeError.{EncodeError}
 use Rattle.dns_wire.specs.declared.name_encoding.RDataEncoding.{RDataEncoding}
 use Rattle.dns_wire.specs.Encoder.{EncoderState, IsAtEnd}
-use Rattle.dns_wire.specs.Encodable.{Piece, Plain, append_pieces, name_piece, Emits, AreWritable}
+use Rattle.dns_wire.specs.Encodable.{Piece, name_piece, Emits, AreWritable}
 use Rattle.dns_wire.proofs.PieceLaws.{emits_then, emits_stop, append_pieces-end, writable-append}
 use Rattle.dns_data.specs.Field.{OptionValue, string_pieces, option_pieces}
 

@@ -8,7 +8,7 @@ use Rattle.dns_text.specs.CharacterString.{quoted_text}
 use Rattle.dns_data.specs.Field.{OptionValue, option_form}
 use Rattle.dns_data.specs.Text.{strings_text}
 use Rattle.dns_data.specs.internal.Text.{more_strings_text}
-use Rattle.dns_data.specs.rdata.{hex_text, generic_text}
+use Rattle.dns_data.specs.Text.{hex_text, generic_text}
 
 pub further : {X : Type 0} (form : X → List ℕ) (text : List X → List ℕ) → ((x : X) (xs : List X) → text (x ∷ xs) ≡ form x ++ text xs) → (xs : List X) (i : ℕ) (x d : X) (done whole : List ℕ)
     → x ≡ get_or xs i d → i < length xs → done ++ text (drop i xs) ≡ whole → (done ++ form x) ++ text (drop (i + 1) xs) ≡ whole

@@ -1,5 +1,5 @@
 -- Data of numbers, addresses and names is sound if its values are: it takes at most 255 bytes for each field.
-use Rattle.std.proofs.Common.{◌≡◌, ◌+◌, ◌*◌, ◌<◌, ◌≤◌, ◌^◌, ℕ, false, List, [], ◌∷◌, ◌++◌, length, ap, arith, length-append}
+use Rattle.std.proofs.Common.{◌≡◌, ◌*◌, ◌<◌, ◌≤◌, ◌^◌, ℕ, false, List, [], ◌∷◌, length, ap, arith, length-append}
 use Rattle.std.specs.Net.Addr.{ipv4_octets, octets_of}
 use Rattle.dns_codes.specs.RecordType.{type_number, type_of}
 use Rattle.dns_wire.specs.Name.{name_len}

@@ -8,7 +8,7 @@ use Rattle.dns_names.specs.Name.{DomainName}
 use Rattle.dns_text.specs.Lexer.{Lexeme}
 use Rattle.dns_data.specs.Field.{CompressibleName, WholeName}
 use Rattle.dns_data.specs.Text.{Takes, AreParsed, RefusesToken, RefusesTokens, refused_token, past_token, tokens_left, has_text}
-use Rattle.dns_data.specs.internal.Text.{number_kinds, number_values}
+use Rattle.dns_data.specs.rdata.SOA.{number_kinds, number_values}
 use Rattle.dns_data.specs.rdata.{data_type, data_kinds, data_values, kinds_of_type, IsParsedData, RefusesText, bad_tokens}
 use Rattle.dns_data.specs.rdata.SOA.{soa_kinds, soa_values}
 use Rattle.dns_data.specs.declared.rdata.soa.SOA.{SOA}

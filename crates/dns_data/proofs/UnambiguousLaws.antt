@@ -1,16 +1,14 @@
 -- Bytes decode to one value of record data, and are then not refused.
-use Rattle.std.proofs.Common.{◌≡◌, ◌≢◌, ℕ, ◌+◌, ◌<◌, ◌≤◌, zero, suc, false, List, [], ◌∷◌, length, refl, sym, ap, subst, ◌∙◌, arith}
+use Rattle.std.proofs.Common.{◌≡◌, ◌≢◌, ℕ, ◌+◌, ◌<◌, zero, suc, List, [], ◌∷◌, length, refl, sym, ap, subst, ◌∙◌, arith}
 use Rattle.dns_codes.specs.declared.record_type.RecordType.{RecordType}
 use Rattle.dns_codes.specs.declared.record_type.RecordType.TheVariants as types
 use Rattle.dns_codes.specs.RecordType.{type_number, type_of}
-use Rattle.dns_wire.specs.Encodable.{PiecesAt}
 use Rattle.dns_wire.specs.declared.error.DecodeError.{DecodeError}
-use Rattle.dns_wire.specs.declared.name_encoding.NameEncoding.TheVariants.{Uncompressed}
 use Rattle.dns_data.specs.Field.{OptionValue, Number16, Address4, Address6, CompressibleName, WholeName, Opaque, Values, AreSoundValues}
 use Rattle.dns_data.specs.Wire.{StringAt, OptionAt, ValuesAt}
 use Rattle.dns_data.specs.declared.rdata.RData.{RData}
 use Rattle.dns_data.specs.declared.rdata.RData.TheVariants as of
-use Rattle.dns_data.specs.rdata.{data_type, data_kinds, data_values, kinds_of_type, empty_data, data_pieces, HasFieldsOfType, ReadsData, RefusesData}
+use Rattle.dns_data.specs.rdata.{data_type, data_kinds, data_values, kinds_of_type, empty_data, HasFieldsOfType, ReadsData, RefusesData}
 use Rattle.dns_data.specs.rdata.A.{a_values}
 use Rattle.dns_data.specs.rdata.AAAA.{aaaa_values}
 use Rattle.dns_data.specs.rdata.CNAME.{cname_values}

@@ -1,9 +1,8 @@
 -- Written data decodes.
-use Rattle.std.proofs.Common.{◌≡◌, ◌≢◌, ℕ, ◌+◌, ◌-◌, ◌<◌, ◌≤◌, ◌^◌, false, List, ◌++◌, length, refl, sym, ap, subst, ◌∙◌, arith}
-use Rattle.dns_codes.specs.RecordType.{type_number, type_of}
+use Rattle.std.proofs.Common.{◌≡◌, ◌≢◌, ℕ, ◌+◌, ◌-◌, ◌<◌, ◌^◌, false, List, refl, sym, subst, arith}
 use Rattle.dns_wire.specs.Encoder.{EncoderState, IsAtEnd}
 use Rattle.dns_wire.specs.Writing.{ArePointerTargets}
-use Rattle.dns_wire.specs.Encodable.{Piece, position_of, form, after, append_pieces, PiecesAt, AreWritable}
+use Rattle.dns_wire.specs.Encodable.{Piece, position_of, append_pieces, PiecesAt, AreWritable}
 use Rattle.dns_wire.specs.declared.name_encoding.NameEncoding.{NameEncoding}
 use Rattle.dns_wire.specs.declared.name_encoding.NameEncoding.TheVariants.{Compressed, Uncompressed, UncompressedLowercase}
 use Rattle.dns_wire.proofs.PieceLaws.{after-place, pieces_decode}

@@ -4,4 +4,3 @@ pub mod Field
 pub mod Wire
 pub mod Text
 pub mod rdata
-pub mod internal

@@ -1,5 +1,6 @@
 -- The text of the fields of record data in zone files (RFC 1035 section 5.1).
-use Rattle.std.specs.Prelude.{◌≡◌, ◌≢◌, nat_lt, if◌then◌else◌, Bool, true, false, ℕ, List, [], ◌∷◌, ◌++◌, length, Option, Some, None, Result, Ok, Err}
+use Rattle.std.specs.Prelude.{◌≡◌, ◌≢◌, nat_lt, if◌then◌else◌, Bool, true, false, ℕ, List, [], ◌∷◌, ◌++◌, length, Option, Some, None, Result, Ok, Err, ◌/◌, ◌%◌, flat_map, codes}
+use Rattle.std.specs.Char.{digit_char}
 use Rattle.std.specs.Fmt.{decimal}
 use Rattle.std.specs.List.{AllByRecursion}
 use Rattle.std.specs.Net.Addr.{ipv4_octets, ipv6_segments, IsIpv4Addr, IsIpv6Addr}
@@ -128,6 +129,14 @@ abbrev pub values_text : (kinds : List Kind) → Values kinds → List ℕ
 values_text [] values = []
 values_text (kind ∷ []) values = value_text kind values.0
 values_text (kind ∷ next ∷ kinds) values = value_text kind values.0 ++ 32 ∷ values_text (next ∷ kinds) values.1
+
+abbrev pub hex_text : List ℕ → List ℕ
+hex_text bytes = flat_map (λ byte. digit_char (byte / 16) ∷ digit_char (byte % 16) ∷ []) bytes
+
+-- data of any type: `\#`, its length, and its bytes in hexadecimal digits (RFC 3597 section 5)
+abbrev pub generic_text : List ℕ → List ℕ
+generic_text [] = codes "\\# 0"
+generic_text (byte ∷ bytes) = codes "\\# " ++ decimal (length (byte ∷ bytes)) ++ 32 ∷ hex_text (byte ∷ bytes)
 
 -- options and opaque bytes have no text of their own
 abbrev pub has_text : List Kind → Bool

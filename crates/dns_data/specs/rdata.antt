@@ -23,7 +23,7 @@ use Rattle.dns_wire.specs.declared.error.DecodeError.{DecodeError}
 use Rattle.dns_names.specs.Name.{DomainName}
 use Rattle.dns_text.specs.Lexer.{Lexeme}
 use Rattle.dns_data.specs.Field.{Kind, Opaque, Values, option_form, values_pieces, AreSoundValues}
-use Rattle.dns_data.specs.Text.{AreParsed, RefusesTokens, values_text, has_text}
+use Rattle.dns_data.specs.Text.{AreParsed, RefusesTokens, values_text, has_text, generic_text}
 use Rattle.dns_data.specs.declared.error.RDataParseError.{RDataParseError}
 use Rattle.dns_data.specs.declared.error.RDataParseError.TheVariants.{UnsupportedRecordType}
 use Rattle.dns_data.specs.Wire.{RefusesValues}
@@ -182,14 +182,6 @@ pub data RefusesText (origin : Option DomainName) (record_type : RecordType) (to
   bad_tokens : {error : RDataParseError} → has_text (kinds_of_type (type_of (type_number record_type))) ≡ true
       → RefusesTokens origin (kinds_of_type (type_of (type_number record_type))) tokens error
       → RefusesText origin record_type tokens error
-
-abbrev pub hex_text : List ℕ → List ℕ
-hex_text bytes = flat_map (λ byte. digit_char (byte / 16) ∷ digit_char (byte % 16) ∷ []) bytes
-
--- data of any type: `\#`, its length, and its bytes in hexadecimal digits (RFC 3597 section 5)
-abbrev pub generic_text : List ℕ → List ℕ
-generic_text [] = codes "\\# 0"
-generic_text (byte ∷ bytes) = codes "\\# " ++ decimal (length (byte ∷ bytes)) ++ 32 ∷ hex_text (byte ∷ bytes)
 
 -- the fields of data, or its bytes if its type has no text form
 abbrev pub data_text : RData → List ℕ

@@ -3,7 +3,7 @@
 ghost use Rattle.std.specs.Prelude.{◌∷◌, [], ◌<◌, ◌/◌, ◌%◌, ◌≡◌};
 ghost use Rattle.std.specs.Char.{digit_char};
 ghost use Rattle.std.specs.Fmt.{WritesOnOk};
-ghost use Rattle.dns_data.specs.rdata.{hex_text, generic_text};
+ghost use Rattle.dns_data.specs.Text.{hex_text, generic_text};
 
 use std::fmt;
 

@@ -6,7 +6,7 @@ ghost use Rattle.dns_data.specs.rdata.OPT.{opt_kinds, opt_values};
 ghost use Rattle.std.specs.Int.{w16, to_be_bytes};
 ghost use Rattle.std.specs.Fmt.{WritesOnOk};
 ghost use Rattle.dns_data.specs.Field.{option_form};
-ghost use Rattle.dns_data.specs.rdata.{hex_text};
+ghost use Rattle.dns_data.specs.Text.{hex_text};
 
 use crate::generic::write_hex;
 use crate::octets::OptionData;
@@ -214,7 +214,7 @@ impl Eq for OPT {
 impl fmt::Display for OPT {
     ghost use Rattle.std.specs.Prelude.{Some, flat_map};
     ghost use Rattle.dns_data.specs.Field.{option_form};
-    ghost use Rattle.dns_data.specs.rdata.{generic_text};
+    ghost use Rattle.dns_data.specs.Text.{generic_text};
 
     ghost output = { λ o. Some (generic_text (flat_map option_form o)) };
 

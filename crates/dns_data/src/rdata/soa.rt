@@ -7,7 +7,6 @@ ghost use Rattle.dns_data.specs.Field.{values_pieces};
 ghost use Rattle.dns_data.specs.Wire.{ValuesAt, RefusesFields};
 ghost use Rattle.dns_data.specs.rdata.SOA.{soa_kinds, number_kinds, number_values, soa_values};
 ghost use Rattle.dns_names.specs.Name.{DomainName};
-ghost use Rattle.dns_data.specs.internal.Text.{number_kinds, number_values};
 ghost use Rattle.dns_data.specs.Text.{AreParsed, RefusesTokens};
 
 use crate::error::RDataParseError;

@@ -1,6 +1,6 @@
 use Rattle.std.proofs.Common.{◌≡◌, ℕ, List, ◌++◌, drop}
 use Rattle.std.specs.Fmt.{HasWritten, IsPlainFormatter}
-use Rattle.dns_data.specs.rdata.{hex_text}
+use Rattle.dns_data.specs.Text.{hex_text}
 use Rattle.dns_data.proofs.generic.write_hex.Given as goal
 
 -- the bytes that are left complete the text

@@ -1,5 +1,5 @@
 use Rattle.std.proofs.Common.{Ok, take, flat_map}
-use Rattle.dns_wire.specs.Encoder.{state_of, IsAtEnd}
+use Rattle.dns_wire.specs.Encoder.{state_of}
 use Rattle.dns_wire.specs.Encodable.{Emits}
 use Rattle.dns_data.specs.Field.{option_pieces}
 use Rattle.dns_data.proofs.wire.emit_options.Given as goal

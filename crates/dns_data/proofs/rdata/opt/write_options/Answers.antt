@@ -1,7 +1,7 @@
 use Rattle.std.proofs.Common.{◌++◌, rules}
 use Rattle.std.proofs.Output.{has_written_append}
 use Rattle.dns_data.specs.Field.{option_form}
-use Rattle.dns_data.specs.rdata.{hex_text}
+use Rattle.dns_data.specs.Text.{hex_text}
 use Rattle.dns_data.proofs.PrintingLaws.{options_further}
 use Rattle.dns_data.proofs.rdata.opt.write_options.Goals as goal
 

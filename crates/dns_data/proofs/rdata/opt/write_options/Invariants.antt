@@ -2,7 +2,7 @@ use Rattle.std.proofs.Common.{◌≡◌, ℕ, List, ◌++◌, drop}
 use Rattle.std.specs.Prelude.{flat_map}
 use Rattle.std.specs.Fmt.{HasWritten, IsPlainFormatter}
 use Rattle.dns_data.specs.Field.{option_form}
-use Rattle.dns_data.specs.rdata.{hex_text}
+use Rattle.dns_data.specs.Text.{hex_text}
 use Rattle.dns_data.proofs.rdata.opt.write_options.Given as goal
 
 -- the options that are left complete the text
