@@ -1,77 +1,55 @@
 //! Requests and their replies.
 
-use crate::hex::{bytes_of, digits_of};
-use crate::operation::lacks;
 use dns_zone::{DatagramLimit, Road, Zone};
-use std::alloc::{AllocError, Global};
+use rows::{Answer, RowFault, bytes_of, digits_of, named, parsed, shown, split, text, two_words};
+use std::alloc::Global;
 
 /// `limit NUMBER`: the limit of datagrams of so many bytes, or its refusal.
-pub(crate) fn limit(alloc: Global, number: &str) -> Result<String, AllocError> {
-    let Ok(number) = number.parse::<u16>() else {
-        return lacks(alloc, "a number of 16 bits");
-    };
-    match DatagramLimit::new(number) {
-        Ok(limit) => {
-            let value = limit.value();
-            format!(in alloc; "{value}")
-        }
-        Err(refusal) => format!(in alloc; "{refusal:?}"),
+pub(crate) fn limit(alloc: Global, number: &str) -> Answer {
+    match DatagramLimit::new(parsed::<u16>(number)?) {
+        Ok(limit) => shown(alloc, limit.value()),
+        Err(refusal) => named(alloc, refusal),
     }
 }
 
 /// `serve ROAD HEX || TEXT`: the bytes that the zone of the text replies, where the request comes over a road: `stream`,
 /// or the limit of its datagrams.
-pub(crate) fn serve(alloc: Global, input: &str) -> Result<String, AllocError> {
+pub(crate) fn serve(alloc: Global, input: &str) -> Answer {
     match replied(alloc, input)? {
-        Outcome::Reply(bytes) => digits_of(alloc, bytes.as_slice()),
-        Outcome::Silence => String::from_str(alloc, "no reply"),
-        Outcome::Lacks(what) => lacks(alloc, what),
+        Some(reply) => Ok(digits_of(alloc, reply.as_slice())?),
+        None => text(alloc, "no reply"),
     }
 }
 
 /// `served-size ROAD HEX || TEXT`: the length of the reply, and its header.
-pub(crate) fn served_size(alloc: Global, input: &str) -> Result<String, AllocError> {
+pub(crate) fn served_size(alloc: Global, input: &str) -> Answer {
     match replied(alloc, input)? {
-        Outcome::Reply(bytes) => {
-            let len = bytes.len();
-            let header = match bytes.as_slice().get(..12) {
-                Some(header) => digits_of(alloc, header)?,
-                None => String::from_str(alloc, "no header")?,
-            };
-            format!(in alloc; "{len} bytes, {header}")
-        }
-        Outcome::Silence => String::from_str(alloc, "no reply"),
-        Outcome::Lacks(what) => lacks(alloc, what),
+        Some(reply) => size_text(alloc, reply.as_slice()),
+        None => text(alloc, "no reply"),
     }
 }
 
-/// What came of a request.
-#[derive(Drop)]
-enum Outcome {
-    Reply(Vec<u8>),
-    Silence,
-    /// The row lacks something.
-    Lacks(&'static str),
+/// The length of a reply, and its header.
+fn size_text(alloc: Global, reply: &[u8]) -> Answer {
+    let Some(header) = reply.get(..12) else {
+        return text(alloc, "no header");
+    };
+    let (len, header) = (reply.len(), digits_of(alloc, header)?);
+    Ok(format!(in alloc; "{len} bytes, {header}")?)
 }
 
-/// What came of the request of a row.
-fn replied(alloc: Global, input: &str) -> Result<Outcome, AllocError> {
-    let Some((request, text)) = input.split_once(" || ") else {
-        return Ok(Outcome::Lacks("a request and a zone"));
+/// The reply to the request of a row, if there is one.
+fn replied(alloc: Global, input: &str) -> Result<Option<Vec<u8>>, RowFault> {
+    let (request, text) = split(input, " || ", "a request and a zone")?;
+    let (road, digits) = two_words(request)?;
+    let Some(road) = road_of(road) else {
+        return Err(RowFault::Lacks("a road"));
     };
-    let Some((road, digits)) = request.split_once(' ') else {
-        return Ok(Outcome::Lacks("a road and bytes"));
-    };
-    let (Some(road), Some(bytes)) = (road_of(road), bytes_of(alloc, digits)?) else {
-        return Ok(Outcome::Lacks("a road and bytes"));
-    };
+    let bytes = bytes_of(alloc, digits)?;
     let Ok(mut zone) = Zone::from_text(alloc, text, &[], None) else {
-        return Ok(Outcome::Lacks("a zone"));
+        return Err(RowFault::Lacks("a zone"));
     };
-    match zone.serve(bytes.as_slice(), road)? {
-        Some(reply) => Ok(Outcome::Reply(reply)),
-        None => Ok(Outcome::Silence),
-    }
+    Ok(zone.serve(bytes.as_slice(), road)?)
 }
 
 /// The road that a word means.

@@ -1,24 +1,48 @@
 //! How a row writes texts that are long, or have more than one line.
 //!
-//! `\n`, `\r`, `\t`, `\s` and `\\` are a line feed, a carriage return, a tab, a blank and a backslash. `{3*TEXT}` is TEXT
-//! three times, in each of which `#` is its number, counted from 0; `{soa}` is the line of the start of authority of the
-//! zone t. Any other brace is itself.
+//! `{3*TEXT}` is TEXT three times, in each of which `#` is its number, counted from 0. `{lf}`, `{cr}` and `{tab}` are a
+//! line feed, a carriage return and a tab. `{soa}` is the line of an SOA record of the zone t. Any other brace is itself.
+//! Where a program's rows have escapes, `\n`, `\r`, `\t`, `\s` and `\\` are a line feed, a carriage return, a tab, a blank
+//! and a backslash.
 
+use crate::fault::RowFault;
 use std::alloc::{AllocError, Global};
 
-/// The start of authority of the zone t: its own TTL is 60, and the TTL of a negative answer 30.
+/// The SOA record of the zone t: its own TTL is 60, and the TTL of a negative answer 30.
 const START_OF_AUTHORITY: &str = "t. 60 IN SOA ns.t. h.t. 1 3600 600 86400 30\n";
 
-/// The text that a row writes so, or none where a backslash has no meaning.
-pub(crate) fn plain(alloc: Global, notation: &str) -> Result<Option<String>, AllocError> {
-    let text = expanded(alloc, notation)?;
-    unescaped(alloc, text.as_str())
+/// Whether a backslash in a program's rows begins an escape.
+#[derive(Clone, Copy, Debug, PartialEq, Eq)]
+pub enum Notation {
+    /// A backslash is itself, as in names.
+    Plain,
+    /// A backslash begins an escape.
+    Escaped,
+}
+
+impl Notation {
+    /// The text that a row writes so.
+    pub(crate) fn text_of(self, alloc: Global, written: &str) -> Result<String, RowFault> {
+        let text = expanded(alloc, written)?;
+        match self {
+            Notation::Plain => Ok(text),
+            Notation::Escaped => unescaped(alloc, text.as_str()),
+        }
+    }
+
+    /// A text as a row writes it.
+    pub(crate) fn written(self, alloc: Global, text: String) -> Result<String, AllocError> {
+        match self {
+            Notation::Plain => Ok(text),
+            Notation::Escaped => escaped(alloc, text.as_str()),
+        }
+    }
 }
 
 /// The text with each pattern in braces written out.
-fn expanded(alloc: Global, notation: &str) -> Result<String, AllocError> {
+fn expanded(alloc: Global, written: &str) -> Result<String, AllocError> {
     let mut text = String::new(alloc);
-    for (index, part) in notation.split('{').enumerate() {
+    for (index, part) in written.split('{').enumerate() {
         if index == 0 {
             text.push_str(part)?;
         } else {
@@ -31,6 +55,9 @@ fn expanded(alloc: Global, notation: &str) -> Result<String, AllocError> {
 /// Adds what begins with an opening brace.
 fn push_pattern(alloc: Global, text: &mut String, part: &str) -> Result<(), AllocError> {
     match part.split_once('}') {
+        Some(("lf", rest)) => push_both(text, "\n", rest),
+        Some(("cr", rest)) => push_both(text, "\r", rest),
+        Some(("tab", rest)) => push_both(text, "\t", rest),
         Some(("soa", rest)) => push_both(text, START_OF_AUTHORITY, rest),
         Some((pattern, rest)) => push_repetition(alloc, text, pattern, rest),
         None => push_both(text, "{", part),
@@ -75,16 +102,13 @@ fn push_numbered(
     Ok(())
 }
 
-/// The text with each escape replaced by its character, or none where an escape has no meaning.
-fn unescaped(alloc: Global, text: &str) -> Result<Option<String>, AllocError> {
+/// The text with each escape replaced by its character.
+fn unescaped(alloc: Global, text: &str) -> Result<String, RowFault> {
     let mut whole = String::new(alloc);
     let mut is_escape = false;
     for character in text.chars() {
         if is_escape {
-            let Some(meaning) = meaning_of(character) else {
-                return Ok(None);
-            };
-            whole.push(meaning)?;
+            whole.push(meaning_of(character)?)?;
             is_escape = false;
         } else if character == '\\' {
             is_escape = true;
@@ -93,25 +117,25 @@ fn unescaped(alloc: Global, text: &str) -> Result<Option<String>, AllocError> {
         }
     }
     if is_escape {
-        return Ok(None);
+        return Err(RowFault::UnknownEscape);
     }
-    Ok(Some(whole))
+    Ok(whole)
 }
 
 /// What a character means behind a backslash.
-fn meaning_of(character: char) -> Option<char> {
+fn meaning_of(character: char) -> Result<char, RowFault> {
     match character {
-        'n' => Some('\n'),
-        'r' => Some('\r'),
-        't' => Some('\t'),
-        's' => Some(' '),
-        '\\' => Some('\\'),
-        _ => None,
+        'n' => Ok('\n'),
+        'r' => Ok('\r'),
+        't' => Ok('\t'),
+        's' => Ok(' '),
+        '\\' => Ok('\\'),
+        _ => Err(RowFault::UnknownEscape),
     }
 }
 
-/// A text as a row writes it, on one line.
-pub(crate) fn escaped(alloc: Global, text: &str) -> Result<String, AllocError> {
+/// A text with escapes, on one line.
+fn escaped(alloc: Global, text: &str) -> Result<String, AllocError> {
     let mut whole = String::new(alloc);
     for character in text.chars() {
         match character {
