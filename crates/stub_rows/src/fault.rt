@@ -1,12 +1,12 @@
 //! The texts of faults.
 
-use crate::operation::lacks;
 use dns_zone::ZoneFault;
-use std::alloc::{AllocError, Global};
+use rows::{Answer, RowFault, parsed, shown, two_words};
+use std::alloc::Global;
 use stub_run::{LinkFault, PlayFault, ScriptFault};
 
 /// `link-fault NAME`: the text of a link's fault, and its number in a report.
-pub(crate) fn link_fault(alloc: Global, name: &str) -> Result<String, AllocError> {
+pub(crate) fn link_fault(alloc: Global, name: &str) -> Answer {
     let fault = match name {
         "NotSent" => LinkFault::NotSent,
         "NotReceived" => LinkFault::NotReceived,
@@ -14,45 +14,40 @@ pub(crate) fn link_fault(alloc: Global, name: &str) -> Result<String, AllocError
         "NoMatch" => LinkFault::NoMatch,
         "Truncated" => LinkFault::Truncated,
         "NoId" => LinkFault::NoId,
-        _ => return lacks(alloc, "a fault"),
+        _ => return Err(RowFault::Lacks("a fault")),
     };
     let number = fault.number();
-    format!(in alloc; "{fault}, F{number}")
+    Ok(format!(in alloc; "{fault}, F{number}")?)
 }
 
 /// `script-fault NAME`: the text of a script's fault. `Line NUMBER` is a line's.
-pub(crate) fn script_fault(alloc: Global, name: &str) -> Result<String, AllocError> {
-    let fault = match (name, line_of(name)) {
+pub(crate) fn script_fault(alloc: Global, name: &str) -> Answer {
+    match name {
         // A row may ask for the text of want of memory.
-        ("Memory", _) => ScriptFault::Memory,
-        (_, Some(line)) => ScriptFault::Line(line),
-        _ => return lacks(alloc, "a fault"),
-    };
-    format!(in alloc; "{fault}")
+        "Memory" => shown(alloc, ScriptFault::Memory),
+        _ => shown(alloc, ScriptFault::Line(line_of(name)?)),
+    }
 }
 
 /// The number behind `Line`.
-fn line_of(name: &str) -> Option<usize> {
-    let number = name.strip_prefix("Line ")?;
-    match number.parse::<usize>() {
-        Ok(line) => Some(line),
-        Err(_) => None,
+fn line_of(name: &str) -> Result<usize, RowFault> {
+    match two_words(name)? {
+        ("Line", number) => parsed::<usize>(number),
+        _ => Err(RowFault::Lacks("a fault")),
     }
 }
 
 /// `play-fault NAME`: the line that a run ends with, where this is its fault.
-pub(crate) fn play_fault(alloc: Global, name: &str) -> Result<String, AllocError> {
-    let fault = match (name, line_of(name)) {
+pub(crate) fn play_fault(alloc: Global, name: &str) -> Answer {
+    match name {
         // A row may ask for the text of want of memory.
-        ("Memory", _) => PlayFault::Memory,
-        ("Write", _) => PlayFault::Write,
-        ("Zone OutsideOrigin", _) => PlayFault::Zone(ZoneFault::OutsideOrigin),
-        ("Zone NoSoa", _) => PlayFault::Zone(ZoneFault::NoSoa),
-        ("Zone SoaElsewhere", _) => PlayFault::Zone(ZoneFault::SoaElsewhere),
+        "Memory" => shown(alloc, PlayFault::Memory),
+        "Write" => shown(alloc, PlayFault::Write),
+        "Zone OutsideOrigin" => shown(alloc, PlayFault::Zone(ZoneFault::OutsideOrigin)),
+        "Zone NoSoa" => shown(alloc, PlayFault::Zone(ZoneFault::NoSoa)),
+        "Zone SoaElsewhere" => shown(alloc, PlayFault::Zone(ZoneFault::SoaElsewhere)),
         // A row may ask for the text of want of memory in a zone.
-        ("Zone Memory", _) => PlayFault::Zone(ZoneFault::Memory),
-        (_, Some(line)) => PlayFault::Script(line),
-        _ => return lacks(alloc, "a fault"),
-    };
-    format!(in alloc; "{fault}")
+        "Zone Memory" => shown(alloc, PlayFault::Zone(ZoneFault::Memory)),
+        _ => shown(alloc, PlayFault::Script(line_of(name)?)),
+    }
 }

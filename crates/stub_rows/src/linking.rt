@@ -1,30 +1,24 @@
 //! The scripted link.
 
-use crate::hex::{bytes_of, digits_of};
-use crate::operation::lacks;
 use dns_zone::{DatagramLimit, Zone};
+use rows::{Answer, RowFault, bytes_of, digits_of, split, text, two_words};
 use std::alloc::{AllocError, Global};
+use std::fmt::Write;
 use stub_run::{Link, ScriptedLink};
 
 /// `link LIMIT DATAGRAMS || TEXT`: what the scripted link to a server of the zone that the text spells brings, one
 /// receive for each datagram that is sent and one more, where the server's datagrams have a limit.
-pub(crate) fn linked(alloc: Global, input: &str) -> Result<String, AllocError> {
-    let Some((sending, text)) = input.split_once(" || ") else {
-        return lacks(alloc, "datagrams and a zone");
+pub(crate) fn linked(alloc: Global, input: &str) -> Answer {
+    let (sending, text) = split(input, " || ", "datagrams and a zone")?;
+    let (limit, datagrams) = two_words(sending)?;
+    let Some(limit) = limit_of(limit) else {
+        return Err(RowFault::Lacks("a limit"));
     };
-    let Some((limit, datagrams)) = sending.split_once(' ') else {
-        return lacks(alloc, "a limit and datagrams");
-    };
-    let Ok(zone) = Zone::from_text(alloc, text, &[], None) else {
-        return lacks(alloc, "a zone");
-    };
-    match limit_of(limit) {
-        Some(limit) => exchanged(alloc, ScriptedLink::new(alloc, zone, limit), datagrams),
-        None => lacks(alloc, "a limit"),
-    }
+    let zone = zone_of(alloc, text)?;
+    exchanged(alloc, ScriptedLink::new(alloc, zone, limit), datagrams)
 }
 
-/// The limit that a number is.
+/// The limit that a number is, or `None` if it is none.
 pub(crate) fn limit_of(number: &str) -> Option<DatagramLimit> {
     let Ok(number) = number.parse::<u16>() else {
         return None;
@@ -35,32 +29,42 @@ pub(crate) fn limit_of(number: &str) -> Option<DatagramLimit> {
     }
 }
 
+/// The zone that a text spells.
+pub(crate) fn zone_of(alloc: Global, text: &str) -> Result<Zone, RowFault> {
+    match Zone::from_text(alloc, text, &[], None) {
+        Ok(zone) => Ok(zone),
+        Err(_) => Err(RowFault::Lacks("a zone")),
+    }
+}
+
 /// What a link brings for datagrams that blanks part, and what it says of itself afterwards.
-fn exchanged(alloc: Global, mut link: ScriptedLink, datagrams: &str) -> Result<String, AllocError> {
+fn exchanged(alloc: Global, mut link: ScriptedLink, datagrams: &str) -> Answer {
     let mut receives = 1_u32;
     for digits in datagrams.split(' ') {
-        let Some(bytes) = bytes_of(alloc, digits)? else {
-            return lacks(alloc, "datagrams");
-        };
+        let bytes = bytes_of(alloc, digits)?;
         if link.send_datagram(bytes.as_slice()).is_err() {
-            return String::from_str(alloc, "not sent");
+            return text(alloc, "not sent");
         }
         receives = receives.saturating_add(1);
     }
     let mut text = String::new(alloc);
     for _receive in 0..receives {
-        text.push_str(received(alloc, &mut link)?.as_str())?;
-        text.push_str(" ")?;
+        push_received(alloc, &mut text, &mut link)?;
     }
     let (failures, is_out_of_memory) = (link.failures(), link.is_out_of_memory());
-    format!(in alloc; "{text}{failures} {is_out_of_memory}")
+    Ok(format!(in alloc; "{text}{failures} {is_out_of_memory}")?)
 }
 
-/// What a receive brings.
-fn received(alloc: Global, link: &mut ScriptedLink) -> Result<String, AllocError> {
+/// Adds what a receive brings, and a blank.
+fn push_received(
+    alloc: Global,
+    text: &mut String,
+    link: &mut ScriptedLink,
+) -> Result<(), AllocError> {
     match link.next_datagram() {
-        Ok(Some(bytes)) => digits_of(alloc, bytes.as_slice()),
-        Ok(None) => String::from_str(alloc, "none"),
-        Err(error) => format!(in alloc; "{error:?}"),
+        Ok(Some(bytes)) => text.push_str(digits_of(alloc, bytes.as_slice())?.as_str())?,
+        Ok(None) => text.push_str("none")?,
+        Err(error) => write!(text, "{error:?}")?,
     }
+    text.push(' ')
 }

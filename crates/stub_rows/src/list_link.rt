@@ -1,7 +1,7 @@
 //! A link that brings what a row lists.
 
-use crate::hex::bytes_of;
-use std::alloc::{AllocError, Global};
+use rows::{RowFault, bytes_of};
+use std::alloc::Global;
 use stub_run::{Link, LinkError};
 
 /// What a receive meets.
@@ -28,8 +28,8 @@ pub(crate) struct ListLink {
 
 impl ListLink {
     /// The link of a row's words: the digits of a datagram that comes, `empty`, `fail` or `no-memory`; `sent:` and the
-    /// digits of the only datagram that can be sent; `unsendable`, if none can. None where a word is none of these.
-    pub(crate) fn of_words(alloc: Global, words: &str) -> Result<Option<ListLink>, AllocError> {
+    /// digits of the only datagram that can be sent; `unsendable`, if none can.
+    pub(crate) fn of_words(alloc: Global, words: &str) -> Result<ListLink, RowFault> {
         let mut link = ListLink {
             items: Vec::new(alloc),
             can_send: true,
@@ -37,43 +37,25 @@ impl ListLink {
             failures: 0,
         };
         for word in words.split(' ') {
-            if !word.is_empty() && !link.take_word(alloc, word)? {
-                return Ok(None);
-            }
+            link.take_word(alloc, word)?;
         }
-        Ok(Some(link))
+        Ok(link)
     }
 
-    /// Takes a word. False where it has no meaning.
-    fn take_word(&mut self, alloc: Global, word: &str) -> Result<bool, AllocError> {
-        if word == "unsendable" {
-            self.can_send = false;
-            return Ok(true);
+    /// Takes a word. An empty one means nothing.
+    fn take_word(&mut self, alloc: Global, word: &str) -> Result<(), RowFault> {
+        match word.split_once(':') {
+            Some(("sent", digits)) => self.request = Some(bytes_of(alloc, digits)?),
+            _ => match word {
+                "" => {}
+                "unsendable" => self.can_send = false,
+                "fail" => self.items.push(Item::Failure)?,
+                "no-memory" => self.items.push(Item::NoMemory)?,
+                "empty" => self.items.push(Item::Datagram(Vec::new(alloc)))?,
+                digits => self.items.push(Item::Datagram(bytes_of(alloc, digits)?))?,
+            },
         }
-        if let Some(digits) = word.strip_prefix("sent:") {
-            self.request = bytes_of(alloc, digits)?;
-            return Ok(self.request.is_some());
-        }
-        match item_of(alloc, word)? {
-            Some(item) => {
-                self.items.push(item)?;
-                Ok(true)
-            }
-            None => Ok(false),
-        }
-    }
-}
-
-/// The item that a word means, or none.
-fn item_of(alloc: Global, word: &str) -> Result<Option<Item>, AllocError> {
-    match word {
-        "fail" => Ok(Some(Item::Failure)),
-        "no-memory" => Ok(Some(Item::NoMemory)),
-        "empty" => Ok(Some(Item::Datagram(Vec::new(alloc)))),
-        digits => match bytes_of(alloc, digits)? {
-            Some(bytes) => Ok(Some(Item::Datagram(bytes))),
-            None => Ok(None),
-        },
+        Ok(())
     }
 }
 

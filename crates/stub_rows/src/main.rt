@@ -1,10 +1,6 @@
-//! `stub_rows FILE..`: tries each row of the files on the client, its link and whole runs, prints each row that fails with
-//! what came instead, and counts the rows and the failures of each file and of all.
+//! `stub_rows FILE..`: tries each row of the files, as the library `rows` describes, on the client, its link and whole
+//! runs.
 //!
-//! A row is an operation, a blank, its input, ` > ` and the wanted answer. Empty lines, and lines that begin with `#`, are
-//! no rows. The status is 0 where each row holds, 1 where one fails, and 2 where a file can't be read or none is given.
-//!
-//! - `rows`: rows and their counts; `notation`: how a row writes long and multi-line texts; `hex`: bytes in text;
 //! - `operation`: the operations by their words; `list_link`: a link that brings what a row lists; `question`: the parts
 //!   of a row; `asking`, `linking`: asking over a link; `running`, `playing`: whole runs; `fault`, `words`: texts, and
 //!   the program's words.
@@ -12,59 +8,32 @@
 
 mod asking;
 mod fault;
-mod hex;
 mod linking;
 mod list_link;
-mod notation;
 mod operation;
 mod playing;
 mod question;
-mod rows;
 mod running;
 mod words;
 
-use rows::{Count, try_rows};
+use rows::{Answer, Notation, Operations};
+use std::alloc::Global;
+use std::io;
 use std::process::ExitCode;
-use std::rt::Files;
-use std::{env, fs, io};
+
+/// The operations on the client, its link and whole runs.
+struct StubOperations;
+
+impl Operations for StubOperations {
+    fn notation(&self) -> Notation {
+        Notation::Escaped
+    }
+
+    fn answer(&self, alloc: Global, word: &str, input: &str) -> Answer {
+        operation::answer(alloc, word, input)
+    }
+}
 
 fn main(rt: HostRuntime) -> io::Result<ExitCode> {
-    // The first argument is the program's name.
-    let arguments: Vec<String> = env::args(&rt)?.collect(rt.alloc())?;
-    if arguments.len() < 2 {
-        eprintln!(rt; "usage: stub_rows FILE..")?;
-        return Ok(ExitCode::from(2));
-    }
-    try_files(&rt, &arguments[1..])
-}
-
-/// Tries the rows of the files, up to the first that can't be read, and prints the counts.
-fn try_files<R: Files + Print + Eprint + AllocGlobal>(
-    rt: &R,
-    paths: &[String],
-) -> io::Result<ExitCode> {
-    let mut total = Count::none();
-    for path in paths {
-        let path = path.as_str();
-        match fs::read_to_string(rt, path) {
-            Ok(text) => total = total.plus(try_file(rt, path, text.as_str())?),
-            Err(error) => {
-                eprintln!(rt; "cannot read {path}: {error}")?;
-                return Ok(ExitCode::from(2));
-            }
-        }
-    }
-    println!(rt; "total: {total}")?;
-    if total.is_clean() {
-        Ok(ExitCode::SUCCESS)
-    } else {
-        Ok(ExitCode::FAILURE)
-    }
-}
-
-/// Tries the rows of a file's text, prints those that fail, and the counts.
-fn try_file<R: Print + AllocGlobal>(rt: &R, path: &str, text: &str) -> io::Result<Count> {
-    let (failures, count) = try_rows(rt.alloc(), path, text)?;
-    println!(rt; "{failures}{path}: {count}")?;
-    Ok(count)
+    rows::run(&rt, &StubOperations)
 }

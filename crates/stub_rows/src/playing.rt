@@ -1,16 +1,14 @@
 //! Whole runs, from two texts to what is printed.
 
-use crate::operation::lacks;
 use dns_names::Name;
-use std::alloc::{AllocError, Global};
+use rows::{Answer, named, split};
+use std::alloc::Global;
 use std::fmt::Write;
 use stub_run::{Event, PlayInput, ScriptText, play, read_script};
 
 /// `play ZONE || SCRIPT`: what a run prints, and behind it the line of its fault.
-pub(crate) fn played(alloc: Global, input: &str) -> Result<String, AllocError> {
-    let Some((zone, script)) = input.split_once(" || ") else {
-        return lacks(alloc, "a zone and a script");
-    };
+pub(crate) fn played(alloc: Global, input: &str) -> Answer {
+    let (zone, script) = split(input, " || ", "a zone and a script")?;
     let input = PlayInput {
         zone: String::from_str(alloc, zone)?,
         script: String::from_str(alloc, script)?,
@@ -25,24 +23,24 @@ pub(crate) fn played(alloc: Global, input: &str) -> Result<String, AllocError> {
 }
 
 /// `play-size ZONE || SCRIPT`: the first line that a run prints, the last one, and how many there are.
-pub(crate) fn play_size(alloc: Global, input: &str) -> Result<String, AllocError> {
+pub(crate) fn play_size(alloc: Global, input: &str) -> Answer {
     let text = played(alloc, input)?;
     let first = text.lines().next().unwrap_or("");
     let last = text.lines().last().unwrap_or("");
     let lines = text.lines().count();
-    format!(in alloc; "{first} .. {last}, {lines} lines")
+    Ok(format!(in alloc; "{first} .. {last}, {lines} lines")?)
 }
 
 /// `script TEXT`: how many events a script has, and each with its line, or the fault.
-pub(crate) fn script(alloc: Global, text: &str) -> Result<String, AllocError> {
+pub(crate) fn script(alloc: Global, text: &str) -> Answer {
     match read_script(alloc, text, &Name::root(alloc)) {
         Ok(script) => script_text(alloc, &script),
-        Err(fault) => format!(in alloc; "{fault:?}"),
+        Err(fault) => named(alloc, fault),
     }
 }
 
 /// A script in one line.
-fn script_text(alloc: Global, script: &ScriptText) -> Result<String, AllocError> {
+fn script_text(alloc: Global, script: &ScriptText) -> Answer {
     let count = script.events.len();
     let mut text = format!(in alloc; "{count} events")?;
     for (line, event) in script.lines.iter().zip(script.events.iter()) {

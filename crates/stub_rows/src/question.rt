@@ -3,50 +3,43 @@
 use dns_messages::{Query, Record};
 use dns_names::Name;
 use dns_wire::RecordType;
+use rows::{RowFault, parsed, two_words};
 use std::alloc::{AllocError, Global};
 use std::fmt::Write;
 
-/// The question of a name and a type, or none where one of these is no such thing.
-pub(crate) fn question_of(alloc: Global, text: &str) -> Result<Option<Query>, AllocError> {
-    let Some((name, kind)) = text.split_once(' ') else {
-        return Ok(None);
-    };
-    let Some(kind) = type_of(kind) else {
-        return Ok(None);
-    };
-    match Name::from_ascii(alloc, name) {
-        Ok(name) => Ok(Some(Query::query(name, kind))),
-        Err(_) => Ok(None),
+/// The question of a name and a type.
+pub(crate) fn question_of(alloc: Global, text: &str) -> Result<Query, RowFault> {
+    let (name, kind) = two_words(text)?;
+    let kind = type_of(kind)?;
+    Ok(Query::query(name_of(alloc, name)?, kind))
+}
+
+/// The name that a text spells.
+pub(crate) fn name_of(alloc: Global, text: &str) -> Result<Name, RowFault> {
+    match Name::from_ascii(alloc, text) {
+        Ok(name) => Ok(name),
+        Err(_) => Err(RowFault::Lacks("a name")),
     }
 }
 
 /// The type of a text, in any case. `?1` is `Unknown(1)`, which a program may make.
-pub(crate) fn type_of(text: &str) -> Option<RecordType> {
-    if let Some(number) = text.strip_prefix('?') {
-        return match number.parse::<u16>() {
-            Ok(number) => Some(RecordType::Unknown(number)),
-            Err(_) => None,
-        };
-    }
-    match text.parse::<RecordType>() {
-        Ok(kind) => Some(kind),
-        Err(_) => None,
+pub(crate) fn type_of(text: &str) -> Result<RecordType, RowFault> {
+    match text.strip_prefix('?') {
+        Some(number) => Ok(RecordType::Unknown(parsed::<u16>(number)?)),
+        None => parsed::<RecordType>(text),
     }
 }
 
-/// Numbers that commas part, or none where one of them is none; `-` is the empty list.
-pub(crate) fn ids_of(alloc: Global, text: &str) -> Result<Option<Vec<u16>>, AllocError> {
+/// Numbers that commas part; `-` is the empty list.
+pub(crate) fn ids_of(alloc: Global, text: &str) -> Result<Vec<u16>, RowFault> {
     let mut ids = Vec::new(alloc);
     if text == "-" {
-        return Ok(Some(ids));
+        return Ok(ids);
     }
     for word in text.split(',') {
-        let Ok(id) = word.parse::<u16>() else {
-            return Ok(None);
-        };
-        ids.push(id)?;
+        ids.push(parsed::<u16>(word)?)?;
     }
-    Ok(Some(ids))
+    Ok(ids)
 }
 
 /// Each record behind a blank, as a zone's text has it.

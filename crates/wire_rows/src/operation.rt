@@ -19,8 +19,7 @@ mod sentences;
 mod writes;
 mod zone_text;
 
-use crate::answer::Answer;
-use crate::fault::RowFault;
+use rows::{Answer, RowFault};
 use std::alloc::Global;
 
 /// The answer of the operation with this word.
@@ -49,19 +48,13 @@ pub(crate) fn answer(alloc: Global, word: &str, input: &str) -> Answer {
 fn name_answer(alloc: Global, word: &str, input: &str) -> Answer {
     match word {
         "name" => names::printed(alloc, input),
-        "ascii" => names::ascii(alloc, input),
         "relaxed" => names::relaxed(alloc, input),
-        "debug" => names::debug(alloc, input),
-        "debug-lower" => names::debug_lower(alloc, input),
-        "lower" => names::lower(alloc, input),
-        "lower-name" => names::lower_name(alloc, input),
-        "base" => names::base(alloc, input),
+        "ascii" | "debug" | "lower" | "base" | "star" => names::of_name(alloc, word, input),
+        "debug-lower" | "lower-name" | "lower-copy" | "lower-base" | "lower-star" => {
+            names::of_lower_name(alloc, word, input)
+        }
         "trim" => names::trim(alloc, input),
-        "star" => names::star(alloc, input),
-        "lower-copy" => names::lower_copy(alloc, input),
         "into-name" => names::converted(alloc, input),
-        "lower-base" => names::lower_base(alloc, input),
-        "lower-star" => names::lower_star(alloc, input),
         "sizes" => names::sizes(alloc, input),
         "name-is" => names::kinds(alloc, input),
         "prepend" => joins::prepend(alloc, input),

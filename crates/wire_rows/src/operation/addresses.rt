@@ -1,11 +1,9 @@
 //! Addresses in text, reverse names, and the zones of special use.
 
 use super::names::name_of;
-use crate::answer::{Answer, made_or_none, named, text};
-use crate::fault::RowFault;
-use crate::row::{parsed, two_words};
 use dns_names::{AddrPrefix, Name};
 use dns_text::{IntoName, ZoneUsage, usage};
+use rows::{Answer, RowFault, made_or_none, named, parsed, text, two_words};
 use std::alloc::Global;
 use std::net::IpAddr;
 

@@ -1,10 +1,8 @@
 //! Types, classes and serial numbers, and decimal numbers in text.
 
-use crate::answer::{Answer, made_or_none, named};
-use crate::fault::RowFault;
-use crate::row::{parsed, push_answer, two_words};
 use dns_codes::parse_decimal;
 use dns_wire::{DNSClass, RecordType, SerialNumber};
+use rows::{Answer, RowFault, made_or_none, named, parsed, push_answer, two_words};
 use std::alloc::Global;
 
 /// `type TEXT`: the type that a text names and its number, or the refusal.

@@ -1,10 +1,8 @@
 //! Names that are made of two parts.
 
 use super::names::name_of;
-use crate::answer::{Answer, made};
-use crate::hex::bytes_of;
-use crate::row::two_words;
 use dns_names::{Name, ParseError};
+use rows::{Answer, bytes_of, made, two_words};
 use std::alloc::Global;
 
 /// `prepend LABEL NAME`: the name with a label of text at its left, or the refusal.

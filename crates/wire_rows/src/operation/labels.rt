@@ -1,10 +1,7 @@
 //! Labels.
 
-use crate::answer::{Answer, made, named, shown};
-use crate::fault::RowFault;
-use crate::hex::bytes_of;
-use crate::row::two_words;
 use dns_names::{CaseInsensitive, CaseSensitive, IntoLabel, Label, ParseError};
+use rows::{Answer, RowFault, bytes_of, made, named, shown, two_words};
 use std::alloc::Global;
 
 /// The label of a text, where the operation is not about its refusals.

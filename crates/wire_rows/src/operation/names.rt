@@ -1,10 +1,8 @@
 //! Names that are made of one text.
 
-use crate::answer::{Answer, made, named, shown};
-use crate::fault::RowFault;
-use crate::row::{parsed, push_answer, two_words};
 use dns_names::{LowerName, Name};
 use dns_text::IntoName;
+use rows::{Answer, RowFault, made, named, parsed, push_answer, shown, two_words};
 use std::alloc::Global;
 
 /// The name that a text spells, where the operation is not about its refusals.
@@ -25,34 +23,35 @@ pub(crate) fn relaxed(alloc: Global, text: &str) -> Answer {
     made(alloc, Name::from_str_relaxed(alloc, text))
 }
 
-/// `ascii TEXT`: the name as `to_ascii` prints it.
-pub(crate) fn ascii(alloc: Global, text: &str) -> Answer {
-    Ok(name_of(alloc, text)?.to_ascii()?)
+/// `ascii|debug|lower|base|star TEXT`: the name as `to_ascii` prints it, or as it is printed for a developer; in lower
+/// case, the name above, or with `*` in place of its first label.
+pub(crate) fn of_name(alloc: Global, word: &str, text: &str) -> Answer {
+    let name = name_of(alloc, text)?;
+    match word {
+        "ascii" => Ok(name.to_ascii()?),
+        "debug" => named(alloc, name),
+        "lower" => Ok(name.to_lowercase()?.to_ascii()?),
+        "base" => Ok(name.base_name()?.to_ascii()?),
+        _ => Ok(name.into_wildcard()?.to_ascii()?),
+    }
 }
 
-/// `debug TEXT`: the name as it is printed for a developer.
-pub(crate) fn debug(alloc: Global, text: &str) -> Answer {
-    named(alloc, name_of(alloc, text)?)
-}
-
-/// `debug-lower TEXT`: the lower-case name as it is printed for a developer.
-pub(crate) fn debug_lower(alloc: Global, text: &str) -> Answer {
-    named(alloc, lower_of(alloc, text)?)
+/// `debug-lower|lower-name|lower-copy|lower-base|lower-star TEXT`: the lower-case name as it is printed for a developer,
+/// and printed; a copy of it, the name above, or with `*` in place of its first label.
+pub(crate) fn of_lower_name(alloc: Global, word: &str, text: &str) -> Answer {
+    let name = lower_of(alloc, text)?;
+    match word {
+        "debug-lower" => named(alloc, name),
+        "lower-name" => shown(alloc, name),
+        "lower-copy" => shown(alloc, Clone::clone(&name)?),
+        "lower-base" => shown(alloc, name.base_name()?),
+        _ => shown(alloc, name.into_wildcard()?),
+    }
 }
 
 /// The lower-case name that a text spells.
 fn lower_of(alloc: Global, text: &str) -> Result<LowerName, RowFault> {
     Ok(LowerName::new(&name_of(alloc, text)?)?)
-}
-
-/// `lower TEXT`: the name in lower case.
-pub(crate) fn lower(alloc: Global, text: &str) -> Answer {
-    Ok(name_of(alloc, text)?.to_lowercase()?.to_ascii()?)
-}
-
-/// `base TEXT`: the name above.
-pub(crate) fn base(alloc: Global, text: &str) -> Answer {
-    Ok(name_of(alloc, text)?.base_name()?.to_ascii()?)
 }
 
 /// `into-name str|string|own|loan|copy TEXT`: what a name is made of, printed, or the refusal.
@@ -78,31 +77,6 @@ pub(crate) fn trim(alloc: Global, input: &str) -> Answer {
     let (count, text) = two_words(input)?;
     let count = parsed::<usize>(count)?;
     Ok(name_of(alloc, text)?.trim_to(count)?.to_ascii()?)
-}
-
-/// `star TEXT`: the name with `*` in place of its first label.
-pub(crate) fn star(alloc: Global, text: &str) -> Answer {
-    Ok(name_of(alloc, text)?.into_wildcard()?.to_ascii()?)
-}
-
-/// `lower-name TEXT`: the lower-case name, printed.
-pub(crate) fn lower_name(alloc: Global, text: &str) -> Answer {
-    shown(alloc, lower_of(alloc, text)?)
-}
-
-/// `lower-copy TEXT`: a copy of the lower-case name.
-pub(crate) fn lower_copy(alloc: Global, text: &str) -> Answer {
-    shown(alloc, Clone::clone(&lower_of(alloc, text)?)?)
-}
-
-/// `lower-base TEXT`: the name above the lower-case name.
-pub(crate) fn lower_base(alloc: Global, text: &str) -> Answer {
-    shown(alloc, lower_of(alloc, text)?.base_name()?)
-}
-
-/// `lower-star TEXT`: the lower-case name with `*` in place of its first label.
-pub(crate) fn lower_star(alloc: Global, text: &str) -> Answer {
-    shown(alloc, lower_of(alloc, text)?.into_wildcard()?)
 }
 
 /// `sizes TEXT`: how many labels the name counts, how many it has, its length without and with the root's byte.

@@ -1,10 +1,7 @@
 //! Numbers on the wire, each as a value of its own.
 
-use crate::answer::{Answer, made, named};
-use crate::fault::RowFault;
-use crate::hex::{bytes_of, hex_of};
-use crate::row::{parsed, two_words};
 use dns_wire::{BinDecodable, BinEncodable};
+use rows::{Answer, RowFault, bytes_of, hex_of, made, named, parsed, two_words};
 use std::alloc::Global;
 
 /// `encode u8|u16|u32|i32 NUMBER`: the bytes of a number.

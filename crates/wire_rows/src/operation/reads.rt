@@ -1,11 +1,11 @@
 //! Scripts of a decoder: reads one after another, from the same bytes.
 
-use crate::answer::{Answer, made, made_or_none, named, shown};
-use crate::fault::RowFault;
-use crate::hex::{bytes_of, hex_of};
-use crate::row::{parsed, push_answer, word_and_rest};
 use dns_names::Name;
 use dns_wire::{BinDecodable, BinDecoder, DecodeError};
+use rows::{
+    Answer, RowFault, bytes_of, hex_of, made, made_or_none, named, parsed, push_answer, shown,
+    word_and_rest,
+};
 use std::alloc::Global;
 
 /// `read HEX; STEP; ..`: the answers of the steps, from the front of the bytes.
@@ -66,7 +66,7 @@ fn look(alloc: Global, decoder: &BinDecoder<'_>, word: &str) -> Answer {
         "index" => shown(alloc, decoder.index()),
         "len" => shown(alloc, decoder.len()),
         "empty" => shown(alloc, decoder.is_empty()),
-        _ => Err(RowFault::UnknownStep),
+        _ => Err(RowFault::Lacks("a known step")),
     }
 }
 

@@ -1,9 +1,8 @@
 //! Two names, compared.
 
 use super::names::name_of;
-use crate::answer::{Answer, named, shown};
-use crate::row::two_words;
 use dns_names::Name;
+use rows::{Answer, named, shown, two_words};
 use std::alloc::Global;
 
 /// `order|order-case|equal|equal-case|equal-labels|equal-labels-case|zone|zone-case NAME OTHER`: how the first name

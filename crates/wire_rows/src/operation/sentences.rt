@@ -1,12 +1,10 @@
 //! What refusals print.
 
-use crate::answer::{Answer, shown};
-use crate::fault::RowFault;
-use crate::row::{parsed, word_and_rest};
 use dns_codes::CodeTextError;
 use dns_names::ParseError;
 use dns_text::LexerError;
 use dns_wire::{DecodeError, EncodeError, ProtoError};
+use rows::{Answer, RowFault, parsed, shown, word_and_rest};
 use std::alloc::Global;
 
 /// `decode-error NAME`

@@ -4,11 +4,11 @@ ghost use Rattle.std.specs.Prelude.{◌≤◌, length, IfOk};
 ghost use Rattle.dns_wire.specs.Encoder.{state_of};
 
 use super::names::name_of;
-use crate::answer::{Answer, made_or_none, named, shown};
-use crate::fault::RowFault;
-use crate::hex::{bytes_of, hex_of};
-use crate::row::{parsed, push_answer, two_words, word_and_rest};
 use dns_wire::{BinEncodable, BinEncoder, NameEncoding, Place, ProtoError, RDataEncoding};
+use rows::{
+    Answer, RowFault, bytes_of, hex_of, made_or_none, named, parsed, push_answer, shown, two_words,
+    word_and_rest,
+};
 use std::alloc::Global;
 use std::fmt::Debug;
 
@@ -104,7 +104,7 @@ fn look(alloc: Global, encoder: &BinEncoder<'_>, word: &str, input: &str) -> Ans
         "empty" => shown(alloc, encoder.is_empty()),
         "is-canonical" => shown(alloc, encoder.is_canonical_form()),
         "encoding" => named(alloc, encoder.name_encoding()),
-        _ => Err(RowFault::UnknownStep),
+        _ => Err(RowFault::Lacks("a known step")),
     }
 }
 
@@ -172,7 +172,7 @@ fn emit_late(encoder: &mut BinEncoder<'_>, bytes: &[u8], size: u16) -> Result<()
 fn write_name(alloc: Global, encoder: &mut BinEncoder<'_>, text: &str) -> Answer {
     let name = name_of(alloc, text)?;
     if encoder.offset() != encoder.len() {
-        return Err(RowFault::NotAtEnd);
+        return Err(RowFault::Lacks("a step to the end of the buffer"));
     }
     wrote(alloc, name.emit(encoder))
 }

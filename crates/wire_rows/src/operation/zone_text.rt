@@ -1,9 +1,7 @@
 //! Tokens and times of a zone's text.
 
-use crate::answer::{Answer, made, named};
-use crate::fault::RowFault;
-use crate::row::push_answer;
 use dns_text::{Lexer, LexerError, Token, parse_ttl};
+use rows::{Answer, RowFault, made, named, push_answer};
 use std::alloc::Global;
 use std::str;
 
