@@ -131,7 +131,8 @@ fn items(alloc: Global) -> Result<Vec<RData>> {
 /// The encoding of each data.
 fn encodings(alloc: Global) -> Result<Vec<Vec<u8>>> {
     let mut encodings = Vec::new(alloc);
-    for rdata in items(alloc)? {
+    let items = items(alloc)?;
+    for rdata in items.iter() {
         encodings.push(rdata.to_bytes(alloc)?)?;
     }
     Ok(encodings)

@@ -9,8 +9,13 @@ use std::alloc::Global;
 pub(crate) fn same(alloc: Global, input: &str) -> Answer {
     let (one, other) = split(input, " | ", "other data")?;
     let one = item_of(alloc, one)?;
-    let other = item_of(alloc, other)?;
-    shown(alloc, one == other)
+    compared(alloc, &one, other)
+}
+
+/// Whether data is equal to the data of a text.
+fn compared(alloc: Global, one: &RData, text: &str) -> Answer {
+    let other = item_of(alloc, text)?;
+    shown(alloc, *one == other)
 }
 
 /// `address DATA`: the address that data is, or `none`.
@@ -22,14 +27,19 @@ pub(crate) fn address(alloc: Global, input: &str) -> Answer {
 /// `held DATA`: the type of data, as it is borrowed by that type, and `update` for absent data.
 pub(crate) fn held(alloc: Global, input: &str) -> Answer {
     let rdata = item_of(alloc, input)?;
+    held_types(alloc, &rdata)
+}
+
+/// The type of data, as it is borrowed by that type, and `update` for absent data.
+fn held_types(alloc: Global, rdata: &RData) -> Answer {
     let mut answers = String::new(alloc);
-    push_name_types(alloc, &mut answers, &rdata)?;
-    push_held::<A>(alloc, &mut answers, &rdata)?;
-    push_held::<AAAA>(alloc, &mut answers, &rdata)?;
-    push_held::<SOA>(alloc, &mut answers, &rdata)?;
-    push_held::<TXT>(alloc, &mut answers, &rdata)?;
-    push_held::<OPT>(alloc, &mut answers, &rdata)?;
-    if RecordData::is_update(&rdata) {
+    push_name_types(alloc, &mut answers, rdata)?;
+    push_held::<A>(alloc, &mut answers, rdata)?;
+    push_held::<AAAA>(alloc, &mut answers, rdata)?;
+    push_held::<SOA>(alloc, &mut answers, rdata)?;
+    push_held::<TXT>(alloc, &mut answers, rdata)?;
+    push_held::<OPT>(alloc, &mut answers, rdata)?;
+    if RecordData::is_update(rdata) {
         push_answer(&mut answers, "update")?;
     }
     Ok(answers)
