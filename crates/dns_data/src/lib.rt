@@ -10,6 +10,7 @@ mod record_data;
 mod text;
 mod wire;
 
+pub use dns_text::{parse_ip, write_ip};
 pub use error::RDataParseError;
 pub use octets::{CharacterString, Octets, OptionData, TooLong};
 pub use rdata::{A, AAAA, CNAME, EdnsOption, MX, NS, OPT, PTR, RData, SOA, SRV, TXT};
