@@ -46,7 +46,7 @@ pub struct BinEncoder<'a> {
 }
 
 impl<'a> BinEncoder<'a> {
-    ghost use Rattle.std.specs.Prelude.{◌≡◌, vec_len, ◌+◌, ◌<◌, ◌≤◌, ◌↔◌, ◌⊎◌, nat_lt, if◌then◌else◌, [], ◌∷◌, false, length, replicate, slice_range, IsTrue, IfErr, OnOk, OnErr};
+    ghost use Rattle.std.specs.Prelude.{◌≡◌, vec_len, ◌+◌, ◌<◌, ◌≤◌, ◌↔◌, ◌⊎◌, nat_lt, if◌then◌else◌, [], ◌∷◌, ◌++◌, false, length, replicate, slice_range, IsTrue, IfOk, IfErr, OnOk, OnErr, None};
     ghost use Rattle.std.specs.Int.{w16, w32, to_be_bytes, cast_unsigned};
     ghost use Rattle.dns_wire.specs.Encoder.{max_message_len, max_compressed_names, max_character_string_len, state_of, overwrite_at, put_at, place_of, remember, trim_to_offset, IsAtEnd, CanRollBack};
     ghost use Rattle.dns_wire.specs.Encodable.{Plain, Emits, Puts, PutsCharacterString};
@@ -191,10 +191,26 @@ impl<'a> BinEncoder<'a> {
         if bytes.len() > self.max_size || offset > self.max_size - bytes.len() {
             return Err(EncodeError::MaxBufferSizeExceeded);
         }
+        if offset == self.buffer.len() {
+            self.buffer.extend_from_slice(bytes)?;
+        } else {
+            self.overwrite(bytes)?;
+        }
+        self.offset = offset + bytes.len();
+        Ok(())
+    }
+
+    /// Overwrites the bytes at the offset, and extends the buffer past its end. The offset stays.
+    fn overwrite(&mut self, bytes: &[u8]) -> Result<(), AllocError>
+        ensures ok { OnOk result (state_of self.new ≡ record (state_of self.old) {
+          bytes = put_at (state_of self.old).offset bytes.now (state_of self.old).bytes;
+        }) }
+        ensures err { OnErr result (state_of self.new ≡ state_of self.old) }
+    {
+        let offset = self.offset;
         let over = bytes.len().min(self.buffer.len() - offset);
         self.buffer.extend_from_slice(&bytes[over..])?;
         self.buffer[offset..offset + over].copy_from_slice(&bytes[..over]);
-        self.offset = offset + bytes.len();
         Ok(())
     }
 
@@ -246,8 +262,29 @@ impl<'a> BinEncoder<'a> {
         if !self.has_room(bytes.len() + 1) {
             return Err(EncodeError::MaxBufferSizeExceeded);
         }
+        if self.offset == self.buffer.len() {
+            self.append_character_data(bytes)?;
+            return Ok(());
+        }
         self.emit_u8(bytes.len() as u8)?;
         self.emit_vec(bytes)
+    }
+
+    /// Appends a length byte and at most 255 bytes, or nothing. The offset must be at the end of the buffer.
+    fn append_character_data(&mut self, bytes: &[u8]) -> Result<(), AllocError>
+        requires at_end { IsAtEnd (state_of self.old) }
+        requires short { length bytes.now < 256 }
+        ensures ok { OnOk result (state_of self.new ≡ record (state_of self.old) {
+          bytes = (state_of self.old).bytes ++ length bytes.now ∷ bytes.now;
+          offset = (state_of self.old).offset + (1 + length bytes.now);
+        }) }
+        ensures err { OnErr result (state_of self.new ≡ state_of self.old) }
+    {
+        self.buffer.reserve(1 + bytes.len())?;
+        self.buffer.push(bytes.len() as u8)?;
+        self.buffer.extend_from_slice(bytes)?;
+        self.offset = self.buffer.len();
+        Ok(())
     }
 
     /// Writes a character string: a length byte and the bytes (RFC 1035 section 3.3). More than 255 bytes are refused.
@@ -342,10 +379,49 @@ impl<'a> BinEncoder<'a> {
         }) }
         ensures err { OnErr result (state_of self.new ≡ state_of self.old) }
     {
-        if start >= SUFFIX_OFFSET_LIMIT || self.suffixes.len() >= MAX_SUFFIXES {
-            return Ok(());
+        self.find_or_store_label_pointer(start, end)?;
+        Ok(())
+    }
+
+    /// Returns the offset of the first remembered suffix that equals a range of the buffer, like `get_label_pointer`. If
+    /// there is none, remembers the range as a suffix, like `store_label_pointer`. The range must be within the buffer,
+    /// with `start <= end`.
+    pub fn find_or_store_label_pointer(
+        &mut self,
+        start: usize,
+        end: usize,
+    ) -> Result<Option<u16>, AllocError>
+        requires order { start ≤ end }
+        requires within { end ≤ length (state_of self.old).bytes }
+        ensures found { IfOk result (λ found. found ≡ place_of (state_of self.old).suffixes
+            (slice_range (state_of self.old).bytes start end)) }
+        ensures ok { OnOk result (state_of self.new ≡ record (state_of self.old) {
+          suffixes = remember (state_of self.old).suffixes start
+              (slice_range (state_of self.old).bytes start end);
+        }) }
+        ensures err { OnErr result (state_of self.new ≡ state_of self.old) }
+    {
+        let found = self.get_label_pointer(start, end);
+        if found.is_none() {
+            self.push_suffix(start, end)?;
         }
-        if self.get_label_pointer(start, end).is_some() {
+        Ok(found)
+    }
+
+    /// Remembers a range of the buffer that equals no remembered suffix, unless it starts at 0x3FFF or later, or 64
+    /// suffixes are remembered.
+    fn push_suffix(&mut self, start: usize, end: usize) -> Result<(), AllocError>
+        requires order { start ≤ end }
+        requires within { end ≤ length (state_of self.old).bytes }
+        requires fresh { place_of (state_of self.old).suffixes
+            (slice_range (state_of self.old).bytes start end) ≡ None }
+        ensures ok { OnOk result (state_of self.new ≡ record (state_of self.old) {
+          suffixes = remember (state_of self.old).suffixes start
+              (slice_range (state_of self.old).bytes start end);
+        }) }
+        ensures err { OnErr result (state_of self.new ≡ state_of self.old) }
+    {
+        if start >= SUFFIX_OFFSET_LIMIT || self.suffixes.len() >= MAX_SUFFIXES {
             return Ok(());
         }
         let bytes = Vec::from_slice(*self.suffixes.allocator(), &self.buffer[start..end])?;
