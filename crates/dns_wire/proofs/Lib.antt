@@ -1,4 +1,5 @@
 pub mod SuffixLaws
+pub mod StoredLaws
 pub mod ElementLaws
 pub mod ReadingLaws
 pub mod NameLaws

@@ -1,6 +1,6 @@
 -- Remembered suffixes: those that begin before a place, where bytes are remembered, and what holds of each of them.
 use Rattle.std.proofs.Common.{◌≡◌, ℕ, Bool, true, false, cond, ltb, List, [], ◌∷◌, ◌++◌, ◌<◌, ◌≤◌, length, Some, refl, ap, subst, ◌∙◌, arith}
-use Rattle.std.specs.Prelude.{map, filter, is_none, ◌&&◌}
+use Rattle.std.specs.Prelude.{filter, is_none, ◌&&◌}
 use Rattle.std.specs.List.{AllByRecursion, items_where_true}
 use Rattle.std.specs.Str.{bytes_eq}
 use Rattle.std.specs.List.Retain.{IsFiltered, ReturnsInTurn}
@@ -8,18 +8,7 @@ use Rattle.std.proofs.lemmas.Bool.{le-ltb, ltb-true, ltb-false, false_from_ne_tr
 use Rattle.std.proofs.lemmas.List.{append-nil}
 use Rattle.std.proofs.lemmas.List.Elements.{filter-append}
 use Rattle.std.proofs.lemmas.Slice.Eq.{bytes_eq-Decides}
-use Rattle.dns_wire.specs.declared.encoder.Suffix as code
-use Rattle.dns_wire.specs.Encoder.{Suffix, suffix_of, suffixes_before, place_of, remember}
-
--- choosing among the code's suffixes is choosing among what contracts see of them
-pub map-suffixes_before : (place : ℕ) (xs : List code.Suffix) → map suffix_of (filter (λ s. ltb s.start place) xs) ≡ suffixes_before place (map suffix_of xs)
-map-suffixes_before place [] = refl
-map-suffixes_before place (x ∷ xs) = at (ltb x.start place) (map-suffixes_before place xs)
-  where
-    at : (b : Bool) → map suffix_of (filter (λ s. ltb s.start place) xs) ≡ suffixes_before place (map suffix_of xs)
-        → map suffix_of (cond b (x ∷ filter (λ s. ltb s.start place) xs) (filter (λ s. ltb s.start place) xs)) ≡ cond b (suffix_of x ∷ suffixes_before place (map suffix_of xs)) (suffixes_before place (map suffix_of xs))
-    at true more = ap (λ (ss : List Suffix). suffix_of x ∷ ss) more
-    at false more = more
+use Rattle.dns_wire.specs.Encoder.{Suffix, suffixes_before, place_of, remember}
 
 -- those before an earlier place are among those before a later one
 pub suffixes_before-before : (place later : ℕ) (suffixes : List Suffix) → place ≤ later → suffixes_before place (suffixes_before later suffixes) ≡ suffixes_before place suffixes
@@ -112,6 +101,15 @@ remember-agree n old now place bytes le agree = at (ltb place 16383 && (ltb (len
     at : (b : Bool) → AgreeBelow n old (cond b (now ++ record { start = place; bytes = bytes } ∷ []) now)
     at true = λ sought lt. place_of-push now (record { start = place; bytes = bytes }) sought (omega arith) ∙ agree sought lt
     at false = agree
+
+-- bytes that are remembered are not remembered again
+pub remember-found : (suffixes : List Suffix) (place : ℕ) (bytes : List ℕ) (target : ℕ) → place_of suffixes bytes ≡ Some target → remember suffixes place bytes ≡ suffixes
+remember-found suffixes place bytes target found = rw found (at (ltb place 16383) (ltb (length suffixes) 64))
+  where
+    at : (near room : Bool) → cond (near && (room && is_none (Some target))) (suffixes ++ record { start = place; bytes = bytes } ∷ []) suffixes ≡ suffixes
+    at true true = refl
+    at true false = refl
+    at false room = refl
 
 -- ---- what `retain` leaves, where the closure stays as it is and answers by a test
 

@@ -1,9 +1,8 @@
 -- What contracts see of a `BinEncoder`.
-use Rattle.std.specs.Prelude.{◌≡◌, ℕ, ◌+◌, ◌≤◌, Bool, ◌&&◌, if◌then◌else◌, List, [], ◌∷◌, ◌++◌, length, take, drop, map, nat_lt, filter, Option, Some, None, is_none}
-use Rattle.std.specs.Str.{bytes_eq}
+use Rattle.std.specs.Prelude.{◌≡◌, ℕ, ◌+◌, ◌≤◌, Bool, ◌&&◌, if◌then◌else◌, List, [], ◌∷◌, ◌++◌, length, take, drop, nat_lt, is_none}
 use Rattle.std.specs.Borrow.{GName}
 use Rattle.dns_wire.specs.declared.encoder.BinEncoder.{BinEncoder}
-use Rattle.dns_wire.specs.declared.encoder.Suffix as code
+pub use Rattle.dns_wire.specs.Suffixes.{Suffix, suffixes_before, place_of}
 use Rattle.dns_wire.specs.declared.name_encoding.NameEncoding.{NameEncoding}
 
 -- ---- limits
@@ -30,11 +29,6 @@ max_character_string_len = 255
 
 -- ---- state
 
--- a suffix of a name that was written: its offset, and its labels in uncompressed form
-pub record Suffix : Type 0 where
-  pub start : ℕ
-  pub bytes : List ℕ
-
 -- The state of an encoder: the buffer, the offset of the next byte, the maximum size of the buffer, how names are
 -- encoded, whether record data has its canonical form, the remembered suffixes in order, how many names it has tried to
 -- compress, and the identity of the borrowed vector.
@@ -48,9 +42,6 @@ pub record EncoderState : Type 0 where
   pub attempts : ℕ
   pub lender : GName
 
-abbrev pub suffix_of : code.Suffix → Suffix
-suffix_of s = record { start = s.start; bytes = s.bytes.items }
-
 abbrev pub state_of : BinEncoder → EncoderState
 state_of e = record {
   bytes = e.buffer.now.items;
@@ -58,7 +49,7 @@ state_of e = record {
   limit = e.max_size;
   encoding = e.name_encoding;
   canonical = e.canonical_form;
-  suffixes = map suffix_of e.suffixes.items;
+  suffixes = e.suffixes;
   attempts = e.attempts;
   lender = e.buffer.ghost_name;
 }
@@ -78,16 +69,6 @@ abbrev pub overwrite_at : EncoderState → List ℕ → EncoderState
 overwrite_at w more = record w { bytes = put_at w.offset more w.bytes; offset = w.offset + length more }
 
 -- ---- remembered suffixes
-
--- the suffixes that begin before a place
-abbrev pub suffixes_before : ℕ → List Suffix → List Suffix
-suffixes_before place suffixes = filter (λ s. nat_lt s.start place) suffixes
-
--- the offset of the first suffix with these bytes
-abbrev pub place_of : List Suffix → List ℕ → Option ℕ
-place_of [] bytes = None
-place_of (suffix ∷ suffixes) bytes =
-    if bytes_eq suffix.bytes bytes then Some suffix.start else place_of suffixes bytes
 
 -- The suffixes after remembering bytes at an offset. Nothing changes if the bytes are remembered already, if they start
 -- at 0x3FFF or later, or if the list is full.

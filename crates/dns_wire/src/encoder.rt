@@ -5,6 +5,7 @@ ghost use Rattle.std.specs.Prelude.{◌≡◌, ◌≤◌, vec_len, filter, nat_l
 use crate::encodable::EncodedSize;
 use crate::error::{EncodeError, ProtoError};
 use crate::name_encoding::NameEncoding;
+use crate::suffixes::Suffixes;
 use std::alloc::{AllocError, Global};
 
 /// The maximum size of a message (RFC 1035 section 4.2.2).
@@ -22,13 +23,6 @@ const MAX_COMPRESSED_NAMES: usize = 120;
 /// The maximum length of a character string (RFC 1035 section 3.3).
 const MAX_CHARACTER_STRING_LEN: usize = 255;
 
-/// A suffix of a name that was written, which a compression pointer can refer to.
-#[derive(Drop)]
-pub struct Suffix {
-    start: u16,
-    bytes: Vec<u8>,
-}
-
 /// An encoder over a borrowed buffer.
 ///
 /// Names are compressed with pointers to the suffixes that it remembers (RFC 1035 section 4.1.4).
@@ -39,7 +33,7 @@ pub struct BinEncoder<'a> {
     max_size: usize,
     name_encoding: NameEncoding,
     canonical_form: bool,
-    suffixes: Vec<Suffix>,
+    suffixes: Suffixes,
     attempts: usize,
     ghost within: { offset ≤ vec_len buffer.now },
     ghost small: { max_size ≤ 65535 },
@@ -94,7 +88,7 @@ impl<'a> BinEncoder<'a> {
             max_size: MAX_MESSAGE_LEN,
             name_encoding,
             canonical_form: false,
-            suffixes: Vec::new(alloc),
+            suffixes: Suffixes::new(alloc),
             attempts: 0,
         }
     }
@@ -321,7 +315,7 @@ impl<'a> BinEncoder<'a> {
         if !self.has_room(len) {
             return Err(EncodeError::MaxBufferSizeExceeded);
         }
-        let zeros = Vec::from_elem(*self.suffixes.allocator(), 0, len)?;
+        let zeros = Vec::from_elem(self.suffixes.allocator(), 0, len)?;
         self.emit_vec(&zeros)
     }
 
@@ -359,13 +353,7 @@ impl<'a> BinEncoder<'a> {
         ensures { result ≡ place_of (state_of self.now).suffixes
             (slice_range (state_of self.now).bytes start end) }
     {
-        let bytes = self.slice_of(start, end);
-        for suffix in &self.suffixes {
-            if suffix.bytes.as_slice() == bytes {
-                return Some(suffix.start);
-            }
-        }
-        None
+        self.suffixes.find(self.slice_of(start, end))
     }
 
     /// Remembers a range of the buffer as a suffix. Does nothing if it is remembered already, if it starts at 0x3FFF or
@@ -424,12 +412,7 @@ impl<'a> BinEncoder<'a> {
         if start >= SUFFIX_OFFSET_LIMIT || self.suffixes.len() >= MAX_SUFFIXES {
             return Ok(());
         }
-        let bytes = Vec::from_slice(*self.suffixes.allocator(), &self.buffer[start..end])?;
-        self.suffixes.push(Suffix {
-            start: start as u16,
-            bytes,
-        })?;
-        Ok(())
+        self.suffixes.push(start as u16, &self.buffer[start..end])
     }
 
     /// Counts a name that could be compressed, and returns true if it should be: the first 120 are.
@@ -456,13 +439,6 @@ impl<'a> BinEncoder<'a> {
     {
         let offset = self.offset;
         self.buffer.truncate(offset);
-        forget_from(&mut self.suffixes, offset);
+        self.suffixes.forget_from(offset);
     }
-}
-
-/// Forgets the suffixes that start at `place` or later.
-fn forget_from(suffixes: &mut Vec<Suffix>, place: usize)
-    ensures { suffixes.new.items ≡ filter (λ s. nat_lt s.start place) suffixes.old.items }
-{
-    suffixes.retain(move |suffix| usize::from(suffix.start) < place);
 }

@@ -216,12 +216,11 @@ impl Name {
         self.emit_labels(encoder)?;
         let end = encoder.offset();
         for index in 0..self.label_count() {
-            if let Some(target) = encoder.get_label_pointer(place, end) {
+            if let Some(target) = encoder.find_or_store_label_pointer(place, end)? {
                 encoder.set_offset(place);
                 encoder.trim();
                 return encoder.emit_u16(0xC000 | target);
             }
-            encoder.store_label_pointer(place, end)?;
             place += self.label(index).len() + 1;
         }
         encoder.emit(0)
@@ -234,6 +233,5 @@ fn emit_label(label: &[u8], encoder: &mut BinEncoder<'_>) -> Result<(), EncodeEr
     requires is_label { IsLabel label.now }
     ensures { Emits (state_of encoder.old) (label_pieces label.now) result (state_of encoder.new) }
 {
-    encoder.emit_u8(label.len() as u8)?;
-    encoder.emit_vec(label)
+    encoder.emit_character_data_unrestricted(label)
 }

@@ -1,8 +1,9 @@
-use Rattle.std.proofs.Common.{◌≡◌, ◌<◌, ℕ, get_or, length, [], ap, sym, subst, ◌∙◌, arith, Some, None}
+use Rattle.std.proofs.Common.{◌≡◌, ◌<◌, ℕ, get_or, length, [], ap, sym, subst, ◌∙◌, arith, Some, None, List}
 use Rattle.std.specs.Prelude.{slice_get, slice_range}
 use Rattle.std.proofs.lemmas.Result.{on_ok_weaker, on_err_weaker, err_from_is_err_and}
-use Rattle.dns_wire.specs.Encoder.{EncoderState, state_of, place_of, remember, trim_to_offset, CanRollBack}
+use Rattle.dns_wire.specs.Encoder.{Suffix, EncoderState, state_of, place_of, remember, trim_to_offset, CanRollBack}
 use Rattle.dns_wire.specs.Encodable.{position_of}
+use Rattle.dns_wire.proofs.SuffixLaws.{remember-found}
 use Rattle.dns_names.proofs.CutLaws.{slice_get_or}
 use Rattle.dns_names.proofs.EmitLaws.{reach-labels, reach-some_labels, tried-only_labels}
 use Rattle.dns_names.proofs.SeekLaws.{begins, place_within, place_next, at_end, takes_back_trimmed, next, points, pointer_end}
@@ -27,14 +28,11 @@ loop-index-init c =
       end_is = c.offset-end.ensures.value;
     }
 
-pub get_label_pointer-requires-clause-order : goal.get_label_pointer-requires-clause-order
-get_label_pointer-requires-clause-order c = omega (arith, place_within c.requires c.loop-index.invariant.seeking, c.loop-index.invariant.end_is)
+pub find_or_store_label_pointer-requires-clause-order : goal.find_or_store_label_pointer-requires-clause-order
+find_or_store_label_pointer-requires-clause-order c = omega (arith, place_within c.requires c.loop-index.invariant.seeking, c.loop-index.invariant.end_is)
 
 pub set_offset-requires : goal.set_offset-requires
-set_offset-requires c = omega (arith, place_within c.requires c.loop-index.invariant.seeking, at_end c.requires c.loop-index.invariant.seeking)
-
-pub store_label_pointer-requires-clause-order : goal.store_label_pointer-requires-clause-order
-store_label_pointer-requires-clause-order c = omega (arith, place_within c.requires c.loop-index.invariant.seeking, c.loop-index.invariant.end_is)
+set_offset-requires c = omega (arith, place_within c.requires c.loop-index.invariant.seeking, at_end c.requires c.loop-index.invariant.seeking, ap (λ (v : EncoderState). length v.bytes) c.in_ok-target.ensures.ok)
 
 pub overflow_add-place-in-loop-index : goal.overflow_add-place-in-loop-index
 overflow_add-place-in-loop-index c =
@@ -46,11 +44,11 @@ loop-index-preserved c =
     let w = state_of c.loop-index.encoder in
     let so_far = c.loop-index.invariant in
     let end_is : c.offset-end.result ≡ w.offset = so_far.end_is in
-    let none : place_of w.suffixes (slice_range w.bytes c.loop-index.place w.offset) ≡ None = ap (λ (n : ℕ). place_of w.suffixes (slice_range w.bytes c.loop-index.place n)) (sym end_is) ∙ sym c.in_default.ensures in
-    let stored : state_of c.store_label_pointer.new.self ≡ record w { suffixes = remember w.suffixes c.loop-index.place (slice_range w.bytes c.loop-index.place w.offset) } =
-    c.in_ok-store_label_pointer.ensures.ok ∙ ap (λ (n : ℕ). record w { suffixes = remember w.suffixes c.loop-index.place (slice_range w.bytes c.loop-index.place n) }) end_is in
+    let none : place_of w.suffixes (slice_range w.bytes c.loop-index.place w.offset) ≡ None = ap (λ (n : ℕ). place_of w.suffixes (slice_range w.bytes c.loop-index.place n)) (sym end_is) ∙ sym c.in_ok-target.ensures.found ∙ c.in_default.is in
+    let stored : state_of c.find_or_store_label_pointer.new.self ≡ record w { suffixes = remember w.suffixes c.loop-index.place (slice_range w.bytes c.loop-index.place w.offset) } =
+    c.in_ok-target.ensures.ok ∙ ap (λ (n : ℕ). record w { suffixes = remember w.suffixes c.loop-index.place (slice_range w.bytes c.loop-index.place n) }) end_is in
     record {
-      seeking = next c.requires so_far.seeking c.label.result.now c.label.ensures.value (state_of c.store_label_pointer.new.self) none stored;
+      seeking = next c.requires so_far.seeking c.label.result.now c.label.ensures.value (state_of c.find_or_store_label_pointer.new.self) none stored;
       end_is = end_is ∙ sym (ap (λ (v : EncoderState). v.offset) stored);
     }
 
@@ -65,10 +63,17 @@ here c = slice_get_or c.args.self.now.labels c.loop-index.index (within c)
 found : (c : After-emit_u16) → place_of (state_of c.loop-index.encoder).suffixes (slice_range (state_of c.loop-index.encoder).bytes c.loop-index.place (state_of c.loop-index.encoder).offset) ≡ Some c.in-Some.target
 found c =
     let w = state_of c.loop-index.encoder in
-    ap (λ (n : ℕ). place_of w.suffixes (slice_range w.bytes c.loop-index.place n)) (sym c.loop-index.invariant.end_is) ∙ sym c.in-Some.ensures
+    ap (λ (n : ℕ). place_of w.suffixes (slice_range w.bytes c.loop-index.place n)) (sym c.loop-index.invariant.end_is) ∙ sym c.in_ok-target.ensures.found ∙ c.in-Some.is
+
+-- what is remembered already is not remembered again
+stays : (c : After-emit_u16) → state_of c.find_or_store_label_pointer.new.self ≡ state_of c.loop-index.encoder
+stays c =
+    let w = state_of c.loop-index.encoder in
+    let again = remember-found w.suffixes c.loop-index.place (slice_range w.bytes c.loop-index.place c.offset-end.result) c.in-Some.target (sym c.in_ok-target.ensures.found ∙ c.in-Some.is) in
+    c.in_ok-target.ensures.ok ∙ ap (λ (suffixes : List Suffix). record w { suffixes = suffixes }) again
 
 cut : (c : After-emit_u16) → state_of c.trim.new.self ≡ trim_to_offset (record (state_of c.loop-index.encoder) { offset = c.loop-index.place })
-cut c = c.trim.ensures ∙ ap trim_to_offset c.set_offset.ensures
+cut c = c.trim.ensures ∙ ap trim_to_offset (c.set_offset.ensures ∙ ap (λ (v : EncoderState). record v { offset = c.loop-index.place }) (stays c))
 
 pub returns-in-Some-clause-ok : goal.returns-in-Some-clause-ok
 returns-in-Some-clause-ok c =
