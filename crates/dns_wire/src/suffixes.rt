@@ -7,6 +7,12 @@ ghost use Rattle.dns_wire.specs.internal.Suffixes.{suffixes_of, AreStoredFrom};
 use std::alloc::{AllocError, Global};
 use std::marker::Model;
 
+/// The first allocation has room for so many suffixes.
+const FIRST_SUFFIXES: usize = 16;
+
+/// The first allocation has room for so many bytes of suffixes.
+const FIRST_BYTES: usize = 256;
+
 /// A suffix: its offset in the message, and the range of its bytes in the store.
 #[derive(Clone, Copy)]
 struct Entry {
@@ -69,6 +75,27 @@ impl Suffixes {
 
     /// Appends a suffix.
     pub(crate) fn push(&mut self, offset: u16, bytes: &[u8]) -> Result<(), AllocError>
+        ensures ok { OnOk result (self.new
+            ≡ self.old ++ record { start = offset; bytes = bytes.now } ∷ []) }
+        ensures err { OnErr result (self.new ≡ self.old) }
+    {
+        if self.entries.is_empty() {
+            self.reserve_first()?;
+        }
+        self.append(offset, bytes)
+    }
+
+    /// Takes memory for the suffixes of a short message at once.
+    fn reserve_first(&mut self) -> Result<(), AllocError>
+        ensures { self.new ≡ self.old }
+    {
+        self.entries.reserve(FIRST_SUFFIXES)?;
+        self.stored.reserve(FIRST_BYTES)?;
+        Ok(())
+    }
+
+    /// Appends a suffix and its bytes.
+    fn append(&mut self, offset: u16, bytes: &[u8]) -> Result<(), AllocError>
         ensures ok { OnOk result (self.new
             ≡ self.old ++ record { start = offset; bytes = bytes.now } ∷ []) }
         ensures err { OnErr result (self.new ≡ self.old) }

@@ -1,7 +1,7 @@
 use Rattle.std.proofs.Common.{◌≡◌, length, ap, ◌∙◌, arith, length-append}
 use Rattle.dns_wire.specs.internal.Suffixes.{suffixes_of}
 use Rattle.dns_wire.proofs.StoredLaws.{on_err, stored-later, stored-push, suffixes_of-append, suffixes_of-push}
-use Rattle.dns_wire.proofs.suffixes.Suffixes.push.Goals as goal
+use Rattle.dns_wire.proofs.suffixes.Suffixes.append.Goals as goal
 
 pub invariant_of-self-in_err-push : goal.invariant_of-self-in_err-push
 invariant_of-self-in_err-push c =
