@@ -3,6 +3,7 @@ pub mod ArpaRoundTrip
 pub mod BuildingLaws
 pub mod ComparisonLaws
 pub mod CutLaws
+pub mod PartialLaws
 pub mod EachLaws
 pub mod EmitLaws
 pub mod GrammarCompleteness

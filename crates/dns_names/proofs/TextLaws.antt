@@ -8,15 +8,17 @@ use Rattle.dns_names.proofs.Underway.{name_len-push}
 use Rattle.dns_names.specs.declared.error.ParseError.TheVariants.{DomainNameTooLong, Text}
 use Rattle.dns_names.specs.Parse.{Symbol, Broken, PartialName, SymbolAt, end_label, push_symbol, name_of_symbols, symbols_from, symbol, more_len}
 
-pub ends_too_long : (b : PartialName) → (length b.label == 0) ≡ false → 255 < name_len b.labels + (length b.label + 1) → end_label b ≡ Err DomainNameTooLong
+pub ends_too_long : (b : PartialName) → 0 < length b.label → 255 < name_len b.labels + (length b.label + 1) → end_label b ≡ Err DomainNameTooLong
 ends_too_long b some over =
+    let filled : (length b.label == 0) ≡ false = grind (arith, nat_tests) in
     let long : nat_lt 255 (name_len (b.labels ++ b.label ∷ [])) ≡ true = let len = name_len-push b.labels b.label in grind (arith, nat_tests) in
-    rw (some, long) refl
+    rw (filled, long) refl
 
-pub ends_well : (b next : PartialName) → (length b.label == 0) ≡ false → name_len b.labels + (length b.label + 1) ≤ 255 → next ≡ record { labels = b.labels ++ b.label ∷ []; label = [] } → end_label b ≡ Ok next
+pub ends_well : (b next : PartialName) → 0 < length b.label → name_len b.labels + (length b.label + 1) ≤ 255 → next ≡ record { labels = b.labels ++ b.label ∷ []; label = [] } → end_label b ≡ Ok next
 ends_well b next some room is =
+    let filled : (length b.label == 0) ≡ false = grind (arith, nat_tests) in
     let short : nat_lt 255 (name_len (b.labels ++ b.label ∷ [])) ≡ false = let len = name_len-push b.labels b.label in grind (arith, nat_tests) in
-    rw (some, short, is) refl
+    rw (filled, short, is) refl
 
 -- ---- symbol by symbol
 
@@ -30,9 +32,6 @@ symbols-past (suc past) place (c ∷ cs) = symbols-past past (place + 1) cs ∙ 
 symbols-at : (place : ℕ) (rest : List ℕ) → 0 < length rest → symbols_from 0 place rest ≡ record { place = place; symbol = symbol rest } ∷ symbols_from 0 (place + 1 + more_len rest) (drop (suc (more_len rest)) rest)
 symbols-at place [] some = absurd (omega arith)
 symbols-at place (c ∷ cs) some = ap (λ (ps : List SymbolAt). record { place = place; symbol = symbol (c ∷ cs) } ∷ ps) (symbols-past (more_len (c ∷ cs)) (place + 1) cs)
-
-pub begun_is : (b : PartialName) (labels : List (List ℕ)) (label : List ℕ) → b.labels ≡ labels → b.label ≡ label → b ≡ record { labels = labels; label = label }
-begun_is b labels label p q = ap (λ (ls : List (List ℕ)). record { labels = ls; label = b.label }) p ∙ ap (λ (l : List ℕ). record { labels = labels; label = l }) q
 
 symbols-next : (place : ℕ) (text : List ℕ) → place < length text → symbols_from 0 place (drop place text)
     ≡ record { place = place; symbol = symbol (drop place text) } ∷ symbols_from 0 (place + (1 + more_len (drop place text))) (drop (place + (1 + more_len (drop place text))) text)

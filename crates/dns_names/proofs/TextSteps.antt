@@ -109,7 +109,7 @@ some_length label is = let some : 0 < length label = is.some in grind (arith, na
 pub label_done : (labels : List (List ℕ)) (label : List ℕ) (more : List (List ℕ)) → IsLabel label → name_len (labels ++ label ∷ more) ≤ 255
     → end_label (record { labels = labels; label = label }) ≡ Ok (record { labels = labels ++ label ∷ []; label = [] })
 label_done labels label more is fits =
-    ends_well (record { labels = labels; label = label }) _ (some_length label is) (omega (arith, name_len-append labels (label ∷ more), name_len-some more)) refl
+    ends_well (record { labels = labels; label = label }) _ is.some (omega (arith, name_len-append labels (label ∷ more), name_len-some more)) refl
 
 pub dot_step : (b next : PartialName) (p : ℕ) (rest : List ℕ) → end_label b ≡ Ok next → name_of_symbols b (symbols_from 0 p (46 ∷ rest)) ≡ name_of_symbols next (symbols_from 0 (p + 1) rest)
 dot_step b next p rest e = taken b next (record { place = p; symbol = Dot }) (symbols_from 0 (p + 1) rest) e

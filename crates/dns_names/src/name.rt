@@ -8,9 +8,11 @@ ghost use Rattle.dns_names.specs.internal.Name.{CutsFrom, labels_from};
 mod build;
 mod compare;
 mod labels;
+mod partial;
 mod wire;
 
 pub use labels::LabelIter;
+pub(crate) use partial::PartialName;
 use smallvec::SmallVec;
 use std::alloc::{AllocError, Global};
 use std::marker::Model;

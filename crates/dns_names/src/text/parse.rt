@@ -1,6 +1,6 @@
 //! Names from text (RFC 1035 section 5.1).
 
-ghost use Rattle.std.specs.Prelude.{◌≡◌, ◌≢◌, ◌<◌, Ok, Err, false, length, IfErr, OnOk, option_map};
+ghost use Rattle.std.specs.Prelude.{◌≡◌, ◌≢◌, Ok, Err, IfErr, OnOk, option_map};
 ghost use Rattle.dns_names.specs.Parse.{name_of_text, finish, push_symbol, push_octet, end_label, is_plain_octet};
 ghost use Rattle.dns_names.specs.Build.{parse_name};
 ghost use Rattle.dns_wire.specs.Error.{IsUnless};
@@ -8,35 +8,24 @@ ghost use Rattle.dns_wire.specs.Error.{IsUnless};
 use super::symbol::{Symbol, next_symbol};
 use crate::error::ParseError;
 use crate::label::Label;
-use crate::name::Name;
-use smallvec::SmallVec;
+use crate::name::{Name, PartialName};
 use std::alloc::Global;
 
-/// A partly parsed name: its complete labels, and the octets of the current label.
-#[derive(Drop)]
-struct PartialName {
-    name: Name,
-    label: SmallVec<u8, 63>,
-    ghost relative: { name.is_fqdn ≡ false },
-    ghost short: { length label.items < 64 },
-}
-
 impl PartialName {
-    ghost use Rattle.dns_names.specs.internal.Parse.{partial_name_of};
     ghost use Rattle.dns_names.specs.internal.Symbol.{symbol_of};
 
     /// Adds the symbol at a place of the text.
     fn push_symbol(&mut self, place: usize, symbol: Symbol) -> Result<(), ParseError>
-        ensures ok { OnOk result (push_symbol (partial_name_of self.old)
-            (record { place = place; symbol = symbol_of symbol }) ≡ Ok (partial_name_of self.new)) }
+        ensures ok { OnOk result (push_symbol self.old
+            (record { place = place; symbol = symbol_of symbol }) ≡ Ok self.new) }
         ensures refused { IfErr result (λ error. error ≢ ParseError.Memory
-            → push_symbol (partial_name_of self.old)
-            (record { place = place; symbol = symbol_of symbol }) ≡ Err error) }
+            → push_symbol self.old (record { place = place; symbol = symbol_of symbol })
+            ≡ Err error) }
     {
         match symbol {
             Symbol::Dot => self.end_label(),
             Symbol::Plain(byte) => {
-                if is_plain_octet(self.label.is_empty(), byte) {
+                if is_plain_octet(self.label_len() == 0, byte) {
                     self.push_octet(byte)
                 } else {
                     Err(ParseError::Text(place))
@@ -49,48 +38,42 @@ impl PartialName {
 
     /// Adds an octet to the current label.
     fn push_octet(&mut self, byte: u8) -> Result<(), ParseError>
-        ensures ok { OnOk result (push_octet (partial_name_of self.old) byte
-            ≡ Ok (partial_name_of self.new)) }
+        ensures ok { OnOk result (push_octet self.old byte ≡ Ok self.new) }
         ensures refused { IfErr result (λ error. error ≢ ParseError.Memory
-            → push_octet (partial_name_of self.old) byte ≡ Err error) }
+            → push_octet self.old byte ≡ Err error) }
     {
-        if self.label.len() >= Label::MAX_LENGTH {
+        if self.label_len() >= Label::MAX_LENGTH {
             return Err(ParseError::LabelBytesTooLong);
         }
-        self.label.push(byte)?;
+        self.push(byte)?;
         Ok(())
     }
 
     /// Ends the current label.
     fn end_label(&mut self) -> Result<(), ParseError>
-        ensures ok { OnOk result (end_label (partial_name_of self.old)
-            ≡ Ok (partial_name_of self.new)) }
+        ensures ok { OnOk result (end_label self.old ≡ Ok self.new) }
         ensures refused { IfErr result (λ error. error ≢ ParseError.Memory
-            → end_label (partial_name_of self.old) ≡ Err error) }
+            → end_label self.old ≡ Err error) }
     {
-        if self.label.is_empty() {
+        if self.label_len() == 0 {
             return Err(ParseError::EmptyLabel);
         }
-        if self.name.encoded_len() + self.label.len() + 1 > Name::MAX_LENGTH {
+        if self.encoded_len() > Name::MAX_LENGTH {
             return Err(ParseError::DomainNameTooLong);
         }
-        self.name.push(self.label.as_slice())?;
-        self.label.clear();
+        self.complete_label()?;
         Ok(())
     }
 
     /// Returns the name at the end of the text.
     fn finish(mut self) -> Result<Name, ParseError>
-        ensures { IsUnless ParseError.Memory (finish (partial_name_of self)) result }
+        ensures { IsUnless ParseError.Memory (finish self) result }
     {
-        let is_fqdn = self.label.is_empty() && self.name.label_count() > 0;
-        if !self.label.is_empty() {
+        let is_fqdn = self.label_len() == 0 && self.label_count() > 0;
+        if self.label_len() > 0 {
             self.end_label()?;
         }
-        let PartialName { mut name, label } = self;
-        drop(label);
-        name.set_fqdn(is_fqdn);
-        Ok(name)
+        Ok(self.into_name(is_fqdn))
     }
 }
 
@@ -125,10 +108,7 @@ impl Name {
         if text == b".".as_slice() {
             return Ok(Name::root(alloc));
         }
-        let mut partial = PartialName {
-            name: Name::new(alloc),
-            label: SmallVec::new(alloc),
-        };
+        let mut partial = PartialName::new(alloc);
         let mut place = 0;
         while place < text.len() {
             let (symbol, more) = next_symbol(&text[place..]);

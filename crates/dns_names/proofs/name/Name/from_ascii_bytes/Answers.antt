@@ -1,6 +1,5 @@
 use Rattle.std.proofs.Common.{◌≡◌, ◌-◌, ◌<◌, ◌∙◌, List, ℕ, length, take, drop, ap, length-drop, arith}
 use Rattle.std.proofs.lemmas.List.{take_all}
-use Rattle.dns_names.specs.internal.Parse.{partial_name_of}
 use Rattle.dns_names.specs.internal.Symbol.{symbol_of}
 use Rattle.dns_names.specs.Parse.{symbol, more_len}
 use Rattle.dns_names.proofs.TextLaws.{goes_on, not_broken}
@@ -14,7 +13,7 @@ pub loop-place-preserved : goal.loop-place-preserved
 loop-place-preserved c =
     let slice = slice_is c.args.text.now c.loop-place.place in
     let is : symbol_of c.next_symbol-symbol.result.0 ≡ symbol (drop c.loop-place.place c.args.text.now) = c.next_symbol-symbol.ensures.symbol ∙ ap symbol slice in
-    let valid = not_broken (partial_name_of c.loop-place.partial) (partial_name_of c.push_symbol.new.self) c.loop-place.place (symbol_of c.next_symbol-symbol.result.0) c.in_ok-push_symbol.ensures.ok in
+    let valid = not_broken c.loop-place.partial c.push_symbol.new.self c.loop-place.place (symbol_of c.next_symbol-symbol.result.0) c.in_ok-push_symbol.ensures.ok in
     let len : c.next_symbol-symbol.result.1 ≡ more_len (drop c.loop-place.place c.args.text.now) = c.next_symbol-symbol.ensures.more valid ∙ ap more_len slice in
     let within : c.loop-place.place < length c.args.text.now = omega arith in
-    c.loop-place.invariant ∙ goes_on (partial_name_of c.loop-place.partial) (partial_name_of c.push_symbol.new.self) c.loop-place.place c.args.text.now (symbol_of c.next_symbol-symbol.result.0) c.next_symbol-symbol.result.1 within is len c.in_ok-push_symbol.ensures.ok
+    c.loop-place.invariant ∙ goes_on c.loop-place.partial c.push_symbol.new.self c.loop-place.place c.args.text.now (symbol_of c.next_symbol-symbol.result.0) c.next_symbol-symbol.result.1 within is len c.in_ok-push_symbol.ensures.ok

@@ -1,0 +1,104 @@
+//! Names that are built octet by octet.
+
+use super::Name;
+use smallvec::SmallVec;
+use std::alloc::{AllocError, Global};
+use std::marker::Model;
+
+/// The complete labels of a name, and the octets of the current label behind them.
+#[derive(Drop)]
+pub(crate) struct PartialName {
+    label_data: SmallVec<u8, 32>,
+    label_ends: SmallVec<u8, 24>,
+    label_start: usize,
+}
+
+impl Model for PartialName {
+    ghost use Rattle.dns_names.specs.Parse.{PartialName};
+    ghost use Rattle.dns_names.specs.internal.Parse.{partial_name, IsPartial};
+
+    ghost Value = { PartialName };
+
+    ghost view = { λ n. partial_name n.label_data.items n.label_ends.items n.label_start };
+
+    ghost invariant = { λ n. IsPartial n.label_data.items n.label_ends.items n.label_start };
+}
+
+impl PartialName {
+    ghost use Rattle.std.specs.Prelude.{◌≡◌, ◌+◌, ◌<◌, ◌≤◌, [], ◌∷◌, ◌++◌, length, OnOk, OnErr};
+    ghost use Rattle.dns_wire.specs.Name.{name_len, max_name_len};
+
+    /// Creates a partial name without labels and octets.
+    pub(crate) fn new(alloc: Global) -> Self
+        ensures { result ≡ record { labels = []; label = [] } }
+    {
+        PartialName {
+            label_data: SmallVec::new(alloc),
+            label_ends: SmallVec::new(alloc),
+            label_start: 0,
+        }
+    }
+
+    /// Returns the number of complete labels.
+    pub(crate) fn label_count(&self) -> usize
+        ensures { result ≡ length self.now.labels }
+    {
+        self.label_ends.len()
+    }
+
+    /// Returns the length of the current label.
+    pub(crate) fn label_len(&self) -> usize
+        ensures { result ≡ length self.now.label }
+    {
+        self.label_data.len() - self.label_start
+    }
+
+    /// Returns the length of the encoded name if the current label is its last.
+    pub(crate) fn encoded_len(&self) -> usize
+        ensures { result ≡ name_len self.now.labels + (length self.now.label + 1) }
+    {
+        self.label_data.len() + self.label_ends.len() + 2
+    }
+
+    /// Appends an octet to the current label.
+    pub(crate) fn push(&mut self, octet: u8) -> Result<(), AllocError>
+        requires { length self.old.label < 63 }
+        ensures ok { OnOk result (self.new
+            ≡ record self.old { label = self.old.label ++ octet ∷ [] }) }
+        ensures err { OnErr result (self.new ≡ self.old) }
+    {
+        self.label_data.push(octet)?;
+        Ok(())
+    }
+
+    /// Completes the current label.
+    pub(crate) fn complete_label(&mut self) -> Result<(), AllocError>
+        requires some { 0 < length self.old.label }
+        requires fits { name_len self.old.labels + (length self.old.label + 1) ≤ max_name_len }
+        ensures ok { OnOk result (self.new
+            ≡ record { labels = self.old.labels ++ self.old.label ∷ []; label = [] }) }
+        ensures err { OnErr result (self.new ≡ self.old) }
+    {
+        let end = self.label_data.len();
+        self.label_ends.push(end as u8)?;
+        self.label_start = end;
+        Ok(())
+    }
+
+    /// Returns the name of the complete labels. The current label must be empty.
+    pub(crate) fn into_name(self, is_fqdn: bool) -> Name
+        requires { self.label ≡ [] }
+        ensures { result ≡ record { is_fqdn = is_fqdn; labels = self.labels } }
+    {
+        let PartialName {
+            label_data,
+            label_ends,
+            label_start: _,
+        } = self;
+        Name {
+            is_fqdn,
+            label_data,
+            label_ends,
+        }
+    }
+}
