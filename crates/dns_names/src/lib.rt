@@ -7,7 +7,8 @@
 //!
 //! - `label`: the type; `label/compare`: order, equality and hash of labels; `into_label`: what converts to a label
 //! - `name`: the type; `name/build`: names from labels and names; `name/partial`: names that are built octet by octet;
-//!   `name/labels`: iteration and counts; `name/compare`: equality, order, hash, zones; `name/wire`: decoding and encoding
+//!   `name/labels`: iteration and counts; `name/compare`: equality, order, hash, zones; `name/wire`: decoding and
+//!   encoding
 //! - `lower_name`: names in lower case, as keys; `text`: names in text; `reverse`: names of addresses
 //! - `error`: why a text is not a name; `laws`: what the definitions say together, for the crates above
 #![tactic(auto)]
