@@ -21,12 +21,19 @@ pub enum DecodeError {
     /// The data of a record does not have exactly its length (RFC 1035 section 4.1.3).
     #[error("record data does not have its stated length")]
     IncorrectRDataLengthRead,
-    /// Record data of a type that cannot be decoded.
-    #[error("record data of an unsupported type")]
-    UnsupportedRecordType,
     /// The data of a record is empty, which is allowed only in updates (RFC 2136 section 2.4).
     #[error("record data is empty, which is allowed only in updates")]
     InvalidEmptyRecord,
+    /// An OPT record is not in the additional section (RFC 6891 section 6.1.1), or a TSIG record is not the last record of
+    /// that section (RFC 8945 section 5.1).
+    #[error("OPT or TSIG record in the wrong place")]
+    RecordNotInAdditionalSection,
+    /// A message has more than one OPT record (RFC 6891 section 6.1.1).
+    #[error("more than one OPT record")]
+    DuplicateEdns,
+    /// The owner of an OPT record is not the root (RFC 6891 section 6.1.2).
+    #[error("owner of an OPT record is not the root")]
+    EdnsNameNotRoot,
     /// Memory could not be allocated.
     #[error("out of memory")]
     Memory,

@@ -17,8 +17,10 @@ pub(crate) fn decode_error(alloc: Global, name: &str) -> Answer {
             "UnrecognizedLabelCode" => DecodeError::UnrecognizedLabelCode,
             "DomainNameTooLong" => DecodeError::DomainNameTooLong,
             "IncorrectRDataLengthRead" => DecodeError::IncorrectRDataLengthRead,
-            "UnsupportedRecordType" => DecodeError::UnsupportedRecordType,
             "InvalidEmptyRecord" => DecodeError::InvalidEmptyRecord,
+            "RecordNotInAdditionalSection" => DecodeError::RecordNotInAdditionalSection,
+            "DuplicateEdns" => DecodeError::DuplicateEdns,
+            "EdnsNameNotRoot" => DecodeError::EdnsNameNotRoot,
             // The row names want of memory.
             "Memory" => DecodeError::Memory,
             _ => return Err(RowFault::MalformedInput),
