@@ -2,7 +2,9 @@
 -- section 3.3).
 use Rattle.std.specs.Prelude.{◌≡◌, ◌≢◌, ◌<◌, ◌^◌, nat_eq, Bool, true, ℕ, List, [], ◌∷◌, ◌++◌, length, map, flat_map}
 use Rattle.std.specs.List.{AllByRecursion}
-use Rattle.std.specs.Ordering.{on, eq_of_both}
+use Rattle.std.specs.declared.cmp.Ordering.{Ordering}
+use Rattle.std.specs.Cmp.Lexicographic.{slice_cmp}
+use Rattle.std.specs.Ordering.{nat_cmp, on, eq_of_both, then_cmp}
 use Rattle.std.specs.Str.{bytes_eq}
 use Rattle.std.specs.Int.{w16, w32, to_be_bytes}
 use Rattle.std.specs.Str.{str_to_ascii_lowercase}
@@ -122,3 +124,9 @@ AreSoundValues (kind ∷ kinds) values = IsSoundValue kind values.0 × AreSoundV
 -- options are equal if their codes and their data are
 abbrev pub same_option : OptionValue → OptionValue → Bool
 same_option = eq_of_both (on (λ option. option.code) nat_eq) (on (λ option. option.bytes) bytes_eq)
+
+-- ---- order
+
+-- options compare by their codes, and then by their data
+abbrev pub option_cmp : OptionValue → OptionValue → Ordering
+option_cmp = then_cmp (on (λ option. option.code) nat_cmp) (on (λ option. option.bytes) (slice_cmp nat_cmp))

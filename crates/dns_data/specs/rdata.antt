@@ -5,6 +5,7 @@ pub mod CNAME
 pub mod MX
 pub mod NS
 pub mod OPT
+pub mod Order
 pub mod PTR
 pub mod SOA
 pub mod SRV

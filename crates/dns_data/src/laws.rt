@@ -24,10 +24,12 @@ ghost use Rattle.dns_wire.specs.Writing.{ArePointerTargets};
 ghost use Rattle.dns_wire.specs.declared.error.DecodeError.{DecodeError};
 ghost use Rattle.dns_wire.specs.declared.name_encoding.NameEncoding.TheVariants.{UncompressedLowercase};
 ghost use Rattle.std.specs.Cmp.Lexicographic.{pointwise};
-ghost use Rattle.std.specs.Cmp.{IsEquivalence};
+ghost use Rattle.std.specs.Cmp.{IsEquivalence, IsTotalOrder};
+ghost use Rattle.std.specs.Ordering.{is_eq};
 ghost use Rattle.std.specs.Net.Addr.{ipv4_octets, ipv6_segments};
 ghost use Rattle.std.specs.Str.{bytes_eq};
 ghost use Rattle.dns_data.specs.rdata.{data_type, data_kinds, data_values, data_pieces, data_text, kinds_of_type, same_data, IsSoundData, ReadsData, RefusesData, IsParsedData, RefusesText};
+ghost use Rattle.dns_data.specs.rdata.Order.{data_cmp};
 ghost use Rattle.dns_data.specs.Wire.{ValuesAt};
 
 use dns_wire::RecordType;
@@ -92,6 +94,12 @@ pub fn equality_of_soa_is_by_fields()
         && (nat_eq x.serial y.serial && (nat_eq x.refresh y.refresh
         && (nat_eq x.retry y.retry && (nat_eq x.expire y.expire
         && nat_eq x.minimum y.minimum)))))) }
+{}
+
+/// The order of record data is total, and data compare equal in it exactly if they are equal.
+pub fn order_of_data()
+    ensures total { IsTotalOrder data_cmp }
+    ensures equal { (x y : RData) → same_data x y ≡ is_eq (data_cmp x y) }
 {}
 
 // ---- text

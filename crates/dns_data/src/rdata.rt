@@ -11,6 +11,7 @@ mod cname;
 mod mx;
 mod ns;
 mod opt;
+mod order;
 mod ptr;
 mod soa;
 mod srv;

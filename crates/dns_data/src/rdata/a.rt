@@ -14,7 +14,7 @@ use std::fmt;
 use std::net::Ipv4Addr;
 
 /// An IPv4 address (RFC 1035 section 3.4.1).
-#[derive(Clone, Copy, Debug, PartialEq, Eq)]
+#[derive(Clone, Copy, Debug, PartialEq, Eq, PartialOrd, Ord)]
 pub struct A(pub Ipv4Addr);
 
 impl A {

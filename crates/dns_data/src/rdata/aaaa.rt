@@ -14,7 +14,7 @@ use std::fmt;
 use std::net::Ipv6Addr;
 
 /// An IPv6 address (RFC 3596 section 2.2).
-#[derive(Clone, Copy, Debug, PartialEq, Eq)]
+#[derive(Clone, Copy, Debug, PartialEq, Eq, PartialOrd, Ord)]
 pub struct AAAA(pub Ipv6Addr);
 
 impl AAAA {

@@ -13,7 +13,7 @@ use std::alloc::{AllocError, Global};
 use std::fmt;
 
 /// The canonical name of an alias (RFC 1035 section 3.3.1).
-#[derive(Debug, Drop, PartialEq, Eq)]
+#[derive(Debug, Drop, PartialEq, Eq, PartialOrd, Ord)]
 pub struct CNAME(pub Name);
 
 impl CNAME {
@@ -35,6 +35,14 @@ impl CNAME {
         ensures bytes { decoder.new.bytes ≡ decoder.old.bytes }
     {
         Ok(CNAME(Name::read(alloc, decoder)?))
+    }
+}
+
+impl Clone for CNAME {
+    ghost is_clone = { λ cname copy. copy ≡ cname };
+
+    fn clone(&self) -> Result<CNAME, AllocError> {
+        CNAME::clone(self)
     }
 }
 

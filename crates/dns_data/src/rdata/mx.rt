@@ -15,7 +15,7 @@ use std::alloc::{AllocError, Global};
 use std::fmt;
 
 /// A mail exchange (RFC 1035 section 3.3.9).
-#[derive(Debug, Drop, PartialEq, Eq)]
+#[derive(Debug, Drop, PartialEq, Eq, PartialOrd, Ord)]
 pub struct MX {
     /// The preference; lower values are preferred.
     pub preference: u16,
@@ -50,6 +50,14 @@ impl MX {
             preference,
             exchange,
         })
+    }
+}
+
+impl Clone for MX {
+    ghost is_clone = { λ mx copy. copy ≡ mx };
+
+    fn clone(&self) -> Result<MX, AllocError> {
+        MX::clone(self)
     }
 }
 

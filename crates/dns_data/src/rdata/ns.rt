@@ -13,7 +13,7 @@ use std::alloc::{AllocError, Global};
 use std::fmt;
 
 /// A name server of a zone (RFC 1035 section 3.3.11).
-#[derive(Debug, Drop, PartialEq, Eq)]
+#[derive(Debug, Drop, PartialEq, Eq, PartialOrd, Ord)]
 pub struct NS(pub Name);
 
 impl NS {
@@ -35,6 +35,14 @@ impl NS {
         ensures bytes { decoder.new.bytes ≡ decoder.old.bytes }
     {
         Ok(NS(Name::read(alloc, decoder)?))
+    }
+}
+
+impl Clone for NS {
+    ghost is_clone = { λ ns copy. copy ≡ ns };
+
+    fn clone(&self) -> Result<NS, AllocError> {
+        NS::clone(self)
     }
 }
 

@@ -13,6 +13,7 @@ use crate::octets::OptionData;
 use crate::wire::{emit_options, read_options};
 use dns_wire::{BinDecoder, BinEncodable, BinEncoder, DecodeError, EncodeError};
 use std::alloc::{AllocError, Global};
+use std::cmp::Ordering;
 use std::fmt;
 use std::marker::Model;
 
@@ -113,6 +114,41 @@ impl Eq for EdnsOption {
     ghost laws = { same_option-equivalence };
 }
 
+impl Ord for EdnsOption {
+    ghost use Rattle.std.proofs.Common.{refl};
+    ghost use Rattle.dns_data.specs.Field.{option_cmp};
+    ghost use Rattle.dns_data.specs.internal.Order.{option_cmp-total, options_tie};
+
+    ghost cmp = { option_cmp };
+
+    ghost total = { option_cmp-total };
+
+    ghost matches_partial_cmp = { λ x y. refl };
+
+    ghost matches_eq = { options_tie };
+
+    fn cmp(&self, other: &EdnsOption) -> Ordering {
+        self.code
+            .cmp(&other.code)
+            .then(self.value.cmp(&other.value))
+    }
+}
+
+impl PartialOrd for EdnsOption {
+    ghost use Rattle.std.specs.Ordering.{as_partial_cmp};
+    ghost use Rattle.std.specs.Cmp.{po};
+    ghost use Rattle.dns_data.specs.Field.{option_cmp};
+    ghost use Rattle.dns_data.specs.internal.Order.{option_cmp-total, options_tie};
+
+    ghost partial_cmp = { as_partial_cmp option_cmp };
+
+    ghost laws = { po option_cmp-total options_tie };
+
+    fn partial_cmp(&self, other: &EdnsOption) -> Option<Ordering> {
+        Some(self.cmp(other))
+    }
+}
+
 /// The options of a message's extension (RFC 6891 section 6.1.2).
 #[derive(Debug, Drop)]
 pub struct OPT {
@@ -189,6 +225,14 @@ impl OPT {
     }
 }
 
+impl Clone for OPT {
+    ghost is_clone = { λ opt copy. copy ≡ opt };
+
+    fn clone(&self) -> Result<OPT, AllocError> {
+        OPT::clone(self)
+    }
+}
+
 impl PartialEq for OPT {
     ghost use Rattle.std.specs.Cmp.{partial_equiv_from_equiv};
     ghost use Rattle.std.specs.Cmp.Lexicographic.{pointwise, lists_equiv};
@@ -209,6 +253,41 @@ impl Eq for OPT {
     ghost use Rattle.dns_data.specs.internal.Equality.{same_option-equivalence};
 
     ghost laws = { lists_equiv same_option-equivalence };
+}
+
+impl Ord for OPT {
+    ghost use Rattle.std.proofs.Common.{refl};
+    ghost use Rattle.std.specs.Cmp.Lexicographic.{slice_cmp, lists_total, lists_ties};
+    ghost use Rattle.dns_data.specs.Field.{option_cmp};
+    ghost use Rattle.dns_data.specs.internal.Order.{option_cmp-total, options_tie};
+
+    ghost cmp = { slice_cmp option_cmp };
+
+    ghost total = { lists_total option_cmp-total };
+
+    ghost matches_partial_cmp = { λ x y. refl };
+
+    ghost matches_eq = { lists_ties option_cmp options_tie };
+
+    fn cmp(&self, other: &OPT) -> Ordering {
+        self.options.cmp(&other.options)
+    }
+}
+
+impl PartialOrd for OPT {
+    ghost use Rattle.std.specs.Ordering.{as_partial_cmp};
+    ghost use Rattle.std.specs.Cmp.{po};
+    ghost use Rattle.std.specs.Cmp.Lexicographic.{slice_cmp, lists_total, lists_ties};
+    ghost use Rattle.dns_data.specs.Field.{option_cmp};
+    ghost use Rattle.dns_data.specs.internal.Order.{option_cmp-total, options_tie};
+
+    ghost partial_cmp = { as_partial_cmp (slice_cmp option_cmp) };
+
+    ghost laws = { po (lists_total option_cmp-total) (lists_ties option_cmp options_tie) };
+
+    fn partial_cmp(&self, other: &OPT) -> Option<Ordering> {
+        Some(self.cmp(other))
+    }
 }
 
 impl fmt::Display for OPT {

@@ -13,7 +13,7 @@ use std::alloc::{AllocError, Global};
 use std::fmt;
 
 /// A pointer to a name (RFC 1035 section 3.3.12).
-#[derive(Debug, Drop, PartialEq, Eq)]
+#[derive(Debug, Drop, PartialEq, Eq, PartialOrd, Ord)]
 pub struct PTR(pub Name);
 
 impl PTR {
@@ -35,6 +35,14 @@ impl PTR {
         ensures bytes { decoder.new.bytes ≡ decoder.old.bytes }
     {
         Ok(PTR(Name::read(alloc, decoder)?))
+    }
+}
+
+impl Clone for PTR {
+    ghost is_clone = { λ ptr copy. copy ≡ ptr };
+
+    fn clone(&self) -> Result<PTR, AllocError> {
+        PTR::clone(self)
     }
 }
 

@@ -19,7 +19,7 @@ use std::alloc::{AllocError, Global};
 use std::fmt;
 
 /// The start of a zone's authority (RFC 1035 section 3.3.13). The times are in seconds.
-#[derive(Debug, Drop, PartialEq, Eq)]
+#[derive(Debug, Drop, PartialEq, Eq, PartialOrd, Ord)]
 pub struct SOA {
     /// The primary name server of the zone.
     pub mname: Name,
@@ -109,6 +109,14 @@ impl SOA {
         encoder.emit_u32(self.retry)?;
         encoder.emit_u32(self.expire)?;
         encoder.emit_u32(self.minimum)
+    }
+}
+
+impl Clone for SOA {
+    ghost is_clone = { λ soa copy. copy ≡ soa };
+
+    fn clone(&self) -> Result<SOA, AllocError> {
+        SOA::clone(self)
     }
 }
 

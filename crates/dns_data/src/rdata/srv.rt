@@ -15,7 +15,7 @@ use std::alloc::{AllocError, Global};
 use std::fmt;
 
 /// The location of a service (RFC 2782).
-#[derive(Debug, Drop, PartialEq, Eq)]
+#[derive(Debug, Drop, PartialEq, Eq, PartialOrd, Ord)]
 pub struct SRV {
     /// The priority; lower values are preferred.
     pub priority: u16,
@@ -59,6 +59,14 @@ impl SRV {
             port,
             target,
         })
+    }
+}
+
+impl Clone for SRV {
+    ghost is_clone = { λ srv copy. copy ≡ srv };
+
+    fn clone(&self) -> Result<SRV, AllocError> {
+        SRV::clone(self)
     }
 }
 

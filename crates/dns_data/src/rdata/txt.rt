@@ -16,6 +16,7 @@ use crate::wire::{emit_strings, read_strings};
 use dns_text::QuotedString;
 use dns_wire::{BinDecoder, BinEncodable, BinEncoder, DecodeError, EncodeError};
 use std::alloc::{AllocError, Global};
+use std::cmp::Ordering;
 use std::fmt;
 use std::marker::Model;
 
@@ -94,6 +95,14 @@ impl TXT {
     }
 }
 
+impl Clone for TXT {
+    ghost is_clone = { λ txt copy. copy ≡ txt };
+
+    fn clone(&self) -> Result<TXT, AllocError> {
+        TXT::clone(self)
+    }
+}
+
 impl PartialEq for TXT {
     ghost use Rattle.std.specs.Str.{bytes_eq};
     ghost use Rattle.std.specs.Cmp.{partial_equiv_from_equiv};
@@ -112,6 +121,38 @@ impl Eq for TXT {
     ghost use Rattle.std.specs.Cmp.Lexicographic.{lists_equiv, nat_list_eq_equiv};
 
     ghost laws = { lists_equiv nat_list_eq_equiv };
+}
+
+impl Ord for TXT {
+    ghost use Rattle.std.proofs.Common.{refl};
+    ghost use Rattle.std.specs.Ordering.{nat_cmp};
+    ghost use Rattle.std.specs.Cmp.Lexicographic.{slice_cmp, lists_total, nat_list_cmp_total, lists_ties, texts_ties};
+
+    ghost cmp = { slice_cmp (slice_cmp nat_cmp) };
+
+    ghost total = { lists_total nat_list_cmp_total };
+
+    ghost matches_partial_cmp = { λ x y. refl };
+
+    ghost matches_eq = { lists_ties (slice_cmp nat_cmp) texts_ties };
+
+    fn cmp(&self, other: &TXT) -> Ordering {
+        self.strings.cmp(&other.strings)
+    }
+}
+
+impl PartialOrd for TXT {
+    ghost use Rattle.std.specs.Ordering.{nat_cmp, as_partial_cmp};
+    ghost use Rattle.std.specs.Cmp.{po};
+    ghost use Rattle.std.specs.Cmp.Lexicographic.{slice_cmp, lists_total, nat_list_cmp_total, lists_ties, texts_ties};
+
+    ghost partial_cmp = { as_partial_cmp (slice_cmp (slice_cmp nat_cmp)) };
+
+    ghost laws = { po (lists_total nat_list_cmp_total) (lists_ties (slice_cmp nat_cmp) texts_ties) };
+
+    fn partial_cmp(&self, other: &TXT) -> Option<Ordering> {
+        Some(self.cmp(other))
+    }
 }
 
 impl TXT {
