@@ -1,0 +1,5 @@
+mod ListLaws
+mod RecordSetLaws
+mod RecordsLaws
+pub mod Steps
+pub mod OrderLaws

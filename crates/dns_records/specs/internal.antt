@@ -1,0 +1,4 @@
+-- Lemmas that the ghost members of impls cite.
+pub mod Equality
+pub mod Pieces
+pub mod Records
