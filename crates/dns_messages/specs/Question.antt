@@ -1,4 +1,4 @@
--- Questions: what is written for them, and when two ask the same (RFC 1035 section 4.1.2).
+-- Questions: how they are encoded, and when two ask for the same (RFC 1035 section 4.1.2).
 use Rattle.std.specs.Prelude.{◌==◌, ◌&&◌, Bool, List, [], ◌∷◌}
 use Rattle.std.specs.Int.{w16, to_be_bytes}
 use Rattle.dns_wire.specs.Encodable.{Piece, Plain, Domain}
@@ -9,8 +9,13 @@ use Rattle.dns_messages.specs.declared.query.Query.{Query}
 
 -- a name, a type and a class
 abbrev pub question_pieces : Query → List Piece
-question_pieces q = Domain q.name.labels ∷ Plain (to_be_bytes w16 (type_number q.query_type)) ∷ Plain (to_be_bytes w16 (class_number q.query_class)) ∷ []
+question_pieces q =
+    Domain q.name.labels ∷ Plain (to_be_bytes w16 (type_number q.query_type))
+    ∷ Plain (to_be_bytes w16 (class_number q.query_class)) ∷ []
 
--- the name up to ASCII case and without its flag, the type and the class by their numbers
+-- the labels of the name, ignoring ASCII case, and the numbers of type and class
 abbrev pub same_question : Query → Query → Bool
-same_question a b = same_labels a.name.labels b.name.labels && ((type_number a.query_type == type_number b.query_type) && (class_number a.query_class == class_number b.query_class))
+same_question a b =
+    same_labels a.name.labels b.name.labels
+    && ((type_number a.query_type == type_number b.query_type)
+    && (class_number a.query_class == class_number b.query_class))

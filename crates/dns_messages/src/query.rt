@@ -1,6 +1,6 @@
 //! Questions (RFC 1035 section 4.1.2).
 
-ghost use Rattle.std.specs.Prelude.{◌≡◌, ◌≢◌, ◌<◌, ◌^◌, ◌↔◌, IfOk, IfErr, IsTrue};
+ghost use Rattle.std.specs.Prelude.{◌≡◌, ◌≢◌, ◌<◌, ◌^◌, ◌↔◌, true, [], IfOk, IfErr, IsTrue};
 ghost use Rattle.dns_codes.specs.RecordType.{type_of, type_number};
 ghost use Rattle.dns_codes.specs.DNSClass.{class_of, class_number};
 
@@ -13,21 +13,38 @@ use dns_wire::{
 use std::alloc::{AllocError, Global};
 
 /// A question: a name, a type and a class.
-#[derive(Drop)]
+///
+/// Questions are equal if their types and classes are, and their names, ignoring ASCII case.
+#[derive(Debug, Drop, PartialEq, Eq)]
 pub struct Query {
+    /// QNAME: the name that records are wanted for.
     pub name: Name,
+    /// QTYPE: the type of the records.
     pub query_type: RecordType,
+    /// QCLASS: the class of the records.
     pub query_class: DNSClass,
 }
 
 impl Query {
     ghost use Rattle.dns_codes.specs.declared.dns_class.DNSClass.TheVariants.{IN};
+    ghost use Rattle.dns_codes.specs.declared.record_type.RecordType.TheVariants.{A};
     ghost use Rattle.dns_messages.specs.Question.{same_question};
     ghost use Rattle.dns_messages.specs.Sound.{IsSoundQuery};
     ghost use Rattle.dns_messages.specs.declared.query.Query.{Query};
     ghost use Rattle.dns_messages.specs.Grammar.{ReadsQuestion, RefusesQuestion};
 
-    /// A question for records of a type at a name, of the Internet's class.
+    /// Creates a question for the addresses of the root: name `.`, type `A`, class `IN`.
+    pub fn new(alloc: Global) -> Query
+        ensures { result ≡ record {
+          name = record { is_fqdn = true; labels = [] };
+          query_type = A;
+          query_class = IN;
+        } }
+    {
+        Query::query(Name::root(alloc), RecordType::A)
+    }
+
+    /// Creates a question of class `IN`.
     pub fn query(name: Name, query_type: RecordType) -> Query
         ensures { result ≡ record { name = name; query_type = query_type; query_class = IN } }
     {
@@ -38,7 +55,49 @@ impl Query {
         }
     }
 
-    /// A copy.
+    /// Replaces the name.
+    pub fn set_name(&mut self, name: Name)
+        ensures { self.new ≡ record self.old { name = name } }
+    {
+        self.name = name;
+    }
+
+    /// Replaces the type.
+    pub fn set_query_type(&mut self, query_type: RecordType)
+        ensures { self.new ≡ record self.old { query_type = query_type } }
+    {
+        self.query_type = query_type;
+    }
+
+    /// Replaces the class.
+    pub fn set_query_class(&mut self, query_class: DNSClass)
+        ensures { self.new ≡ record self.old { query_class = query_class } }
+    {
+        self.query_class = query_class;
+    }
+
+    /// Returns the name.
+    pub fn name(&self) -> &Name
+        ensures { result.now ≡ self.now.name }
+    {
+        &self.name
+    }
+
+    /// Returns the type.
+    pub fn query_type(&self) -> RecordType
+        ensures { result ≡ self.now.query_type }
+    {
+        self.query_type
+    }
+
+    /// Returns the class.
+    pub fn query_class(&self) -> DNSClass
+        ensures { result ≡ self.now.query_class }
+    {
+        self.query_class
+    }
+
+    /// Clones the question. Fails if memory runs out.
     pub fn clone(&self) -> Result<Query, AllocError>
         ensures { IfOk result (λ copy. copy ≡ self.now) }
     {
@@ -69,8 +128,8 @@ impl Query {
         })
     }
 
-    /// Whether it is read again as itself: its name ends at the root, and type and class stand under the names that
-    /// their numbers are read as.
+    /// Returns `true` if the encoded question decodes to itself: its name is fully qualified, and its type and class
+    /// are the variants that their numbers decode to.
     pub fn is_sound(&self) -> bool
         ensures sound { IsTrue result → IsSoundQuery self.now }
         ensures only { IsSoundQuery self.now → IsTrue result }
@@ -80,7 +139,8 @@ impl Query {
         self.name.is_fqdn() && has_type && has_class
     }
 
-    /// Whether it asks the same: the name up to ASCII case and without its flag, the type and the class.
+    /// Returns `true` if the names have the same labels, ignoring ASCII case, and the types and classes have the same
+    /// numbers. Unlike `==`, this ignores whether the names are fully qualified.
     pub fn asks_same(&self, other: &Query) -> bool
         ensures { result ≡ same_question self.now other.now }
     {
@@ -90,7 +150,7 @@ impl Query {
     }
 }
 
-/// Whether the type stands under the name that its number is read as.
+/// Returns `true` if the type is the variant that its number decodes to.
 fn is_named_type(kind: RecordType) -> bool
     ensures named { IsTrue result ↔ (type_of (type_number kind) ≡ kind) }
     ensures fits { type_number kind < 2 ^ 16 }
@@ -105,7 +165,7 @@ fn is_named_type(kind: RecordType) -> bool
     }
 }
 
-/// Whether the class stands under the name that its number is read as.
+/// Returns `true` if the class is the variant that its number decodes to.
 fn is_named_class(class: DNSClass) -> bool
     ensures named { IsTrue result ↔ (class_of (class_number class) ≡ class) }
     ensures fits { class_number class < 2 ^ 16 }
@@ -121,6 +181,7 @@ impl BinDecodable for Query {
 
     ghost refuses = { RefusesQuestion };
 
+    /// Decodes a question (RFC 1035 section 4.1.2).
     fn read(alloc: Global, decoder: &mut BinDecoder<'_>) -> Result<Query, DecodeError> {
         let mut reader = decoder.clone(decoder.index());
         let query = Query::read_on(alloc, &mut reader)?;
@@ -138,6 +199,7 @@ impl BinEncodable for Query {
 
     ghost pieces = { λ question _. question_pieces question };
 
+    /// Encodes name, type and class. The name is compressed if the encoder compresses names.
     fn emit(&self, encoder: &mut BinEncoder<'_>) -> Result<(), EncodeError> {
         self.name.emit(encoder)?;
         encoder.emit_u16(u16::from(self.query_type))?;

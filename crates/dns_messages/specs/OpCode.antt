@@ -1,0 +1,20 @@
+-- Opcodes and their numbers (RFC 1035 section 4.1.1, RFC 1996, RFC 2136).
+use Rattle.std.specs.Prelude.{◌==◌, if◌then◌else◌, ℕ}
+use Rattle.dns_messages.specs.declared.op_code.OpCode.{OpCode}
+use Rattle.dns_messages.specs.declared.op_code.OpCode.TheVariants as ops
+
+abbrev pub op_number : OpCode → ℕ
+op_number ops.Query = 0
+op_number ops.Status = 2
+op_number ops.Notify = 4
+op_number ops.Update = 5
+op_number (ops.Unknown number) = number
+
+-- the opcode with a number
+abbrev pub op_of : ℕ → OpCode
+op_of number =
+    if number == 0 then ops.Query
+    else if number == 2 then ops.Status
+    else if number == 4 then ops.Notify
+    else if number == 5 then ops.Update
+    else ops.Unknown number
