@@ -1,6 +1,13 @@
-pub mod DataLaws
-pub mod MessageAgain
+pub mod CutExamples
+pub mod DecodeLaws
+pub mod DecodedLaws
+pub mod EmitLaws
+pub mod FitLaws
+pub mod FollowLaws
+pub mod HeaderLaws
 pub mod MessageLaws
-pub mod MessageWriting
-pub mod OneWay
-pub mod Steps
+pub mod PlacementLaws
+pub mod SectionLaws
+pub mod StrippingLaws
+pub mod UpdateLaws
+mod UpdateRows

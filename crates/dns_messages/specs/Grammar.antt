@@ -1,26 +1,26 @@
--- Which message bytes spell (RFC 1035 section 4.1). Bytes behind the last record are free.
-use Rattle.std.specs.Prelude.{◌≡◌, ◌≢◌, ◌+◌, ◌^◌, ◌<◌, ◌++◌, true, false, List, [], ◌∷◌, ℕ, length, drop}
-use Rattle.std.specs.Int.{w16, w32, to_be_bytes}
-use Rattle.dns_codes.specs.RecordType.{type_number, type_of}
-use Rattle.dns_codes.specs.DNSClass.{class_number, class_of}
-use Rattle.dns_codes.specs.declared.record_type.RecordType.TheVariants as types
+-- Which message bytes decode to, and how bytes that decode to none are refused (RFC 1035 section 4.1, RFC 6891 section 6.1).
+-- Bytes after the last record are ignored.
+use Rattle.std.specs.Prelude.{◌≡◌, ◌+◌, ◌*◌, ◌^◌, ◌<◌, ◌++◌, Bool, true, false, List, ◌∷◌, ℕ, length, drop, Option, Some, None}
+use Rattle.std.specs.Int.{w16, to_be_bytes}
 use Rattle.dns_wire.specs.Reading.{ReadsName, RefusesName}
-use Rattle.dns_wire.specs.Decodable.{BytesAt, Follow}
+use Rattle.dns_wire.specs.Decodable.{Follow}
 use Rattle.dns_wire.specs.declared.error.DecodeError.{DecodeError}
-use Rattle.dns_wire.specs.declared.error.DecodeError.TheVariants.{InsufficientBytes, UnsupportedRecordType, InvalidEmptyRecord}
-use Rattle.dns_wire.specs.Encodable.{Plain, Domain, PiecesAt}
+use Rattle.dns_wire.specs.declared.error.DecodeError.TheVariants.{InsufficientBytes}
+use Rattle.dns_wire.specs.Encodable.{PiecesAt}
 use Rattle.dns_wire.specs.declared.name_encoding.NameEncoding.TheVariants.{Uncompressed}
-use Rattle.dns_data.specs.rdata.{data_pieces, RefusesData}
+use Rattle.dns_records.specs.Record.{Record}
+use Rattle.dns_messages.specs.declared.op_code.OpCode.{OpCode}
 use Rattle.dns_messages.specs.declared.header.Metadata.{Metadata}
-use Rattle.dns_messages.specs.declared.reading.Counts.{Counts}
+use Rattle.dns_messages.specs.declared.header.Header.{Header}
 use Rattle.dns_messages.specs.declared.query.Query.{Query}
-use Rattle.dns_messages.specs.declared.record.Record.{Record}
-use Rattle.dns_messages.specs.declared.record.RecordHead.{RecordHead}
+use Rattle.dns_messages.specs.declared.edns.Edns.{Edns}
 use Rattle.dns_messages.specs.declared.message.Message.{Message}
-use Rattle.dns_messages.specs.Header.{metadata_of}
+use Rattle.dns_messages.specs.Header.{code_of, code_number, DecodesHeader}
 use Rattle.dns_messages.specs.Question.{question_pieces}
-use Rattle.dns_messages.specs.Record.{head_pieces}
-use Rattle.dns_messages.specs.Sound.{IsSoundQuery, IsSoundRecord}
+use Rattle.dns_messages.specs.Section.{SectionKind, ReadsSection, RefusesSection, ordinary_records, edns_in, signature_in}
+use Rattle.dns_messages.specs.Sound.{IsSoundQuery, is_update_code}
+
+-- ---- questions
 
 -- a name, a type and a class
 pub record ReadsQuestion (bytes : List ℕ) (place : ℕ) (q : Query) (end : ℕ) : Type 0 where
@@ -33,75 +33,72 @@ pub data RefusesQuestion (bytes : List ℕ) (place : ℕ) : DecodeError → Type
   short_question : {labels : List (List ℕ)} {name_end : ℕ} → ReadsName bytes place labels name_end
       → length (drop name_end bytes) < 4 → RefusesQuestion bytes place InsufficientBytes
 
--- what stands before a record's data: owner, type, class, TTL, and the data's length
-pub record ReadsHead (bytes : List ℕ) (place : ℕ) (h : RecordHead) (end : ℕ) : Type 0 where
-  pub fqdn : h.name.is_fqdn ≡ true
-  pub type_fits : type_number h.record_type < 2 ^ 16
-  pub type_named : type_of (type_number h.record_type) ≡ h.record_type
-  pub class_fits : class_number h.dns_class < 2 ^ 16
-  pub class_named : class_of (class_number h.dns_class) ≡ h.dns_class
-  pub ttl_fits : h.ttl < 2 ^ 32
-  pub len_fits : h.len < 2 ^ 16
-  pub there : PiecesAt Uncompressed bytes place (Domain h.name.labels ∷ Plain (to_be_bytes w16 (type_number h.record_type)) ∷ Plain (to_be_bytes w16 (class_number h.dns_class)) ∷ Plain (to_be_bytes w32 h.ttl) ∷ Plain (to_be_bytes w16 h.len) ∷ []) end
+-- the questions, as many as the header says
+pub record ReadsQuestions (bytes : List ℕ) (place count : ℕ) (qs : List Query) (end : ℕ) : Type 0 where
+  pub queries : Follow (ReadsQuestion bytes) place qs end
+  pub count_is : length qs ≡ count
 
--- No head can be decoded: its owner is refused, or fewer bytes follow than type, class, TTL and length take.
-pub data RefusesHead (bytes : List ℕ) (place : ℕ) : DecodeError → Type 0 where
-  bad_owner : {error : DecodeError} → RefusesName bytes place error → RefusesHead bytes place error
-  short_head : {labels : List (List ℕ)} {name_end : ℕ} → ReadsName bytes place labels name_end
-      → length (drop name_end bytes) < 10 → RefusesHead bytes place InsufficientBytes
+-- Questions at the front are read, and the next is refused.
+pub record RefusesQuestions (bytes : List ℕ) (place count : ℕ) (error : DecodeError) : Type 0 where
+  pub front : List Query
+  pub middle : ℕ
+  pub queries : Follow (ReadsQuestion bytes) place front middle
+  pub counted : length front < count
+  pub next : RefusesQuestion bytes middle error
 
--- Owner, type, class, TTL, a length, and data that takes exactly this length (RFC 1035 section 4.1.3). A sound record is no
--- OPT record (RFC 6891 section 6.1.1), and its data is not empty, as only that of updates is (RFC 2136 section 2.4).
-pub record ReadsRecord (bytes : List ℕ) (place : ℕ) (r : Record) (end : ℕ) : Type 0 where
-  pub sound : IsSoundRecord r
-  pub data_place : ℕ
-  pub len : ℕ
-  pub len_fits : len < 2 ^ 16
-  pub not_empty : 0 < len
-  pub head : PiecesAt Uncompressed bytes place (head_pieces r ++ Plain (to_be_bytes w16 len) ∷ []) data_place
-  pub ends : data_place + len ≡ end
-  pub rdata : PiecesAt Uncompressed bytes data_place (data_pieces false r.rdata) end
+-- ---- messages
 
--- No record can be decoded: its head is refused, it is an OPT record (RFC 6891 section 6.1.1), its data is empty, which is
--- allowed only in updates (RFC 2136 section 2.4), or its data is refused.
-pub data RefusesRecord (bytes : List ℕ) (place : ℕ) : DecodeError → Type 0 where
-  bad_head : {error : DecodeError} → RefusesHead bytes place error → RefusesRecord bytes place error
-  opt_record : (h : RecordHead) {data_place : ℕ} → ReadsHead bytes place h data_place → h.record_type ≡ types.OPT
-      → RefusesRecord bytes place UnsupportedRecordType
-  empty_data : (h : RecordHead) {data_place : ℕ} → ReadsHead bytes place h data_place → h.record_type ≢ types.OPT
-      → h.len ≡ 0 → RefusesRecord bytes place InvalidEmptyRecord
-  bad_data : {error : DecodeError} (h : RecordHead) {data_place : ℕ} → ReadsHead bytes place h data_place
-      → h.record_type ≢ types.OPT → RefusesData bytes data_place h.record_type h.len error
-      → RefusesRecord bytes place error
+-- a section of a message with this opcode
+abbrev pub kind_of : OpCode → Bool → SectionKind
+kind_of op is_additional = record { is_update = is_update_code op; is_additional = is_additional }
 
--- twelve bytes: id, two bytes of flags, and how many items each section has
-pub record ReadsHeader (bytes : List ℕ) (m : Message) : Type 0 where
-  pub third : ℕ
-  pub fourth : ℕ
-  pub id_fits : m.metadata.id < 2 ^ 16
-  pub there : BytesAt bytes 0 (to_be_bytes w16 m.metadata.id ++ (third ∷ fourth ∷ (to_be_bytes w16 (length m.queries) ++ (to_be_bytes w16 (length m.answers) ++ (to_be_bytes w16 (length m.authorities) ++ to_be_bytes w16 (length m.additionals)))))) 12
-  pub metadata : m.metadata ≡ metadata_of m.metadata.id third fourth
-  pub queries_fit : length m.queries < 2 ^ 16
-  pub answers_fit : length m.answers < 2 ^ 16
-  pub authorities_fit : length m.authorities < 2 ^ 16
-  pub additionals_fit : length m.additionals < 2 ^ 16
+-- an answer or authority section, and the additional section, of a message with this header
+abbrev pub section_kind : Header → SectionKind
+section_kind h = kind_of h.metadata.op_code false
 
--- a message with this metadata, and so many items in each section
-pub record IsHeaded (head : Metadata) (counts : Counts) (m : Message) : Type 0 where
-  pub metadata : m.metadata ≡ head
-  pub queries : length m.queries ≡ counts.queries
-  pub answers : length m.answers ≡ counts.answers
-  pub authorities : length m.authorities ≡ counts.authorities
-  pub additionals : length m.additionals ≡ counts.additionals
+abbrev pub additional_kind : Header → SectionKind
+additional_kind h = kind_of h.metadata.op_code true
 
--- header, questions, and three sections of records, one after another
+-- the metadata of a header, with the upper eight bits of the response code that an OPT record has (RFC 6891 section 6.1.3)
+abbrev pub extended : Option Edns → Metadata → Metadata
+extended None m = m
+extended (Some e) m = record m { response_code = code_of (16 * e.rcode_high + code_number m.response_code) }
+
+-- Header, questions, and three sections of records. The OPT record and a signature are taken out of the last section.
 pub record ReadsMessage (bytes : List ℕ) (m : Message) : Type 0 where
-  pub header : ReadsHeader bytes m
-  pub asked : ℕ
-  pub queries : Follow (ReadsQuestion bytes) 12 m.queries asked
-  pub answered : ℕ
-  pub answers : Follow (ReadsRecord bytes) asked m.answers answered
-  pub named : ℕ
-  pub authorities : Follow (ReadsRecord bytes) answered m.authorities named
+  pub head : Header
+  pub header : DecodesHeader bytes 0 head 12
+  pub queries_end : ℕ
+  pub queries : ReadsQuestions bytes 12 head.counts.queries m.queries queries_end
+  pub answers_end : ℕ
+  pub answers : ReadsSection bytes (section_kind head) queries_end head.counts.answers m.answers answers_end
+  pub authorities_end : ℕ
+  pub authorities : ReadsSection bytes (section_kind head) answers_end head.counts.authorities m.authorities authorities_end
+  pub last : List Record
   pub end : ℕ
-  pub additionals : Follow (ReadsRecord bytes) named m.additionals end
+  pub additionals : ReadsSection bytes (additional_kind head) authorities_end head.counts.additionals last end
+  pub ordinary : m.additionals ≡ ordinary_records last
+  pub edns : m.edns ≡ edns_in last
+  pub signature : m.signature ≡ signature_in last
+  pub metadata : m.metadata ≡ extended m.edns head.metadata
+
+-- How far a message was read when it was refused.
+pub data RefusesMessage (bytes : List ℕ) : DecodeError → Type 0 where
+  short_header : length bytes < 12 → RefusesMessage bytes InsufficientBytes
+  bad_questions : {error : DecodeError} (h : Header) → DecodesHeader bytes 0 h 12
+      → RefusesQuestions bytes 12 h.counts.queries error → RefusesMessage bytes error
+  bad_answers : {error : DecodeError} (h : Header) (qs : List Query) (queries_end : ℕ) → DecodesHeader bytes 0 h 12
+      → ReadsQuestions bytes 12 h.counts.queries qs queries_end
+      → RefusesSection bytes (section_kind h) queries_end h.counts.answers error → RefusesMessage bytes error
+  bad_authorities : {error : DecodeError} (h : Header) (qs : List Query) (answers : List Record)
+      (queries_end answers_end : ℕ) → DecodesHeader bytes 0 h 12
+      → ReadsQuestions bytes 12 h.counts.queries qs queries_end
+      → ReadsSection bytes (section_kind h) queries_end h.counts.answers answers answers_end
+      → RefusesSection bytes (section_kind h) answers_end h.counts.authorities error → RefusesMessage bytes error
+  bad_additionals : {error : DecodeError} (h : Header) (qs : List Query) (answers authorities : List Record)
+      (queries_end answers_end authorities_end : ℕ) → DecodesHeader bytes 0 h 12
+      → ReadsQuestions bytes 12 h.counts.queries qs queries_end
+      → ReadsSection bytes (section_kind h) queries_end h.counts.answers answers answers_end
+      → ReadsSection bytes (section_kind h) answers_end h.counts.authorities authorities authorities_end
+      → RefusesSection bytes (additional_kind h) authorities_end h.counts.additionals error
+      → RefusesMessage bytes error

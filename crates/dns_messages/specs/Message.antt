@@ -1,57 +1,80 @@
--- What is written for a message, and what is left of it under a limit (RFC 1035 section 4.1).
-use Rattle.std.specs.Prelude.{◌++◌, nat_le, if◌then◌else◌, true, false, List, [], ◌∷◌, ℕ, length}
-use Rattle.dns_wire.specs.Encodable.{Piece, Plain, Position, form, after}
-use Rattle.dns_wire.specs.declared.name_encoding.NameEncoding.TheVariants.{Uncompressed}
+-- Messages that are made from others, and their records (RFC 1035 section 4.1).
+use Rattle.std.specs.Prelude.{◌==◌, ◌++◌, ◌||◌, not, if◌then◌else◌, Bool, true, false, List, [], ◌∷◌, ℕ, max, Option, Some, None}
+use Rattle.std.specs.List.{filter}
+use Rattle.dns_codes.specs.RecordType.{type_number, is_dnssec_type}
+use Rattle.dns_codes.specs.declared.record_type.RecordType.{RecordType}
+use Rattle.dns_data.specs.rdata.{data_type}
+use Rattle.dns_records.specs.Record.{Record}
+use Rattle.dns_messages.specs.declared.message_type.MessageType.{MessageType}
+use Rattle.dns_messages.specs.declared.op_code.OpCode.{OpCode}
+use Rattle.dns_messages.specs.declared.response_code.ResponseCode.{ResponseCode}
 use Rattle.dns_messages.specs.declared.header.Metadata.{Metadata}
+use Rattle.dns_messages.specs.Header.{new_metadata}
+use Rattle.dns_messages.specs.declared.edns.Edns.{Edns}
 use Rattle.dns_messages.specs.declared.query.Query.{Query}
-use Rattle.dns_messages.specs.declared.record.Record.{Record}
 use Rattle.dns_messages.specs.declared.message.Message.{Message}
-use Rattle.dns_messages.specs.Header.{header_form}
-use Rattle.dns_messages.specs.Question.{question_pieces}
-use Rattle.dns_messages.specs.Record.{record_pieces}
 
--- nothing is written yet, and names are written whole
-abbrev pub beginning : Position
-beginning = record {
-  place = 0;
-  encoding = Uncompressed;
-  canonical = false;
-  suffixes = [];
-  attempts = 0;
+-- metadata with all flags clear, and with a response code
+abbrev pub clear_metadata : ℕ → MessageType → OpCode → ResponseCode → Metadata
+clear_metadata id message_type op_code response_code =
+    record (new_metadata id message_type op_code) { response_code = response_code }
+
+-- a message that has nothing but its metadata
+abbrev pub empty_message : Metadata → Message
+empty_message metadata = record {
+  metadata = metadata;
+  queries = [];
+  answers = [];
+  authorities = [];
+  additionals = [];
+  edns = None;
+  signature = None;
 }
 
-abbrev pub queries_pieces : List Query → List Piece
-queries_pieces [] = []
-queries_pieces (q ∷ qs) = question_pieces q ++ queries_pieces qs
+-- the message with TC set, and with no records but the OPT record (RFC 1035 section 4.1.1, RFC 2181 section 9)
+abbrev pub truncated : Message → Message
+truncated m = record m {
+  metadata = record m.metadata { truncation = true };
+  answers = [];
+  authorities = [];
+  additionals = [];
+  signature = None;
+}
 
-abbrev pub records_pieces : Position → List Record → List Piece
-records_pieces s [] = []
-records_pieces s (r ∷ rs) = record_pieces s r ++ records_pieces (after s (record_pieces s r)) rs
+-- the records of the three sections, in order
+abbrev pub all_records : Message → List Record
+all_records m = m.answers ++ (m.authorities ++ m.additionals)
 
--- a message of these parts
-abbrev pub message_of : Metadata → List Query → List Record → List Record → List Record → Message
-message_of metadata queries answers authorities additionals = record { metadata = metadata; queries = queries; answers = answers; authorities = authorities; additionals = additionals }
+-- ---- DNSSEC (RFC 3225 section 3)
 
-abbrev pub header_bytes : Message → List ℕ
-header_bytes m = header_form m.metadata (length m.queries) (length m.answers) (length m.authorities) (length m.additionals)
+-- what is left for an asker who does not want DNSSEC: records of the type that was asked for, and records of other types
+-- than those of DNSSEC
+abbrev pub is_without_dnssec : RecordType → Record → Bool
+is_without_dnssec asked r =
+    (type_number (data_type r.rdata) == type_number asked) || not (is_dnssec_type (data_type r.rdata))
 
-abbrev pub front_pieces : Message → List Piece
-front_pieces m = Plain (header_bytes m) ∷ queries_pieces m.queries
+abbrev pub strip_sections : RecordType → Message → Message
+strip_sections asked m = record m {
+  answers = filter (is_without_dnssec asked) m.answers;
+  authorities = filter (is_without_dnssec asked) m.authorities;
+  additionals = filter (is_without_dnssec asked) m.additionals;
+}
 
--- header, questions, and the three sections of records
-abbrev pub message_pieces : Message → List Piece
-message_pieces m =
-    let front : List Piece = front_pieces m in
-    front ++ records_pieces (after beginning front) (m.answers ++ (m.authorities ++ m.additionals))
+-- without a question nothing is known to be unwanted
+abbrev pub strip_for : List Query → Message → Message
+strip_for [] m = m
+strip_for (q ∷ qs) m = strip_sections q.query_type m
 
--- the bytes of a message
-abbrev pub message_form : Message → List ℕ
-message_form m = form beginning (message_pieces m)
+abbrev pub stripped : Bool → Message → Message
+stripped dnssec_ok m = if dnssec_ok then m else strip_for m.queries m
 
--- the header with TC, and the questions
-abbrev pub cut_off : Message → Message
-cut_off m = record m { metadata = record m.metadata { truncation = true }; answers = []; authorities = []; additionals = [] }
+-- ---- the OPT record
 
--- what is left of a message under a limit: all of it, or header and questions
-abbrev pub cut : ℕ → Message → Message
-cut limit m = if nat_le (length (message_form m)) limit then m else cut_off m
+-- how many bytes a reply may have (RFC 6891 section 6.2.3)
+abbrev pub payload_of : Option Edns → ℕ
+payload_of None = 512
+payload_of (Some e) = max e.max_payload 512
+
+abbrev pub version_of : Option Edns → ℕ
+version_of None = 0
+version_of (Some e) = e.version

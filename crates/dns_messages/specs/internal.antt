@@ -1,3 +1,3 @@
 -- Lemmas that the ghost members of impls cite.
+pub mod Headers
 pub mod Questions
-pub mod Records

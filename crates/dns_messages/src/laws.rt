@@ -1,10 +1,21 @@
-//! Laws of messages, for the crates above.
+//! Theorems about the definitions of this crate, as functions with empty bodies.
 
-ghost use Rattle.std.specs.Prelude.{◌≡◌, List, ℕ};
-ghost use Rattle.dns_messages.specs.declared.message.Message.{Message};
-ghost use Rattle.dns_messages.specs.Grammar.{ReadsMessage};
+mod decoding;
+mod editing;
+mod encoding;
+mod updates;
 
-/// Bytes spell one message at most.
-pub fn a_message_is_read_one_way()
-    ensures { (bytes : List ℕ) (a b : Message) → ReadsMessage bytes a → ReadsMessage bytes b → a ≡ b }
-{}
+pub use crate::header::{headers_decode_as_encoded, metadata_round_trips};
+pub use crate::response_code::{
+    code_number_round_trips, code_parts_round_trip, decoded_codes_round_trip,
+};
+pub use decoding::{decoded_messages_are_sound, messages_decode_unambiguously};
+pub use editing::{
+    edns_flags_round_trip, stripping_is_conditional, stripping_is_idempotent,
+    truncating_is_idempotent,
+};
+pub use encoding::{messages_within_the_limit_are_not_cut, sound_messages_keep_their_edns};
+pub use updates::{
+    appended_records_are_added, created_sets_are_added, names_are_deleted,
+    records_are_deleted_by_data, sets_are_deleted, swapped_sets_are_replaced,
+};

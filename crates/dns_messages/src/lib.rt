@@ -1,25 +1,44 @@
-//! Messages of DNS (RFC 1035 section 4.1): read, and written under a limit.
+//! Messages of DNS (RFC 1035 section 4.1, RFC 6891): decoded, and encoded under a limit; dynamic updates (RFC 2136).
 //!
-//! What is read from bytes is what they spell, and nothing else; what is written is the message, or what is left of it
-//! under a limit, and these bytes spell just that.
-//!
-//! - `section`: a list as contracts see it;
-//! - `record`, `query`, `header`: what a message is made of; the data of records is in `dns_data`;
-//! - `message`, `reading`, `writing`: whole messages; `laws`: bytes spell one message at most.
+//! - `header`, with `message_type`, `op_code` and `response_code`, `query`, `edns`: the parts of a message; records are
+//!   those of `dns_records`;
+//! - `message`: messages; `section`: sections of records;
+//! - `read`: decoding messages; `emit`, with `emit_and_count` and `emit_edns`: encoding them under a limit;
+//! - `response`: responses, and what they say;
+//! - `update_message`: messages as dynamic updates (RFC 2136); `update`: builders of updates;
+//! - `laws`: theorems about the definitions.
 #![tactic(auto)]
 
+mod edns;
+mod emit;
+mod emit_and_count;
+mod emit_edns;
 mod header;
-mod laws;
+pub mod laws;
 mod message;
+mod message_type;
+mod op_code;
 mod query;
-mod reading;
-mod record;
+mod read;
+mod response;
+mod response_code;
+mod response_error;
 mod section;
-mod writing;
+mod update;
+mod update_message;
 
-pub use header::{MessageType, Metadata, OpCode, ResponseCode};
-pub use laws::a_message_is_read_one_way;
-pub use message::Message;
+pub use dns_records::{Record, Sequence};
+pub use edns::{DEFAULT_MAX_PAYLOAD_LEN, Edns, EdnsFlags};
+pub use emit::emit_message_parts;
+pub use emit_and_count::EmitAndCount;
+pub use header::{Flags, Header, HeaderCounts, Metadata};
+pub use message::{IntoSections, Message, Sections};
+pub use message_type::MessageType;
+pub use op_code::OpCode;
 pub use query::Query;
-pub use record::Record;
-pub use section::Section;
+pub use response::DnsResponse;
+pub use response_code::ResponseCode;
+pub use response_error::ResponseError;
+pub use section::SectionRecords;
+pub use update::{append, compare_and_swap, create, delete_all, delete_by_rdata, delete_rrset};
+pub use update_message::UpdateMessage;

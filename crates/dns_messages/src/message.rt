@@ -1,88 +1,136 @@
 //! Messages (RFC 1035 section 4.1).
 
-ghost use Rattle.std.specs.Prelude.{◌≡◌, ◌<◌, ◌≤◌, MatchResult, IfOk, length, Err};
-ghost use Rattle.dns_messages.specs.Grammar.{ReadsMessage};
+ghost use Rattle.std.specs.Prelude.{◌≡◌, [], None};
 
+mod dnssec;
+mod extensions;
+mod section_iter;
+mod sections;
+
+use crate::edns::Edns;
 use crate::header::Metadata;
+use crate::message_type::MessageType;
+use crate::op_code::OpCode;
 use crate::query::Query;
-use crate::reading::{read_header, read_queries, read_records};
-use crate::record::Record;
-use crate::section::Section;
-use crate::writing::message_bytes;
-use dns_wire::{BinDecoder, DecodeError, EncodeError};
-use std::alloc::Global;
+use crate::response_code::ResponseCode;
+use dns_records::{Record, Sequence};
+pub use section_iter::{IntoSections, Sections};
+use std::alloc::{AllocError, Global};
 
-/// How many bytes a header has (RFC 1035 section 4.1.1).
-const HEADER_LEN: usize = 12;
-
-/// A message.
+/// A message (RFC 1035 section 4.1).
 #[derive(Drop)]
 pub struct Message {
+    /// The header, without its counts.
     pub metadata: Metadata,
-    pub queries: Section<Query>,
-    pub answers: Section<Record>,
-    pub authorities: Section<Record>,
-    pub additionals: Section<Record>,
+    /// The question section.
+    pub queries: Sequence<Query>,
+    /// The answer section.
+    pub answers: Sequence<Record>,
+    /// The authority section.
+    pub authorities: Sequence<Record>,
+    /// The additional section, without the OPT record and the signature.
+    pub additionals: Sequence<Record>,
+    /// The OPT record (RFC 6891 section 6.1).
+    pub edns: Option<Edns>,
+    /// The TSIG record (RFC 8945 section 4.2), as opaque data.
+    pub(crate) signature: Option<Record>,
 }
 
 impl Message {
-    ghost use Rattle.dns_messages.specs.declared.message.Message.{Message};
-    ghost use Rattle.dns_messages.specs.Message.{message_form, cut, cut_off};
-    ghost use Rattle.dns_messages.specs.Sound.{IsSound};
+    ghost use Rattle.std.specs.Prelude.{IfOk};
+    ghost use Rattle.dns_messages.specs.declared.message_type.MessageType.TheVariants as kinds;
+    ghost use Rattle.dns_messages.specs.declared.op_code.OpCode.TheVariants as ops;
+    ghost use Rattle.dns_messages.specs.declared.response_code.ResponseCode.TheVariants as codes;
+    ghost use Rattle.dns_messages.specs.Message.{clear_metadata, empty_message, truncated};
 
-    /// Reads a message. Bytes behind its last record are free. Any error but want of memory says that the bytes spell
-    /// no message; bytes that are too short for a header are refused before memory is taken.
-    pub fn from_vec(alloc: Global, bytes: &[u8]) -> Result<Message, DecodeError>
-        ensures read { IfOk result (λ message. ReadsMessage bytes.now message) }
-        ensures only { (message : Message) → ReadsMessage bytes.now message
-            → MatchResult result (λ read. read ≡ message) (λ error. error ≡ DecodeError.Memory) }
-        ensures short { length bytes.now < HEADER_LEN → result ≡ Err DecodeError.InsufficientBytes }
+    /// Creates a message without questions and records. All flags are clear, and the response code is `NoError`.
+    pub fn new(alloc: Global, id: u16, message_type: MessageType, op_code: OpCode) -> Message
+        ensures { result ≡ empty_message (clear_metadata id message_type op_code codes.NoError) }
     {
-        if bytes.len() < HEADER_LEN {
-            return Err(DecodeError::InsufficientBytes);
+        Message {
+            metadata: Metadata::new(id, message_type, op_code),
+            queries: Sequence::new(alloc),
+            answers: Sequence::new(alloc),
+            authorities: Sequence::new(alloc),
+            additionals: Sequence::new(alloc),
+            edns: None,
+            signature: None,
         }
-        let mut decoder = BinDecoder::new(bytes);
-        let (metadata, counts) = read_header(&mut decoder)?;
-        let queries = read_queries(alloc, counts.queries, &mut decoder)?;
-        let answers = read_records(alloc, counts.answers, &mut decoder)?;
-        let authorities = read_records(alloc, counts.authorities, &mut decoder)?;
-        let additionals = read_records(alloc, counts.additionals, &mut decoder)?;
-        Ok(Message {
-            metadata,
-            queries,
-            answers,
-            authorities,
-            additionals,
-        })
     }
 
-    /// Writes what is left of the message under a limit of bytes. It is refused for its size where header and
-    /// questions alone pass the limit.
-    ///
-    /// What it says of reading again is of sound messages alone: an opcode or a code above 15 is written as another one.
-    pub fn to_vec(&self, alloc: Global, limit: u16) -> Result<Vec<u8>, EncodeError>
-        ensures bytes { IfOk result (λ bytes. bytes.items ≡ message_form (cut limit self.now)) }
-        ensures within { IfOk result (λ bytes. length bytes.items ≤ limit) }
-        ensures reads { IfOk result (λ bytes. IsSound (cut limit self.now) → ReadsMessage bytes.items (cut limit self.now)) }
-        ensures full { result ≡ Err EncodeError.MaxBufferSizeExceeded → limit < length (message_form (cut_off self.now)) }
+    /// Creates a query without questions. All flags are clear.
+    pub fn query(alloc: Global, id: u16) -> Message
+        ensures { result ≡ empty_message (clear_metadata id kinds.Query ops.Query codes.NoError) }
     {
-        match message_bytes(
-            alloc,
-            limit,
-            self.metadata,
-            self.queries.as_slice(),
-            self.answers.as_slice(),
-            self.authorities.as_slice(),
-            self.additionals.as_slice(),
-        ) {
-            Err(EncodeError::MaxBufferSizeExceeded) => {}
-            whole => return whole,
-        }
-        let metadata = Metadata {
-            truncation: true,
-            ..self.metadata
-        };
-        let queries = self.queries.as_slice();
-        message_bytes(alloc, limit, metadata, queries, &[], &[], &[])
+        Message::new(alloc, id, MessageType::Query, OpCode::Query)
+    }
+
+    /// Creates a response without questions and records. All other flags are clear.
+    pub fn response(alloc: Global, id: u16, op_code: OpCode) -> Message
+        ensures { result ≡ empty_message (clear_metadata id kinds.Response op_code codes.NoError) }
+    {
+        Message::new(alloc, id, MessageType::Response, op_code)
+    }
+
+    /// Creates a response that has nothing but a response code.
+    pub fn error_msg(
+        alloc: Global,
+        id: u16,
+        op_code: OpCode,
+        response_code: ResponseCode,
+    ) -> Message
+        ensures { result ≡ empty_message (clear_metadata id kinds.Response op_code response_code) }
+    {
+        let mut message = Message::response(alloc, id, op_code);
+        message.metadata.response_code = response_code;
+        message
+    }
+
+    /// Converts to a response.
+    pub fn into_response(self) -> Message
+        ensures { result ≡ record self {
+          metadata = record self.metadata { message_type = kinds.Response };
+        } }
+    {
+        let mut message = self;
+        message.metadata.message_type = MessageType::Response;
+        message
+    }
+
+    /// Copies the message without its records and its signature, and sets TC (RFC 2181 section 9).
+    pub fn truncate(&self, alloc: Global) -> Result<Message, AllocError>
+        ensures { IfOk result (λ copy. copy ≡ truncated self.now) }
+    {
+        let mut message = Message::query(alloc, 0);
+        message.metadata = self.metadata;
+        message.metadata.truncation = true;
+        message.queries = copy_queries(alloc, self.queries.as_slice())?;
+        message.edns = copy_edns(&self.edns)?;
+        Ok(message)
+    }
+}
+
+ghost use Rattle.std.specs.Prelude.{IfOk};
+ghost use Rattle.dns_messages.specs.Message.{clear_metadata};
+ghost use Rattle.dns_messages.specs.declared.response_code.ResponseCode.TheVariants as codes;
+
+/// Copies questions.
+fn copy_queries(alloc: Global, queries: &[Query]) -> Result<Sequence<Query>, AllocError>
+    ensures { IfOk result (λ copies. copies ≡ queries.now) }
+{
+    let mut copies = Sequence::new(alloc);
+    for query in queries {
+        copies.push(query.clone()?)?;
+    }
+    Ok(copies)
+}
+
+/// Copies an OPT record.
+fn copy_edns(edns: &Option<Edns>) -> Result<Option<Edns>, AllocError>
+    ensures { IfOk result (λ copy. copy ≡ edns.now) }
+{
+    match edns {
+        Some(edns) => Ok(Some(edns.clone()?)),
+        None => Ok(None),
     }
 }

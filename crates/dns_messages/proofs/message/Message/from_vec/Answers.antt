@@ -1,11 +1,18 @@
-use Rattle.std.proofs.Common.{List, ℕ, ap, sym, subst}
-use Rattle.std.proofs.lemmas.Result.{err_from_is_err_and}
-use Rattle.dns_wire.specs.Decoder.{Decoder}
-use Rattle.dns_messages.specs.Grammar.{ReadsHeader}
+use Rattle.std.proofs.Common.{rules, IfOk}
+use Rattle.std.specs.Prelude.{Result, Ok, Err}
+use Rattle.dns_wire.specs.declared.error.DecodeError.{DecodeError}
+use Rattle.dns_messages.specs.declared.message.Message.{Message}
+use Rattle.dns_messages.specs.Sound.{IsSound}
+use Rattle.dns_messages.specs.Grammar.{ReadsMessage, short_header}
 use Rattle.dns_messages.proofs.message.Message.from_vec.Goals as goal
 
-pub returns-in_err-metadata-clause-only : goal.returns-in_err-metadata-clause-only
-returns-in_err-metadata-clause-only c = λ m r.
-    let p = err_from_is_err_and c.from_residual.result c.from_residual.ensures.1 in
-    let bytes = ap (λ (d : Decoder). d.bytes) c.new-decoder.ensures in
-    rw (p.1, p.2) (c.in_err-metadata.ensures.only m (subst (λ (xs : List ℕ). ReadsHeader xs m) (sym bytes) r.header))
+pub returns-then-bytes-lt-HEADER_LEN-clause-refused : goal.returns-then-bytes-lt-HEADER_LEN-clause-refused
+returns-then-bytes-lt-HEADER_LEN-clause-refused c = λ other. short_header (search rules)
+
+-- what holds of a message that is decoded
+decoded : (result : Result Message DecodeError) (P Q : Message → Type 0) → ((m : Message) → P m → Q m) → IfOk result P → IfOk result Q
+decoded (Ok m) P Q f h = f m h
+decoded (Err error) P Q f h = h
+
+pub returns-clause-sound : goal.returns-clause-sound
+returns-clause-sound c = decoded c.read_message.result (ReadsMessage c.args.bytes.now) IsSound (λ m r. c.decoded_messages_are_sound.ensures c.args.bytes.now m r) c.read_message.ensures.read

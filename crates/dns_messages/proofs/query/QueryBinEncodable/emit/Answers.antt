@@ -6,7 +6,7 @@ use Rattle.dns_wire.specs.Encodable.{Piece, Plain, Domain}
 use Rattle.dns_codes.specs.RecordType.{type_number}
 use Rattle.dns_codes.specs.DNSClass.{class_number}
 use Rattle.dns_wire.proofs.PieceLaws.{emits_stop}
-use Rattle.dns_messages.proofs.Steps.{then_emits}
+use Rattle.dns_records.proofs.Steps.{then_emits}
 use Rattle.dns_messages.proofs.query.QueryBinEncodable.emit.Goals as goal
 
 pub returns-in_err-emit_u16-clause-emits : goal.returns-in_err-emit_u16-clause-emits

@@ -1,0 +1,6 @@
+-- Lemmas on dynamic updates.
+pub mod Maps
+pub mod Lists
+pub mod Codes
+pub mod Sets
+pub mod Laws
