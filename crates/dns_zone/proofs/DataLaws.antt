@@ -41,12 +41,16 @@ address_octets text None h = tt
 pub sound_address : (a : A) → length (ipv4_octets a.0) ≡ 4 → IsSoundRowData (of.A a)
 sound_address a four = record {
   sound = sound_data (of.A a) (four, tt) (tt, tt) (omega arith) refl (omega arith) refl;
-  ordinary = tt;
+  not_opt = refl;
+  not_tsig = refl;
+  has_data = refl;
 }
 
 pub sound_soa : (s : SOA) → s.mname.is_fqdn ≡ true → s.rname.is_fqdn ≡ true → name_len s.mname.labels ≤ 255 → name_len s.rname.labels ≤ 255
     → s.serial < 2 ^ 32 → s.refresh < 2 ^ 32 → s.retry < 2 ^ 32 → s.expire < 2 ^ 32 → s.minimum < 2 ^ 32 → IsSoundRowData (of.SOA s)
 sound_soa s mname rname m r serial refresh retry expire minimum = record {
   sound = sound_data (of.SOA s) (mname, (rname, (serial, (refresh, (retry, (expire, (minimum, tt))))))) (m, (r, (tt, (tt, (tt, (tt, (tt, tt))))))) (omega arith) refl (omega arith) refl;
-  ordinary = tt;
+  not_opt = refl;
+  not_tsig = refl;
+  has_data = refl;
 }

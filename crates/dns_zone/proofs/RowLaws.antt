@@ -21,7 +21,7 @@ use Rattle.std.specs.FinMap.Entries.{find, put, by_order}
 use Rattle.dns_codes.specs.RecordType.{type_number}
 use Rattle.dns_codes.specs.declared.record_type.RecordType.{RecordType}
 use Rattle.dns_names.specs.Compare.{lower, same_labels, at_or_below}
-use Rattle.dns_zone.specs.declared.rows.Row.{Row}
+use Rattle.dns_records.specs.declared.row.Row.{Row}
 use Rattle.dns_zone.specs.declared.rows.RecordSet.{RecordSet}
 use Rattle.dns_zone.specs.Rows.{Key, key, key_cmp, set_key, rows_of_sets, rows_at, with_row, joined, some_row_below, is_soa, supersedes, replaced, IsSoundRow, IsSoundSet, AreSoundRows, AreSoundSets, HasNoEmptySet}
 

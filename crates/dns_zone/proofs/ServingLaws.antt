@@ -1,39 +1,39 @@
 -- Requests and replies.
-use Rattle.std.proofs.Common.{◌≡◌, ◌==◌, ◌&&◌, ◌<◌, ◌≤◌, ◌^◌, ◌/◌, ◌%◌, eq-eqb, get_or, drop, take, ℕ, Bool, true, false, cond, List, [], ◌∷◌, ◌++◌, refl, sym, ap, ◌∙◌, subst, length, arith, length-append, nat_le}
+use Rattle.std.proofs.Common.{◌≡◌, ◌==◌, ◌&&◌, ◌<◌, ◌≤◌, ◌^◌, ◌/◌, ◌%◌, eq-eqb, get_or, drop, take, ℕ, Bool, true, false, cond, List, [], ◌∷◌, ◌++◌, refl, sym, ap, ◌∙◌, subst, length, arith, Option, Some, None, not}
+use Rattle.std.specs.Prelude.{is_some, option_map}
+use Rattle.std.specs.Borrow.{Bor}
+use Rattle.std.proofs.lemmas.Bool.{true≢false}
 use Rattle.std.specs.Bool.{MatchBool}
 use Rattle.std.specs.List.{AllByRecursion}
 use borrow.Author.Tests.{eqb-true, eqb-false}
 use Rattle.std.specs.Str.{bytes_eq}
 use Rattle.std.proofs.lemmas.List.{get_or-take, drop-take}
-use Rattle.std.proofs.Common.{leb-true, lit<}
+use Rattle.std.proofs.Common.{lit<}
 use Rattle.std.proofs.lemmas.Bool.{le-leb}
 use Rattle.dns_wire.specs.Name.{name_len}
-use Rattle.dns_wire.specs.Encodable.{Piece, Plain, Domain, Position, name_form, form, after, piece_form, piece_next, labels_form, whole_form}
-use Rattle.dns_wire.proofs.PieceLaws.{name_form-some}
-use Rattle.std.specs.Int.{w16, w32, to_be_bytes}
-use Rattle.dns_codes.specs.RecordType.{type_number}
-use Rattle.dns_codes.specs.DNSClass.{class_number}
+use Rattle.dns_wire.specs.Encodable.{Plain, start_position}
+use Rattle.dns_wire.proofs.SectionLaws.{reach-most}
+use Rattle.std.specs.Int.{w16, to_be_bytes}
 use Rattle.dns_wire.specs.declared.error.DecodeError.{DecodeError}
-use Rattle.dns_wire.specs.declared.error.DecodeError.TheVariants as faults
+use Rattle.dns_records.specs.Record.{Record}
 use Rattle.dns_messages.specs.declared.query.Query.{Query}
-use Rattle.dns_messages.specs.declared.record.Record.{Record}
 use Rattle.dns_messages.specs.declared.message.Message.{Message}
+use Rattle.dns_messages.specs.declared.edns.Edns.{Edns}
 use Rattle.dns_messages.specs.declared.header.Metadata.{Metadata}
-use Rattle.dns_messages.specs.declared.header.MessageType.TheVariants as kinds
-use Rattle.dns_messages.specs.declared.header.OpCode.TheVariants as ops
+use Rattle.dns_messages.specs.declared.header.HeaderCounts.{HeaderCounts}
+use Rattle.dns_messages.specs.declared.message_type.MessageType.TheVariants as kinds
+use Rattle.dns_messages.specs.declared.op_code.OpCode.TheVariants as ops
 use Rattle.dns_zone.specs.declared.road.Road.{Road}
 use Rattle.dns_zone.specs.declared.road.Road.TheVariants as roads
-use Rattle.dns_messages.specs.Header.{op_number, op_of, has_bit, metadata_of}
-use Rattle.std.proofs.Common.{append_assoc, Some}
+use Rattle.dns_messages.specs.Header.{op_of, has_bit, metadata_of}
+use Rattle.dns_messages.specs.Edns.{edns_of}
+use Rattle.dns_messages.specs.Section.{is_opt, is_signature, ordinary_records, edns_in, signature_in}
+use Rattle.dns_messages.specs.Cut.{cut, cut_form, front_reach, twelve_zeros, queries_pieces}
+use Rattle.dns_messages.specs.Sound.{IsSound, IsSoundIn, IsSoundQuery, is_update_code}
+use Rattle.dns_messages.specs.Grammar.{ReadsMessage, RefusesMessage, extended}
 use Rattle.dns_zone.specs.Rows.{ZoneContent}
-use Rattle.dns_data.specs.rdata.{data_type, data_pieces}
-use Rattle.dns_messages.specs.Record.{data_len, record_pieces}
-use Rattle.dns_messages.specs.Message.{beginning, records_pieces, front_pieces, message_form, cut, cut_off}
-use Rattle.dns_messages.specs.Sound.{IsSound, IsSoundQuery, IsSoundMetadata}
-use Rattle.dns_messages.specs.Grammar.{ReadsMessage, ReadsHeader, ReadsQuestion}
-use Rattle.dns_wire.specs.Decodable.{Follow}
-use Rattle.dns_zone.specs.Answer.{answer, IsSoundAnswer, AreSoundRecords}
-use Rattle.dns_zone.specs.Serving.{has_request_header, IsServed, IsRequest, Serves, reply, reply_to, reply_limit, sent_reply}
+use Rattle.dns_zone.specs.Answer.{answer, IsSoundAnswer}
+use Rattle.dns_zone.specs.Serving.{has_request_header, IsServed, IsRequest, Serves, reply, reply_to, reply_limit}
 
 -- ---- which requests are served
 
@@ -46,12 +46,37 @@ empty : {A : Type 0} (xs : List A) → length xs ≡ 0 → xs ≡ []
 empty [] e = refl
 empty (x ∷ xs) e = absurd (omega arith)
 
-pub served_if : (m : Message) (b : Bool) → m.metadata.message_type ≡ kinds.Query → m.metadata.op_code ≡ ops.Query → length m.queries ≡ 1 → length m.answers ≡ 0 → length m.authorities ≡ 0
-    → b ≡ (length m.additionals == 0) → MatchBool b ((q : Query) × IsServed m q) ((q : Query) → ¬ (IsServed m q))
-served_if m true t o n a u d =
-    let q = single m.queries n in
-    (q.0, record { asks = t; of_code = o; one_question = q.1; no_answer = empty m.answers a; no_authority = empty m.authorities u; no_additional = empty m.additionals (eqb-true (length m.additionals) 0 (sym d)) })
-served_if m false t o n a u d = λ q s. eqb-false (length m.additionals) 0 (sym d) (ap length s.no_additional)
+absent : {A : Type 0} (x : Option A) → is_some x ≡ false → x ≡ None
+absent None e = refl
+absent (Some a) e = absurd (true≢false e)
+
+pub served : (m : Message) → m.metadata.message_type ≡ kinds.Query → m.metadata.op_code ≡ ops.Query → length m.queries ≡ 1 → length m.answers ≡ 0 → length m.authorities ≡ 0 → length m.additionals ≡ 0 → is_some m.edns ≡ false
+    → m.signature ≡ None → (q : Query) × IsServed m q
+served m t o n a u d e s =
+    let q = single m.queries n in (
+      q.0,
+      record {
+        asks = t;
+        of_code = o;
+        one_question = q.1;
+        no_answer = empty m.answers a;
+        no_authority = empty m.authorities u;
+        no_additional = empty m.additionals d;
+        no_edns = absent m.edns e;
+        no_signature = s;
+      },
+    )
+
+-- whether it is served depends on the signature, if all else is as it is
+pub served_if : (m : Message) → (m.signature ≡ None → (q : Query) × IsServed m q) → (found : Option (Bor Record)) → option_map (λ r. r.now) found ≡ m.signature
+    → (b : Bool) → is_some found ≡ not b → MatchBool b ((q : Query) × IsServed m q) ((q : Query) → ¬ (IsServed m q))
+served_if m all None s true e = all (sym s)
+served_if m all None s false e = absurd (true≢false (sym e))
+served_if m all (Some r) s true e = absurd (true≢false e)
+served_if m all (Some r) s false e = λ q is. some r.now (s ∙ is.no_signature)
+  where
+    some : (x : Record) → Some x ≡ None → ⊥
+    some x h = cc
 
 -- ---- the header of a request
 
@@ -76,16 +101,43 @@ third_of_query id third fourth m e kind op =
     let code = op_query ((third / 8) % 16) (sym (ap (λ (h : Metadata). h.op_code) e) ∙ op) in
     eq-eqb ((third / 8) % 32) 0 (omega arith)
 
-header_of_query : (bytes : List ℕ) (m : Message) (q : Query) → ReadsHeader bytes m → IsServed m q → has_request_header bytes ≡ true
+-- a section without ordinary records, an OPT record and a signature has no records
+no_records : (rs : List Record) → ordinary_records rs ≡ [] → edns_in rs ≡ None → signature_in rs ≡ None → length rs ≡ 0
+no_records [] o e s = refl
+no_records (r ∷ rs) o e s = by (is_opt r) (is_signature r) refl refl
+  where
+    by : (opt signs : Bool) → is_opt r ≡ opt → is_signature r ≡ signs → length (r ∷ rs) ≡ 0
+    by true signs f g = absurd (some (rw f at e))
+      where
+        some : Some (edns_of r) ≡ None → ⊥
+        some h = cc
+    by false true f g = absurd (some (rw g at s))
+      where
+        some : Some r ≡ None → ⊥
+        some h = cc
+    by false false f g = absurd (some (rw (f, g) at o))
+      where
+        some : r ∷ ordinary_records rs ≡ [] → ⊥
+        some h = cc
+
+header_of_query : (bytes : List ℕ) (m : Message) (q : Query) → ReadsMessage bytes m → IsServed m q → has_request_header bytes ≡ true
 header_of_query bytes m q r served =
-    let there = r.there.there in
-    let long : 12 ≤ length bytes = omega (arith, r.there.ends, r.there.within) in
-    let third : get_or bytes 2 0 ≡ r.third = sym (get_or-take 12 bytes 2 0 (lit< tt)) ∙ ap (λ (xs : List ℕ). get_or xs 2 0) there in
+    let there = r.header.there.there in
+    let long : 12 ≤ length bytes = omega (arith, r.header.there.ends, r.header.there.within) in
+    let third : get_or bytes 2 0 ≡ r.header.third = sym (get_or-take 12 bytes 2 0 (lit< tt)) ∙ ap (λ (xs : List ℕ). get_or xs 2 0) there in
+    let c : HeaderCounts = r.head.counts in
+    let queries : c.queries ≡ 1 = sym r.queries.count_is ∙ ap length served.one_question in
+    let answers : c.answers ≡ 0 = sym r.answers.count_is ∙ ap length served.no_answer in
+    let authorities : c.authorities ≡ 0 = sym r.authorities.count_is ∙ ap length served.no_authority in
+    let additionals : c.additionals ≡ 0 = sym r.additionals.count_is
+    ∙ no_records r.last (sym r.ordinary ∙ served.no_additional) (sym r.edns ∙ served.no_edns) (sym r.signature ∙ served.no_signature) in
     let counts : take 8 (drop 4 bytes) ≡ 0 ∷ 1 ∷ 0 ∷ 0 ∷ 0 ∷ 0 ∷ 0 ∷ 0 ∷ [] =
     sym (drop-take 4 8 bytes) ∙ ap (λ (xs : List ℕ). drop 4 xs) there
-    ∙ counts_of (length m.queries) (length m.answers) (length m.authorities) (length m.additionals) (ap length served.one_question) (ap length served.no_answer) (ap length served.no_authority) (ap length served.no_additional) in
+    ∙ counts_of c.queries c.answers c.authorities c.additionals queries answers authorities additionals in
+    let metadata : m.metadata ≡ r.head.metadata = r.metadata ∙ ap (λ (e : Option Edns). extended e r.head.metadata) served.no_edns in
+    let head : m.metadata ≡ metadata_of r.head.metadata.id r.header.third r.header.fourth = metadata ∙ r.header.metadata in
     let flags : (((get_or bytes 2 0 / 8) % 32) == 0) ≡ true =
-    ap (λ (b : ℕ). ((b / 8) % 32) == 0) third ∙ third_of_query m.metadata.id r.third r.fourth m.metadata r.metadata served.asks served.of_code in
+    ap (λ (b : ℕ). ((b / 8) % 32) == 0) third ∙ third_of_query r.head.metadata.id r.header.third r.header.fourth m.metadata head served.asks served.of_code in
     λ i. le-leb 12 (length bytes) long i && (flags i && bytes_eq (counts i) (0 ∷ 1 ∷ 0 ∷ 0 ∷ 0 ∷ 0 ∷ 0 ∷ 0 ∷ []))
   where
     counts_of : (q a u d : ℕ) → q ≡ 1 → a ≡ 0 → u ≡ 0 → d ≡ 0 → to_be_bytes w16 q ++ (to_be_bytes w16 a ++ (to_be_bytes w16 u ++ to_be_bytes w16 d)) ≡ 0 ∷ 1 ∷ 0 ∷ 0 ∷ 0 ∷ 0 ∷ 0 ∷ 0 ∷ []
@@ -94,106 +146,58 @@ header_of_query bytes m q r served =
 -- a request has the header of one
 pub no_request : (bytes : List ℕ) → has_request_header bytes ≡ false → (m : Message) (q : Query) → ¬ (IsRequest bytes m q)
 no_request bytes e m q request =
-    let header = header_of_query bytes m q request.reads.header request.served in
+    let header = header_of_query bytes m q request.reads request.served in
     let no : true ≡ false = sym header ∙ e in
     cc
 
 -- ---- no reply
 
-pub not_read : (bytes : List ℕ) (error : DecodeError) → ((message : Message) → ReadsMessage bytes message → error ≡ faults.Memory) → (error ≡ faults.Memory → ⊥) → (m : Message) (q : Query) → ¬ (IsRequest bytes m q)
-not_read bytes error only not m q request = not (only m request.reads)
+pub not_read : (bytes : List ℕ) (error : DecodeError) → ((m : Message) (e : DecodeError) → ReadsMessage bytes m → RefusesMessage bytes e → ⊥) → RefusesMessage bytes error → (m : Message) (q : Query) → ¬ (IsRequest bytes m q)
+not_read bytes error law refused m q request = law m error request.reads refused
 
--- ---- how long a message is
+-- ---- the header and the question always fit a datagram
 
-form_append : (s : Position) (ps qs : List Piece) → form s (ps ++ qs) ≡ form s ps ++ form (after s ps) qs
-form_append s [] qs = refl
-form_append s (p ∷ ps) qs = ap (λ more. piece_form s p ++ more) (form_append (piece_next s p) ps qs) ∙ sym (append_assoc (piece_form s p) (form (piece_next s p) ps) (form (after (piece_next s p) ps) qs))
-
-name_long : (labels : List (List ℕ)) → length (whole_form labels) ≡ name_len labels
-name_long [] = refl
-name_long (label ∷ labels) = omega (arith, name_long labels, length-append label (labels_form labels), length-append (labels_form labels) (0 ∷ []), ap length (append_assoc label (labels_form labels) (0 ∷ [])), length-append label (labels_form labels ++ 0 ∷ []))
-
-record_long : (s : Position) (r : Record) → 0 < length (form s (record_pieces s r))
-record_long s r = omega (arith, name_form-some s r.name.labels, length-append (name_form s r.name.labels) (form (piece_next s (Domain r.name.labels)) (Plain (to_be_bytes w16 (type_number (data_type r.rdata))) ∷ Plain (to_be_bytes w16 (class_number r.dns_class)) ∷ Plain (to_be_bytes w32 r.ttl) ∷ Plain (to_be_bytes w16 (data_len s r)) ∷ data_pieces s.canonical r.rdata)))
-
-records_long : (s : Position) (rs : List Record) → length rs ≤ length (form s (records_pieces s rs))
-records_long s [] = omega arith
-records_long s (r ∷ rs) =
-    let t = after s (record_pieces s r) in
-    omega (arith, record_long s r, records_long t rs, ap length (form_append s (record_pieces s r) (records_pieces t rs)), length-append (form s (record_pieces s r)) (form t (records_pieces t rs)))
-
-message_long : (m : Message) → length (m.answers ++ (m.authorities ++ m.additionals)) ≤ length (message_form m)
-message_long m =
-    let front = front_pieces m in
-    let t = after beginning front in
-    let rs = m.answers ++ (m.authorities ++ m.additionals) in
-    omega (arith, records_long t rs, ap length (form_append beginning front (records_pieces t rs)), length-append (form beginning front) (form t (records_pieces t rs)))
-
--- the header and the question always fit a datagram
-pub question_fits : (zone : ZoneContent) (m : Metadata) (q : Query) → name_len q.name.labels ≤ 255 → length (message_form (cut_off (reply_to zone m q))) ≤ 512
-question_fits zone m q h =
-    let back : List ℕ = to_be_bytes w16 (type_number q.query_type) ++ (to_be_bytes w16 (class_number q.query_class) ++ []) in
-    omega (arith, name_long q.name.labels, length-append (whole_form q.name.labels) back)
+pub question_fits : (zone : ZoneContent) (m : Metadata) (q : Query) → name_len q.name.labels ≤ 255 → front_reach (reply_to zone m q) ≤ 512
+question_fits zone m q h = omega (arith, reach-most start_position (Plain twelve_zeros ∷ queries_pieces (reply_to zone m q)), h)
 
 pub limit_most : (road : Road) → reply_limit road < 2 ^ 16
 limit_most (roads.Datagram limit) = omega arith
 limit_most roads.Stream = omega arith
 
--- ---- what is left of a reply can be sent, and read again
+-- ---- the reply can be encoded and decoded again
 
-cut_by : (m : Message) (limit : ℕ) (b : Bool) → nat_le (length (message_form m)) limit ≡ b → limit < 2 ^ 16 → IsSoundMetadata m.metadata → AllByRecursion IsSoundQuery m.queries → length m.queries < 2 ^ 16
-    → AreSoundRecords m.answers → AreSoundRecords m.authorities → AreSoundRecords m.additionals → IsSound (cond b m (cut_off m))
-cut_by m limit true e h metadata queries few answers authorities additionals =
-    let within : length (message_form m) ≤ limit = leb-true (length (message_form m)) limit e in
-    let long = message_long m in
-    let all = length-append m.answers (m.authorities ++ m.additionals) in
-    let behind = length-append m.authorities m.additionals in
-    record {
-      metadata = metadata;
-      queries = queries;
-      answers = answers;
-      authorities = authorities;
-      additionals = additionals;
-      queries_fit = few;
-      answers_fit = omega (arith, within, long, all, behind);
-      authorities_fit = omega (arith, within, long, all, behind);
-      additionals_fit = omega (arith, within, long, all, behind);
-    }
-cut_by m limit false e h metadata queries few answers authorities additionals = record {
-  metadata = record { id_fits = metadata.id_fits; op_fits = metadata.op_fits; op_named = metadata.op_named; code_fits = metadata.code_fits; code_named = metadata.code_named };
-  queries = queries;
-  answers = tt;
-  authorities = tt;
-  additionals = tt;
-  queries_fit = few;
-  answers_fit = omega arith;
-  authorities_fit = omega arith;
-  additionals_fit = omega arith;
-}
+asked_sound : (m : Message) (q : Query) → IsSound m → IsServed m q → IsSoundQuery q
+asked_sound m q sound served = (subst (λ (qs : List Query). AllByRecursion IsSoundQuery qs) served.one_question sound.queries).0
 
-asked_sound : (bytes : List ℕ) (qs : List Query) (q : Query) (end : ℕ) → qs ≡ q ∷ [] → Follow (ReadsQuestion bytes) 12 qs end → IsSoundQuery q
-asked_sound bytes qs q end e follow = (subst (λ xs. Follow (ReadsQuestion bytes) 12 xs end) e follow).1.sound
-
-reply_sound : (zone : ZoneContent) (bytes : List ℕ) (m : Message) (q : Query) (limit : ℕ) → limit < 2 ^ 16 → ReadsMessage bytes m → IsServed m q → (q.name.is_fqdn ≡ true → IsSoundAnswer (answer zone q)) → IsSound (cut limit (reply zone m q))
-reply_sound zone bytes m q limit h reads served sound =
-    let asked = asked_sound bytes m.queries q reads.asked served.one_question reads.queries in
+reply_sound : (zone : ZoneContent) (m : Message) (q : Query) → IsSound m → IsServed m q → (q.name.is_fqdn ≡ true → IsSoundAnswer (answer zone q)) → IsSound (reply zone m q)
+reply_sound zone m q request served sound =
+    let asked = asked_sound m q request served in
     let a = sound asked.fqdn in
-    let metadata : IsSoundMetadata (reply zone m q).metadata = record {
-      id_fits = reads.header.id_fits;
-      op_fits = subst (λ o. op_number o < 16) (sym served.of_code) (omega arith);
-      op_named = subst (λ o. op_of (op_number o) ≡ o) (sym served.of_code) refl;
-      code_fits = a.code_fits;
-      code_named = a.code_named;
-    } in
-    cut_by (reply zone m q) limit _ refl h metadata (asked, tt) (omega arith) a.answers a.authorities tt
+    let answers_are = (λ (b : Bool) (e : b ≡ false) (rs : List Record) (h : AllByRecursion (IsSoundIn false) rs). subst (λ (x : Bool). AllByRecursion (IsSoundIn x) rs) (sym e) h) in
+    let query_code : is_update_code m.metadata.op_code ≡ false = ap is_update_code served.of_code in
+    record {
+      metadata = record {
+        id_fits = request.metadata.id_fits;
+        op_fits = request.metadata.op_fits;
+        op_named = request.metadata.op_named;
+        code_fits = omega (arith, a.code_fits);
+        code_named = a.code_named;
+      };
+      queries = (asked, tt);
+      answers = answers_are _ query_code _ a.answers;
+      authorities = answers_are _ query_code _ a.authorities;
+      additionals = tt;
+      edns = tt;
+      extended = a.code_fits;
+      signature = tt;
+    }
 
-pub serves : (zone : ZoneContent) (road : Road) (bytes : List ℕ) (m : Message) (q : Query) (whole : Message) (limit : ℕ) (out : List ℕ) → ReadsMessage bytes m → IsServed m q → (q.name.is_fqdn ≡ true → IsSoundAnswer (answer zone q))
-    → whole ≡ reply zone m q → limit ≡ reply_limit road → out ≡ message_form (cut limit whole) → (IsSound (cut limit whole) → ReadsMessage out (cut limit whole)) → Serves zone road bytes (Some out)
-serves zone road bytes m q whole limit out reads served sound w l form again =
-    let cuts : cut limit whole ≡ sent_reply zone road m q = λ i. cut (l i) (w i) in (
-      m,
-      q,
-      record { reads = reads; served = served },
-      form ∙ ap message_form cuts,
-      subst (ReadsMessage out) cuts (again (subst IsSound (sym cuts) (reply_sound zone bytes m q (reply_limit road) (limit_most road) reads served sound))),
-    )
+pub serves : (zone : ZoneContent) (road : Road) (bytes : List ℕ) (m : Message) (q : Query) (whole : Message) (limit : ℕ) (out : List ℕ) → ReadsMessage bytes m → IsSound m → IsServed m q → (q.name.is_fqdn ≡ true → IsSoundAnswer (answer zone q))
+    → whole ≡ reply zone m q → limit ≡ reply_limit road → out ≡ cut_form limit whole → (IsSound whole → ReadsMessage out (cut limit whole)) → Serves zone road bytes (Some out)
+serves zone road bytes m q whole limit out reads request served sound w l form again = (
+  m,
+  q,
+  record { reads = reads; served = served },
+  form ∙ (λ i. cut_form (l i) (w i)),
+  subst (ReadsMessage out) (λ i. cut (l i) (w i)) (again (subst IsSound (sym w) (reply_sound zone m q request served sound))),
+)

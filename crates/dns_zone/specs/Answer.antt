@@ -1,22 +1,22 @@
 -- The answer of a zone to a question (RFC 1034 section 4.3.2, RFC 2308 sections 2 and 3).
-use Rattle.std.specs.Prelude.{◌≡◌, ◌<◌, ◌==◌, ◌&&◌, ◌||◌, nat_le, not, map, min, if◌then◌else◌, Bool, List, [], ◌∷◌, ℕ}
+use Rattle.std.specs.Prelude.{false, ◌≡◌, ◌<◌, ◌==◌, ◌&&◌, ◌||◌, nat_le, not, map, min, if◌then◌else◌, Bool, List, [], ◌∷◌, ℕ}
 use Rattle.dns_codes.specs.RecordType.{type_number}
 use Rattle.dns_codes.specs.DNSClass.{class_number}
 use Rattle.dns_codes.specs.declared.dns_class.DNSClass.TheVariants.{IN}
 use Rattle.dns_codes.specs.declared.record_type.RecordType.TheVariants as types
 use Rattle.dns_names.specs.Name.{DomainName}
 use Rattle.dns_names.specs.Compare.{at_or_below}
-use Rattle.dns_messages.specs.declared.header.ResponseCode.{ResponseCode}
-use Rattle.dns_messages.specs.declared.header.ResponseCode.TheVariants.{NoError, NXDomain, NotImp, Refused}
+use Rattle.dns_messages.specs.declared.response_code.ResponseCode.{ResponseCode}
+use Rattle.dns_messages.specs.declared.response_code.ResponseCode.TheVariants.{NoError, NXDomain, NotImp, Refused}
 use Rattle.dns_zone.specs.declared.answer.Answer.{Answer}
 use Rattle.dns_messages.specs.declared.query.Query.{Query}
-use Rattle.dns_messages.specs.declared.record.Record.{Record}
+use Rattle.dns_records.specs.Record.{Record}
 use Rattle.dns_data.specs.declared.rdata.RData.{RData}
 use Rattle.dns_data.specs.declared.rdata.RData.TheVariants as of
-use Rattle.dns_zone.specs.declared.rows.Row.{Row}
+use Rattle.dns_records.specs.declared.row.Row.{Row}
 use Rattle.std.specs.List.{AllByRecursion}
 use Rattle.dns_messages.specs.Header.{code_number, code_of}
-use Rattle.dns_messages.specs.Sound.{IsSoundRecord}
+use Rattle.dns_messages.specs.Sound.{IsSoundIn}
 use Rattle.dns_zone.specs.Rows.{ZoneContent, rows_at, some_row_below}
 
 -- types that no row has: 0, SIG, OPT, and 128 to 255 (RFC 6895 section 3.1)
@@ -71,7 +71,7 @@ answer zone q =
 -- ---- what is answered can be sent
 
 abbrev pub AreSoundRecords : List Record → Type 0
-AreSoundRecords records = AllByRecursion IsSoundRecord records
+AreSoundRecords records = AllByRecursion (IsSoundIn false) records
 
 pub record IsSoundAnswer (a : Answer) : Type 0 where
   pub code_fits : code_number a.code < 16

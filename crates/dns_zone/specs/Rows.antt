@@ -1,5 +1,5 @@
--- The rows of a zone: a finite map from an owner, up to ASCII case, and a type to data with TTLs, in their order.
-use Rattle.std.specs.Prelude.{◌≢◌, ◌<◌, ◌^◌, ◌++◌, nat_lt, length, map, Some, Bool, true, false, List, [], ◌∷◌, ℕ, if◌then◌else◌, unwrap_or}
+-- The rows of a zone, and the sets that hold them.
+use Rattle.std.specs.Prelude.{◌≡◌, ◌≢◌, ◌<◌, ◌^◌, ◌++◌, nat_lt, length, map, Some, Bool, true, false, List, [], ◌∷◌, ℕ, if◌then◌else◌, unwrap_or}
 use Rattle.std.specs.List.{list_any, AllByRecursion}
 use Rattle.std.specs.declared.cmp.Ordering.{Ordering}
 use Rattle.std.specs.Ordering.{nat_cmp, ordering_then}
@@ -11,31 +11,11 @@ use Rattle.dns_names.specs.Name.{DomainName}
 use Rattle.dns_names.specs.Compare.{lower, at_or_below}
 use Rattle.dns_data.specs.declared.rdata.RData.{RData}
 use Rattle.dns_data.specs.declared.rdata.RData.TheVariants as of
-use Rattle.dns_zone.specs.declared.rows.Row.{Row}
+use Rattle.dns_records.specs.declared.row.Row.{Row}
 use Rattle.dns_zone.specs.declared.rows.RecordSet.{RecordSet}
-use Rattle.dns_data.specs.rdata.{same_data, data_type, IsSoundData}
-use Rattle.dns_messages.specs.Sound.{IsOrdinaryData}
-
--- the place of a record set: its owner's labels in lower case, and its type's number
-abbrev pub Key : Type 0
-Key = List (List ℕ) × ℕ
-
-abbrev pub key_cmp : Key → Key → Ordering
-key_cmp a b = ordering_then (slice_cmp (slice_cmp nat_cmp) a.0 b.0) (nat_cmp a.1 b.1)
-
-abbrev pub Rows : Type 0
-Rows = rows_map.FinMap key_cmp (List Row)
-
-abbrev pub key : List (List ℕ) → RecordType → Key
-key owner rtype = (lower owner, type_number rtype)
-
--- the rows of a type at a name, in their order
-abbrev pub rows_at : Rows → List (List ℕ) → RecordType → List Row
-rows_at rows owner rtype = unwrap_or (rows_map.get rows (key owner rtype)) []
-
--- whether some row's owner is the name, or lies below it
-abbrev pub some_row_below : Rows → List (List ℕ) → Bool
-some_row_below rows name = list_any (λ k. at_or_below name k.0) (rows_map.keys rows)
+use Rattle.dns_data.specs.rdata.{same_data, data_type, is_update_data, IsSoundData}
+use Rattle.dns_messages.specs.Section.{is_opt_type, is_tsig_type}
+pub use Rattle.dns_records.specs.Rows.{Key, key_cmp, Rows, key, rows_at, some_row_below}
 
 -- whether data is a start of authority
 abbrev pub is_soa : RData → Bool
@@ -77,10 +57,13 @@ set_key s = key s.name.labels s.record_type
 abbrev pub rows_of_sets : List RecordSet → Rows
 rows_of_sets sets = rows_map.from_entries (map (λ s. (set_key s, s.rows.items)) sets)
 
--- what the data of rows must be to be sent, and read again
+-- What the data of rows must be to be encoded in a section of a message and decoded again: it is sound, of a type other than
+-- OPT and TSIG, and not the absent data of a record of an update.
 pub record IsSoundRowData (d : RData) : Type 0 where
   pub sound : IsSoundData d
-  pub ordinary : IsOrdinaryData d
+  pub not_opt : is_opt_type (data_type d) ≡ false
+  pub not_tsig : is_tsig_type (data_type d) ≡ false
+  pub has_data : is_update_data d ≡ false
 
 pub record IsSoundRow (row : Row) : Type 0 where
   pub ttl_fits : row.ttl < 2 ^ 32

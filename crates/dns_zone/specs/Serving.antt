@@ -1,10 +1,10 @@
 -- What a zone's server replies (RFC 1035 sections 4.1 and 4.2).
 use Rattle.std.specs.Prelude.{◌≡◌, ◌==◌, ◌&&◌, ◌/◌, ◌%◌, nat_le, length, slice_index, slice_range, min, true, false, Bool, List, [], ◌∷◌, ℕ, Option, Some, None}
 use Rattle.std.specs.Str.{bytes_eq}
-use Rattle.dns_messages.specs.declared.header.MessageType.TheVariants as kinds
-use Rattle.dns_messages.specs.declared.header.OpCode.TheVariants as ops
-use Rattle.dns_messages.specs.declared.header.ResponseCode.{ResponseCode}
-use Rattle.dns_messages.specs.declared.header.ResponseCode.TheVariants.{NoError, NXDomain}
+use Rattle.dns_messages.specs.declared.message_type.MessageType.TheVariants as kinds
+use Rattle.dns_messages.specs.declared.op_code.OpCode.TheVariants as ops
+use Rattle.dns_messages.specs.declared.response_code.ResponseCode.{ResponseCode}
+use Rattle.dns_messages.specs.declared.response_code.ResponseCode.TheVariants.{NoError, NXDomain}
 use Rattle.dns_messages.specs.declared.header.Metadata.{Metadata}
 use Rattle.dns_messages.specs.declared.query.Query.{Query}
 use Rattle.dns_messages.specs.declared.message.Message.{Message}
@@ -13,7 +13,7 @@ use Rattle.dns_zone.specs.declared.road.Road.TheVariants.{Datagram, Stream}
 use Rattle.dns_zone.specs.Rows.{ZoneContent}
 use Rattle.dns_zone.specs.declared.answer.Answer.{Answer}
 use Rattle.dns_zone.specs.Answer.{answer}
-use Rattle.dns_messages.specs.Message.{cut, message_form}
+use Rattle.dns_messages.specs.Cut.{cut, cut_form}
 use Rattle.dns_messages.specs.Grammar.{ReadsMessage}
 
 -- which requests are served: a question, one, and no record
@@ -24,6 +24,8 @@ pub record IsServed (m : Message) (q : Query) : Type 0 where
   pub no_answer : m.answers ≡ []
   pub no_authority : m.authorities ≡ []
   pub no_additional : m.additionals ≡ []
+  pub no_edns : m.edns ≡ None
+  pub no_signature : m.signature ≡ None
 
 -- the bytes are such a request
 pub record IsRequest (bytes : List ℕ) (m : Message) (q : Query) : Type 0 where
@@ -62,7 +64,15 @@ reply_metadata m code = record {
 abbrev pub reply_to : ZoneContent → Metadata → Query → Message
 reply_to zone m q =
     let a : Answer = answer zone q in
-    record { metadata = reply_metadata m a.code; queries = q ∷ []; answers = a.answers; authorities = a.authorities; additionals = [] }
+    record {
+      metadata = reply_metadata m a.code;
+      queries = q ∷ [];
+      answers = a.answers;
+      authorities = a.authorities;
+      additionals = [];
+      edns = None;
+      signature = None;
+    }
 
 abbrev pub reply : ZoneContent → Message → Query → Message
 reply zone m q = reply_to zone m.metadata q
@@ -81,4 +91,5 @@ sent_reply zone road m q = cut (reply_limit road) (reply zone m q)
 abbrev pub Serves : ZoneContent → Road → List ℕ → Option (List ℕ) → Type 0
 Serves zone road bytes None = (m : Message) (q : Query) → ¬ IsRequest bytes m q
 Serves zone road bytes (Some out) =
-    (m : Message) × (q : Query) × IsRequest bytes m q × (out ≡ message_form (sent_reply zone road m q)) × ReadsMessage out (sent_reply zone road m q)
+    (m : Message) × (q : Query) × IsRequest bytes m q × (out ≡ cut_form (reply_limit road) (reply zone m q))
+    × ReadsMessage out (sent_reply zone road m q)

@@ -5,10 +5,11 @@ ghost use Rattle.dns_codes.specs.RecordType.{type_number};
 ghost use Rattle.dns_zone.specs.Rows.{rows_of_sets, AreSoundRows, AreSoundSets};
 ghost use Rattle.dns_zone.specs.Answer.{answer, authority, authority_row, found, is_no_row_type, is_refused, negative, negative_ttl, record_of, refusal, AreSoundRecords, IsSoundAnswer};
 
-use crate::rows::{RecordSet, Row, has_row_below, rows_of};
+use crate::rows::{RecordSet, has_row_below, rows_of};
 use dns_data::RData;
-use dns_messages::{Query, Record, ResponseCode, Section};
+use dns_messages::{Query, Record, ResponseCode, Sequence};
 use dns_names::Name;
+use dns_records::Row;
 use dns_wire::{DNSClass, RecordType};
 use std::alloc::{AllocError, Global};
 
@@ -16,8 +17,8 @@ use std::alloc::{AllocError, Global};
 #[derive(Drop)]
 pub struct Answer {
     pub code: ResponseCode,
-    pub answers: Section<Record>,
-    pub authorities: Section<Record>,
+    pub answers: Sequence<Record>,
+    pub authorities: Sequence<Record>,
 }
 
 /// Whether no row has this type: it is 0, SIG, OPT, or one of 128 to 255 (RFC 6895 section 3.1).
@@ -51,11 +52,11 @@ fn record_with_ttl(owner: &Name, ttl: u32, row: &Row) -> Result<Record, AllocErr
 }
 
 /// Rows as records with this owner.
-fn records_at(alloc: Global, owner: &Name, rows: &[Row]) -> Result<Section<Record>, AllocError>
+fn records_at(alloc: Global, owner: &Name, rows: &[Row]) -> Result<Sequence<Record>, AllocError>
     ensures records { IfOk result (λ records. records ≡ map (record_of owner.now) rows.now) }
     ensures sound { IfOk result (λ records. owner.now.is_fqdn ≡ true → AreSoundRows rows.now → AreSoundRecords records) }
 {
-    let mut records = Section::new(alloc);
+    let mut records = Sequence::new(alloc);
     for row in rows {
         records.push(record_with_ttl(owner, row.ttl, row)?)?;
     }
@@ -67,11 +68,11 @@ fn authority_records(
     alloc: Global,
     origin: &Name,
     rows: &[Row],
-) -> Result<Section<Record>, AllocError>
+) -> Result<Sequence<Record>, AllocError>
     ensures records { IfOk result (λ records. records ≡ map (λ row. record_of origin.now (authority_row row)) rows.now) }
     ensures sound { IfOk result (λ records. origin.now.is_fqdn ≡ true → AreSoundRows rows.now → AreSoundRecords records) }
 {
-    let mut records = Section::new(alloc);
+    let mut records = Sequence::new(alloc);
     for row in rows {
         records.push(record_with_ttl(origin, lowered_ttl(row), row)?)?;
     }
@@ -97,7 +98,7 @@ fn negative_answer(
     let authorities = authority_records(alloc, origin, rows)?;
     Ok(Answer {
         code,
-        answers: Section::new(alloc),
+        answers: Sequence::new(alloc),
         authorities,
     })
 }
@@ -108,8 +109,8 @@ fn bare_answer(alloc: Global, code: ResponseCode) -> Answer
 {
     Answer {
         code,
-        answers: Section::new(alloc),
-        authorities: Section::new(alloc),
+        answers: Sequence::new(alloc),
+        authorities: Sequence::new(alloc),
     }
 }
 
@@ -138,6 +139,6 @@ pub fn answer_from(
     Ok(Answer {
         code: ResponseCode::NoError,
         answers: records_at(alloc, &query.name, rows)?,
-        authorities: Section::new(alloc),
+        authorities: Sequence::new(alloc),
     })
 }

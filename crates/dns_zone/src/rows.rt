@@ -9,15 +9,9 @@ ghost use Rattle.dns_data.specs.rdata.{same_data};
 
 use dns_data::RData;
 use dns_names::Name;
+use dns_records::Row;
 use dns_wire::RecordType;
 use std::alloc::{AllocError, Global};
-
-/// A row: data, and how long it may be kept, in seconds.
-#[derive(Drop)]
-pub struct Row {
-    pub ttl: u32,
-    pub rdata: RData,
-}
 
 /// The rows of a type at an owner, in their order.
 #[derive(Drop)]

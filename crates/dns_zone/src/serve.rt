@@ -16,7 +16,7 @@ pub fn has_request_header(bytes: &[u8]) -> bool
         && &bytes[4..12] == b"\x00\x01\x00\x00\x00\x00\x00\x00".as_slice()
 }
 
-/// Whether a message is a request that is served: a question, one, and no record.
+/// Returns `true` for a request that is served: a query with one question and no record.
 fn is_served(message: &Message) -> bool
     ensures { MatchBool result ((q : asked.Query) × IsServed message.now q) ((q : asked.Query) → ¬ (IsServed message.now q)) }
 {
@@ -35,7 +35,13 @@ fn is_served(message: &Message) -> bool
     if !message.authorities.as_slice().is_empty() {
         return false;
     }
-    message.additionals.as_slice().is_empty()
+    if !message.additionals.as_slice().is_empty() {
+        return false;
+    }
+    if message.edns.is_some() {
+        return false;
+    }
+    message.signature().is_none()
 }
 
 /// The header and the question of a request that is served.

@@ -7,11 +7,11 @@ ghost use Rattle.std.specs.Net.Addr.{ipv4_octets};
 ghost use Rattle.dns_zone.specs.Rows.{IsSoundRowData};
 ghost use Rattle.dns_zone.specs.ZoneText.{is_blank, words, ended, fqdn_of, number_of, numbers_of, soa_of, a_of, address_of, rdata_of, entry_of, content_of_line, is_without_entry as has_no_entry, entries_from, IsSoundContent, AreSoundEntries, NumbersFit};
 
-use crate::rows::Row;
 use crate::zone::ZoneFault;
 use dns_codes::parse_decimal;
 use dns_data::{A, RData, SOA};
 use dns_names::{Name, ParseError};
+use dns_records::Row;
 use dns_text::parse_ipv4;
 use std::alloc::{AllocError, Global};
 use std::net::Ipv4Addr;

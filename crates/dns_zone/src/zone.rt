@@ -8,7 +8,8 @@ use crate::road::Road;
 use crate::rows::RecordSet;
 use crate::serve::{has_request_header, limit_of, metadata_of_reply, served_question};
 use crate::text::read_entries;
-use dns_messages::{Message, Metadata, Query, Section};
+use dns_messages::laws::messages_decode_unambiguously;
+use dns_messages::{Message, MessageType, Metadata, Query, Sequence};
 use dns_names::Name;
 use dns_wire::{DecodeError, EncodeError};
 use std::alloc::{AllocError, AllocFailed, Global};
@@ -110,14 +111,17 @@ impl Zone {
         ensures sound { IfOk result (λ _. query.name.is_fqdn ≡ true → IsSoundAnswer (answer self.now query)) }
     {
         let answer = self.answer(&query)?;
-        let queries = Section::from_vec(Vec::from_array(self.alloc, [query])?);
-        Ok(Message {
-            metadata: metadata_of_reply(request, answer.code),
-            queries,
-            answers: answer.answers,
-            authorities: answer.authorities,
-            additionals: Section::new(self.alloc),
-        })
+        let mut reply = Message::new(
+            self.alloc,
+            request.id,
+            MessageType::Response,
+            request.op_code,
+        );
+        reply.metadata = metadata_of_reply(request, answer.code);
+        reply.queries = Sequence::from_vec(Vec::from_array(self.alloc, [query])?);
+        reply.answers = answer.answers;
+        reply.authorities = answer.authorities;
+        Ok(reply)
     }
 
     /// Serves a request: its reply, or none where the bytes are no request that is served. Bytes without the header of a
@@ -127,6 +131,7 @@ impl Zone {
         ensures same { self.new ≡ self.old }
         ensures header { is_request_header bytes.now ≡ false → result ≡ Ok None }
     {
+        messages_decode_unambiguously();
         if !has_request_header(bytes) {
             return Ok(None);
         }
@@ -143,7 +148,7 @@ impl Zone {
         };
         prove!(query.name.encoded_len() <= Name::MAX_LENGTH);
         let reply = self.reply_to(request, query)?;
-        match reply.to_vec(self.alloc, limit_of(road)) {
+        match reply.to_vec_within(self.alloc, limit_of(road)) {
             Ok(out) => Ok(Some(out)),
             // The memory for the reply's bytes was refused.
             Err(EncodeError::Memory) => Err(AllocError),

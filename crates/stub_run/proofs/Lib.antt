@@ -8,3 +8,4 @@ pub mod Running
 pub mod ScriptLaws
 pub mod Waiting
 pub mod WordsLaws
+pub mod ReplyHeaders

@@ -12,9 +12,8 @@ use Rattle.dns_messages.specs.declared.message.Message.{Message}
 use Rattle.dns_zone.specs.declared.road.Road.TheVariants.{Datagram}
 use Rattle.dns_zone.specs.Rows.{ZoneContent}
 use Rattle.dns_messages.specs.Question.{same_question}
-use Rattle.dns_messages.specs.Message.{message_form, cut, cut_off}
 use Rattle.dns_messages.specs.Grammar.{ReadsMessage}
-use Rattle.dns_zone.specs.Serving.{Serves, sent_reply, reply, reply_limit}
+use Rattle.dns_zone.specs.Serving.{Serves, sent_reply}
 use Rattle.stub_run.specs.declared.link.LinkError.{LinkError}
 use Rattle.stub_run.specs.declared.link.LinkError.TheVariants.{Failed, Memory}
 use Rattle.stub_run.specs.declared.lookup.NetError.{NetError}
@@ -38,17 +37,9 @@ same_question-refl q =
 
 -- ---- what the server replies matches
 
-cut-either : (P : Message → Type 0) (limit : ℕ) (m : Message) → P m → P (cut_off m) → P (cut limit m)
-cut-either P limit m whole off = by (nat_le (length (message_form m)) limit)
-  where
-    by : (b : Bool) → P (if b then m else cut_off m)
-    by true = whole
-    by false = off
-
 pub reply-matches : (zone : ZoneContent) (limit : ℕ) (id : ℕ) (q : Query) → matches id q (sent_reply zone (Datagram limit) (request id q) q) ≡ true
 reply-matches zone limit id q =
-    let same = and_from (nat_eq id id) (same_question q q) (eq-eqb id id refl) (same_question-refl q) in
-    cut-either (λ m. matches id q m ≡ true) (reply_limit (Datagram limit)) (reply zone (request id q) q) same same
+    and_from (nat_eq id id) (same_question q q) (eq-eqb id id refl) (same_question-refl q)
 
 -- ---- how an exchange ends
 
@@ -88,7 +79,7 @@ heard-ends one_way id q old mid new bytes (Err Failed) dropped total next outcom
 heard-ends one_way id q old mid new bytes (Err Memory) dropped total next outcome reads w r h = (refused id q old mid new outcome r h.1, h.2)
 heard-ends one_way id q old mid new bytes (Ok None) dropped total next outcome reads w r h =
     let brings : Brings (bytes ∷ []) old None mid = subst (λ (ws : List (List ℕ)). Brings ws old None mid) w r in
-    absurd (brings.0 (request id q) q (record { reads = reads; served = record { asks = refl; of_code = refl; one_question = refl; no_answer = refl; no_authority = refl; no_additional = refl } }))
+    absurd (brings.0 (request id q) q (record { reads = reads; served = record { asks = refl; of_code = refl; one_question = refl; no_answer = refl; no_authority = refl; no_additional = refl; no_edns = refl; no_signature = refl } }))
 heard-ends one_way id q old mid new bytes (Ok (Some out)) dropped total next outcome reads w r h =
     let brings : Brings (bytes ∷ []) old (Some out) mid = subst (λ (ws : List (List ℕ)). Brings ws old (Some out) mid) w r in
     took-ends one_way id q old mid new out dropped total next outcome (replied one_way id q old bytes out reads brings.0) brings.1 h

@@ -7,7 +7,7 @@ use Rattle.stub_run.specs.declared.link.LinkError.{LinkError}
 use Rattle.stub_run.specs.declared.lookup.LinkFault.TheVariants as fault
 use Rattle.stub_run.specs.declared.lookup.NetError.{NetError}
 use Rattle.stub_run.specs.declared.lookup.NetError.TheVariants as net
-use Rattle.dns_messages.specs.Message.{message_form}
+use Rattle.dns_messages.specs.Cut.{cut_form}
 use Rattle.stub_run.specs.Wire.{Waits, Heard, Took, FindsReply, has_reply_header, accepted, one_more, request, Exchanges, AfterSending}
 
 abbrev pub Receives-of : Type 0 → Type 1
@@ -48,6 +48,6 @@ took-memory id q bytes mid dropped next headed = inr (inr (headed, refl, refl, r
 
 -- the request was sent, or was not
 pub exchanged : {L : Type 0} (sends : L → List ℕ → Result (Unit {0}) LinkError → L → Type 0) (receives : Receives-of L) (id : ℕ) (q : Query) (old : L) (dropped : ℕ) (bytes slice : List ℕ) (told : Result (Unit {0}) LinkError) (mid : L) (outcome : Result Message NetError) (new : L) (total : ℕ)
-    → slice ≡ bytes → bytes ≡ message_form (request id q) → ReadsMessage bytes (request id q) → sends old slice told mid → AfterSending receives id q told mid dropped outcome new total → Exchanges sends receives id q old dropped outcome new total
+    → slice ≡ bytes → bytes ≡ cut_form 65535 (request id q) → ReadsMessage bytes (request id q) → sends old slice told mid → AfterSending receives id q told mid dropped outcome new total → Exchanges sends receives id q old dropped outcome new total
 exchanged sends receives id q old dropped bytes slice told mid outcome new total same form reads s after =
     inl (bytes, form, reads, told, mid, subst (λ (xs : List ℕ). sends old xs told mid) same s, after)

@@ -3,10 +3,10 @@ use Rattle.std.specs.Prelude.{◌==◌, ◌&&◌, filter, Bool, List, [], ◌∷
 use Rattle.dns_codes.specs.RecordType.{type_number}
 use Rattle.dns_names.specs.Compare.{same_labels}
 use Rattle.dns_data.specs.rdata.{data_type}
-use Rattle.dns_messages.specs.declared.header.ResponseCode.{ResponseCode}
-use Rattle.dns_messages.specs.declared.header.ResponseCode.TheVariants.{NoError, NXDomain}
+use Rattle.dns_messages.specs.declared.response_code.ResponseCode.{ResponseCode}
+use Rattle.dns_messages.specs.declared.response_code.ResponseCode.TheVariants.{NoError, NXDomain}
 use Rattle.dns_messages.specs.declared.query.Query.{Query}
-use Rattle.dns_messages.specs.declared.record.Record.{Record}
+use Rattle.dns_records.specs.Record.{Record}
 use Rattle.dns_messages.specs.declared.message.Message.{Message}
 use Rattle.stub_run.specs.declared.lookup.Lookup.{Lookup}
 use Rattle.stub_run.specs.declared.lookup.LinkFault.{LinkFault}

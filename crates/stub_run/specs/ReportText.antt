@@ -7,8 +7,8 @@ use Rattle.dns_codes.specs.declared.record_type.RecordType.{RecordType}
 use Rattle.dns_names.specs.Name.{DomainName}
 use Rattle.dns_names.specs.Print.{text_of_name}
 use Rattle.dns_data.specs.rdata.{data_type, data_text}
-use Rattle.dns_messages.specs.Printed.{code_text}
-use Rattle.dns_messages.specs.declared.record.Record.{Record}
+use Rattle.dns_messages.specs.ResponseCode.{code_text}
+use Rattle.dns_records.specs.Record.{Record}
 use Rattle.stub_run.specs.declared.event.Event.{Event}
 use Rattle.stub_run.specs.declared.event.Event.TheVariants as event
 use Rattle.stub_run.specs.declared.lookup.Lookup.{Lookup}

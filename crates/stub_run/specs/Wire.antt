@@ -1,16 +1,16 @@
 -- One question, asked over any link (RFC 1035 section 7.3, RFC 5452 section 3).
 use Rattle.std.specs.Prelude.{◌≡◌, ◌==◌, ◌&&◌, ◌+◌, ◌-◌, ◌*◌, ◌≤◌, ◌^◌, ◌⊎◌, nat_le, min, zero, suc, Bool, true, false, List, [], ◌∷◌, ◌++◌, ℕ, ⊤, length, slice_get, Option, Some, None, Result, Ok, Err, if◌then◌else◌}
-use Rattle.dns_messages.specs.declared.header.MessageType.{MessageType}
-use Rattle.dns_messages.specs.declared.header.MessageType.TheVariants as kinds
-use Rattle.dns_messages.specs.declared.header.OpCode.{OpCode}
-use Rattle.dns_messages.specs.declared.header.OpCode.TheVariants as ops
-use Rattle.dns_messages.specs.declared.header.ResponseCode.TheVariants.{NoError}
+use Rattle.dns_messages.specs.declared.message_type.MessageType.{MessageType}
+use Rattle.dns_messages.specs.declared.message_type.MessageType.TheVariants as kinds
+use Rattle.dns_messages.specs.declared.op_code.OpCode.{OpCode}
+use Rattle.dns_messages.specs.declared.op_code.OpCode.TheVariants as ops
+use Rattle.dns_messages.specs.declared.response_code.ResponseCode.TheVariants.{NoError}
 use Rattle.dns_messages.specs.declared.header.Metadata.{Metadata}
 use Rattle.dns_messages.specs.declared.query.Query.{Query}
 use Rattle.dns_messages.specs.declared.message.Message.{Message}
 use Rattle.dns_messages.specs.Header.{metadata_of}
 use Rattle.dns_messages.specs.Question.{same_question}
-use Rattle.dns_messages.specs.Message.{message_form}
+use Rattle.dns_messages.specs.Cut.{cut_form}
 use Rattle.dns_messages.specs.Sound.{IsSoundQuery}
 use Rattle.dns_messages.specs.Grammar.{ReadsMessage}
 use Rattle.stub_run.specs.declared.link.LinkError.{LinkError}
@@ -40,6 +40,8 @@ request id q = record {
   answers = [];
   authorities = [];
   additionals = [];
+  edns = None;
+  signature = None;
 }
 
 abbrev pub is_response : MessageType → Bool
@@ -120,7 +122,7 @@ AfterSending receives id q (Err Memory) mid dropped outcome new total = (outcome
 -- the request's bytes are sent, and its reply awaited; or memory was refused before
 abbrev pub Exchanges : {L : Type 0} → (L → List ℕ → Result (Unit {0}) LinkError → L → Type 0) → (L → Result (Option (List ℕ)) LinkError → L → Type 0) → ℕ → Query → L → ℕ → Result Message NetError → L → ℕ → Type 0
 Exchanges {L} sends receives id q old dropped outcome new total =
-    ((bytes : List ℕ) × (bytes ≡ message_form (request id q)) × ReadsMessage bytes (request id q) × (told : Result (Unit {0}) LinkError) × (mid : L) × sends old bytes told mid × AfterSending receives id q told mid dropped outcome new total)
+    ((bytes : List ℕ) × (bytes ≡ cut_form 65535 (request id q)) × ReadsMessage bytes (request id q) × (told : Result (Unit {0}) LinkError) × (mid : L) × sends old bytes told mid × AfterSending receives id q told mid dropped outcome new total)
     ⊎ ((outcome ≡ Err net.Memory) × (new ≡ old) × (total ≡ dropped))
 
 -- what contracts see of a handle: its link, the ids that questions draw, each drawn one with its question, and how many

@@ -3,7 +3,7 @@
 ghost use Rattle.std.specs.Prelude.{◌≡◌, filter};
 ghost use Rattle.stub_run.specs.Lookup.{is_answer, lookup_of, without_record};
 
-use dns_messages::{Message, Query, Record, ResponseCode, Section};
+use dns_messages::{Message, Query, Record, ResponseCode, Sequence};
 use std::alloc::AllocError;
 use thiserror::Error;
 
@@ -13,7 +13,7 @@ pub struct Lookup {
     /// What was asked.
     pub query: Query,
     /// The records that answer it, in the server's order.
-    pub answers: Section<Record>,
+    pub answers: Sequence<Record>,
 }
 
 /// What went wrong on the link while a question was asked.
@@ -123,12 +123,12 @@ fn is_answer(query: &Query, found: &Record) -> bool
 }
 
 /// The records that answer a question, in their order.
-fn answers_to(query: &Query, found: Section<Record>) -> Section<Record>
+fn answers_to(query: &Query, found: Sequence<Record>) -> Sequence<Record>
     ensures { result ≡ filter (is_answer query.now) found }
 {
     let mut answers = found.into_vec();
     answers.retain(|record| is_answer(query, record));
-    Section::from_vec(answers)
+    Sequence::from_vec(answers)
 }
 
 impl Lookup {

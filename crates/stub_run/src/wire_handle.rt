@@ -2,13 +2,14 @@
 
 ghost use Rattle.std.specs.Prelude.{◌≡◌, ◌+◌, ◌≤◌, ◌∷◌, ◌++◌, [], true, is_some, slice_get, Err, IfOk, OnOk, OnErr, length, vec_len, vec_capacity};
 ghost use Rattle.dns_messages.specs.Grammar.{ReadsMessage};
-ghost use Rattle.dns_messages.specs.Message.{message_form};
+ghost use Rattle.dns_messages.specs.Cut.{cut_form};
 ghost use Rattle.dns_messages.specs.Sound.{IsSoundQuery};
 ghost use Rattle.stub_run.specs.Wire.{request, matches, accepted, Waits, Exchanges, MaySend, FailsByLink, FindsReply, header_of, is_reply_header, has_reply_header};
 
 use crate::link::{Link, LinkError};
 use crate::lookup::{LinkFault, NetError};
-use dns_messages::{Message, MessageType, Metadata, OpCode, Query, ResponseCode, Section};
+use dns_messages::laws::messages_decode_unambiguously;
+use dns_messages::{Message, MessageType, Metadata, OpCode, Query};
 use dns_wire::{DecodeError, EncodeError};
 use std::alloc::{AllocError, Global};
 
@@ -175,37 +176,21 @@ fn exchange<L: Link>(
 fn request_of(alloc: Global, id: u16, query: &Query) -> Result<Message, AllocError>
     ensures { IfOk result (λ message. message ≡ request id query.now) }
 {
-    let mut queries = Section::new(alloc);
-    queries.push(query.clone()?)?;
-    Ok(Message {
-        metadata: Metadata {
-            id,
-            message_type: MessageType::Query,
-            op_code: OpCode::Query,
-            authoritative: false,
-            truncation: false,
-            recursion_desired: true,
-            recursion_available: false,
-            authentic_data: false,
-            checking_disabled: false,
-            response_code: ResponseCode::NoError,
-        },
-        queries,
-        answers: Section::new(alloc),
-        authorities: Section::new(alloc),
-        additionals: Section::new(alloc),
-    })
+    let mut request = Message::new(alloc, id, MessageType::Query, OpCode::Query);
+    request.metadata.recursion_desired = true;
+    request.queries.push(query.clone()?)?;
+    Ok(request)
 }
 
 /// The bytes of the question as a message under an id.
 fn request_bytes(alloc: Global, id: u16, query: &Query) -> Result<Vec<u8>, AllocError>
     requires { IsSoundQuery query.now }
-    ensures form { IfOk result (λ bytes. bytes.items ≡ message_form (request id query.now)) }
+    ensures form { IfOk result (λ bytes. bytes.items ≡ cut_form 65535 (request id query.now)) }
     ensures reads { IfOk result (λ bytes. ReadsMessage bytes.items (request id query.now)) }
 {
     let _named = query.name.encoded_len();
     let message = request_of(alloc, id, query)?;
-    match message.to_vec(alloc, 65535) {
+    match message.to_vec(alloc) {
         Ok(bytes) => Ok(bytes),
         // The encoder's want of memory is this call's.
         Err(EncodeError::Memory) => Err(AllocError),
@@ -252,6 +237,7 @@ fn reply_in(
     // Memory is taken only for a datagram whose header is that of a reply.
     ensures headed { OnErr result (has_reply_header id bytes.now ≡ true) }
 {
+    messages_decode_unambiguously();
     if !has_reply_header(id, bytes) {
         return Ok(None);
     }

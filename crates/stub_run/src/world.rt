@@ -7,7 +7,8 @@ use crate::link::Link;
 use crate::lookup::{LinkFault, Lookup, NetError};
 use crate::scripted_link::ScriptedLink;
 use crate::wire_handle::WireHandle;
-use dns_messages::{Message, Query, a_message_is_read_one_way};
+use dns_messages::laws::messages_decode_unambiguously;
+use dns_messages::{Message, Query};
 use dns_wire::RecordType;
 use dns_wire::laws::type_number_round_trips;
 use dns_zone::{DatagramLimit, Zone};
@@ -168,7 +169,7 @@ fn happen(handle: &mut WireHandle<ScriptedLink>, event: &Event) -> Option<EventR
     ensures front { take (length handle.old.sent.items) handle.new.sent.items ≡ handle.old.sent.items }
     ensures dropped { handle.new.dropped ≡ handle.old.dropped }
 {
-    a_message_is_read_one_way();
+    messages_decode_unambiguously();
     match refusal_of(handle, event) {
         Some(error) => return Some(told(Err(error), 0)),
         None => {}

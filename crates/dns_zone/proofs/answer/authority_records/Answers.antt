@@ -1,6 +1,6 @@
 use Rattle.std.proofs.Common.{◌++◌, ap, ◌∙◌, arith, map, subst}
 use Rattle.std.proofs.lemmas.List.{append-nil, drop_all}
-use Rattle.dns_zone.specs.declared.rows.Row.{Row}
+use Rattle.dns_records.specs.declared.row.Row.{Row}
 use Rattle.dns_zone.specs.Answer.{record_of, authority_row, AreSoundRecords}
 use Rattle.dns_zone.proofs.AnswerLaws.{sound_authority}
 use Rattle.dns_zone.proofs.answer.authority_records.Goals as goal

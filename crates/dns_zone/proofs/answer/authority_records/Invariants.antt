@@ -1,5 +1,5 @@
 use Rattle.std.proofs.Common.{◌≡◌, ◌++◌, drop, map}
-use Rattle.dns_zone.specs.declared.rows.Row.{Row}
+use Rattle.dns_records.specs.declared.row.Row.{Row}
 use Rattle.dns_zone.specs.Answer.{record_of, authority_row}
 use Rattle.dns_zone.proofs.answer.authority_records.Given as goal
 

@@ -1,5 +1,5 @@
 use Rattle.std.proofs.Common.{rules, ◌∙◌, sym, subst, filter, List}
-use Rattle.dns_messages.specs.declared.record.Record.{Record}
+use Rattle.dns_records.specs.Record.{Record}
 use Rattle.dns_wire.proofs.SuffixLaws.{filter_from_retain_by}
 use Rattle.stub_run.specs.Lookup.{is_answer}
 use Rattle.stub_run.proofs.lookup.answers_to.Goals as goal
