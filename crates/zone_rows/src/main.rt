@@ -1,15 +1,22 @@
 //! `zone_rows FILE..`: tries each row of the files, as the library `rows` describes, on messages, zones and their server.
 //!
 //! - `operation`: the operations by their words; `header`, `question`, `message`: messages and their parts;
+//! - `rebuilt`: messages that are made from others, and responses;
+//! - `damaged`: messages of which bytes are missing or changed; `record_set`, `answer_sets`, `update`: sets of records, and updates;
 //! - `zone`, `answer`, `serve`: zones, their answers and their replies.
 #![tactic(auto)]
 
 mod answer;
+mod answer_sets;
+mod damaged;
 mod header;
 mod message;
 mod operation;
 mod question;
+mod rebuilt;
+mod record_set;
 mod serve;
+mod update;
 mod zone;
 
 use rows::{Answer, Notation, Operations};

@@ -3,30 +3,56 @@
 use crate::header::header_text;
 use crate::question::{push_question, push_questions};
 use dns_data::A;
-use dns_messages::{Message, Query, Record, Section};
+use dns_messages::{Edns, Message, Query};
+use dns_records::{Record, Sequence};
 use dns_wire::{BinDecodable, BinDecoder, DecodeError};
 use rows::{Answer, RowFault, bytes_of, digits_of, named, parsed, shown, split, two_words};
 use std::alloc::{AllocError, Global};
 use std::fmt::Write;
 use std::net::Ipv4Addr;
 
-/// `message HEX`: the message that the bytes spell, or its fault.
+/// `message HEX`: the message that the bytes decode to, or its fault.
 pub(crate) fn message(alloc: Global, digits: &str) -> Answer {
     let bytes = bytes_of(alloc, digits)?;
-    match Message::from_vec(alloc, bytes.as_slice()) {
+    decoded_text(alloc, bytes.as_slice())
+}
+
+/// The message that the bytes decode to, or its fault.
+pub(crate) fn decoded_text(alloc: Global, bytes: &[u8]) -> Answer {
+    match Message::from_vec(alloc, bytes) {
         Ok(message) => message_text(alloc, &message),
         Err(fault) => named(alloc, fault),
     }
 }
 
-/// A message in one line: its header and, each behind a bar, its four sections.
+/// A message in one line: its header and, each behind a bar, its four sections, and its OPT record and its signature if it
+/// has them.
 fn message_text(alloc: Global, message: &Message) -> Answer {
     let mut text = header_text(alloc, message.metadata)?;
     push_questions(&mut text, message.queries.as_slice())?;
     push_records(&mut text, message.answers.as_slice())?;
     push_records(&mut text, message.authorities.as_slice())?;
     push_records(&mut text, message.additionals.as_slice())?;
+    if let Some(edns) = &message.edns {
+        push_edns(&mut text, edns)?;
+    }
+    if let Some(signature) = message.signature() {
+        text.push_str(" | tsig ")?;
+        push_record(&mut text, signature)?;
+    }
     Ok(text)
+}
+
+/// Adds a bar and an OPT record: its payload size, the upper eight bits of the response code, its version, its flags and the
+/// number of its options.
+fn push_edns(text: &mut String, edns: &Edns) -> Result<(), AllocError> {
+    let (payload, rcode_high, version) = (edns.max_payload(), edns.rcode_high(), edns.version());
+    let (flags, options) = (u16::from(*edns.flags()), edns.options().options().len());
+    write!(
+        text,
+        " | opt {payload} {rcode_high} {version} {flags} {options}"
+    )?;
+    Ok(())
 }
 
 /// Adds a bar and, each behind a blank, records as a zone's text has them.
@@ -40,27 +66,27 @@ pub(crate) fn push_records(text: &mut String, records: &[Record]) -> Result<(), 
 }
 
 /// Adds a record as a zone's text has it.
-fn push_record(text: &mut String, found: &Record) -> Result<(), AllocError> {
+pub(crate) fn push_record(text: &mut String, found: &Record) -> Result<(), AllocError> {
     let (owner, ttl, class) = (&found.name, found.ttl, found.dns_class);
     let (kind, rdata) = (found.rdata.record_type(), &found.rdata);
     write!(text, "{owner} {ttl} {class} {kind} {rdata}")?;
     Ok(())
 }
 
-/// `encode LIMIT HEX`: the message that the bytes spell, written again under a limit, or the fault.
+/// `encode LIMIT HEX`: the message that the bytes decode to, encoded again under a limit, or the fault.
 pub(crate) fn encoded(alloc: Global, input: &str) -> Answer {
     let (limit, digits) = two_words(input)?;
     let limit = parsed::<u16>(limit)?;
     let bytes = bytes_of(alloc, digits)?;
     match Message::from_vec(alloc, bytes.as_slice()) {
-        Ok(message) => written(alloc, &message, limit),
+        Ok(message) => encoded_within(alloc, &message, limit),
         Err(fault) => named(alloc, fault),
     }
 }
 
-/// The bytes of a message under a limit, or the fault.
-fn written(alloc: Global, message: &Message, limit: u16) -> Answer {
-    match message.to_vec(alloc, limit) {
+/// The encoding of a message under a limit, or the fault.
+pub(crate) fn encoded_within(alloc: Global, message: &Message, limit: u16) -> Answer {
+    match message.to_vec_within(alloc, limit) {
         Ok(bytes) => Ok(digits_of(alloc, bytes.as_slice())?),
         Err(fault) => named(alloc, fault),
     }
@@ -135,9 +161,9 @@ fn record_of(alloc: Global, digits: &str) -> Result<Record, RowFault> {
 
 /// `section COUNT`: how many items a section has that so many were pushed to, once it was a vector in between.
 pub(crate) fn section(alloc: Global, count: &str) -> Answer {
-    let mut items = Section::new(alloc);
+    let mut items = Sequence::new(alloc);
     for bits in 0..parsed::<u32>(count)? {
         items.push(A(Ipv4Addr::from_bits(bits)))?;
     }
-    shown(alloc, Section::from_vec(items.into_vec()).as_slice().len())
+    shown(alloc, Sequence::from_vec(items.into_vec()).as_slice().len())
 }
