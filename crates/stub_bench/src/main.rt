@@ -3,6 +3,7 @@
 #![tactic(auto)]
 
 mod data;
+mod message;
 mod operation;
 
 use anyhow::{Result, bail};
@@ -13,7 +14,7 @@ use std::env;
 use std::process::ExitCode;
 
 /// What may be repeated.
-const WHAT: [&str; 10] = [
+const WHAT: [&str; 12] = [
     "all",
     "name-read",
     "name-write",
@@ -24,6 +25,8 @@ const WHAT: [&str; 10] = [
     "data-write",
     "data-parse",
     "data-print",
+    "message-read",
+    "message-write",
 ];
 
 fn main(rt: HostRuntime) -> Result<ExitCode> {

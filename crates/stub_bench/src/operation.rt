@@ -3,6 +3,7 @@
 ghost use Rattle.std.specs.Prelude.{◌≡◌, []};
 
 use crate::data::{parse_data, print_data, read_data, write_data};
+use crate::message::{read_messages, write_messages};
 use anyhow::Result;
 use dns_names::Name;
 use dns_wire::{BinDecoder, BinEncoder};
@@ -29,6 +30,10 @@ pub(crate) enum Operation {
     DataParse,
     /// Prints four record data.
     DataPrint,
+    /// Decodes a reply of a question, three records and an OPT record.
+    MessageRead,
+    /// Encodes this reply.
+    MessageWrite,
 }
 
 /// Two names of four labels, equal up to ASCII case.
@@ -53,7 +58,7 @@ const BYTES: &[u8; 29] = b"\x03com\x00\x07example\xC0\x00\x03www\xC0\x05\x01a\xC
 
 impl Operation {
     /// All of them.
-    pub(crate) const ALL: [Operation; 9] = [
+    pub(crate) const ALL: [Operation; 11] = [
         Operation::NameRead,
         Operation::NameWrite,
         Operation::NameParse,
@@ -63,6 +68,8 @@ impl Operation {
         Operation::DataWrite,
         Operation::DataParse,
         Operation::DataPrint,
+        Operation::MessageRead,
+        Operation::MessageWrite,
     ];
 
     /// The word that means it.
@@ -77,6 +84,8 @@ impl Operation {
             Operation::DataWrite => "data-write",
             Operation::DataParse => "data-parse",
             Operation::DataPrint => "data-print",
+            Operation::MessageRead => "message-read",
+            Operation::MessageWrite => "message-write",
         }
     }
 
@@ -92,6 +101,8 @@ impl Operation {
             Operation::DataWrite => write_data(alloc, count),
             Operation::DataParse => parse_data(alloc, count),
             Operation::DataPrint => print_data(alloc, count),
+            Operation::MessageRead => read_messages(alloc, count),
+            Operation::MessageWrite => write_messages(alloc, count),
         }
     }
 }
