@@ -1,6 +1,7 @@
 //! Types and classes in text, by number (RFC 3597 section 5).
 
 ghost use Rattle.std.specs.Prelude.{◌≡◌};
+ghost use Rattle.std.specs.Str.{str_eq_ignore_ascii_case};
 ghost use Rattle.dns_codes.specs.CodeText.{numbered_text};
 ghost use Rattle.dns_codes.specs.Decimal.{decimal_up_to};
 
@@ -15,16 +16,22 @@ pub enum CodeTextError {
     UnknownName,
 }
 
+/// Returns `true` if two texts are equal up to ASCII case.
+pub fn is_same_word(a: &[u8], b: &[u8]) -> bool
+    ensures { result ≡ str_eq_ignore_ascii_case a.now b.now }
+{
+    a.eq_ignore_ascii_case(b)
+}
+
 /// Parses a word, in any case, and the 16-bit number that follows it.
-pub fn parse_numbered(word: &str, text: &str) -> Option<u16>
+pub fn parse_numbered(word: &[u8], text: &[u8]) -> Option<u16>
     ensures { result ≡ numbered_text word.now text.now }
 {
-    let bytes = text.as_bytes();
-    if bytes.len() < word.len() {
+    if text.len() < word.len() {
         return None;
     }
-    if bytes[..word.len()].eq_ignore_ascii_case(word.as_bytes()) {
-        number_of(&bytes[word.len()..])
+    if is_same_word(&text[..word.len()], word) {
+        number_of(&text[word.len()..])
     } else {
         None
     }

@@ -4,7 +4,7 @@ ghost use Rattle.std.specs.Prelude.{◌≡◌, Some, find};
 ghost use Rattle.std.specs.Str.{str_eq_ignore_ascii_case};
 ghost use Rattle.dns_codes.specs.CodeText.{class_name, class_text};
 
-use crate::code_text::{CodeTextError, parse_numbered};
+use crate::code_text::{CodeTextError, is_same_word, parse_numbered};
 use std::fmt;
 use std::str::FromStr;
 
@@ -100,16 +100,31 @@ const NAMED: [DNSClass; 5] = [
 ];
 
 /// Returns the class that a text names, in any case.
-fn find_named(classes: &[DNSClass], text: &str) -> Option<DNSClass>
+fn find_named(classes: &[DNSClass], text: &[u8]) -> Option<DNSClass>
     ensures { result
         ≡ find (λ class. str_eq_ignore_ascii_case (class_name class) text.now) classes.now }
 {
     for class in classes {
-        if class.name().eq_ignore_ascii_case(text) {
+        if is_same_word(class.name().as_bytes(), text) {
             return Some(*class);
         }
     }
     None
+}
+
+impl DNSClass {
+    ghost use Rattle.dns_codes.specs.CodeText.{class_of_text};
+
+    /// Parses a class from bytes: a name in any case, or `CLASS` and a number (RFC 3597 section 5).
+    pub fn from_ascii_bytes(text: &[u8]) -> Option<DNSClass>
+        ensures { result ≡ class_of_text text.now }
+    {
+        if let Some(class) = find_named(&NAMED, text) {
+            return Some(class);
+        }
+        let number = parse_numbered(b"CLASS".as_slice(), text)?;
+        Some(DNSClass::from(number))
+    }
 }
 
 impl FromStr for DNSClass {
@@ -123,13 +138,7 @@ impl FromStr for DNSClass {
 
     /// Parses a class: a name in any case, or `CLASS` and a number (RFC 3597 section 5).
     fn from_str(text: &str) -> Result<DNSClass, CodeTextError> {
-        if let Some(class) = find_named(&NAMED, text) {
-            return Ok(class);
-        }
-        match parse_numbered("CLASS", text) {
-            Some(number) => Ok(DNSClass::from(number)),
-            None => Err(CodeTextError::UnknownName),
-        }
+        DNSClass::from_ascii_bytes(text.as_bytes()).ok_or(CodeTextError::UnknownName)
     }
 }
 

@@ -4,7 +4,7 @@ ghost use Rattle.std.specs.Prelude.{◌≡◌, Some, find};
 ghost use Rattle.std.specs.Str.{str_eq_ignore_ascii_case};
 ghost use Rattle.dns_codes.specs.CodeText.{type_name, type_text, type_of_text};
 
-use crate::code_text::{CodeTextError, parse_numbered};
+use crate::code_text::{CodeTextError, is_same_word, parse_numbered};
 use crate::later_types::{later_name, later_number, later_type};
 use std::fmt;
 use std::str::FromStr;
@@ -290,15 +290,30 @@ const NAMED: [RecordType; 38] = [
 ];
 
 /// Returns the type that a text names, in any case.
-fn find_named(types: &[RecordType], text: &str) -> Option<RecordType>
+fn find_named(types: &[RecordType], text: &[u8]) -> Option<RecordType>
     ensures { result ≡ find (λ kind. str_eq_ignore_ascii_case (type_name kind) text.now) types.now }
 {
     for kind in types {
-        if kind.name().eq_ignore_ascii_case(text) {
+        if is_same_word(kind.name().as_bytes(), text) {
             return Some(*kind);
         }
     }
     None
+}
+
+impl RecordType {
+    ghost use Rattle.dns_codes.specs.CodeText.{type_of_text};
+
+    /// Parses a type from bytes: a name in any case, or `TYPE` and a number (RFC 3597 section 5).
+    pub fn from_ascii_bytes(text: &[u8]) -> Option<RecordType>
+        ensures { result ≡ type_of_text text.now }
+    {
+        if let Some(kind) = find_named(&NAMED, text) {
+            return Some(kind);
+        }
+        let number = parse_numbered(b"TYPE".as_slice(), text)?;
+        Some(RecordType::from(number))
+    }
 }
 
 impl FromStr for RecordType {
@@ -312,13 +327,7 @@ impl FromStr for RecordType {
 
     /// Parses a type: a name in any case, or `TYPE` and a number (RFC 3597 section 5).
     fn from_str(text: &str) -> Result<RecordType, CodeTextError> {
-        if let Some(kind) = find_named(&NAMED, text) {
-            return Ok(kind);
-        }
-        match parse_numbered("TYPE", text) {
-            Some(number) => Ok(RecordType::from(number)),
-            None => Err(CodeTextError::UnknownName),
-        }
+        RecordType::from_ascii_bytes(text.as_bytes()).ok_or(CodeTextError::UnknownName)
     }
 }
 
