@@ -4,12 +4,43 @@ use Rattle.std.proofs.lemmas.Bool.{le-ltb}
 use Rattle.dns_wire.specs.declared.error.EncodeError.{EncodeError}
 use Rattle.dns_wire.specs.declared.error.EncodeError.TheVariants.{MaxBufferSizeExceeded}
 use Rattle.dns_wire.specs.Encoder.{EncoderState, IsAtEnd, CanRollBack, trim_to_offset}
-use Rattle.dns_wire.specs.Encodable.{Piece, Position, position_of, after, reach, attempts_at_limit, append_pieces, Emits, AreWritable, AllBehind}
+use Rattle.dns_wire.specs.Encodable.{Piece, Position, position_of, piece_next, piece_reach, after, reach, attempts_at_limit, append_pieces, Emits, AreWritable, AllBehind}
 use Rattle.dns_wire.specs.Items.{fitting_prefix, all_pieces, attempts_after, fitting_items, fitting_pieces, append_fitting}
-use Rattle.dns_wire.proofs.PieceLaws.{after-place, append_pieces-append, append_pieces-none, append_pieces-end, can_roll_back-append, can_roll_back-refl, can_roll_back-trans, pieces-behind, position_of-append_pieces, roll_back-restores, writable-append}
+use Rattle.dns_wire.proofs.PieceLaws.{after-place, attempts-after, append_pieces-append, append_pieces-none, append_pieces-end, can_roll_back-append, can_roll_back-refl, can_roll_back-trans, next-attempts, pieces-behind, position_of-append_pieces, roll_back-restores, writable-append}
 
 pub append_pieces-behind : (w : EncoderState) (ps : List Piece) → AllBehind (position_of w) → AllBehind (position_of (append_pieces w ps))
 append_pieces-behind w ps behind = subst AllBehind (sym (position_of-append_pieces w ps)) (pieces-behind (position_of w) ps behind)
+
+-- ---- rolling back
+
+attempts_at_limit-more : (limit : ℕ) (s : Position) (ps : List Piece) → s.attempts ≤ attempts_at_limit limit s ps
+attempts_at_limit-more limit s [] = omega arith
+attempts_at_limit-more limit s (p ∷ ps) = at (ltb limit (piece_reach s p)) (attempts_at_limit-more limit (piece_next s p) ps)
+  where
+    at : (b : Bool) → (piece_next s p).attempts ≤ attempts_at_limit limit (piece_next s p) ps → s.attempts ≤ cond b (piece_next s p).attempts (attempts_at_limit limit (piece_next s p) ps)
+    at true more = next-attempts s p
+    at false more = omega (arith, more, next-attempts s p)
+
+attempts_after-more : {X : Type 0} (pieces : X → Position → List Piece) (limit : ℕ) (s : Position) (xs : List X) → s.attempts ≤ attempts_after pieces limit s xs
+attempts_after-more pieces limit s [] = omega arith
+attempts_after-more pieces limit s (x ∷ xs) = at (ltb limit (reach s (pieces x s))) (attempts_after-more pieces limit (after s (pieces x s)) xs)
+  where
+    at : (b : Bool) → (after s (pieces x s)).attempts ≤ attempts_after pieces limit (after s (pieces x s)) xs → s.attempts ≤ cond b (attempts_at_limit limit s (pieces x s)) (attempts_after pieces limit (after s (pieces x s)) xs)
+    at true more = attempts_at_limit-more limit s (pieces x s)
+    at false more = omega (arith, more, attempts-after s (pieces x s))
+
+-- items that are written up to the first that does not fit can be rolled back
+pub can_roll_back-fitting : {X : Type 0} (pieces : X → Position → List Piece) (w : EncoderState) (xs : List X) → IsAtEnd w → CanRollBack w (append_fitting pieces w xs)
+can_roll_back-fitting pieces w xs end =
+    let back = can_roll_back-append w (fitting_pieces pieces w xs) end in
+    record { bytes = back.bytes; within = back.within; suffixes = back.suffixes; attempts = attempts_after-more pieces w.limit (position_of w) xs; same = refl }
+
+-- and so can what is refused after them
+pub can_roll_back-past : {X : Type 0} (pieces : X → Position → List Piece) (w mid new : EncoderState) (xs : List X) → IsAtEnd w → mid ≡ append_fitting pieces w xs → CanRollBack mid new → CanRollBack w new
+can_roll_back-past pieces w mid new xs end wrote back =
+    can_roll_back-trans w (append_fitting pieces w xs) new (omega (arith, after-place (position_of w) (fitting_pieces pieces w xs))) (can_roll_back-fitting pieces w xs end) (subst (λ (v : EncoderState). CanRollBack v new) wrote back)
+
+-- ---- items one after another
 
 -- w is what old has become; what is still to come completes the items
 pub record Underway {X : Type 0} (pieces : X → Position → List Piece) (old w : EncoderState) (items rest : List X) (count : ℕ) : Type 0 where

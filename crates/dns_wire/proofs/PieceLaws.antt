@@ -210,7 +210,7 @@ pub suffixes_before-after : (place : ℕ) (s : Position) (ps : List Piece) → p
 suffixes_before-after place s [] le = refl
 suffixes_before-after place s (p ∷ ps) le = suffixes_before-after place (piece_next s p) ps (omega arith) ∙ suffixes_before-next place s p le
 
-next-attempts : (s : Position) (p : Piece) → s.attempts ≤ piece_attempts s p
+pub next-attempts : (s : Position) (p : Piece) → s.attempts ≤ piece_attempts s p
 next-attempts s (Plain bytes) = omega arith
 next-attempts s (Whole labels) = omega arith
 next-attempts s (Domain labels) = at (is_compressed s)
@@ -219,7 +219,7 @@ next-attempts s (Domain labels) = at (is_compressed s)
     at true = omega arith
     at false = omega arith
 
-attempts-after : (s : Position) (ps : List Piece) → s.attempts ≤ (after s ps).attempts
+pub attempts-after : (s : Position) (ps : List Piece) → s.attempts ≤ (after s ps).attempts
 attempts-after s [] = omega arith
 attempts-after s (p ∷ ps) = omega (arith, next-attempts s p, attempts-after (piece_next s p) ps)
 

@@ -51,6 +51,36 @@ reads_not_refused (at_pointer e back r) (past_label e' room' r') = cc
 reads_not_refused {buffer} {left = left} {error = error} (at_pointer e back r) (past_pointer e' back' r') =
     reads_not_refused r (subst (λ (t : ℕ). Refuses buffer t t left error) (sym (same_target e e')) r')
 
+-- a name is refused with one error
+pub refuses_same : {buffer : List ℕ} {place segment left : ℕ} {error error' : DecodeError} → Refuses buffer place segment left error → Refuses buffer place segment left error' → error ≡ error'
+refuses_same (at_fault e) (at_fault e') = cc
+refuses_same (at_fault e) (at_long_name e' full') = absurd (cc)
+refuses_same (at_fault e) (at_forward_pointer e' forward') = absurd (cc)
+refuses_same (at_fault e) (past_label e' room' r') = absurd (cc)
+refuses_same (at_fault e) (past_pointer e' back' r') = absurd (cc)
+refuses_same (at_long_name e full) (at_fault e') = absurd (cc)
+refuses_same (at_long_name e full) (at_long_name e' full') = refl
+refuses_same (at_long_name e full) (at_forward_pointer e' forward') = absurd (cc)
+refuses_same (at_long_name e full) (past_label e' room' r') = let same = same_label e e' in absurd (omega (arith, ap (λ (l : List ℕ). length l) same))
+refuses_same (at_long_name e full) (past_pointer e' back' r') = absurd (cc)
+refuses_same (at_forward_pointer e forward) (at_fault e') = absurd (cc)
+refuses_same (at_forward_pointer e forward) (at_long_name e' full') = absurd (cc)
+refuses_same (at_forward_pointer e forward) (at_forward_pointer e' forward') = refl
+refuses_same (at_forward_pointer e forward) (past_label e' room' r') = absurd (cc)
+refuses_same (at_forward_pointer e forward) (past_pointer e' back' r') = let same = same_target e e' in absurd (omega arith)
+refuses_same (past_label e room r) (at_fault e') = absurd (cc)
+refuses_same (past_label e room r) (at_long_name e' full') = let same = same_label e e' in absurd (omega (arith, ap (λ (l : List ℕ). length l) same))
+refuses_same (past_label e room r) (at_forward_pointer e' forward') = absurd (cc)
+refuses_same {buffer} {place} {segment} {left} {error' = error'} (past_label e room r) (past_label e' room' r') =
+    refuses_same r (subst (λ (l : List ℕ). Refuses buffer (place + (length l + 1)) segment (left - (length l + 1)) error') (sym (same_label e e')) r')
+refuses_same (past_label e room r) (past_pointer e' back' r') = absurd (cc)
+refuses_same (past_pointer e back r) (at_fault e') = absurd (cc)
+refuses_same (past_pointer e back r) (at_long_name e' full') = absurd (cc)
+refuses_same (past_pointer e back r) (at_forward_pointer e' forward') = let same = same_target e e' in absurd (omega arith)
+refuses_same (past_pointer e back r) (past_label e' room' r') = absurd (cc)
+refuses_same {buffer} {left = left} {error' = error'} (past_pointer e back r) (past_pointer e' back' r') =
+    refuses_same r (subst (λ (t : ℕ). Refuses buffer t t left error') (sym (same_target e e')) r')
+
 -- ---- what is read may be a name
 
 -- each label that is read is one, and all fit into what is left
