@@ -1,10 +1,14 @@
 -- How long encodings are.
-use Rattle.std.proofs.Common.{◌≡◌, ℕ, ◌+◌, ◌≤◌, List, [], ◌∷◌, ◌++◌, length, flat_map, refl, ap, arith, length-append}
+use Rattle.std.proofs.Common.{◌≡◌, ℕ, ◌+◌, ◌<◌, ◌≤◌, false, suc, List, [], ◌∷◌, ◌++◌, length, drop, get_or, flat_map, refl, sym, ap, ◌∙◌, arith, length-append}
+use Rattle.std.proofs.Math.Seq.{drop-cons}
 use Rattle.dns_wire.specs.Encodable.{Piece, Plain, Domain, Whole, Position, start_position, piece_form, piece_next, form}
 use Rattle.dns_wire.specs.declared.name_encoding.NameEncoding.TheVariants.{Uncompressed}
 use Rattle.dns_wire.proofs.NameLaws.{length-whole_form}
 use Rattle.dns_wire.proofs.PieceLaws.{form-encoding}
 use Rattle.dns_wire.proofs.SectionLaws.{piece_max_len, pieces_max_len, name_form-most}
+use Rattle.dns_data.specs.Field.{OptionValue, Kind, Values, option_form, values_pieces, values_len}
+use Rattle.dns_data.specs.rdata.OPT.{opt_kinds, opt_values}
+use Rattle.dns_data.specs.rdata.TXT.{txt_kinds, txt_values}
 use Rattle.dns_data.specs.Wire.{ItemsUpTo, no_more_items, one_more_item}
 
 pub pieces_max_len-append : (ps qs : List Piece) → pieces_max_len (ps ++ qs) ≡ pieces_max_len ps + pieces_max_len qs
@@ -43,3 +47,25 @@ pub items_len : {Item : Type 0} (ItemAt : ℕ → Item → ℕ → Type 0) (piec
 items_len ItemAt pieces each (no_more_items stop) = omega arith
 items_len ItemAt pieces each {place = place} (one_more_item {middle = m} {item = x} {items = xs} less there more) =
     omega (arith, each place x m there, items_len ItemAt pieces each more, pieces_max_len-append (pieces x) (flat_map pieces xs))
+
+-- ---- values
+
+pub values_len-pieces : (kinds : List Kind) (values : Values kinds) → values_len kinds values ≡ pieces_max_len (values_pieces false kinds values)
+values_len-pieces kinds values = form-whole (values_pieces false kinds values)
+
+string_first : (string : List ℕ) (strings : List (List ℕ)) → values_len txt_kinds (txt_values (string ∷ strings)) ≡ (1 + length string) + values_len txt_kinds (txt_values strings)
+string_first string strings = omega (arith, values_len-pieces txt_kinds (txt_values (string ∷ strings)), values_len-pieces txt_kinds (txt_values strings))
+
+pub string_further : (strings : List (List ℕ)) (i len n whole : ℕ) (string d : List ℕ) → string ≡ get_or strings i d → n ≡ length string → i < length strings
+    → len + values_len txt_kinds (txt_values (drop i strings)) ≡ whole → (len + (1 + n)) + values_len txt_kinds (txt_values (drop (i + 1) strings)) ≡ whole
+string_further strings i len n whole string d is same within e =
+    let next : suc i ≡ i + 1 = omega arith in
+    let here : drop i strings ≡ string ∷ drop (i + 1) strings = drop-cons strings i d within ∙ ap (λ (k : ℕ). get_or strings i d ∷ drop k strings) next ∙ ap (λ (x : List ℕ). x ∷ drop (i + 1) strings) (sym is) in
+    let split : values_len txt_kinds (txt_values (drop i strings)) ≡ (1 + length string) + values_len txt_kinds (txt_values (drop (i + 1) strings)) =
+    ap (λ (l : List (List ℕ)). values_len txt_kinds (txt_values l)) here ∙ string_first string (drop (i + 1) strings) in
+    omega (arith, split, e, same)
+
+pub options_len : (options : List OptionValue) → length (flat_map option_form options) ≡ values_len opt_kinds (opt_values options)
+options_len [] = refl
+options_len (o ∷ os) =
+    omega (arith, options_len os, length-append (option_form o) (flat_map option_form os), values_len-pieces opt_kinds (opt_values (o ∷ os)), values_len-pieces opt_kinds (opt_values os))

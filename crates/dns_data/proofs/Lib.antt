@@ -10,6 +10,7 @@ pub mod WritingLaws
 pub mod RefusalLaws
 pub mod TypeLaws
 pub mod ParsedLaws
+pub mod ParsedSoundLaws
 pub mod PrintedLaws
 pub mod PrintingLaws
 pub mod TextLaws

@@ -19,7 +19,7 @@ use Rattle.dns_data.specs.rdata.PTR.{ptr_values}
 use Rattle.dns_data.specs.rdata.SOA.{number_kinds, soa_values}
 use Rattle.dns_data.specs.rdata.SRV.{srv_values}
 use Rattle.dns_data.specs.rdata.TXT.{txt_values}
-use Rattle.dns_data.proofs.WireLaws.{values_same, data_not_refused}
+use Rattle.dns_data.proofs.WireLaws.{values_same, data_not_refused, data_refusal_same}
 use Rattle.dns_data.proofs.BoundedLaws.{bounded-ahead}
 use Rattle.dns_data.proofs.DataLaws.{items-ahead, data_at}
 
@@ -123,3 +123,6 @@ pub read_data_not_refused : (bytes : List ℕ) (place len : ℕ) (t : RecordType
 read_data_not_refused bytes place len t d error r refused =
     let values = type_values bytes place len t d refused.0 r in
     data_not_refused bytes (place + len) (kinds_of_type (type_of (type_number t))) place values.0 values.2 refused.1
+
+pub read_data_refusal_same : (bytes : List ℕ) (place len : ℕ) (t : RecordType) (error error' : DecodeError) → RefusesData bytes place t len error → RefusesData bytes place t len error' → error ≡ error'
+read_data_refusal_same bytes place len t error error' r r' = data_refusal_same bytes (place + len) (kinds_of_type (type_of (type_number t))) place r.1 r'.1

@@ -9,7 +9,7 @@ use Rattle.dns_wire.specs.Encodable.{BytesAt, PiecesAt}
 use Rattle.dns_wire.specs.internal.NumberLaws.{same_bytes, one_byte, one_of_two, one_of_four, not_short}
 use Rattle.dns_wire.specs.declared.error.DecodeError.{DecodeError}
 use Rattle.dns_wire.specs.declared.name_encoding.NameEncoding.TheVariants.{Uncompressed}
-use Rattle.dns_wire.proofs.ReadingLaws.{reads_same, reads_not_refused}
+use Rattle.dns_wire.proofs.ReadingLaws.{reads_same, reads_not_refused, refuses_same}
 use Rattle.dns_wire.proofs.PieceLaws.{pieces_at-join}
 use Rattle.dns_data.specs.Field.{OptionValue, Kind, Number16, Number32, Seconds, Address4, Address6, CompressibleName, WholeName, Strings, Options, Opaque, ValueOf, Values, string_pieces, option_pieces, value_pieces, values_pieces}
 use Rattle.dns_data.specs.Wire.{StringAt, OptionAt, ValueAt, ValuesAt, RefusesValue, RefusesFields, refused_value, past_value, RefusesValues, refused_field, wrong_length}
@@ -101,6 +101,11 @@ value_not_refused bytes data_end Strings place a end error h r = items_not_refus
 value_not_refused bytes data_end Options place a end error h r = items_not_refused (OptionAt bytes) (option_same bytes) h r.1
 value_not_refused bytes data_end Opaque place a end error h r = omega (arith, h.0.ends, h.0.within, h.1, r.1, length-drop place bytes)
 
+value_refusal_same : (bytes : List ℕ) (data_end : ℕ) (kind : Kind) (place : ℕ) (error error' : DecodeError) → RefusesValue bytes data_end kind place error → RefusesValue bytes data_end kind place error' → error ≡ error'
+value_refusal_same bytes data_end CompressibleName place error error' r r' = refuses_same r r'
+value_refusal_same bytes data_end WholeName place error error' r r' = refuses_same r r'
+value_refusal_same bytes data_end kind place error error' r r' = r.0 ∙ sym r'.0
+
 -- ---- values of some kinds
 
 pub values_same : (bytes : List ℕ) (data_end : ℕ) (kinds : List Kind) (place : ℕ) (a b : Values kinds) (end end' : ℕ) → ValuesAt bytes data_end kinds place a end → ValuesAt bytes data_end kinds place b end' → (a ≡ b) × (end ≡ end')
@@ -120,6 +125,20 @@ values_not_refused bytes data_end {place = place} values end {error} h (past_val
 pub data_not_refused : (bytes : List ℕ) (data_end : ℕ) (kinds : List Kind) (place : ℕ) (values : Values kinds) {error : DecodeError} → ValuesAt bytes data_end kinds place values data_end → RefusesValues bytes data_end kinds place error → ⊥
 data_not_refused bytes data_end kinds place values h (refused_field r) = values_not_refused bytes data_end values data_end h r
 data_not_refused bytes data_end kinds place values h (wrong_length other {end} there wrong) = wrong (sym (values_same bytes data_end kinds place values other data_end end h there).1)
+
+-- data is refused with one error
+fields_refusal_same : (bytes : List ℕ) (data_end : ℕ) {kinds : List Kind} {place : ℕ} {error error' : DecodeError} → RefusesFields bytes data_end kinds place error → RefusesFields bytes data_end kinds place error' → error ≡ error'
+fields_refusal_same bytes data_end {place = place} {error} {error'} (refused_value {kind} r) (refused_value r') = value_refusal_same bytes data_end kind place error error' r r'
+fields_refusal_same bytes data_end {place = place} {error} {error'} (refused_value {kind} r) (past_value {middle = m} value there more) = absurd (value_not_refused bytes data_end kind place value m error there r)
+fields_refusal_same bytes data_end {place = place} {error} {error'} (past_value {middle = m} value there more) (refused_value {kind} r) = absurd (value_not_refused bytes data_end kind place value m error' there r)
+fields_refusal_same bytes data_end {place = place} {error} {error'} (past_value {kind} {kinds} {middle = m} value there more) (past_value {middle = n} value' there' more') =
+    fields_refusal_same bytes data_end more (subst (λ (k : ℕ). RefusesFields bytes data_end kinds k error') (sym (value_same bytes data_end kind place value value' m n there there').1) more')
+
+pub data_refusal_same : (bytes : List ℕ) (data_end : ℕ) (kinds : List Kind) (place : ℕ) {error error' : DecodeError} → RefusesValues bytes data_end kinds place error → RefusesValues bytes data_end kinds place error' → error ≡ error'
+data_refusal_same bytes data_end kinds place (refused_field r) (refused_field r') = fields_refusal_same bytes data_end r r'
+data_refusal_same bytes data_end kinds place (refused_field r) (wrong_length values {end} there wrong) = absurd (values_not_refused bytes data_end values end there r)
+data_refusal_same bytes data_end kinds place (wrong_length values {end} there wrong) (refused_field r) = absurd (values_not_refused bytes data_end values end there r)
+data_refusal_same bytes data_end kinds place (wrong_length values there wrong) (wrong_length values' there' wrong') = refl
 
 -- ---- values are their pieces
 

@@ -1,6 +1,6 @@
 -- The fields of record data: a type has a fixed sequence of kinds, and data of the type has a value of each (RFC 1035
 -- section 3.3).
-use Rattle.std.specs.Prelude.{◌≡◌, ◌≢◌, ◌<◌, ◌^◌, nat_eq, Bool, true, ℕ, List, [], ◌∷◌, ◌++◌, length, map, flat_map}
+use Rattle.std.specs.Prelude.{◌≡◌, ◌≢◌, ◌<◌, ◌^◌, nat_eq, Bool, true, false, ℕ, List, [], ◌∷◌, ◌++◌, length, map, flat_map}
 use Rattle.std.specs.List.{AllByRecursion}
 use Rattle.std.specs.declared.cmp.Ordering.{Ordering}
 use Rattle.std.specs.Cmp.Lexicographic.{slice_cmp}
@@ -12,7 +12,8 @@ use Rattle.std.specs.Net.Addr.{ipv4_octets, ipv6_octets, ipv6_segments}
 use Rattle.std.specs.declared.net.ipv4_addr.Ipv4Addr.{Ipv4Addr}
 use Rattle.std.specs.declared.net.ipv6_addr.Ipv6Addr.{Ipv6Addr}
 use Rattle.dns_names.specs.Name.{DomainName}
-use Rattle.dns_wire.specs.Encodable.{Piece, Plain, name_piece}
+use Rattle.dns_wire.specs.Encodable.{Piece, Plain, name_piece, start_position, form}
+use Rattle.dns_wire.specs.declared.name_encoding.NameEncoding.TheVariants.{Uncompressed}
 use Rattle.dns_wire.specs.declared.name_encoding.RDataEncoding.TheVariants.{StandardRecord, Canonical}
 
 -- the code and the data of an option (RFC 6891 section 6.1.2)
@@ -84,6 +85,10 @@ abbrev pub values_pieces : Bool → (kinds : List Kind) → Values kinds → Lis
 values_pieces canonical [] values = []
 values_pieces canonical (kind ∷ kinds) values =
     value_pieces canonical kind values.0 ++ values_pieces canonical kinds values.1
+
+-- the length of values one after another, whose names are not compressed
+abbrev pub values_len : (kinds : List Kind) → Values kinds → ℕ
+values_len kinds values = length (form (record start_position { encoding = Uncompressed }) (values_pieces false kinds values))
 
 -- a name in lower case
 abbrev pub lower_name : DomainName → DomainName

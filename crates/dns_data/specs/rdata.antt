@@ -18,12 +18,12 @@ use Rattle.std.specs.declared.net.ip_addr.IpAddr.TheVariants.{V4, V6}
 use Rattle.dns_codes.specs.RecordType.{type_number, type_of}
 use Rattle.dns_codes.specs.declared.record_type.RecordType.{RecordType}
 use Rattle.dns_codes.specs.declared.record_type.RecordType.TheVariants as types
-use Rattle.dns_wire.specs.Encodable.{Piece, PiecesAt, Position, start_position, form}
+use Rattle.dns_wire.specs.Encodable.{Piece, PiecesAt}
 use Rattle.dns_wire.specs.declared.name_encoding.NameEncoding.TheVariants.{Uncompressed}
 use Rattle.dns_wire.specs.declared.error.DecodeError.{DecodeError}
 use Rattle.dns_names.specs.Name.{DomainName}
 use Rattle.dns_text.specs.Lexer.{Lexeme}
-use Rattle.dns_data.specs.Field.{Kind, Opaque, Values, option_form, values_pieces, AreSoundValues}
+use Rattle.dns_data.specs.Field.{Kind, Opaque, Values, option_form, values_pieces, values_len, AreSoundValues}
 use Rattle.dns_data.specs.Text.{AreParsed, RefusesTokens, values_text, has_text, generic_text}
 use Rattle.dns_data.specs.declared.error.RDataParseError.{RDataParseError}
 use Rattle.dns_data.specs.declared.error.RDataParseError.TheVariants.{UnsupportedRecordType}
@@ -135,7 +135,7 @@ data_pieces canonical d = values_pieces canonical (data_kinds d) (data_values d)
 
 -- the length of data whose names are not compressed
 abbrev pub whole_len : RData → ℕ
-whole_len d = length (form (record start_position { encoding = Uncompressed }) (data_pieces false d))
+whole_len d = values_len (data_kinds d) (data_values d)
 
 -- ---- sound data
 

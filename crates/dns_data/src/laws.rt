@@ -1,6 +1,6 @@
 //! Theorems about the definitions of this crate, as functions with empty bodies.
 
-ghost use Rattle.std.specs.Prelude.{◌≡◌, ◌≢◌, ◌-◌, ◌<◌, ◌^◌, ◌&&◌, nat_eq, ℕ, List, Option, [], false, true};
+ghost use Rattle.std.specs.Prelude.{◌≡◌, ◌≢◌, ◌-◌, ◌<◌, ◌^◌, ◌&&◌, nat_eq, ℕ, List, Option, Some, [], false, true};
 ghost use Rattle.dns_codes.specs.declared.record_type.RecordType.{RecordType};
 ghost use Rattle.dns_data.specs.Field.{OptionValue, same_option, lower_values};
 ghost use Rattle.dns_data.specs.declared.rdata.RData.{RData};
@@ -28,13 +28,14 @@ ghost use Rattle.std.specs.Cmp.{IsEquivalence, IsTotalOrder};
 ghost use Rattle.std.specs.Ordering.{is_eq};
 ghost use Rattle.std.specs.Net.Addr.{ipv4_octets, ipv6_segments};
 ghost use Rattle.std.specs.Str.{bytes_eq};
-ghost use Rattle.dns_data.specs.rdata.{data_type, data_kinds, data_values, data_pieces, data_text, kinds_of_type, same_data, IsSoundData, ReadsData, RefusesData, IsParsedData, RefusesText};
+ghost use Rattle.dns_data.specs.rdata.{data_type, data_kinds, data_values, data_pieces, data_text, kinds_of_type, is_update_data, whole_len, same_data, IsSoundData, ReadsData, RefusesData, IsParsedData, RefusesText};
 ghost use Rattle.dns_data.specs.rdata.Order.{data_cmp};
 ghost use Rattle.dns_data.specs.Wire.{ValuesAt};
 
 use dns_wire::RecordType;
 
-/// Bytes decode to at most one value of a type and a length, and are then not refused.
+/// Bytes decode to at most one value of a type and a length, and are then not refused. Bytes that are refused are refused
+/// with one error.
 pub fn data_decoding_is_unambiguous()
     ensures one { (bytes : List ℕ) (place len : ℕ) (record_type : RecordType) (a b : RData)
         → ReadsData bytes place record_type len a → ReadsData bytes place record_type len b
@@ -43,6 +44,10 @@ pub fn data_decoding_is_unambiguous()
         (error : DecodeError)
         → ReadsData bytes place record_type len a
         → RefusesData bytes place record_type len error → ⊥ }
+    ensures one_error { (bytes : List ℕ) (place len : ℕ) (record_type : RecordType)
+        (error other : DecodeError)
+        → RefusesData bytes place record_type len error
+        → RefusesData bytes place record_type len other → error ≡ other }
 {}
 
 /// Sound data that is written at the end of a buffer, by an encoding that keeps the case of names, decodes to itself. Its
@@ -112,6 +117,23 @@ pub fn parsed_data_is_unambiguous()
     ensures not_refused { (origin : Option DomainName) (record_type : RecordType)
         (tokens : List Lexeme) (d : RData) (error : RDataParseError)
         → IsParsedData origin record_type tokens d → ¬ RefusesText origin record_type tokens error }
+{}
+
+/// Data that is parsed with an origin is sound if it is short enough to be encoded: the origin completes relative names,
+/// and fully qualifies them. Its type has fields and is neither `OPT` nor `TSIG`.
+pub fn parsed_data_is_sound()
+    ensures sound { (origin : DomainName) (record_type : RecordType) (tokens : List Lexeme)
+        (d : RData) → IsParsedData (Some origin) record_type tokens d
+        → whole_len d < 2 ^ 16 → IsSoundData d }
+    ensures not_opt { (origin : Option DomainName) (record_type : RecordType)
+        (tokens : List Lexeme) (d : RData) → IsParsedData origin record_type tokens d
+        → data_type d ≢ RecordType.OPT }
+    ensures not_tsig { (origin : Option DomainName) (record_type : RecordType)
+        (tokens : List Lexeme) (d : RData) → IsParsedData origin record_type tokens d
+        → data_type d ≢ RecordType.TSIG }
+    ensures has_data { (origin : Option DomainName) (record_type : RecordType)
+        (tokens : List Lexeme) (d : RData) → IsParsedData origin record_type tokens d
+        → is_update_data d ≡ false }
 {}
 
 /// The text of data of a type with a text form lexes to tokens that parse back to the data, whatever the origin is.

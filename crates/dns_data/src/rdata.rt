@@ -166,7 +166,7 @@ impl BinEncodable for RData {
 }
 
 impl RData {
-    ghost use Rattle.dns_data.specs.rdata.{data_type, data_addr};
+    ghost use Rattle.dns_data.specs.rdata.{data_type, data_addr, whole_len};
 
     /// Returns the type of a record with this data.
     pub fn record_type(&self) -> RecordType
@@ -185,6 +185,27 @@ impl RData {
             RData::OPT(_) => RecordType::OPT,
             RData::Update0(record_type) => *record_type,
             RData::Unknown { code, rdata: _ } => *code,
+        }
+    }
+
+    /// Returns the length of the data's uncompressed encoding, in bytes (RFC 1035 section 3.3). Data of more than 65,535
+    /// bytes cannot be encoded (RFC 1035 section 3.2.1).
+    pub fn encoded_len(&self) -> u128
+        ensures { result ≡ whole_len self.now }
+    {
+        match self {
+            RData::A(a) => a.encoded_len(),
+            RData::AAAA(aaaa) => aaaa.encoded_len(),
+            RData::CNAME(cname) => cname.encoded_len(),
+            RData::NS(ns) => ns.encoded_len(),
+            RData::PTR(ptr) => ptr.encoded_len(),
+            RData::MX(mx) => mx.encoded_len(),
+            RData::SOA(soa) => soa.encoded_len(),
+            RData::SRV(srv) => srv.encoded_len(),
+            RData::TXT(txt) => txt.encoded_len(),
+            RData::OPT(opt) => opt.encoded_len(),
+            RData::Update0(_) => 0,
+            RData::Unknown { code: _, rdata } => rdata.as_slice().len() as u128,
         }
     }
 

@@ -41,6 +41,15 @@ impl BinEncodable for A {
 }
 
 impl A {
+    ghost use Rattle.dns_data.specs.Field.{values_len};
+
+    /// Returns the length of the data's uncompressed encoding.
+    pub fn encoded_len(&self) -> u128
+        ensures { result ≡ values_len a_kinds (a_values self.now) }
+    {
+        self.0.octets().len() as u128
+    }
+
     /// Parses the data from its tokens.
     pub(crate) fn parse(tokens: &mut DataTokens<'_, '_>) -> Result<A, RDataParseError>
         ensures parsed { (o : Option DomainName)

@@ -41,6 +41,15 @@ impl BinEncodable for AAAA {
 }
 
 impl AAAA {
+    ghost use Rattle.dns_data.specs.Field.{values_len};
+
+    /// Returns the length of the data's uncompressed encoding.
+    pub fn encoded_len(&self) -> u128
+        ensures { result ≡ values_len aaaa_kinds (aaaa_values self.now) }
+    {
+        self.0.octets().len() as u128
+    }
+
     /// Parses the data from its tokens.
     pub(crate) fn parse(tokens: &mut DataTokens<'_, '_>) -> Result<AAAA, RDataParseError>
         ensures parsed { (o : Option DomainName)

@@ -58,6 +58,15 @@ impl BinEncodable for CNAME {
 }
 
 impl CNAME {
+    ghost use Rattle.dns_data.specs.Field.{values_len};
+
+    /// Returns the length of the data's uncompressed encoding.
+    pub fn encoded_len(&self) -> u128
+        ensures { result ≡ values_len cname_kinds (cname_values self.now) }
+    {
+        self.0.encoded_len() as u128
+    }
+
     /// Parses the data from its tokens.
     pub(crate) fn parse(
         alloc: Global,

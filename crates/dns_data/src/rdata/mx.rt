@@ -74,6 +74,15 @@ impl BinEncodable for MX {
 }
 
 impl MX {
+    ghost use Rattle.dns_data.specs.Field.{values_len};
+
+    /// Returns the length of the data's uncompressed encoding.
+    pub fn encoded_len(&self) -> u128
+        ensures { result ≡ values_len mx_kinds (mx_values self.now) }
+    {
+        2 + self.exchange.encoded_len() as u128
+    }
+
     /// Parses the data from its tokens.
     pub(crate) fn parse(
         alloc: Global,

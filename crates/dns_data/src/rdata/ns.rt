@@ -58,6 +58,15 @@ impl BinEncodable for NS {
 }
 
 impl NS {
+    ghost use Rattle.dns_data.specs.Field.{values_len};
+
+    /// Returns the length of the data's uncompressed encoding.
+    pub fn encoded_len(&self) -> u128
+        ensures { result ≡ values_len ns_kinds (ns_values self.now) }
+    {
+        self.0.encoded_len() as u128
+    }
+
     /// Parses the data from its tokens.
     pub(crate) fn parse(
         alloc: Global,

@@ -208,6 +208,15 @@ impl BinEncodable for OPT {
 }
 
 impl OPT {
+    ghost use Rattle.dns_data.specs.Field.{values_len};
+
+    /// Returns the length of the data's uncompressed encoding.
+    pub fn encoded_len(&self) -> u128
+        ensures { result ≡ values_len opt_kinds (opt_values self.now) }
+    {
+        encoded_len(self.options())
+    }
+
     /// Returns the options as a vector, without copying them.
     pub fn into_options(self) -> Vec<EdnsOption>
         ensures { result.items ≡ self }

@@ -133,6 +133,15 @@ impl BinEncodable for SOA {
 }
 
 impl SOA {
+    ghost use Rattle.dns_data.specs.Field.{values_len};
+
+    /// Returns the length of the data's uncompressed encoding.
+    pub fn encoded_len(&self) -> u128
+        ensures { result ≡ values_len soa_kinds (soa_values self.now) }
+    {
+        self.mname.encoded_len() as u128 + self.rname.encoded_len() as u128 + 20
+    }
+
     /// Parses the data from its tokens.
     pub(crate) fn parse(
         alloc: Global,

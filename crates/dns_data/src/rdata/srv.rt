@@ -85,6 +85,15 @@ impl BinEncodable for SRV {
 }
 
 impl SRV {
+    ghost use Rattle.dns_data.specs.Field.{values_len};
+
+    /// Returns the length of the data's uncompressed encoding.
+    pub fn encoded_len(&self) -> u128
+        ensures { result ≡ values_len srv_kinds (srv_values self.now) }
+    {
+        6 + self.target.encoded_len() as u128
+    }
+
     /// Parses the data from its tokens.
     pub(crate) fn parse(
         alloc: Global,

@@ -85,6 +85,20 @@ impl BinEncodable for TXT {
 }
 
 impl TXT {
+    ghost use Rattle.dns_data.specs.Field.{values_len};
+
+    /// Returns the length of the data's uncompressed encoding.
+    pub fn encoded_len(&self) -> u128
+        ensures { result ≡ values_len txt_kinds (txt_values self.now) }
+    {
+        let strings = self.strings.as_slice();
+        let mut len = 0u128;
+        for string in strings {
+            len += 1 + string.as_slice().len() as u128;
+        }
+        len
+    }
+
     /// Clones the data.
     pub fn clone(&self) -> Result<TXT, AllocError>
         ensures { IfOk result (λ copy. copy ≡ self.now) }
