@@ -153,6 +153,13 @@ impl RecordSet {
         self.records.is_empty()
     }
 
+    /// Returns the records, in their order.
+    pub fn as_slice(&self) -> &[Record]
+        ensures { result.now ≡ self.now.records }
+    {
+        self.records.as_slice()
+    }
+
     /// Returns the first record.
     pub fn record(&self) -> Option<&Record>
         ensures { option_copied result ≡ slice_get self.now.records 0 }
