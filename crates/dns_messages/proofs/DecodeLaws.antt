@@ -3,7 +3,6 @@ use Rattle.std.proofs.Common.{◌≡◌, ℕ, ◌+◌, ◌-◌, ◌*◌, ◌/◌
 use Rattle.std.specs.Prelude.{IfSome, option_map}
 use Rattle.std.specs.Int.{w16, to_be_bytes}
 use Rattle.std.specs.List.{AllByRecursion, find}
-use Rattle.std.proofs.lemmas.Bool.{eqb-true}
 use Rattle.std.proofs.lemmas.List.{append-nil}
 use Rattle.dns_codes.specs.declared.record_type.RecordType.{RecordType}
 use Rattle.dns_codes.specs.declared.record_type.RecordType.TheVariants as types
@@ -21,15 +20,11 @@ use Rattle.dns_wire.proofs.SectionLaws.{Stage, stage_again, Rereads, items_again
 use Rattle.dns_data.specs.rdata.{data_type, data_pieces, is_update_data}
 use Rattle.dns_records.specs.RecordHead.{head_form, class_for}
 use Rattle.dns_records.specs.Record.{Record, head_pieces, data_len, record_pieces, head_of, ReadsRecord, IsSoundRecord}
-use Rattle.dns_messages.specs.declared.message_type.MessageType.TheVariants as kinds
-use Rattle.dns_messages.specs.declared.message_type.MessageType.{MessageType}
-use Rattle.dns_messages.specs.declared.op_code.OpCode.{OpCode}
 use Rattle.dns_messages.specs.declared.response_code.ResponseCode.{ResponseCode}
-use Rattle.dns_messages.specs.declared.response_code.ResponseCode.TheVariants as codes
 use Rattle.dns_messages.specs.declared.header.Metadata.{Metadata}
 use Rattle.dns_messages.specs.declared.edns.Edns.{Edns}
 use Rattle.dns_messages.specs.declared.message.Message.{Message}
-use Rattle.dns_messages.specs.Header.{bit, kind_bit, op_number, op_of, code_number, code_of, third_byte, fourth_byte, metadata_of}
+use Rattle.dns_messages.specs.Header.{bit, code_number, code_of, third_byte, fourth_byte}
 use Rattle.dns_messages.specs.Question.{question_pieces}
 use Rattle.dns_messages.specs.Edns.{edns_ttl, opt_record, edns_of, IsSoundEdns}
 use Rattle.dns_messages.specs.Section.{is_opt_type, is_tsig_type, is_opt, is_signature, Setting, SectionKind, setting_of, record_fault, AreWellPlaced, ordinary_records, edns_in, signature_in}
@@ -37,76 +32,8 @@ use Rattle.dns_messages.specs.Sound.{IsSoundQuery, is_update_code, IsSoundIn, Is
 use Rattle.dns_messages.specs.Grammar.{ReadsQuestion, ReadsMessage, extended}
 use Rattle.dns_messages.specs.Cut.{query_item, record_item, edns_item, listed, fitting_item, with_code, written_edns, header_end, queries_pieces, queries_end, answers_end, authorities_end, additionals_end, edns_end, remaining, remaining_code, cut, last_count, header_of, cut_form, front_reach}
 use Rattle.dns_messages.proofs.DecodedLaws.{code_numbered}
+use Rattle.dns_messages.proofs.HeaderLaws.{bit-small, bit-again, in_header, metadata_in_header}
 use Rattle.dns_messages.proofs.EmitLaws.{fitting-one, bytes0, bytes1, bytes2, bytes3, bytes4, bytes5, grouped, Writables, Few, few}
-
--- ---- the header's bits
-
--- five parts of a byte, decoded again
-record Third (k o a t r : ℕ) : Type 0 where
-  kind_is : (128 * k + (8 * o + (4 * a + (2 * t + r)))) / 128 % 2 ≡ k
-  op_is : (128 * k + (8 * o + (4 * a + (2 * t + r)))) / 8 % 16 ≡ o
-  authoritative_is : (128 * k + (8 * o + (4 * a + (2 * t + r)))) / 4 % 2 ≡ a
-  truncation_is : (128 * k + (8 * o + (4 * a + (2 * t + r)))) / 2 % 2 ≡ t
-  recursion_is : (128 * k + (8 * o + (4 * a + (2 * t + r)))) / 1 % 2 ≡ r
-
-third_parts : (k o a t r : ℕ) → k < 2 → o < 16 → a < 2 → t < 2 → r < 2 → Third k o a t r
-third_parts k o a t r kk oo aa tt' rr = record { kind_is = omega arith; op_is = omega arith; authoritative_is = omega arith; truncation_is = omega arith; recursion_is = omega arith }
-
-record Fourth (a d k o : ℕ) : Type 0 where
-  available_is : (128 * a + (32 * d + (16 * k + o))) / 128 % 2 ≡ a
-  authentic_is : (128 * a + (32 * d + (16 * k + o))) / 32 % 2 ≡ d
-  checking_is : (128 * a + (32 * d + (16 * k + o))) / 16 % 2 ≡ k
-  code_is : (128 * a + (32 * d + (16 * k + o))) % 16 ≡ o
-
-fourth_parts : (a d k o : ℕ) → a < 2 → d < 2 → k < 2 → o < 16 → Fourth a d k o
-fourth_parts a d k o aa dd kk oo = record { available_is = omega arith; authentic_is = omega arith; checking_is = omega arith; code_is = omega arith }
-
-bit-small : (b : Bool) → bit b < 2
-bit-small true = omega arith
-bit-small false = omega arith
-
-bit-again : (b : Bool) (n : ℕ) → n ≡ bit b → eqb n 1 ≡ b
-bit-again true n e = ap (λ (m : ℕ). eqb m 1) e
-bit-again false n e = ap (λ (m : ℕ). eqb m 1) e
-
-kind-small : (k : MessageType) → kind_bit k < 2
-kind-small kinds.Query = omega arith
-kind-small kinds.Response = omega arith
-
-kind-again : (k : MessageType) (n : ℕ) → n ≡ kind_bit k → cond (eqb n 1) kinds.Response kinds.Query ≡ k
-kind-again kinds.Query n e = ap (λ (m : ℕ). cond (eqb m 1) kinds.Response kinds.Query) e
-kind-again kinds.Response n e = ap (λ (m : ℕ). cond (eqb m 1) kinds.Response kinds.Query) e
-
--- the metadata of a header, which has four bits of the response code
-abbrev in_header : Metadata → Metadata
-in_header m = record m { response_code = code_of (code_number m.response_code % 16) }
-
-metadata_again : (m : Metadata) → op_number m.op_code < 16 → op_of (op_number m.op_code) ≡ m.op_code → in_header m ≡ metadata_of m.id (third_byte m) (fourth_byte m)
-metadata_again m op_fits op_named =
-    let op : op_number m.op_code % 16 ≡ op_number m.op_code = omega (arith, op_fits) in
-    let t = third_parts (kind_bit m.message_type) (op_number m.op_code % 16) (bit m.authoritative) (bit m.truncation) (bit m.recursion_desired) (kind-small m.message_type) (omega arith) (bit-small m.authoritative) (bit-small m.truncation) (bit-small m.recursion_desired) in
-    let f = fourth_parts (bit m.recursion_available) (bit m.authentic_data) (bit m.checking_disabled) (code_number m.response_code % 16) (bit-small m.recursion_available) (bit-small m.authentic_data) (bit-small m.checking_disabled) (omega arith) in
-    let read : Metadata = metadata_of m.id (third_byte m) (fourth_byte m) in
-    let low : Metadata = in_header m in
-    let ops : read.op_code ≡ m.op_code = ap op_of (t.op_is ∙ op) ∙ op_named in
-    let codes : read.response_code ≡ low.response_code = ap code_of f.code_is in
-    let kinds_are : read.message_type ≡ m.message_type = kind-again m.message_type (third_byte m / 128 % 2) t.kind_is in
-    let aa : read.authoritative ≡ m.authoritative = bit-again m.authoritative (third_byte m / 4 % 2) t.authoritative_is in
-    let tc : read.truncation ≡ m.truncation = bit-again m.truncation (third_byte m / 2 % 2) t.truncation_is in
-    let rd : read.recursion_desired ≡ m.recursion_desired = bit-again m.recursion_desired (third_byte m / 1 % 2) t.recursion_is in
-    let ra : read.recursion_available ≡ m.recursion_available = bit-again m.recursion_available (fourth_byte m / 128 % 2) f.available_is in
-    let ad : read.authentic_data ≡ m.authentic_data = bit-again m.authentic_data (fourth_byte m / 32 % 2) f.authentic_is in
-    let cd : read.checking_disabled ≡ m.checking_disabled = bit-again m.checking_disabled (fourth_byte m / 16 % 2) f.checking_is in
-    sym
-    (ap (λ (x : MessageType). record read { message_type = x }) kinds_are
-    ∙ ap (λ (x : OpCode). record low { op_code = x; authoritative = read.authoritative; truncation = read.truncation; recursion_desired = read.recursion_desired; recursion_available = read.recursion_available; authentic_data = read.authentic_data; checking_disabled = read.checking_disabled; response_code = read.response_code }) ops
-    ∙ ap (λ (x : Bool). record low { authoritative = x; truncation = read.truncation; recursion_desired = read.recursion_desired; recursion_available = read.recursion_available; authentic_data = read.authentic_data; checking_disabled = read.checking_disabled; response_code = read.response_code }) aa
-    ∙ ap (λ (x : Bool). record low { truncation = x; recursion_desired = read.recursion_desired; recursion_available = read.recursion_available; authentic_data = read.authentic_data; checking_disabled = read.checking_disabled; response_code = read.response_code }) tc
-    ∙ ap (λ (x : Bool). record low { recursion_desired = x; recursion_available = read.recursion_available; authentic_data = read.authentic_data; checking_disabled = read.checking_disabled; response_code = read.response_code }) rd
-    ∙ ap (λ (x : Bool). record low { recursion_available = x; authentic_data = read.authentic_data; checking_disabled = read.checking_disabled; response_code = read.response_code }) ra
-    ∙ ap (λ (x : Bool). record low { authentic_data = x; checking_disabled = read.checking_disabled; response_code = read.response_code }) ad
-    ∙ ap (λ (x : Bool). record low { checking_disabled = x; response_code = read.response_code }) cd
-    ∙ ap (λ (x : ResponseCode). record low { response_code = x }) codes)
 
 -- ---- response codes
 
@@ -483,7 +410,7 @@ decodes_again limit m small room asks is sound =
         fourth = fourth_byte md;
         id_fits = sound.metadata.id_fits;
         there = head;
-        metadata = metadata_again md sound.metadata.op_fits sound.metadata.op_named;
+        metadata = metadata_in_header md sound.metadata.op_fits sound.metadata.op_named;
         counts_fit = record {
           queries = omega (arith, f.queries, small);
           answers = omega (arith, f.answers, small);

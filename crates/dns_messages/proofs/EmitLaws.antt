@@ -4,12 +4,12 @@ use Rattle.std.specs.Int.{w16, w32, to_be_bytes}
 use Rattle.std.proofs.lemmas.Bool.{ltb-true, ltb-false}
 use Rattle.dns_codes.specs.RecordType.{type_number}
 use Rattle.dns_codes.specs.DNSClass.{class_number}
-use Rattle.dns_wire.specs.Encoder.{EncoderState, IsAtEnd, put_at}
+use Rattle.dns_wire.specs.Encoder.{EncoderState, IsAtEnd, CanRollBack, put_at}
 use Rattle.dns_wire.specs.Encodable.{Piece, Plain, Domain, Position, position_of, name_form, piece_next, form, after, reach, append_pieces, AllBehind, AreWritable, Emits}
 use Rattle.dns_wire.specs.Items.{fitting_prefix, all_pieces, fitting_items, fitting_pieces, append_fitting}
 use Rattle.dns_wire.specs.internal.Sections.{fitting_form, position_behind}
-use Rattle.dns_wire.proofs.PieceLaws.{after-place, form-append, position_of-append_pieces, append_pieces-end, append_pieces-append}
-use Rattle.dns_wire.proofs.ItemLaws.{append_pieces-behind, fitting_prefix-all}
+use Rattle.dns_wire.proofs.PieceLaws.{after-place, form-append, position_of-append_pieces, append_pieces-end, append_pieces-append, can_roll_back-append, can_roll_back-trans}
+use Rattle.dns_wire.proofs.ItemLaws.{append_pieces-behind, fitting_prefix-all, can_roll_back-fitting}
 use Rattle.dns_wire.proofs.FillLaws.{put_in_front}
 use Rattle.dns_wire.proofs.SectionLaws.{after-reach, BetweenSections, next_section, fitting_prefix-reach, fitting_prefix-whole, fitting_prefix-count, position_behind-within, position_behind-place, append_fitting-whole}
 use Rattle.dns_data.specs.rdata.{data_type, data_pieces}
@@ -114,6 +114,11 @@ front-between old w m f is =
 pub front-room : (old : EncoderState) (m : Message) → IsFresh old → reach (position_of old) (Plain twelve_zeros ∷ queries_pieces m) ≤ old.limit → front_reach m ≤ old.limit
 front-room old m f room = subst (λ (s : Position). reach s (Plain twelve_zeros ∷ queries_pieces m) ≤ old.limit) f.position room
 
+-- what is refused after pieces at the start can be rolled back to before them
+pub fresh-back : (old mid new : EncoderState) (ps : List Piece) → IsFresh old → mid ≡ append_pieces old ps → CanRollBack mid new → CanRollBack old new
+fresh-back old mid new ps f wrote back =
+    can_roll_back-trans old (append_pieces old ps) new (omega (arith, after-place (position_of old) ps)) (can_roll_back-append old ps (fresh-end old f)) (subst (λ (w : EncoderState). CanRollBack w new) wrote back)
+
 -- a place for the header, and then questions
 module _ {w0 w1 : EncoderState} (f : IsFresh w0) (e : Emits w0 (Plain twelve_zeros ∷ []) (Ok tt) w1) (qs : List Query) where
   pub header_end-is : position_of w1 ≡ header_end
@@ -124,6 +129,10 @@ module _ {w0 w1 : EncoderState} (f : IsFresh w0) (e : Emits w0 (Plain twelve_zer
 
   pub front-behind : AllBehind (position_of w1)
   front-behind = subst AllBehind (sym header_end-is) tt
+
+  -- some questions do not fit
+  pub front-back : (w2 : EncoderState) → w2 ≡ append_fitting query_item w1 qs → CanRollBack w0 w2
+  front-back w2 wrote = fresh-back w0 w1 w2 (Plain twelve_zeros ∷ []) f e.ok (subst (λ (w : EncoderState). CanRollBack w1 w) (sym wrote) (can_roll_back-fitting query_item w1 qs front-end))
 
   front-limit : w1.limit ≡ w0.limit
   front-limit = ap (λ (w : EncoderState). w.limit) e.ok

@@ -17,30 +17,30 @@ use Rattle.dns_messages.specs.Header.{bit, kind_bit, op_number, op_of, code_numb
 -- ---- the bits of two bytes
 
 -- five parts of a byte, read again
-pub record Third (k o a t r : ℕ) : Type 0 where
-  pub kind_is : (128 * k + (8 * o + (4 * a + (2 * t + r)))) / 128 % 2 ≡ k
-  pub op_is : (128 * k + (8 * o + (4 * a + (2 * t + r)))) / 8 % 16 ≡ o
-  pub authoritative_is : (128 * k + (8 * o + (4 * a + (2 * t + r)))) / 4 % 2 ≡ a
-  pub truncation_is : (128 * k + (8 * o + (4 * a + (2 * t + r)))) / 2 % 2 ≡ t
-  pub recursion_is : (128 * k + (8 * o + (4 * a + (2 * t + r)))) / 1 % 2 ≡ r
+record Third (k o a t r : ℕ) : Type 0 where
+  kind_is : (128 * k + (8 * o + (4 * a + (2 * t + r)))) / 128 % 2 ≡ k
+  op_is : (128 * k + (8 * o + (4 * a + (2 * t + r)))) / 8 % 16 ≡ o
+  authoritative_is : (128 * k + (8 * o + (4 * a + (2 * t + r)))) / 4 % 2 ≡ a
+  truncation_is : (128 * k + (8 * o + (4 * a + (2 * t + r)))) / 2 % 2 ≡ t
+  recursion_is : (128 * k + (8 * o + (4 * a + (2 * t + r)))) / 1 % 2 ≡ r
 
 third_parts : (k o a t r : ℕ) → k < 2 → o < 16 → a < 2 → t < 2 → r < 2 → Third k o a t r
 third_parts k o a t r kk oo aa tt' rr = record { kind_is = omega arith; op_is = omega arith; authoritative_is = omega arith; truncation_is = omega arith; recursion_is = omega arith }
 
-pub record Fourth (a d k o : ℕ) : Type 0 where
-  pub available_is : (128 * a + (32 * d + (16 * k + o))) / 128 % 2 ≡ a
-  pub authentic_is : (128 * a + (32 * d + (16 * k + o))) / 32 % 2 ≡ d
-  pub checking_is : (128 * a + (32 * d + (16 * k + o))) / 16 % 2 ≡ k
-  pub code_is : (128 * a + (32 * d + (16 * k + o))) % 16 ≡ o
+record Fourth (a d k o : ℕ) : Type 0 where
+  available_is : (128 * a + (32 * d + (16 * k + o))) / 128 % 2 ≡ a
+  authentic_is : (128 * a + (32 * d + (16 * k + o))) / 32 % 2 ≡ d
+  checking_is : (128 * a + (32 * d + (16 * k + o))) / 16 % 2 ≡ k
+  code_is : (128 * a + (32 * d + (16 * k + o))) % 16 ≡ o
 
 fourth_parts : (a d k o : ℕ) → a < 2 → d < 2 → k < 2 → o < 16 → Fourth a d k o
 fourth_parts a d k o aa dd kk oo = record { available_is = omega arith; authentic_is = omega arith; checking_is = omega arith; code_is = omega arith }
 
-bit-small : (b : Bool) → bit b < 2
+pub bit-small : (b : Bool) → bit b < 2
 bit-small true = omega arith
 bit-small false = omega arith
 
-bit-again : (b : Bool) (n : ℕ) → n ≡ bit b → eqb n 1 ≡ b
+pub bit-again : (b : Bool) (n : ℕ) → n ≡ bit b → eqb n 1 ≡ b
 bit-again true n e = ap (λ (m : ℕ). eqb m 1) e
 bit-again false n e = ap (λ (m : ℕ). eqb m 1) e
 
@@ -52,15 +52,19 @@ kind-again : (k : MessageType) (n : ℕ) → n ≡ kind_bit k → cond (eqb n 1)
 kind-again kinds.Query n e = ap (λ (m : ℕ). cond (eqb m 1) kinds.Response kinds.Query) e
 kind-again kinds.Response n e = ap (λ (m : ℕ). cond (eqb m 1) kinds.Response kinds.Query) e
 
-pub metadata_again : (m : Metadata) → FitsHeader m → m ≡ metadata_of m.id (third_byte m) (fourth_byte m)
-metadata_again m s =
-    let op : op_number m.op_code % 16 ≡ op_number m.op_code = omega (arith, s.op_fits) in
-    let code : code_number m.response_code % 16 ≡ code_number m.response_code = omega (arith, s.code_fits) in
+-- the metadata of a header, which has four bits of the response code
+abbrev pub in_header : Metadata → Metadata
+in_header m = record m { response_code = code_of (code_number m.response_code % 16) }
+
+pub metadata_in_header : (m : Metadata) → op_number m.op_code < 16 → op_of (op_number m.op_code) ≡ m.op_code → in_header m ≡ metadata_of m.id (third_byte m) (fourth_byte m)
+metadata_in_header m op_fits op_named =
+    let op : op_number m.op_code % 16 ≡ op_number m.op_code = omega (arith, op_fits) in
     let t = third_parts (kind_bit m.message_type) (op_number m.op_code % 16) (bit m.authoritative) (bit m.truncation) (bit m.recursion_desired) (kind-small m.message_type) (omega arith) (bit-small m.authoritative) (bit-small m.truncation) (bit-small m.recursion_desired) in
     let f = fourth_parts (bit m.recursion_available) (bit m.authentic_data) (bit m.checking_disabled) (code_number m.response_code % 16) (bit-small m.recursion_available) (bit-small m.authentic_data) (bit-small m.checking_disabled) (omega arith) in
     let read : Metadata = metadata_of m.id (third_byte m) (fourth_byte m) in
-    let ops : read.op_code ≡ m.op_code = ap op_of (t.op_is ∙ op) ∙ s.op_named in
-    let codes : read.response_code ≡ m.response_code = ap code_of (f.code_is ∙ code) ∙ s.code_named in
+    let low : Metadata = in_header m in
+    let ops : read.op_code ≡ m.op_code = ap op_of (t.op_is ∙ op) ∙ op_named in
+    let codes : read.response_code ≡ low.response_code = ap code_of f.code_is in
     let kinds_are : read.message_type ≡ m.message_type = kind-again m.message_type (third_byte m / 128 % 2) t.kind_is in
     let aa : read.authoritative ≡ m.authoritative = bit-again m.authoritative (third_byte m / 4 % 2) t.authoritative_is in
     let tc : read.truncation ≡ m.truncation = bit-again m.truncation (third_byte m / 2 % 2) t.truncation_is in
@@ -70,14 +74,20 @@ metadata_again m s =
     let cd : read.checking_disabled ≡ m.checking_disabled = bit-again m.checking_disabled (fourth_byte m / 16 % 2) f.checking_is in
     sym
     (ap (λ (x : MessageType). record read { message_type = x }) kinds_are
-    ∙ ap (λ (x : OpCode). record m { op_code = x; authoritative = read.authoritative; truncation = read.truncation; recursion_desired = read.recursion_desired; recursion_available = read.recursion_available; authentic_data = read.authentic_data; checking_disabled = read.checking_disabled; response_code = read.response_code }) ops
-    ∙ ap (λ (x : Bool). record m { authoritative = x; truncation = read.truncation; recursion_desired = read.recursion_desired; recursion_available = read.recursion_available; authentic_data = read.authentic_data; checking_disabled = read.checking_disabled; response_code = read.response_code }) aa
-    ∙ ap (λ (x : Bool). record m { truncation = x; recursion_desired = read.recursion_desired; recursion_available = read.recursion_available; authentic_data = read.authentic_data; checking_disabled = read.checking_disabled; response_code = read.response_code }) tc
-    ∙ ap (λ (x : Bool). record m { recursion_desired = x; recursion_available = read.recursion_available; authentic_data = read.authentic_data; checking_disabled = read.checking_disabled; response_code = read.response_code }) rd
-    ∙ ap (λ (x : Bool). record m { recursion_available = x; authentic_data = read.authentic_data; checking_disabled = read.checking_disabled; response_code = read.response_code }) ra
-    ∙ ap (λ (x : Bool). record m { authentic_data = x; checking_disabled = read.checking_disabled; response_code = read.response_code }) ad
-    ∙ ap (λ (x : Bool). record m { checking_disabled = x; response_code = read.response_code }) cd
-    ∙ ap (λ (x : ResponseCode). record m { response_code = x }) codes)
+    ∙ ap (λ (x : OpCode). record low { op_code = x; authoritative = read.authoritative; truncation = read.truncation; recursion_desired = read.recursion_desired; recursion_available = read.recursion_available; authentic_data = read.authentic_data; checking_disabled = read.checking_disabled; response_code = read.response_code }) ops
+    ∙ ap (λ (x : Bool). record low { authoritative = x; truncation = read.truncation; recursion_desired = read.recursion_desired; recursion_available = read.recursion_available; authentic_data = read.authentic_data; checking_disabled = read.checking_disabled; response_code = read.response_code }) aa
+    ∙ ap (λ (x : Bool). record low { truncation = x; recursion_desired = read.recursion_desired; recursion_available = read.recursion_available; authentic_data = read.authentic_data; checking_disabled = read.checking_disabled; response_code = read.response_code }) tc
+    ∙ ap (λ (x : Bool). record low { recursion_desired = x; recursion_available = read.recursion_available; authentic_data = read.authentic_data; checking_disabled = read.checking_disabled; response_code = read.response_code }) rd
+    ∙ ap (λ (x : Bool). record low { recursion_available = x; authentic_data = read.authentic_data; checking_disabled = read.checking_disabled; response_code = read.response_code }) ra
+    ∙ ap (λ (x : Bool). record low { authentic_data = x; checking_disabled = read.checking_disabled; response_code = read.response_code }) ad
+    ∙ ap (λ (x : Bool). record low { checking_disabled = x; response_code = read.response_code }) cd
+    ∙ ap (λ (x : ResponseCode). record low { response_code = x }) codes)
+
+pub metadata_again : (m : Metadata) → FitsHeader m → m ≡ metadata_of m.id (third_byte m) (fourth_byte m)
+metadata_again m s =
+    let code : code_number m.response_code % 16 ≡ code_number m.response_code = omega (arith, s.code_fits) in
+    let low : in_header m ≡ m = ap (λ (x : ResponseCode). record m { response_code = x }) (ap code_of code ∙ s.code_named) in
+    sym low ∙ metadata_in_header m s.op_fits s.op_named
 
 -- ---- the header
 

@@ -7,6 +7,7 @@ pub mod FollowLaws
 pub mod HeaderLaws
 pub mod MessageLaws
 pub mod PlacementLaws
+pub mod RefusalLaws
 pub mod SectionLaws
 pub mod StrippingLaws
 pub mod UpdateLaws

@@ -36,13 +36,18 @@ next_not_refused bytes s place r end error reads placed (out_of_place h {data_pl
     absurd (cc)
 next_not_refused bytes s place r end error reads placed (bad_record_data h {data_place} head fault refused) = record_not_refused bytes place r end error reads (bad_data h head refused)
 
+-- a record is not read where the next is refused
+pub refused_here : (bytes : List ℕ) (kind : SectionKind) (count : ℕ) (front : List Record) (left middle : ℕ) (error : DecodeError) (r : Record) (rest : List Record) (end : ℕ) → AreWellPlaced kind false count (front ++ r ∷ rest) → length front + (left + 1) ≡ count → ReadsRecord bytes middle r end
+    → RefusesNext bytes (setting_of kind (list_any is_opt front) (left + 1)) middle error → ⊥
+refused_here bytes kind count front left middle error r rest end placed counted reads refused =
+    let left_is : count - length front ≡ left + 1 = omega (arith, counted) in
+    let there : record_fault (setting_of kind (list_any is_opt front) (left + 1)) r ≡ None = subst (λ (n : ℕ). record_fault (setting_of kind (list_any is_opt front) n) r ≡ None) left_is (placed_at kind false count front r rest placed) in
+    next_not_refused bytes (setting_of kind (list_any is_opt front) (left + 1)) middle r end error reads there refused
+
 refused_at : (bytes : List ℕ) (kind : SectionKind) (count : ℕ) (front : List Record) (left middle : ℕ) (error : DecodeError) (rest : List Record) (end : ℕ) → AreWellPlaced kind false count (front ++ rest) → length (front ++ rest) ≡ count → length front + (left + 1) ≡ count → Follow (ReadsRecord bytes) middle rest end
     → RefusesNext bytes (setting_of kind (list_any is_opt front) (left + 1)) middle error → ⊥
 refused_at bytes kind count front left middle error [] end placed all counted follow refused = omega (arith, all, counted, length-append front [])
-refused_at bytes kind count front left middle error (r ∷ rest) end placed all counted follow refused =
-    let left_is : count - length front ≡ left + 1 = omega (arith, counted) in
-    let there : record_fault (setting_of kind (list_any is_opt front) (left + 1)) r ≡ None = subst (λ (n : ℕ). record_fault (setting_of kind (list_any is_opt front) n) r ≡ None) left_is (placed_at kind false count front r rest placed) in
-    next_not_refused bytes (setting_of kind (list_any is_opt front) (left + 1)) middle r follow.0 error follow.1 there refused
+refused_at bytes kind count front left middle error (r ∷ rest) end placed all counted follow refused = refused_here bytes kind count front left middle error r rest follow.0 placed counted follow.1 refused
 
 pub section_not_refused : (bytes : List ℕ) (kind : SectionKind) (place count : ℕ) (rs : List Record) (end : ℕ) (error : DecodeError) → ReadsSection bytes kind place count rs end → RefusesSection bytes kind place count error → ⊥
 section_not_refused bytes kind place count rs end error reads refuses =

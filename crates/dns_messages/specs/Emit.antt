@@ -1,5 +1,5 @@
 -- How the parts of a message are written, one after another.
-use Rattle.std.specs.Prelude.{◌≡◌, ◌<◌, ◌≤◌, ◌%◌, ◌==◌, ◌||◌, if◌then◌else◌, Bool, List, ℕ, length, Option, option_map}
+use Rattle.std.specs.Prelude.{◌%◌, ◌==◌, ◌||◌, if◌then◌else◌, Bool, List, ℕ, length, Option, option_map}
 use Rattle.std.specs.Borrow.{Bor}
 use Rattle.dns_wire.specs.Encoder.{EncoderState}
 use Rattle.dns_wire.specs.Encodable.{Piece, Position, AreWritable}
@@ -14,10 +14,8 @@ use Rattle.dns_messages.specs.declared.message.Message.{Message}
 use Rattle.dns_messages.specs.declared.emit_edns.ExtendedEdns.{ExtendedEdns}
 use Rattle.dns_messages.specs.declared.emit.SectionCount.{SectionCount}
 use Rattle.dns_messages.specs.declared.emit.SectionCounts.{SectionCounts}
-use Rattle.dns_messages.specs.Header.{header_form, code_number, code_of}
-use Rattle.dns_messages.specs.Cut.{record_item, edns_item, listed, written_edns, is_shorter, with_code, remaining, last_count, cut, cut_form, front_reach}
-use Rattle.dns_messages.specs.Sound.{IsSound}
-use Rattle.dns_messages.specs.Grammar.{ReadsMessage}
+use Rattle.dns_messages.specs.Header.{code_number, code_of}
+use Rattle.dns_messages.specs.Cut.{record_item, edns_item, listed, written_edns, is_shorter, with_code, remaining, last_count, cut}
 
 -- what is written for a borrowed OPT record
 abbrev pub extended_edns : ExtendedEdns → Edns
@@ -108,17 +106,3 @@ some_is_cut k =
 -- the response code in the header of a message with an OPT record, or with none
 abbrev pub header_code : ℕ → ResponseCode → ResponseCode
 header_code edns code = if edns == 0 then code_of (code_number code % 16) else code
-
--- ---- the whole message
-
--- The bytes of a message under a limit: they are its form, end within the limit, and decode to what remains of it if it is
--- sound.
-pub record Encodes (limit : ℕ) (m : Message) (bytes : List ℕ) : Type 0 where
-  pub form_is : bytes ≡ cut_form limit m
-  pub decodes : IsSound m → ReadsMessage bytes (cut limit m)
-  pub within : length bytes ≤ limit
-  pub room : front_reach m ≤ limit
-
--- header and questions reach past the limit
-pub record IsTooLong (limit : ℕ) (m : Message) : Type 0 where
-  pub past : limit < front_reach m

@@ -1,6 +1,7 @@
 pub mod Cut
 pub mod Edns
 pub mod Emit
+pub mod Encoding
 pub mod Grammar
 pub mod Header
 pub mod Lending

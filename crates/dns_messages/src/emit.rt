@@ -1,6 +1,6 @@
-//! Encoding of messages under a limit (RFC 1035 section 4.2.1, RFC 2181 section 9).
+//! Encoding the parts of a message under a limit (RFC 1035 section 4.2.1, RFC 2181 section 9).
 
-ghost use Rattle.std.specs.Prelude.{◌≡◌, ◌+◌, ◌||◌, ◌≤◌, ◌<◌, ◌^◌, ◌==◌, [], ◌∷◌, length, nat_lt, not, if◌then◌else◌, true, false, IfOk, IfErr, IsOk, OnOk, Err, Option};
+ghost use Rattle.std.specs.Prelude.{◌≡◌, ◌+◌, ◌||◌, ◌≤◌, ◌<◌, ◌^◌, ◌==◌, [], ◌∷◌, length, nat_lt, not, if◌then◌else◌, true, false, IfOk, IfErr, IsOk, OnOk, OnErr, Err, Option};
 ghost use Rattle.std.specs.Borrow.{Bor};
 ghost use Rattle.dns_wire.specs.Encoder.{state_of, IsAtEnd, CanRollBack};
 ghost use Rattle.dns_wire.specs.Place.{place_start};
@@ -15,12 +15,10 @@ use crate::edns::Edns;
 use crate::emit_and_count::EmitAndCount;
 use crate::emit_edns::ExtendedEdns;
 use crate::header::{Header, HeaderCounts, Metadata};
-use crate::message::Message;
 use crate::query::Query;
 use crate::response_code::ResponseCode;
 use dns_records::Record;
 use dns_wire::{BinEncoder, EncodeError, Place, emit_if_fits};
-use std::alloc::Global;
 
 /// How many items of a section were written, and whether some were not.
 #[derive(Clone, Copy, Drop)]
@@ -64,6 +62,7 @@ fn emit_front<Q: EmitAndCount<Item = Query>>(
     ensures full { result ≡ Err EncodeError.MaxBufferSizeExceeded
         → (state_of encoder.old).limit < reach (position_of (state_of encoder.old))
         (Plain twelve_zeros ∷ all_pieces query_item header_end (Q.items queries.old)) }
+    ensures back { OnErr result (CanRollBack (state_of encoder.old) (state_of encoder.new)) }
     ensures lender { (state_of encoder.new).lender ≡ (state_of encoder.old).lender }
 {
     let place: Place<Header> = encoder.place()?;
@@ -94,6 +93,7 @@ fn emit_section<S: EmitAndCount<Item = Record>>(
     ensures at_end { IsOk result → IsAtEnd (state_of encoder.new) }
     ensures behind { IsOk result → AllBehind (position_of (state_of encoder.new)) }
     ensures memory { IfErr result (λ error. error ≡ EncodeError.Memory) }
+    ensures back { OnErr result (CanRollBack (state_of encoder.old) (state_of encoder.new)) }
     ensures lender { (state_of encoder.new).lender ≡ (state_of encoder.old).lender }
 {
     let len = records.len();
@@ -123,6 +123,7 @@ fn emit_edns(
     ensures at_end { IsOk result → IsAtEnd (state_of encoder.new) }
     ensures behind { IsOk result → AllBehind (position_of (state_of encoder.new)) }
     ensures memory { IfErr result (λ error. error ≡ EncodeError.Memory) }
+    ensures back { OnErr result (CanRollBack (state_of encoder.old) (state_of encoder.new)) }
     ensures lender { (state_of encoder.new).lender ≡ (state_of encoder.old).lender }
 {
     match edns {
@@ -151,6 +152,7 @@ fn emit_signature(
     ensures at_end { IsOk result → IsAtEnd (state_of encoder.new) }
     ensures behind { IsOk result → AllBehind (position_of (state_of encoder.new)) }
     ensures memory { IfErr result (λ error. error ≡ EncodeError.Memory) }
+    ensures back { OnErr result (CanRollBack (state_of encoder.old) (state_of encoder.new)) }
     ensures lender { (state_of encoder.new).lender ≡ (state_of encoder.old).lender }
 {
     match signature {
@@ -188,6 +190,7 @@ fn emit_sections<
         (message_of metadata.now [] (A.items answers.old) (N.items authorities.old)
         (D.items additionals.old) edns.entry signature.entry) }
     ensures memory { IfErr result (λ error. error ≡ EncodeError.Memory) }
+    ensures back { OnErr result (CanRollBack (state_of encoder.old) (state_of encoder.new)) }
     ensures lender { (state_of encoder.new).lender ≡ (state_of encoder.old).lender }
 {
     Ok(SectionCounts {
@@ -278,7 +281,7 @@ impl SectionCounts {
 }
 
 /// Writes the message of these parts at the start of an encoder, as much of it as fits, and returns the header that was
-/// written.
+/// written. After an error, `set_offset(0)` and `trim` restore the encoder, except for the number of names that were tried.
 pub fn emit_message_parts<
     Q: EmitAndCount<Item = Query>,
     A: EmitAndCount<Item = Record>,
@@ -318,6 +321,7 @@ pub fn emit_message_parts<
         → (state_of encoder.old).limit < front_reach
         (message_of metadata.now (Q.items queries.old) (A.items answers.old)
         (N.items authorities.old) (D.items additionals.old) edns.entry signature.entry) }
+    ensures back { OnErr result (CanRollBack (state_of encoder.old) (state_of encoder.new)) }
     ensures lender { (state_of encoder.new).lender ≡ (state_of encoder.old).lender }
 {
     let front = emit_front(queries, encoder)?;
@@ -333,81 +337,4 @@ pub fn emit_message_parts<
     let header = counts.header(metadata, front.queries);
     front.place.replace(encoder, header)?;
     Ok(header)
-}
-
-impl Message {
-    ghost use Rattle.dns_wire.specs.Encoder.{max_message_len};
-    ghost use Rattle.dns_messages.specs.Emit.{Encodes, IsTooLong};
-
-    /// Writes the message at the start of an encoder, as much of it as fits (RFC 1035 section 4.2.1).
-    ///
-    /// Each section is written up to its first record that does not fit, and the OPT record and the signature if they
-    /// fit. TC is set if something was dropped. Without the OPT record, only the lower four bits of the response code
-    /// remain (RFC 6891 section 6.1.3). The questions must fit: if they do not, the error is
-    /// [`EncodeError::MaxBufferSizeExceeded`].
-    pub fn emit(&self, encoder: &mut BinEncoder<'_>) -> Result<(), EncodeError>
-        requires fresh { IsFresh (state_of encoder.old) }
-        ensures bytes { OnOk result ((state_of encoder.new).bytes
-            ≡ cut_form (state_of encoder.old).limit self.now) }
-        ensures decodes { OnOk result (IsSound self.now
-            → ReadsMessage (state_of encoder.new).bytes (cut (state_of encoder.old).limit self.now)) }
-        ensures within { OnOk result
-            (length (state_of encoder.new).bytes ≤ (state_of encoder.old).limit) }
-        ensures room { OnOk result (front_reach self.now ≤ (state_of encoder.old).limit) }
-        ensures full { result ≡ Err EncodeError.MaxBufferSizeExceeded
-            → (state_of encoder.old).limit < front_reach self.now }
-        ensures lender { (state_of encoder.new).lender ≡ (state_of encoder.old).lender }
-    {
-        let mut queries = self.queries.as_slice();
-        let mut answers = self.answers.as_slice();
-        let mut authorities = self.authorities.as_slice();
-        let mut additionals = self.additionals.as_slice();
-        emit_message_parts(
-            &self.metadata,
-            &mut queries,
-            &mut answers,
-            &mut authorities,
-            &mut additionals,
-            self.edns.as_ref(),
-            self.signature.as_ref(),
-            encoder,
-        )?;
-        Ok(())
-    }
-
-    /// Writes the message like `emit`, with a contract that names the whole result.
-    fn emit_whole(&self, encoder: &mut BinEncoder<'_>) -> Result<(), EncodeError>
-        requires fresh { IsFresh (state_of encoder.old) }
-        ensures encodes { OnOk result
-            (Encodes (state_of encoder.old).limit self.now (state_of encoder.new).bytes) }
-        ensures full { result ≡ Err EncodeError.MaxBufferSizeExceeded
-            → IsTooLong (state_of encoder.old).limit self.now }
-        ensures lender { (state_of encoder.new).lender ≡ (state_of encoder.old).lender }
-    {
-        self.emit(encoder)?;
-        Ok(())
-    }
-
-    /// Encodes the message, as much of it as fits 65,535 bytes (RFC 1035 section 4.2.2).
-    pub fn to_vec(&self, alloc: Global) -> Result<Vec<u8>, EncodeError>
-        ensures encodes { IfOk result (λ bytes. Encodes max_message_len self.now bytes.items) }
-        ensures full { result ≡ Err EncodeError.MaxBufferSizeExceeded
-            → IsTooLong max_message_len self.now }
-    {
-        self.to_vec_within(alloc, u16::MAX)
-    }
-
-    /// Encodes the message, as much of it as fits `limit` bytes.
-    pub fn to_vec_within(&self, alloc: Global, limit: u16) -> Result<Vec<u8>, EncodeError>
-        ensures encodes { IfOk result (λ bytes. Encodes limit self.now bytes.items) }
-        ensures full { result ≡ Err EncodeError.MaxBufferSizeExceeded
-            → IsTooLong limit self.now }
-    {
-        let mut buffer = Vec::new(alloc);
-        let mut encoder = BinEncoder::new(alloc, &mut buffer);
-        encoder.set_max_size(limit);
-        self.emit_whole(&mut encoder)?;
-        encoder.into_bytes();
-        Ok(buffer)
-    }
 }

@@ -2,8 +2,8 @@
 //!
 //! - `header`, with `message_type`, `op_code` and `response_code`, `query`, `edns`: the parts of a message; records are
 //!   those of `dns_records`;
-//! - `message`: messages; `section`: sections of records;
-//! - `read`: decoding messages; `emit`, with `emit_and_count` and `emit_edns`: encoding them under a limit;
+//! - `message`: messages, edited and encoded under a limit; `section`: sections of records;
+//! - `read`: decoding messages; `emit`, with `emit_and_count` and `emit_edns`: encoding the parts of one;
 //! - `response`: responses, and what they say;
 //! - `update_message`: messages as dynamic updates (RFC 2136); `update`: builders of updates;
 //! - `laws`: theorems about the definitions.

@@ -3,6 +3,7 @@
 ghost use Rattle.std.specs.Prelude.{◌≡◌, [], None};
 
 mod dnssec;
+mod encoding;
 mod extensions;
 mod section_iter;
 mod sections;

@@ -27,12 +27,13 @@ impl DnsResponse {
     ghost use Rattle.std.specs.Option.{option_copied};
     ghost use Rattle.dns_messages.specs.Lending.{LendsMessage};
     ghost use Rattle.dns_messages.specs.Response.{contains_answer, negative_ttl, soa_in};
-    ghost use Rattle.dns_messages.specs.Emit.{Encodes, IsTooLong};
+    ghost use Rattle.dns_messages.specs.Encoding.{Encodes, IsTooLong};
     ghost use Rattle.dns_messages.specs.Grammar.{ReadsMessage, RefusesMessage};
     ghost use Rattle.dns_messages.specs.declared.message.Message.{Message};
     ghost use Rattle.dns_messages.specs.declared.message_type.MessageType.TheVariants as kinds;
     ghost use Rattle.dns_wire.specs.Encoder.{max_message_len};
     ghost use Rattle.dns_wire.specs.declared.error.DecodeError.{DecodeError};
+    ghost use Rattle.dns_wire.specs.declared.error.EncodeError.{EncodeError};
 
     /// Creates a response from a message, and encodes it. A query is refused before anything is allocated (RFC 1035
     /// section 4.1.1).
@@ -44,6 +45,7 @@ impl DnsResponse {
             ↔ (message.metadata.message_type ≡ kinds.Query) }
         ensures full { result ≡ Err (ResponseError.Encode EncodeError.MaxBufferSizeExceeded)
             → IsTooLong max_message_len message }
+        ensures encode { (error : DecodeError) → result ≢ Err (ResponseError.Decode error) }
     {
         if message.metadata.message_type == MessageType::Query {
             return Err(ResponseError::NotAResponse);
@@ -65,6 +67,7 @@ impl DnsResponse {
             × (m.metadata.message_type ≡ kinds.Query) }
         ensures refused { (error : DecodeError) → result ≡ Err (ResponseError.Decode error)
             → error ≢ DecodeError.Memory → RefusesMessage buffer.items error }
+        ensures decode { (error : EncodeError) → result ≢ Err (ResponseError.Encode error) }
     {
         match Message::from_vec(alloc, buffer.as_slice()) {
             Ok(message) => match message.metadata.message_type {

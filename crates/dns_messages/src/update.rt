@@ -5,7 +5,7 @@
 ghost use Rattle.std.specs.Prelude.{◌≡◌, ◌++◌, ◌∷◌, [], if◌then◌else◌, IfOk};
 ghost use Rattle.dns_records.specs.RecordSet.{each_with_ttl};
 ghost use Rattle.dns_codes.specs.declared.dns_class.DNSClass.TheVariants as classes;
-ghost use Rattle.dns_messages.specs.update.Builders.{zone_section, message_of, empty_record, as_deletions, create_message, append_message, compare_and_swap_message, delete_by_rdata_message, delete_rrset_message, delete_all_message};
+ghost use Rattle.dns_messages.specs.update.Builders.{zone_section, message_of, update_message, empty_record, as_deletions, create_message, append_message, compare_and_swap_message, delete_by_rdata_message, delete_rrset_message, delete_all_message};
 
 use crate::edns::Edns;
 use crate::header::Metadata;
@@ -29,11 +29,9 @@ pub fn create(
 ) -> Result<Message, AllocError>
     ensures { IfOk result (λ message. message ≡ create_message id rrset origin use_edns) }
 {
-    let zones = zone_section(alloc, origin, rrset.dns_class())?;
     let record_type = rrset.record_type();
     let absent = empty_record(alloc, DNSClass::NONE, rrset.name().clone()?, record_type)?;
-    let updates = Sequence::from_vec(rrset.into_parts().records);
-    Ok(message_of(alloc, id, zones, use_edns, absent, updates))
+    addition_of(alloc, id, rrset, origin, use_edns, absent)
 }
 
 /// Creates an update that adds a set of records to those of its owner and type. If `must_exist`, the zone must have some
@@ -49,10 +47,8 @@ pub fn append(
     ensures { IfOk result (λ message.
         message ≡ append_message id rrset origin must_exist use_edns) }
 {
-    let zones = zone_section(alloc, origin, rrset.dns_class())?;
     let prerequisites = existing(alloc, &rrset, must_exist)?;
-    let updates = Sequence::from_vec(rrset.into_parts().records);
-    Ok(message_of(alloc, id, zones, use_edns, prerequisites, updates))
+    addition_of(alloc, id, rrset, origin, use_edns, prerequisites)
 }
 
 /// Creates an update that replaces a set of records by another of the same owner, type and class, if the zone has the data
@@ -123,6 +119,23 @@ pub fn delete_all(
     let zones = zone_section(alloc, origin, dns_class)?;
     let updates = empty_record(alloc, DNSClass::ANY, name, RecordType::ANY)?;
     Ok(message_of(alloc, id, zones, use_edns, Sequence::new(alloc), updates))
+}
+
+/// Makes an update that adds a set of records under these prerequisites.
+fn addition_of(
+    alloc: Global,
+    id: u16,
+    rrset: RecordSet,
+    origin: Name,
+    use_edns: bool,
+    prerequisites: Sequence<Record>,
+) -> Result<Message, AllocError>
+    ensures { IfOk result (λ message. message ≡ update_message id origin rrset.dns_class use_edns
+        prerequisites rrset.records) }
+{
+    let zones = zone_section(alloc, origin, rrset.dns_class())?;
+    let updates = Sequence::from_vec(rrset.into_parts().records);
+    Ok(message_of(alloc, id, zones, use_edns, prerequisites, updates))
 }
 
 /// Makes an update of its sections.

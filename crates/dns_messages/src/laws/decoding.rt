@@ -8,12 +8,15 @@ ghost use Rattle.dns_messages.specs.Sound.{IsSound};
 
 use dns_wire::laws::class_number_round_trips;
 
-/// Bytes decode to at most one message, and bytes that decode to one are not refused.
+/// Bytes decode to at most one message, and bytes that decode to one are not refused. Bytes that are refused are refused
+/// with one error.
 pub fn messages_decode_unambiguously()
     ensures same { (bytes : List ℕ) (a b : Message)
         → ReadsMessage bytes a → ReadsMessage bytes b → a ≡ b }
     ensures not_refused { (bytes : List ℕ) (message : Message) (error : DecodeError)
         → ReadsMessage bytes message → RefusesMessage bytes error → ⊥ }
+    ensures one_error { (bytes : List ℕ) (error other : DecodeError)
+        → RefusesMessage bytes error → RefusesMessage bytes other → error ≡ other }
 {}
 
 /// A message that is decoded can be encoded, and decodes again.

@@ -38,7 +38,11 @@ impl Message {
         }
     }
 
-    /// Sets the signature, which is a TSIG record.
+    /// Sets the signature, a TSIG record, which is encoded as the last record of the additional section (RFC 8945 section
+    /// 5.1).
+    ///
+    /// The record is not checked. With a record of another type, or one without data, the message is not sound: it is
+    /// encoded, but what its bytes decode to need not be the message.
     pub fn set_signature(&mut self, signature: Record)
         ensures { self.new ≡ record self.old { signature = Some signature } }
     {

@@ -1,6 +1,9 @@
-use Rattle.std.proofs.Common.{refl, ◌≤◌, arith}
+use Rattle.std.proofs.Common.{refl, ◌≤◌, arith, ◌∷◌, []}
 use Rattle.dns_wire.specs.Encoder.{state_of}
-use Rattle.dns_messages.proofs.EmitLaws.{fresh-end, front-full, front-fits, front-wrote, front-writable, front-count}
+use Rattle.dns_wire.specs.Encodable.{Plain}
+use Rattle.dns_wire.proofs.StoredLaws.{on_err}
+use Rattle.dns_messages.specs.Cut.{twelve_zeros}
+use Rattle.dns_messages.proofs.EmitLaws.{fresh-end, fresh-back, front-back, front-full, front-fits, front-wrote, front-writable, front-count}
 use Rattle.dns_messages.proofs.emit.emit_front.Goals as goal
 
 pub returns-then-count-len-clause-full : goal.returns-then-count-len-clause-full
@@ -31,3 +34,13 @@ returns-clause-room g c =
     let e = c.in_ok-place.ensures.zeros.at_end (fresh-end _ c.requires.fresh) in
     let le : c.len-len.result ≤ c.in_ok-count.count = omega (arith, c.if-count-len.false) in
     front-fits c.requires.fresh e (g.Q.EmitAndCount.items c.args.queries.now) c.in_ok-count.count c.len-len.result c.in_ok-count.ensures.count c.len-len.ensures le
+
+pub returns-in_err-count-clause-back : goal.returns-in_err-count-clause-back
+returns-in_err-count-clause-back g c =
+    let e = c.in_ok-place.ensures.zeros.at_end (fresh-end _ c.requires.fresh) in
+    on_err _ (fresh-back (state_of c.args.encoder.now) (state_of c.place.new.self) (state_of c.emit.new.encoder) (Plain twelve_zeros ∷ []) c.requires.fresh e.ok c.in_err-count.ensures.back)
+
+pub returns-then-count-len-clause-back : goal.returns-then-count-len-clause-back
+returns-then-count-len-clause-back g c =
+    let e = c.in_ok-place.ensures.zeros.at_end (fresh-end _ c.requires.fresh) in
+    front-back c.requires.fresh e (g.Q.EmitAndCount.items c.args.queries.now) (state_of c.emit.new.encoder) (c.in_ok-count.ensures.wrote refl)

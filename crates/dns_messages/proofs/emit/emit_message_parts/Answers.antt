@@ -1,14 +1,15 @@
-use Rattle.std.proofs.Common.{◌≡◌, ◌≤◌, ◌<◌, ◌++◌, ◌∙◌, ℕ, List, [], refl, ap, subst, sym, arith, length}
+use Rattle.std.proofs.Common.{◌≡◌, ◌≤◌, ◌<◌, ◌++◌, ◌∷◌, ◌∙◌, ℕ, List, [], refl, ap, subst, sym, arith, length}
 use Rattle.dns_wire.specs.Encoder.{EncoderState, state_of, put_at}
 use Rattle.dns_wire.specs.Place.{place_start}
+use Rattle.dns_wire.specs.Encodable.{Plain}
 use Rattle.dns_wire.proofs.SectionLaws.{BetweenSections}
-use Rattle.dns_messages.specs.declared.header.Header.{Header}
+use Rattle.dns_wire.proofs.StoredLaws.{on_err}
 use Rattle.dns_messages.specs.declared.message.Message.{Message}
 use Rattle.dns_messages.specs.declared.emit.SectionCounts.{SectionCounts}
-use Rattle.dns_messages.specs.Cut.{header_of, cut, cut_form, front_reach, queries_end, twelve_zeros}
+use Rattle.dns_messages.specs.Cut.{header_of, cut, cut_form, front_reach, queries_pieces, queries_end, twelve_zeros}
 use Rattle.dns_messages.specs.Header.{encoded_header}
 use Rattle.dns_messages.specs.Emit.{message_of, header_at, section_counts, signature_state}
-use Rattle.dns_messages.proofs.EmitLaws.{bytes0, body, few, Few, front-between, front-room, counts, Counts, header-is, between5, writables, sections-writable, header_filled, filled-within}
+use Rattle.dns_messages.proofs.EmitLaws.{bytes0, body, few, Few, fresh-back, front-between, front-room, counts, Counts, header-is, between5, writables, sections-writable, header_filled, filled-within}
 use Rattle.dns_messages.specs.Grammar.{ReadsMessage}
 use Rattle.dns_messages.proofs.DecodeLaws.{decodes_again}
 use Rattle.dns_messages.proofs.emit.emit_message_parts.Goals as goal
@@ -38,6 +39,11 @@ emit_sections-requires-clause-at_end g c = (begun g (goal.at.emit_sections-requi
 
 pub emit_sections-requires-clause-behind : goal.emit_sections-requires-clause-behind
 emit_sections-requires-clause-behind g c = (begun g (goal.at.emit_sections-requires-clause-behind g c).In_ok-front).behind
+
+pub returns-in_err-counts-clause-back : goal.returns-in_err-counts-clause-back
+returns-in_err-counts-clause-back g c =
+    let m = the_message g (goal.at.returns-in_err-counts-clause-back g c).In_ok-front in
+    on_err _ (fresh-back (state_of c.args.encoder.now) (state_of c.emit_front.new.encoder) (state_of c.emit_sections.new.encoder) (Plain twelve_zeros ∷ queries_pieces m) c.requires.fresh c.in_ok-front.ensures.wrote c.in_err-counts.ensures.back)
 
 pub header-header-requires-clause-queries : goal.header-header-requires-clause-queries
 header-header-requires-clause-queries g c =

@@ -5,10 +5,40 @@ use Rattle.dns_wire.specs.declared.error.DecodeError.{DecodeError}
 use Rattle.dns_records.specs.Record.{Record}
 use Rattle.dns_messages.specs.declared.header.Header.{Header}
 use Rattle.dns_messages.specs.declared.query.Query.{Query}
-use Rattle.dns_messages.specs.Section.{ReadsSection, RefusesSection}
+use Rattle.dns_messages.specs.Section.{SectionKind, ReadsSection, RefusesSection}
 use Rattle.dns_messages.specs.Header.{DecodesHeader}
 use Rattle.dns_messages.specs.Grammar.{ReadsQuestions, RefusesQuestions, section_kind, additional_kind, RefusesMessage, short_header, bad_questions, bad_answers, bad_authorities, bad_additionals}
 use Rattle.dns_messages.proofs.read.read_message.Goals as goal
+use Rattle.dns_messages.proofs.read.read_message.Goals.{In_ok-header, In_ok-queries, In_ok-answers, In_ok-authorities}
+
+-- ---- what was read, of the bytes of the message
+
+bytes1 : (c : In_ok-header) → c.read_header.new.decoder.bytes ≡ c.args.bytes.now
+bytes1 c = c.in_ok-header.ensures.bytes ∙ ap (λ (d : Decoder). d.bytes) c.new-decoder.ensures
+
+bytes2 : (c : In_ok-queries) → c.read_queries.new.decoder.bytes ≡ c.args.bytes.now
+bytes2 c = c.in_ok-queries.ensures.bytes ∙ c.in_ok-header.ensures.bytes ∙ ap (λ (d : Decoder). d.bytes) c.new-decoder.ensures
+
+bytes3 : (c : In_ok-answers) → c.read_plain_section.new.decoder.bytes ≡ c.args.bytes.now
+bytes3 c = c.in_ok-answers.ensures.bytes ∙ c.in_ok-queries.ensures.bytes ∙ c.in_ok-header.ensures.bytes ∙ ap (λ (d : Decoder). d.bytes) c.new-decoder.ensures
+
+bytes4 : (c : In_ok-authorities) → c.read_plain_section-2.new.decoder.bytes ≡ c.args.bytes.now
+bytes4 c = c.in_ok-authorities.ensures.bytes ∙ c.in_ok-answers.ensures.bytes ∙ c.in_ok-queries.ensures.bytes ∙ c.in_ok-header.ensures.bytes ∙ ap (λ (d : Decoder). d.bytes) c.new-decoder.ensures
+
+header_read : (c : In_ok-header) → DecodesHeader c.args.bytes.now 0 c.in_ok-header.header 12
+header_read c = subst (λ (bs : List ℕ). DecodesHeader bs 0 c.in_ok-header.header 12) (ap (λ (d : Decoder). d.bytes) c.new-decoder.ensures) c.in_ok-header.ensures.read
+
+queries_read : (c : In_ok-header) (qs : List Query) (end : ℕ) → ReadsQuestions c.read_header.new.decoder.bytes c.read_header.new.decoder.index c.in_ok-header.header.counts.queries qs end → ReadsQuestions c.args.bytes.now 12 c.in_ok-header.header.counts.queries qs end
+queries_read c qs end read =
+    subst (λ (n : ℕ). ReadsQuestions c.args.bytes.now n c.in_ok-header.header.counts.queries qs end) c.in_ok-header.ensures.index (subst (λ (bs : List ℕ). ReadsQuestions bs c.read_header.new.decoder.index c.in_ok-header.header.counts.queries qs end) (bytes1 c) read)
+
+section_read : (bytes bytes' : List ℕ) (kind : SectionKind) (place count : ℕ) (rs : List Record) (end : ℕ) → bytes ≡ bytes' → ReadsSection bytes kind place count rs end → ReadsSection bytes' kind place count rs end
+section_read bytes bytes' kind place count rs end same read = subst (λ (bs : List ℕ). ReadsSection bs kind place count rs end) same read
+
+section_refused : (bytes bytes' : List ℕ) (kind : SectionKind) (place count : ℕ) (error : DecodeError) → bytes ≡ bytes' → RefusesSection bytes kind place count error → RefusesSection bytes' kind place count error
+section_refused bytes bytes' kind place count error same refused = subst (λ (bs : List ℕ). RefusesSection bs kind place count error) same refused
+
+-- ---- refusals
 
 pub returns-in_err-header-clause-refused : goal.returns-in_err-header-clause-refused
 returns-in_err-header-clause-refused c =
@@ -22,76 +52,49 @@ returns-in_err-header-clause-refused c =
 
 pub returns-in_err-queries-clause-refused : goal.returns-in_err-queries-clause-refused
 returns-in_err-queries-clause-refused c =
+    let at = goal.at.returns-in_err-queries-clause-refused c in
     let p = err_from_is_err_and c.from_residual-in_err-queries.result c.from_residual-in_err-queries.ensures.1 in
-    let bytes : List ℕ = c.args.bytes.now in
     let h : Header = c.in_ok-header.header in
     let error : DecodeError = c.in_err-queries.field-0.0 in
-    let d1 : Decoder = c.read_header.new.decoder in
-    let start : c.new-decoder.result.bytes ≡ bytes = ap (λ (d : Decoder). d.bytes) c.new-decoder.ensures in
-    let same : d1.bytes ≡ bytes = c.in_ok-header.ensures.bytes ∙ start in
-    let header : DecodesHeader bytes 0 h 12 = subst (λ (bs : List ℕ). DecodesHeader bs 0 h 12) start c.in_ok-header.ensures.read in
-    rw (p.1, p.2) (λ other. bad_questions h header
-    (subst (λ (n : ℕ). RefusesQuestions bytes n h.counts.queries error) c.in_ok-header.ensures.index (subst (λ (bs : List ℕ). RefusesQuestions bs d1.index h.counts.queries error) same (c.in_err-queries.ensures.refused other))))
+    let here : RefusesQuestions c.args.bytes.now c.read_header.new.decoder.index h.counts.queries error → RefusesQuestions c.args.bytes.now 12 h.counts.queries error = subst (λ (n : ℕ). RefusesQuestions c.args.bytes.now n h.counts.queries error) c.in_ok-header.ensures.index in
+    rw (p.1, p.2) (λ other. bad_questions h (header_read at.In_ok-header)
+    (here (subst (λ (bs : List ℕ). RefusesQuestions bs c.read_header.new.decoder.index h.counts.queries error) (bytes1 at.In_ok-header) (c.in_err-queries.ensures.refused other))))
 
 pub returns-in_err-answers-clause-refused : goal.returns-in_err-answers-clause-refused
 returns-in_err-answers-clause-refused c =
+    let at = goal.at.returns-in_err-answers-clause-refused c in
     let p = err_from_is_err_and c.from_residual-in_err-answers.result c.from_residual-in_err-answers.ensures.1 in
-    let bytes : List ℕ = c.args.bytes.now in
     let h : Header = c.in_ok-header.header in
     let qs : List Query = c.in_ok-queries.queries in
-    let error : DecodeError = c.in_err-answers.field-0.0 in
-    let d1 : Decoder = c.read_header.new.decoder in
-    let d2 : Decoder = c.read_queries.new.decoder in
-    let start : c.new-decoder.result.bytes ≡ bytes = ap (λ (d : Decoder). d.bytes) c.new-decoder.ensures in
-    let same : d1.bytes ≡ bytes = c.in_ok-header.ensures.bytes ∙ start in
-    let same2 : d2.bytes ≡ bytes = c.in_ok-queries.ensures.bytes ∙ same in
-    let header : DecodesHeader bytes 0 h 12 = subst (λ (bs : List ℕ). DecodesHeader bs 0 h 12) start c.in_ok-header.ensures.read in
-    let queries : ReadsQuestions bytes 12 h.counts.queries qs d2.index =
-    subst (λ (n : ℕ). ReadsQuestions bytes n h.counts.queries qs d2.index) c.in_ok-header.ensures.index (subst (λ (bs : List ℕ). ReadsQuestions bs d1.index h.counts.queries qs d2.index) same c.in_ok-queries.ensures.read) in
-    rw (p.1, p.2) (λ other. bad_answers h qs d2.index header queries (subst (λ (bs : List ℕ). RefusesSection bs (section_kind h) d2.index h.counts.answers error) same2 (c.in_err-answers.ensures.refused other)))
+    let end : ℕ = c.read_queries.new.decoder.index in
+    rw (p.1, p.2) (λ other. bad_answers h qs end (header_read at.In_ok-header) (queries_read at.In_ok-header qs end c.in_ok-queries.ensures.read)
+    (section_refused _ _ (section_kind h) end h.counts.answers c.in_err-answers.field-0.0 (bytes2 at.In_ok-queries) (c.in_err-answers.ensures.refused other)))
 
 pub returns-in_err-authorities-clause-refused : goal.returns-in_err-authorities-clause-refused
 returns-in_err-authorities-clause-refused c =
+    let at = goal.at.returns-in_err-authorities-clause-refused c in
     let p = err_from_is_err_and c.from_residual-in_err-authorities.result c.from_residual-in_err-authorities.ensures.1 in
-    let bytes : List ℕ = c.args.bytes.now in
     let h : Header = c.in_ok-header.header in
     let qs : List Query = c.in_ok-queries.queries in
     let an : List Record = c.in_ok-answers.answers in
-    let error : DecodeError = c.in_err-authorities.field-0.0 in
-    let d1 : Decoder = c.read_header.new.decoder in
-    let d2 : Decoder = c.read_queries.new.decoder in
-    let d3 : Decoder = c.read_plain_section.new.decoder in
-    let start : c.new-decoder.result.bytes ≡ bytes = ap (λ (d : Decoder). d.bytes) c.new-decoder.ensures in
-    let same : d1.bytes ≡ bytes = c.in_ok-header.ensures.bytes ∙ start in
-    let same2 : d2.bytes ≡ bytes = c.in_ok-queries.ensures.bytes ∙ same in
-    let same3 : d3.bytes ≡ bytes = c.in_ok-answers.ensures.bytes ∙ same2 in
-    let header : DecodesHeader bytes 0 h 12 = subst (λ (bs : List ℕ). DecodesHeader bs 0 h 12) start c.in_ok-header.ensures.read in
-    let queries : ReadsQuestions bytes 12 h.counts.queries qs d2.index =
-    subst (λ (n : ℕ). ReadsQuestions bytes n h.counts.queries qs d2.index) c.in_ok-header.ensures.index (subst (λ (bs : List ℕ). ReadsQuestions bs d1.index h.counts.queries qs d2.index) same c.in_ok-queries.ensures.read) in
-    let answers : ReadsSection bytes (section_kind h) d2.index h.counts.answers an d3.index = subst (λ (bs : List ℕ). ReadsSection bs (section_kind h) d2.index h.counts.answers an d3.index) same2 c.in_ok-answers.ensures.read in
-    rw (p.1, p.2) (λ other. bad_authorities h qs an d2.index d3.index header queries answers (subst (λ (bs : List ℕ). RefusesSection bs (section_kind h) d3.index h.counts.authorities error) same3 (c.in_err-authorities.ensures.refused other)))
+    let end2 : ℕ = c.read_queries.new.decoder.index in
+    let end3 : ℕ = c.read_plain_section.new.decoder.index in
+    rw (p.1, p.2) (λ other. bad_authorities h qs an end2 end3 (header_read at.In_ok-header) (queries_read at.In_ok-header qs end2 c.in_ok-queries.ensures.read)
+    (section_read _ _ (section_kind h) end2 h.counts.answers an end3 (bytes2 at.In_ok-queries) c.in_ok-answers.ensures.read)
+    (section_refused _ _ (section_kind h) end3 h.counts.authorities c.in_err-authorities.field-0.0 (bytes3 at.In_ok-answers) (c.in_err-authorities.ensures.refused other)))
 
 pub returns-in_err-last-clause-refused : goal.returns-in_err-last-clause-refused
 returns-in_err-last-clause-refused c =
+    let at = goal.at.returns-in_err-last-clause-refused c in
     let p = err_from_is_err_and c.from_residual-in_err-last.result c.from_residual-in_err-last.ensures.1 in
-    let bytes : List ℕ = c.args.bytes.now in
     let h : Header = c.in_ok-header.header in
     let qs : List Query = c.in_ok-queries.queries in
     let an : List Record = c.in_ok-answers.answers in
     let au : List Record = c.in_ok-authorities.authorities in
-    let error : DecodeError = c.in_err-last.field-0.0 in
-    let d1 : Decoder = c.read_header.new.decoder in
-    let d2 : Decoder = c.read_queries.new.decoder in
-    let d3 : Decoder = c.read_plain_section.new.decoder in
-    let d4 : Decoder = c.read_plain_section-2.new.decoder in
-    let start : c.new-decoder.result.bytes ≡ bytes = ap (λ (d : Decoder). d.bytes) c.new-decoder.ensures in
-    let same : d1.bytes ≡ bytes = c.in_ok-header.ensures.bytes ∙ start in
-    let same2 : d2.bytes ≡ bytes = c.in_ok-queries.ensures.bytes ∙ same in
-    let same3 : d3.bytes ≡ bytes = c.in_ok-answers.ensures.bytes ∙ same2 in
-    let same4 : d4.bytes ≡ bytes = c.in_ok-authorities.ensures.bytes ∙ same3 in
-    let header : DecodesHeader bytes 0 h 12 = subst (λ (bs : List ℕ). DecodesHeader bs 0 h 12) start c.in_ok-header.ensures.read in
-    let queries : ReadsQuestions bytes 12 h.counts.queries qs d2.index =
-    subst (λ (n : ℕ). ReadsQuestions bytes n h.counts.queries qs d2.index) c.in_ok-header.ensures.index (subst (λ (bs : List ℕ). ReadsQuestions bs d1.index h.counts.queries qs d2.index) same c.in_ok-queries.ensures.read) in
-    let answers : ReadsSection bytes (section_kind h) d2.index h.counts.answers an d3.index = subst (λ (bs : List ℕ). ReadsSection bs (section_kind h) d2.index h.counts.answers an d3.index) same2 c.in_ok-answers.ensures.read in
-    let authorities : ReadsSection bytes (section_kind h) d3.index h.counts.authorities au d4.index = subst (λ (bs : List ℕ). ReadsSection bs (section_kind h) d3.index h.counts.authorities au d4.index) same3 c.in_ok-authorities.ensures.read in
-    rw (p.1, p.2) (λ other. bad_additionals h qs an au d2.index d3.index d4.index header queries answers authorities (subst (λ (bs : List ℕ). RefusesSection bs (additional_kind h) d4.index h.counts.additionals error) same4 (c.in_err-last.ensures.refused other)))
+    let end2 : ℕ = c.read_queries.new.decoder.index in
+    let end3 : ℕ = c.read_plain_section.new.decoder.index in
+    let end4 : ℕ = c.read_plain_section-2.new.decoder.index in
+    rw (p.1, p.2) (λ other. bad_additionals h qs an au end2 end3 end4 (header_read at.In_ok-header) (queries_read at.In_ok-header qs end2 c.in_ok-queries.ensures.read)
+    (section_read _ _ (section_kind h) end2 h.counts.answers an end3 (bytes2 at.In_ok-queries) c.in_ok-answers.ensures.read)
+    (section_read _ _ (section_kind h) end3 h.counts.authorities au end4 (bytes3 at.In_ok-answers) c.in_ok-authorities.ensures.read)
+    (section_refused _ _ (additional_kind h) end4 h.counts.additionals c.in_err-last.field-0.0 (bytes4 at.In_ok-authorities) (c.in_err-last.ensures.refused other)))
