@@ -1,0 +1,85 @@
+-- The fields of a record in a zone file: owner, TTL, class and type (RFC 1035 section 5.1).
+use Rattle.std.specs.Prelude.{ℕ, if◌then◌else◌, Bool, false, List, [], ◌∷◌, find, Option, Some, None, Result, Ok, Err}
+use Rattle.std.specs.Str.{str_eq_ignore_ascii_case}
+use Rattle.dns_codes.specs.CodeText.{type_of_text, class_name}
+use Rattle.dns_codes.specs.Decimal.{is_digit}
+use Rattle.dns_codes.specs.declared.record_type.RecordType.{RecordType}
+use Rattle.dns_codes.specs.declared.dns_class.DNSClass.{DNSClass}
+use Rattle.dns_codes.specs.declared.dns_class.DNSClass.TheVariants as classes
+use Rattle.dns_names.specs.Name.{DomainName}
+use Rattle.dns_names.specs.Build.{parse_name}
+use Rattle.dns_names.specs.declared.error.ParseError.{ParseError}
+use Rattle.dns_text.specs.Lexer.{Lexeme, CharData, At}
+use Rattle.dns_text.specs.Ttl.{time}
+use Rattle.dns_zone_file.specs.declared.error.EntryFault.{EntryFault}
+use Rattle.dns_zone_file.specs.declared.error.EntryFault.TheVariants.{InvalidTtl, RepeatedField, MissingType, UnknownType}
+
+-- ---- names
+
+abbrev pub if_ok : Result DomainName ParseError → Option DomainName
+if_ok (Ok name) = Some name
+if_ok (Err error) = None
+
+-- A word is a name, which the origin completes if it is relative. `@` is the origin.
+abbrev pub name_of : DomainName → Lexeme → Option DomainName
+name_of origin (CharData text) = if_ok (parse_name text (Some origin))
+name_of origin At = Some origin
+name_of origin other = None
+
+-- ---- TTL, class and type
+
+-- what a token between owner and data is: a TTL, a word that begins like one, a class, a type, or nothing of these
+pub data Field : Type 0 where
+  ttl_field : ℕ → Field
+  bad_ttl : Field
+  class_field : DNSClass → Field
+  type_field : RecordType → Field
+  no_field : Field
+
+abbrev pub begins_with_digit : List ℕ → Bool
+begins_with_digit [] = false
+begins_with_digit (c ∷ cs) = is_digit c
+
+-- the classes of zone files, in any case
+abbrev pub zone_class : List ℕ → Option DNSClass
+zone_class text =
+    find (λ class. str_eq_ignore_ascii_case (class_name class) text) (classes.IN ∷ classes.CH ∷ classes.HS ∷ [])
+
+abbrev pub ttl_or_bad : Option ℕ → Field
+ttl_or_bad (Some seconds) = ttl_field seconds
+ttl_or_bad None = bad_ttl
+
+abbrev pub type_or_none : Option RecordType → Field
+type_or_none (Some record_type) = type_field record_type
+type_or_none None = no_field
+
+-- A word is a TTL if it begins with a digit, a class if it is IN, CH or HS, and otherwise a type.
+abbrev pub field_of_word : List ℕ → Field
+field_of_word text =
+    if begins_with_digit text then ttl_or_bad (time text)
+    else elim (zone_class text) [ Some class ↦ class_field class | None ↦ type_or_none (type_of_text text) ]
+
+abbrev pub field_of : Lexeme → Field
+field_of (CharData text) = field_of_word text
+field_of other = no_field
+
+-- the TTL and the class, if they are stated, the type, and the tokens of the data
+pub record Fields : Type 0 where
+  pub ttl : Option ℕ
+  pub dns_class : Option DNSClass
+  pub record_type : RecordType
+  pub rdata : List Lexeme
+
+-- a TTL and a class, each at most once and in either order, a type, and the data
+abbrev pub fields_after : Option ℕ → Option DNSClass → List Lexeme → Result Fields EntryFault
+fields_after ttl class [] = Err MissingType
+fields_after ttl class (token ∷ tokens) = elim (field_of token) [
+  | ttl_field seconds ↦ elim ttl [ Some other ↦ Err RepeatedField | None ↦ fields_after (Some seconds) class tokens ]
+  | bad_ttl ↦ Err InvalidTtl
+  | class_field found ↦ elim class [ Some other ↦ Err RepeatedField | None ↦ fields_after ttl (Some found) tokens ]
+  | type_field found ↦ Ok (record { ttl = ttl; dns_class = class; record_type = found; rdata = tokens })
+  | no_field ↦ Err UnknownType
+]
+
+abbrev pub fields_of : List Lexeme → Result Fields EntryFault
+fields_of tokens = fields_after None None tokens

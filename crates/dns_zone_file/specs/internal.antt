@@ -1,0 +1,6 @@
+-- How contracts view the types of the code.
+pub mod Error
+pub mod Fields
+pub mod Entry
+pub mod Context
+pub mod Parsing

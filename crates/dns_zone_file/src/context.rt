@@ -1,0 +1,329 @@
+//! What the entries of a zone file determine for those after them, and the records that they add (RFC 1035 section 5.1, RFC
+//! 2308 section 4).
+
+ghost use Rattle.std.specs.Prelude.{◌≡◌, map, drop, Ok, Err, Some, None, IfOk, IfSome, IfErr, OnOk, true, false};
+ghost use Rattle.dns_text.specs.Token.{lexeme};
+ghost use Rattle.dns_data.specs.rdata.{data_type, IsParsedData, RefusesText};
+ghost use Rattle.dns_zone_file.specs.Context.{soa_of};
+ghost use Rattle.dns_zone_file.specs.RecordSets.{IsNamedType};
+ghost use Rattle.dns_zone_file.specs.internal.Error.{IsFault};
+ghost use Rattle.dns_zone_file.specs.internal.Context.{IsDataFault};
+
+use crate::entry::{Entry, Inclusion, entry_of, parse_default_ttl, parse_inclusion, parse_origin};
+use crate::error::{EntryError, EntryFault};
+use crate::fields::{parse_fields, parse_name};
+use crate::record_sets::RecordSets;
+use dns_data::{RData, RDataParseError};
+use dns_names::Name;
+use dns_records::Record;
+use dns_text::Token;
+use dns_wire::laws::type_number_round_trips;
+use dns_wire::{DNSClass, RecordType};
+use std::alloc::{AllocError, Global};
+use std::mem;
+
+/// The owner and the minimum of an SOA record.
+#[derive(Drop)]
+pub(crate) struct StartOfAuthority {
+    pub(crate) owner: Name,
+    pub(crate) minimum: u32,
+}
+
+/// What the entries so far determine for the next ones, and their records.
+#[derive(Drop)]
+pub(crate) struct Context {
+    /// Completes relative names.
+    pub(crate) origin: Name,
+    /// The owner of the last record.
+    pub(crate) owner: Option<Name>,
+    /// The TTL of the last `$TTL`, in seconds.
+    pub(crate) default_ttl: Option<u32>,
+    /// The last TTL of a record that was stated, in seconds.
+    pub(crate) last_ttl: Option<u32>,
+    pub(crate) sets: RecordSets,
+    /// That of the first SOA record.
+    pub(crate) first_soa: Option<StartOfAuthority>,
+}
+
+/// What an included text does not change in the context of the text that includes it.
+#[derive(Drop)]
+pub(crate) struct SavedContext {
+    origin: Name,
+    owner: Option<Name>,
+    default_ttl: Option<u32>,
+    last_ttl: Option<u32>,
+}
+
+/// A record without its owner, and its TTL if the entry states one.
+#[derive(Drop)]
+struct ParsedData {
+    stated: Option<u32>,
+    ttl: u32,
+    dns_class: DNSClass,
+    rdata: RData,
+}
+
+/// A record, and its TTL if the entry states one.
+#[derive(Drop)]
+struct ParsedRecord {
+    stated: Option<u32>,
+    parsed: Record,
+}
+
+impl Context {
+    ghost use Rattle.dns_names.specs.Name.{DomainName};
+    ghost use Rattle.dns_zone_file.specs.Context.{included, resumed};
+    ghost use Rattle.dns_zone_file.specs.internal.Context.{saved_of, restored};
+    ghost use Rattle.dns_zone_file.specs.Parsing.{start_context};
+
+    /// Creates the context at the start of a file.
+    pub(crate) fn new(alloc: Global, origin: Name) -> Context
+        ensures { result ≡ start_context origin }
+    {
+        Context {
+            origin,
+            owner: None,
+            default_ttl: None,
+            last_ttl: None,
+            sets: RecordSets::new(alloc),
+            first_soa: None,
+        }
+    }
+
+    /// Sets the origin at the start of an included text, and returns what [`resume`](Context::resume) restores.
+    pub(crate) fn enter(&mut self, origin: Name) -> Result<SavedContext, AllocError>
+        ensures saved { IfOk result (λ saved. saved ≡ saved_of self.old) }
+        ensures ok { OnOk result (self.new ≡ included self.old origin) }
+    {
+        let owner = clone_name(&self.owner)?;
+        Ok(SavedContext {
+            origin: mem::replace(&mut self.origin, origin),
+            owner,
+            default_ttl: self.default_ttl,
+            last_ttl: self.last_ttl,
+        })
+    }
+
+    /// Restores origin, owner and TTLs after an included text.
+    pub(crate) fn resume(&mut self, saved: SavedContext)
+        ensures { self.new ≡ restored saved self.old }
+    {
+        self.origin = saved.origin;
+        self.owner = saved.owner;
+        self.default_ttl = saved.default_ttl;
+        self.last_ttl = saved.last_ttl;
+    }
+}
+
+impl Context {
+    ghost use Rattle.dns_zone_file.specs.Context.{owner_of, ttl_for, ReadsRecord, RefusesRecord};
+    ghost use Rattle.dns_zone_file.specs.internal.Context.{ReadsData, RefusesData, minimum_for};
+
+    /// Parses the owner of a record.
+    fn parse_owner(&self, alloc: Global, tokens: &[Token<'_>]) -> Result<Name, EntryError>
+        ensures ok { IfOk result (λ name. owner_of self.now (map lexeme tokens.now) ≡ Ok name) }
+        ensures refused { IfErr result (IsFault (λ fault.
+            owner_of self.now (map lexeme tokens.now) ≡ Err fault)) }
+    {
+        let [token, ..] = tokens else {
+            return Err(EntryError::Fault(EntryFault::NoOwner));
+        };
+        match token {
+            Token::Blank => {
+                clone_name(&self.owner)?.ok_or(EntryError::Fault(EntryFault::NoOwner))
+            }
+            _ => parse_name(alloc, *token, &self.origin)?.ok_or(EntryError::Fault(
+                EntryFault::InvalidOwner,
+            )),
+        }
+    }
+
+    /// Returns the minimum of SOA data, or else that of the first SOA record.
+    fn minimum_for(&self, rdata: &RData) -> Option<u32>
+        ensures { result ≡ minimum_for self.now rdata.now }
+    {
+        match rdata {
+            RData::SOA(soa) => Some(soa.minimum),
+            _ => match &self.first_soa {
+                Some(soa) => Some(soa.minimum),
+                None => None,
+            },
+        }
+    }
+
+    /// Returns the TTL of a record: the one that is stated, or else that of `$TTL`, the last one stated, or the minimum of
+    /// the SOA.
+    fn ttl_for(&self, stated: Option<u32>, rdata: &RData) -> Option<u32>
+        ensures { result ≡ ttl_for self.now stated rdata.now }
+    {
+        let minimum = self.minimum_for(rdata);
+        stated.or(self.default_ttl).or(self.last_ttl).or(minimum)
+    }
+
+    /// Parses a record behind its owner.
+    fn parse_data(&self, alloc: Global, tokens: &[Token<'_>]) -> Result<ParsedData, EntryError>
+        ensures ok { IfOk result (ReadsData self.now (map lexeme tokens.now)) }
+        ensures named { IfOk result (λ d. IsNamedType (data_type d.rdata)) }
+        ensures refused { IfErr result (IsFault (RefusesData self.now (map lexeme tokens.now))) }
+    {
+        let fields = parse_fields(tokens)?;
+        let rdata = parse_rdata(
+            alloc,
+            fields.record_type,
+            &tokens[fields.count..],
+            &self.origin,
+        )?;
+        match self.ttl_for(fields.ttl, &rdata) {
+            Some(ttl) => Ok(ParsedData {
+                stated: fields.ttl,
+                ttl,
+                dns_class: fields.dns_class.unwrap_or(DNSClass::IN),
+                rdata,
+            }),
+            None => Err(EntryError::Fault(EntryFault::NoTtl)),
+        }
+    }
+
+    /// Parses the entry of a record.
+    fn parse_record(&self, alloc: Global, tokens: &[Token<'_>]) -> Result<ParsedRecord, EntryError>
+        ensures ok { IfOk result (λ p. ReadsRecord self.now (map lexeme tokens.now) p.stated p.parsed) }
+        ensures named { IfOk result (λ p. IsNamedType (data_type p.parsed.rdata)) }
+        ensures refused { IfErr result (IsFault (RefusesRecord self.now (map lexeme tokens.now))) }
+    {
+        let owner = self.parse_owner(alloc, tokens)?;
+        let behind = self.parse_data(alloc, &tokens[1..])?;
+        Ok(ParsedRecord {
+            stated: behind.stated,
+            parsed: Record {
+                name: owner,
+                dns_class: behind.dns_class,
+                ttl: behind.ttl,
+                rdata: behind.rdata,
+            },
+        })
+    }
+}
+
+impl Context {
+    ghost use Rattle.dns_zone_file.specs.Context.{AddsRecord, RefusesRecord, after_record};
+    ghost use Rattle.dns_zone_file.specs.internal.Context.{noted};
+    ghost use Rattle.dns_zone_file.specs.internal.Entry.{inclusion_view};
+    ghost use Rattle.dns_zone_file.specs.RecordSets.{has_other_class};
+    ghost use Rattle.dns_zone_file.specs.Parsing.{Applies, IncludesText, RefusesEntry};
+
+    /// Keeps what a record determines for the next entries, except the record itself.
+    fn note_record(&mut self, stated: Option<u32>, parsed: &Record) -> Result<(), AllocError>
+        ensures { OnOk result (self.new ≡ noted self.old stated parsed.now) }
+    {
+        if self.first_soa.is_none() {
+            self.first_soa = start_of_authority(parsed)?;
+        }
+        self.owner = Some(parsed.name.clone()?);
+        self.last_ttl = stated.or(self.last_ttl);
+        Ok(())
+    }
+
+    /// Adds a record, of the class of the others of its set.
+    fn insert_record(&mut self, added: ParsedRecord) -> Result<(), EntryError>
+        requires { IsNamedType (data_type added.parsed.rdata) }
+        ensures fits { OnOk result (has_other_class self.old.sets added.parsed ≡ false) }
+        ensures ok { OnOk result (self.new ≡ after_record self.old added.stated added.parsed) }
+        ensures refused { IfErr result (IsFault (λ fault. (fault ≡ EntryFault.ClassMismatch)
+            × (has_other_class self.old.sets added.parsed ≡ true))) }
+    {
+        if self.sets.has_other_class(&added.parsed) {
+            return Err(EntryError::Fault(EntryFault::ClassMismatch));
+        }
+        self.note_record(added.stated, &added.parsed)?;
+        self.sets.insert(added.parsed)?;
+        Ok(())
+    }
+
+    /// Parses the entry of a record, and adds the record.
+    fn add_record(&mut self, alloc: Global, tokens: &[Token<'_>]) -> Result<(), EntryError>
+        ensures ok { OnOk result (AddsRecord self.old (map lexeme tokens.now) self.new) }
+        ensures refused { IfErr result (IsFault (RefusesRecord self.old (map lexeme tokens.now))) }
+    {
+        let added = self.parse_record(alloc, tokens)?;
+        self.insert_record(added)
+    }
+
+    /// Applies an entry, unless it includes a text, which is returned. After an error the context is not to be used.
+    pub(crate) fn apply<'a>(
+        &mut self,
+        alloc: Global,
+        tokens: &[Token<'a>],
+    ) -> Result<Option<Inclusion<'a>>, EntryError>
+        ensures applied { result ≡ Ok None → Applies self.old (map lexeme tokens.now) self.new }
+        ensures includes { IfOk result (λ found. IfSome found (λ i.
+            IncludesText self.old (map lexeme tokens.now) (inclusion_view i))) }
+        ensures unchanged { IfOk result (λ found. IfSome found (λ _. self.new ≡ self.old)) }
+        ensures refused { IfErr result (IsFault (RefusesEntry self.old (map lexeme tokens.now))) }
+    {
+        match entry_of(tokens) {
+            Entry::Nothing => Ok(None),
+            Entry::Origin(arguments) => {
+                let origin = parse_origin(alloc, arguments, &self.origin)?;
+                self.origin = origin;
+                Ok(None)
+            }
+            Entry::Ttl(arguments) => {
+                let ttl = parse_default_ttl(arguments)?;
+                self.default_ttl = Some(ttl);
+                Ok(None)
+            }
+            Entry::Include(arguments) => {
+                let inclusion = parse_inclusion(alloc, arguments, &self.origin)?;
+                Ok(Some(inclusion))
+            }
+            Entry::Record => {
+                self.add_record(alloc, tokens)?;
+                Ok(None)
+            }
+        }
+    }
+}
+
+/// Copies a name, if there is one.
+fn clone_name(name: &Option<Name>) -> Result<Option<Name>, AllocError>
+    ensures { IfOk result (λ copy. copy ≡ name.now) }
+{
+    match name {
+        Some(name) => Ok(Some(name.clone()?)),
+        None => Ok(None),
+    }
+}
+
+/// Parses the data of a record.
+fn parse_rdata(
+    alloc: Global,
+    record_type: RecordType,
+    tokens: &[Token<'_>],
+    origin: &Name,
+) -> Result<RData, EntryError>
+    ensures parsed { IfOk result (IsParsedData (Some origin.now) record_type (map lexeme tokens.now)) }
+    ensures named { IfOk result (λ d. IsNamedType (data_type d)) }
+    ensures refused { IfErr result (IsFault
+        (IsDataFault (RefusesText (Some origin.now) record_type (map lexeme tokens.now)))) }
+{
+    type_number_round_trips();
+    match RData::parse(alloc, record_type, tokens, Some(origin)) {
+        Ok(rdata) => Ok(rdata),
+        // Memory for the data was refused.
+        Err(RDataParseError::Memory) => Err(EntryError::Memory),
+        Err(error) => Err(EntryError::Fault(EntryFault::InvalidData(error))),
+    }
+}
+
+/// Copies the owner and the minimum of an SOA record.
+fn start_of_authority(parsed: &Record) -> Result<Option<StartOfAuthority>, AllocError>
+    ensures { IfOk result (λ soa. soa ≡ soa_of parsed.now) }
+{
+    match &parsed.rdata {
+        RData::SOA(soa) => Ok(Some(StartOfAuthority {
+            owner: parsed.name.clone()?,
+            minimum: soa.minimum,
+        })),
+        _ => Ok(None),
+    }
+}

@@ -1,0 +1,18 @@
+//! Zone files (RFC 1035 section 5.1): parsed to record sets, with included texts and TTLs that are omitted.
+//!
+//! - `parser`: the parser of a text; `entry`: its entries, and the arguments of directives; `fields`: owner, TTL, class and
+//!   type of a record; `context`: what entries determine for those after them;
+//! - `record_sets`: record sets by owner and type;
+//! - `error`: why a text cannot be parsed.
+#![tactic(auto)]
+
+mod context;
+mod entry;
+mod error;
+mod fields;
+mod parser;
+mod record_sets;
+
+pub use error::{EntryFault, ZoneFileError};
+pub use parser::{Parser, ZoneRecords};
+pub use record_sets::RecordSets;
