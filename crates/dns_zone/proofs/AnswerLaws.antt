@@ -1,16 +1,15 @@
 -- Answers can be encoded and decoded again.
-use Rattle.std.proofs.Common.{◌≡◌, ◌<◌, ◌^◌, ◌&&◌, ◌||◌, not, ℕ, Bool, true, false, List, [], ◌∷◌, map, refl, ap, arith}
+use Rattle.std.proofs.Common.{◌≡◌, ◌<◌, ◌^◌, ◌&&◌, not, ℕ, Bool, true, false, List, [], ◌∷◌, map, refl, ap, arith}
 use Rattle.dns_codes.specs.declared.record_type.RecordType.{RecordType}
 use Rattle.dns_codes.specs.declared.record_type.RecordType.TheVariants as types
 use Rattle.dns_codes.specs.declared.dns_class.DNSClass.TheVariants.{IN}
 use Rattle.dns_names.specs.Name.{DomainName}
 use Rattle.dns_records.specs.declared.row.Row.{Row}
-use Rattle.dns_records.specs.Record.{IsSoundRecord}
 use Rattle.dns_records.specs.RecordHead.{class_for}
 use Rattle.dns_data.specs.declared.rdata.RData.{RData}
 use Rattle.dns_data.specs.declared.rdata.RData.TheVariants as of
 use Rattle.dns_data.specs.rdata.{data_type, is_update_data}
-use Rattle.dns_messages.specs.Section.{is_opt_type, is_tsig_type}
+use Rattle.dns_messages.specs.Section.{is_opt_type}
 use Rattle.dns_messages.specs.Sound.{IsSoundIn}
 use Rattle.dns_zone.specs.Rows.{AreSoundRows, IsSoundRow}
 use Rattle.dns_zone.specs.Answer.{record_of, authority_row, negative_ttl, AreSoundRecords}

@@ -3,6 +3,7 @@ use Rattle.std.specs.Prelude.{false, ◌≡◌, ◌<◌, ◌==◌, ◌&&◌, ◌
 use Rattle.dns_codes.specs.RecordType.{type_number}
 use Rattle.dns_codes.specs.DNSClass.{class_number}
 use Rattle.dns_codes.specs.declared.dns_class.DNSClass.TheVariants.{IN}
+use Rattle.dns_codes.specs.declared.record_type.RecordType.{RecordType}
 use Rattle.dns_codes.specs.declared.record_type.RecordType.TheVariants as types
 use Rattle.dns_names.specs.Name.{DomainName}
 use Rattle.dns_names.specs.Compare.{at_or_below}
@@ -17,7 +18,7 @@ use Rattle.dns_records.specs.declared.row.Row.{Row}
 use Rattle.std.specs.List.{AllByRecursion}
 use Rattle.dns_messages.specs.Header.{code_number, code_of}
 use Rattle.dns_messages.specs.Sound.{IsSoundIn}
-use Rattle.dns_zone.specs.Rows.{ZoneContent, rows_at, some_row_below}
+use Rattle.dns_zone.specs.Rows.{Rows, ZoneContent, rows_at, some_row_below}
 
 -- types that no row has: 0, SIG, OPT, and 128 to 255 (RFC 6895 section 3.1)
 abbrev pub is_no_row_type : ℕ → Bool
@@ -39,7 +40,7 @@ authority_row row = record row { ttl = negative_ttl row.ttl row.rdata }
 abbrev pub authority : ZoneContent → List Record
 authority zone = map (λ row. record_of zone.origin (authority_row row)) (rows_at zone.rows zone.origin.labels types.SOA)
 
--- nothing of the type: whether the name is there, and the start of authority
+-- neither the type nor an alias: whether the name is there, and the start of authority
 abbrev pub negative : ZoneContent → List (List ℕ) → Answer
 negative zone name = record {
   code = if some_row_below zone.rows name then NoError else NXDomain;
@@ -47,7 +48,16 @@ negative zone name = record {
   authorities = authority zone;
 }
 
--- what the zone has at the name, of the type: these rows are the answers, with the question's spelling of the owner
+-- rows of a type, or, if there are none, the alias
+abbrev pub or_alias : List Row → List Row → List Row
+or_alias [] alias = alias
+or_alias (row ∷ rows) alias = row ∷ rows
+
+-- the rows that answer a question for a type at a name (RFC 1034 section 4.3.2, step 3a)
+abbrev pub answering_rows : Rows → List (List ℕ) → RecordType → List Row
+answering_rows rows name t = or_alias (rows_at rows name t) (rows_at rows name types.CNAME)
+
+-- the answer of these rows, with the question's spelling of the owner
 abbrev pub found : ZoneContent → Query → List Row → Answer
 found zone q [] = negative zone q.name.labels
 found zone q (row ∷ rows) = record { code = NoError; answers = map (record_of q.name) (row ∷ rows); authorities = [] }
@@ -66,7 +76,7 @@ abbrev pub answer : ZoneContent → Query → Answer
 answer zone q =
     if is_no_row_type (type_number q.query_type) then refusal NotImp
     else if not (class_number q.query_class == 1) || not (at_or_below zone.origin.labels q.name.labels) then refusal Refused
-    else found zone q (rows_at zone.rows q.name.labels q.query_type)
+    else found zone q (answering_rows zone.rows q.name.labels q.query_type)
 
 -- ---- what is answered can be sent
 

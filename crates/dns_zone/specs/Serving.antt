@@ -1,11 +1,12 @@
--- What a zone's server replies (RFC 1035 sections 4.1 and 4.2).
-use Rattle.std.specs.Prelude.{◌≡◌, ◌==◌, ◌&&◌, ◌/◌, ◌%◌, nat_le, length, slice_index, slice_range, min, true, false, Bool, List, [], ◌∷◌, ℕ, Option, Some, None}
-use Rattle.std.specs.Str.{bytes_eq}
+-- What a zone's server replies (RFC 1035 sections 4.1 and 4.2, RFC 6891 sections 6 and 7).
+use Rattle.std.specs.Prelude.{◌≡◌, ◌≤◌, ◌&&◌, not, nat_le, length, slice_index, min, true, false, Bool, List, [], ◌∷◌, ℕ, Option, Some, None}
 use Rattle.dns_messages.specs.declared.message_type.MessageType.TheVariants as kinds
+use Rattle.dns_messages.specs.declared.op_code.OpCode.{OpCode}
 use Rattle.dns_messages.specs.declared.op_code.OpCode.TheVariants as ops
 use Rattle.dns_messages.specs.declared.response_code.ResponseCode.{ResponseCode}
-use Rattle.dns_messages.specs.declared.response_code.ResponseCode.TheVariants.{NoError, NXDomain}
+use Rattle.dns_messages.specs.declared.response_code.ResponseCode.TheVariants.{NoError, NXDomain, NotImp, FormErr}
 use Rattle.dns_messages.specs.declared.header.Metadata.{Metadata}
+use Rattle.dns_messages.specs.declared.edns.Edns.{Edns}
 use Rattle.dns_messages.specs.declared.query.Query.{Query}
 use Rattle.dns_messages.specs.declared.message.Message.{Message}
 use Rattle.dns_zone.specs.declared.road.Road.{Road}
@@ -13,31 +14,15 @@ use Rattle.dns_zone.specs.declared.road.Road.TheVariants.{Datagram, Stream}
 use Rattle.dns_zone.specs.Rows.{ZoneContent}
 use Rattle.dns_zone.specs.declared.answer.Answer.{Answer}
 use Rattle.dns_zone.specs.Answer.{answer}
+use Rattle.dns_messages.specs.Header.{has_bit}
+use Rattle.dns_messages.specs.Message.{payload_of}
 use Rattle.dns_messages.specs.Cut.{cut, cut_form}
 use Rattle.dns_messages.specs.Grammar.{ReadsMessage}
 
--- which requests are served: a question, one, and no record
-pub record IsServed (m : Message) (q : Query) : Type 0 where
-  pub asks : m.metadata.message_type ≡ kinds.Query
-  pub of_code : m.metadata.op_code ≡ ops.Query
-  pub one_question : m.queries ≡ q ∷ []
-  pub no_answer : m.answers ≡ []
-  pub no_authority : m.authorities ≡ []
-  pub no_additional : m.additionals ≡ []
-  pub no_edns : m.edns ≡ None
-  pub no_signature : m.signature ≡ None
-
--- the bytes are such a request
-pub record IsRequest (bytes : List ℕ) (m : Message) (q : Query) : Type 0 where
-  pub reads : ReadsMessage bytes m
-  pub served : IsServed m q
-
--- Bytes that begin with the header of a request: twelve bytes, QR and opcode 0, one question, and no record. Whether
--- bytes are no request is mostly decided by these alone, before memory is taken.
-abbrev pub has_request_header : List ℕ → Bool
-has_request_header bytes =
-    nat_le 12 (length bytes) && ((((slice_index bytes 2 / 8) % 32) == 0)
-    && bytes_eq (slice_range bytes 4 12) (0 ∷ 1 ∷ 0 ∷ 0 ∷ 0 ∷ 0 ∷ 0 ∷ 0 ∷ []))
+-- Bytes that begin with the header of a query: twelve bytes, with QR clear. All others get no reply, and this is decided
+-- before memory is taken.
+abbrev pub has_query_header : List ℕ → Bool
+has_query_header bytes = nat_le 12 (length bytes) && not (has_bit 128 (slice_index bytes 2))
 
 -- the server has authority where it found out whether something is there
 abbrev pub has_authority : ResponseCode → Bool
@@ -60,36 +45,72 @@ reply_metadata m code = record {
   response_code = code;
 }
 
--- the whole reply to a question of a request with this header: the question again, and the zone's answer to it
-abbrev pub reply_to : ZoneContent → Metadata → Query → Message
-reply_to zone m q =
+-- A reply has an OPT record exactly if the request has one (RFC 6891 section 7). DO is the request's (RFC 3225 section 3).
+abbrev pub reply_edns : Option Edns → Option Edns
+reply_edns None = None
+reply_edns (Some e) = Some (record {
+  rcode_high = 0;
+  version = 0;
+  flags = record { dnssec_ok = e.flags.dnssec_ok; z = 0 };
+  max_payload = 1232;
+  options = [];
+})
+
+-- a reply without questions and records
+abbrev pub bare_reply : Message → ResponseCode → Message
+bare_reply m code = record {
+  metadata = reply_metadata m.metadata code;
+  queries = [];
+  answers = [];
+  authorities = [];
+  additionals = [];
+  edns = reply_edns m.edns;
+  signature = None;
+}
+
+-- the reply to a question of a request: the question again, and the zone's answer to it
+abbrev pub query_reply : ZoneContent → Message → Query → Message
+query_reply zone m q =
     let a : Answer = answer zone q in
-    record {
-      metadata = reply_metadata m a.code;
-      queries = q ∷ [];
-      answers = a.answers;
-      authorities = a.authorities;
-      additionals = [];
-      edns = None;
-      signature = None;
-    }
+    record (bare_reply m a.code) { queries = q ∷ []; answers = a.answers; authorities = a.authorities }
 
-abbrev pub reply : ZoneContent → Message → Query → Message
-reply zone m q = reply_to zone m.metadata q
+-- the reply to a request with opcode Query: it has exactly one question, or is malformed
+abbrev pub reply_to_queries : ZoneContent → Message → List Query → Message
+reply_to_queries zone m (q ∷ []) = query_reply zone m q
+reply_to_queries zone m queries = bare_reply m FormErr
 
--- how many bytes a reply may have: a datagram 512, where the request announces no more, and no more than the
--- server's own limit; a stream's message 65,535 (RFC 1035 sections 4.2.1 and 4.2.2)
-abbrev pub reply_limit : Road → ℕ
-reply_limit (Datagram limit) = min limit 512
-reply_limit Stream = 65535
+abbrev pub reply_by_code : ZoneContent → Message → OpCode → Message
+reply_by_code zone m ops.Query = reply_to_queries zone m m.queries
+reply_by_code zone m other = bare_reply m NotImp
 
--- what is left of the reply under the road's limit
-abbrev pub sent_reply : ZoneContent → Road → Message → Query → Message
-sent_reply zone road m q = cut (reply_limit road) (reply zone m q)
+-- the whole reply to a request
+abbrev pub reply : ZoneContent → Message → Message
+reply zone m = reply_by_code zone m m.metadata.op_code
 
--- No reply, unless the bytes are a request that is served; then what is left of the zone's answer, and nothing else.
+-- How many bytes a reply may have: in a datagram what the request announces, 512 at least (RFC 6891 section 6.2.3), and no
+-- more than the server's own limit; in a stream 65,535 (RFC 1035 sections 4.2.1 and 4.2.2).
+abbrev pub reply_limit : Road → Message → ℕ
+reply_limit (Datagram limit) m = min limit (payload_of m.edns)
+reply_limit Stream m = 65535
+
+-- what is left of the reply under its limit
+abbrev pub sent_reply : ZoneContent → Road → Message → Message
+sent_reply zone road m = cut (reply_limit road m) (reply zone m)
+
+-- The bytes are those of what is left of the reply to a request, decode to it, and keep its limit.
+pub record IsReplyTo (zone : ZoneContent) (road : Road) (m : Message) (out : List ℕ) : Type 0 where
+  pub form_is : out ≡ cut_form (reply_limit road m) (reply zone m)
+  pub decodes : ReadsMessage out (sent_reply zone road m)
+  pub within : length out ≤ reply_limit road m
+
+-- the bytes are a query, and out is its reply
+pub record AreServed (zone : ZoneContent) (road : Road) (bytes out : List ℕ) : Type 0 where
+  pub request : Message
+  pub reads : ReadsMessage bytes request
+  pub asks : request.metadata.message_type ≡ kinds.Query
+  pub replied : IsReplyTo zone road request out
+
+-- Every query has a reply. Only bytes that do not decode, and responses, have none.
 abbrev pub Serves : ZoneContent → Road → List ℕ → Option (List ℕ) → Type 0
-Serves zone road bytes None = (m : Message) (q : Query) → ¬ IsRequest bytes m q
-Serves zone road bytes (Some out) =
-    (m : Message) × (q : Query) × IsRequest bytes m q × (out ≡ cut_form (reply_limit road) (reply zone m q))
-    × ReadsMessage out (sent_reply zone road m q)
+Serves zone road bytes None = (m : Message) → ReadsMessage bytes m → m.metadata.message_type ≡ kinds.Response
+Serves zone road bytes (Some out) = AreServed zone road bytes out

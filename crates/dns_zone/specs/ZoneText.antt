@@ -20,7 +20,8 @@ use Rattle.dns_zone.specs.declared.text.LineContent.{LineContent}
 use Rattle.dns_zone.specs.declared.text.LineContent.TheVariants.{Nothing, Holds, Unreadable}
 use Rattle.dns_zone.specs.declared.zone.ZoneFault.{ZoneFault}
 use Rattle.dns_zone.specs.declared.zone.ZoneFault.TheVariants.{Line, OutsideOrigin, NoSoa, SoaElsewhere}
-use Rattle.dns_zone.specs.Rows.{Rows, ZoneContent, with_row, is_soa, IsSoundRow}
+use Rattle.dns_messages.specs.Response.{is_soa_data}
+use Rattle.dns_zone.specs.Rows.{Rows, ZoneContent, with_row, IsSoundRow}
 
 -- blanks are space and tab
 abbrev pub is_blank : ℕ → Bool
@@ -128,25 +129,26 @@ entries_from number (line ∷ more) = then_entries (content_of_line line) number
 -- the owner of the first start of authority
 abbrev pub first_soa : List Entry → Option DomainName
 first_soa [] = None
-first_soa (e ∷ entries) = if is_soa e.row.rdata then Some e.owner else first_soa entries
+first_soa (e ∷ entries) = if is_soa_data e.row.rdata then Some e.owner else first_soa entries
 
-abbrev pub rows_of : Rows → List Entry → Rows
-rows_of rows [] = rows
-rows_of rows (e ∷ entries) = rows_of (with_row rows e.owner.labels e.row) entries
+-- the rows after the insertion of each entry, in order
+abbrev pub rows_of_entries : Rows → List Entry → Rows
+rows_of_entries rows [] = rows
+rows_of_entries rows (e ∷ entries) = rows_of_entries (with_row rows e.owner.labels e.row) entries
 
 -- an entry that lies outside the origin; a start of authority elsewhere than there
 abbrev pub is_outside : DomainName → Entry → Bool
 is_outside origin e = not (at_or_below origin.labels e.owner.labels)
 
 abbrev pub is_soa_elsewhere : DomainName → Entry → Bool
-is_soa_elsewhere origin e = if is_soa e.row.rdata then not (same_labels origin.labels e.owner.labels) else false
+is_soa_elsewhere origin e = if is_soa_data e.row.rdata then not (same_labels origin.labels e.owner.labels) else false
 
 abbrev pub zone_at : Option DomainName → List Entry → Result ZoneContent ZoneFault
 zone_at None entries = Err NoSoa
 zone_at (Some origin) entries =
     if list_any (is_outside origin) entries then Err OutsideOrigin
     else if list_any (is_soa_elsewhere origin) entries then Err SoaElsewhere
-    else Ok (record { origin = origin; rows = rows_of map.empty entries })
+    else Ok (record { origin = origin; rows = rows_of_entries map.empty entries })
 
 abbrev pub zone_of_entries : Result (List Entry) ZoneFault → Result ZoneContent ZoneFault
 zone_of_entries (Ok entries) = zone_at (first_soa entries) entries

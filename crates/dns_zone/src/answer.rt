@@ -2,14 +2,14 @@
 
 ghost use Rattle.std.specs.Prelude.{◌≡◌, true, map, IfOk, IsOk};
 ghost use Rattle.dns_codes.specs.RecordType.{type_number};
-ghost use Rattle.dns_zone.specs.Rows.{rows_of_sets, AreSoundRows, AreSoundSets};
-ghost use Rattle.dns_zone.specs.Answer.{answer, authority, authority_row, found, is_no_row_type, is_refused, negative, negative_ttl, record_of, refusal, AreSoundRecords, IsSoundAnswer};
+ghost use Rattle.dns_zone.specs.Rows.{row_of, rows_of, rows_of_sets, AreSoundRows, AreSoundSets};
+ghost use Rattle.dns_zone.specs.Answer.{answer, answering_rows, authority, authority_row, found, is_no_row_type, is_refused, negative, negative_ttl, record_of, refusal, AreSoundRecords, IsSoundAnswer};
 
-use crate::rows::{RecordSet, has_row_below, rows_of};
+use crate::rows::{has_row_below, records_at};
 use dns_data::RData;
-use dns_messages::{Query, Record, ResponseCode, Sequence};
+use dns_messages::{Query, ResponseCode, Sequence};
 use dns_names::Name;
-use dns_records::Row;
+use dns_records::{Record, RecordSet};
 use dns_wire::{DNSClass, RecordType};
 use std::alloc::{AllocError, Global};
 
@@ -29,20 +29,20 @@ fn is_without_rows(record_type: RecordType) -> bool
 }
 
 /// How long it may be kept that something isn't there (RFC 2308 section 3).
-fn lowered_ttl(row: &Row) -> u32
-    ensures { result ≡ negative_ttl row.now.ttl row.now.rdata }
+fn lowered_ttl(present: &Record) -> u32
+    ensures { result ≡ negative_ttl present.now.ttl present.now.rdata }
 {
-    match &row.rdata {
-        RData::SOA(soa) => row.ttl.min(soa.minimum),
-        _ => row.ttl,
+    match &present.rdata {
+        RData::SOA(soa) => present.ttl.min(soa.minimum),
+        _ => present.ttl,
     }
 }
 
-/// A row as a record with this owner and this TTL.
-fn record_with_ttl(owner: &Name, ttl: u32, row: &Row) -> Result<Record, AllocError>
-    ensures { IfOk result (λ r. r ≡ record_of owner.now (record row.now { ttl = ttl })) }
+/// A record with another owner and TTL, of the Internet class.
+fn record_with_ttl(owner: &Name, ttl: u32, present: &Record) -> Result<Record, AllocError>
+    ensures { IfOk result (λ r. r ≡ record_of owner.now (record (row_of present.now) { ttl = ttl })) }
 {
-    let rdata = row.rdata.clone()?;
+    let rdata = present.rdata.clone()?;
     Ok(Record {
         name: owner.clone()?,
         dns_class: DNSClass::IN,
@@ -51,35 +51,60 @@ fn record_with_ttl(owner: &Name, ttl: u32, row: &Row) -> Result<Record, AllocErr
     })
 }
 
-/// Rows as records with this owner.
-fn records_at(alloc: Global, owner: &Name, rows: &[Row]) -> Result<Sequence<Record>, AllocError>
-    ensures records { IfOk result (λ records. records ≡ map (record_of owner.now) rows.now) }
-    ensures sound { IfOk result (λ records. owner.now.is_fqdn ≡ true → AreSoundRows rows.now → AreSoundRecords records) }
+/// Records with another owner.
+fn records_with_owner(
+    alloc: Global,
+    owner: &Name,
+    records: &[Record],
+) -> Result<Sequence<Record>, AllocError>
+    ensures records { IfOk result (λ answers.
+        answers ≡ map (record_of owner.now) (rows_of records.now)) }
+    ensures sound { IfOk result (λ answers. owner.now.is_fqdn ≡ true
+        → AreSoundRows (rows_of records.now) → AreSoundRecords answers) }
 {
-    let mut records = Sequence::new(alloc);
-    for row in rows {
-        records.push(record_with_ttl(owner, row.ttl, row)?)?;
+    let mut answers = Sequence::new(alloc);
+    for present in records {
+        answers.push(record_with_ttl(owner, present.ttl, present)?)?;
     }
-    Ok(records)
+    Ok(answers)
 }
 
 /// The start of authority, with the TTL of what isn't there.
 fn authority_records(
     alloc: Global,
     origin: &Name,
-    rows: &[Row],
+    records: &[Record],
 ) -> Result<Sequence<Record>, AllocError>
-    ensures records { IfOk result (λ records. records ≡ map (λ row. record_of origin.now (authority_row row)) rows.now) }
-    ensures sound { IfOk result (λ records. origin.now.is_fqdn ≡ true → AreSoundRows rows.now → AreSoundRecords records) }
+    ensures records { IfOk result (λ authorities. authorities
+        ≡ map (λ row. record_of origin.now (authority_row row)) (rows_of records.now)) }
+    ensures sound { IfOk result (λ authorities. origin.now.is_fqdn ≡ true
+        → AreSoundRows (rows_of records.now) → AreSoundRecords authorities) }
 {
-    let mut records = Sequence::new(alloc);
-    for row in rows {
-        records.push(record_with_ttl(origin, lowered_ttl(row), row)?)?;
+    let mut authorities = Sequence::new(alloc);
+    for present in records {
+        authorities.push(record_with_ttl(origin, lowered_ttl(present), present)?)?;
     }
-    Ok(records)
+    Ok(authorities)
 }
 
-/// The answer where nothing of the type stands at the name.
+/// The records that answer a question for a type at a name: those of the type, or, if there are none, the alias of the name.
+fn answering_records<'a>(
+    sets: &'a [RecordSet],
+    name: &Name,
+    record_type: RecordType,
+) -> &'a [Record]
+    ensures rows { rows_of result.now
+        ≡ answering_rows (rows_of_sets sets.now) name.now.labels record_type }
+    ensures sound { AreSoundSets sets.now → AreSoundRows (rows_of result.now) }
+{
+    let of_type = records_at(sets, name, record_type);
+    if of_type.is_empty() {
+        return records_at(sets, name, RecordType::CNAME);
+    }
+    of_type
+}
+
+/// The answer where the name has neither the type nor an alias.
 fn negative_answer(
     alloc: Global,
     origin: &Name,
@@ -94,8 +119,8 @@ fn negative_answer(
     } else {
         ResponseCode::NXDomain
     };
-    let rows = rows_of(sets, origin, RecordType::SOA);
-    let authorities = authority_records(alloc, origin, rows)?;
+    let records = records_at(sets, origin, RecordType::SOA);
+    let authorities = authority_records(alloc, origin, records)?;
     Ok(Answer {
         code,
         answers: Sequence::new(alloc),
@@ -132,13 +157,13 @@ pub fn answer_from(
     if u16::from(query.query_class) != 1 || !origin.zone_of(&query.name) {
         return Ok(bare_answer(alloc, ResponseCode::Refused));
     }
-    let rows = rows_of(sets, &query.name, query.query_type);
-    if rows.is_empty() {
+    let records = answering_records(sets, &query.name, query.query_type);
+    if records.is_empty() {
         return negative_answer(alloc, origin, sets, &query.name);
     }
     Ok(Answer {
         code: ResponseCode::NoError,
-        answers: records_at(alloc, &query.name, rows)?,
+        answers: records_with_owner(alloc, &query.name, records)?,
         authorities: Sequence::new(alloc),
     })
 }

@@ -1,69 +1,29 @@
-//! Requests, and the frame of their replies (RFC 1035 sections 4.1 and 4.2).
+//! Requests, and the frame of their replies (RFC 1035 sections 4.1 and 4.2, RFC 6891 sections 6 and 7).
 
-ghost use Rattle.std.specs.Prelude.{◌≡◌, ◌≤◌, MatchBool, MatchOption};
-ghost use Rattle.dns_messages.specs.declared.query.Query as asked;
-ghost use Rattle.dns_zone.specs.Serving.{has_request_header as is_request_header, has_authority, reply_limit, reply_metadata, IsServed};
+ghost use Rattle.std.specs.Prelude.{◌≡◌, ◌≤◌, ◌∷◌, [], Some, IfOk};
+ghost use Rattle.dns_zone.specs.Serving.{bare_reply, has_authority, reply_edns, reply_limit, reply_metadata, has_query_header as is_query_header};
 
+use crate::answer::Answer;
 use crate::road::Road;
-use dns_messages::{Message, MessageType, Metadata, OpCode, Query, ResponseCode};
+use dns_messages::{Edns, Message, MessageType, Metadata, Query, ResponseCode, Sequence};
+use std::alloc::{AllocError, Global};
 
-/// Whether bytes begin with the header of a request that is served: a query with one question, and no record.
-pub fn has_request_header(bytes: &[u8]) -> bool
-    ensures { result ≡ is_request_header bytes.now }
+/// Returns `true` if bytes begin with the header of a query: twelve bytes, with QR clear.
+pub fn has_query_header(bytes: &[u8]) -> bool
+    ensures { result ≡ is_query_header bytes.now }
 {
-    bytes.len() >= 12
-        && bytes[2] / 8 % 32 == 0
-        && &bytes[4..12] == b"\x00\x01\x00\x00\x00\x00\x00\x00".as_slice()
+    bytes.len() >= 12 && bytes[2] / 128 % 2 != 1
 }
 
-/// Returns `true` for a request that is served: a query with one question and no record.
-fn is_served(message: &Message) -> bool
-    ensures { MatchBool result ((q : asked.Query) × IsServed message.now q) ((q : asked.Query) → ¬ (IsServed message.now q)) }
-{
-    let MessageType::Query = message.metadata.message_type else {
-        return false;
-    };
-    let OpCode::Query = message.metadata.op_code else {
-        return false;
-    };
-    if message.queries.as_slice().len() != 1 {
-        return false;
-    }
-    if !message.answers.as_slice().is_empty() {
-        return false;
-    }
-    if !message.authorities.as_slice().is_empty() {
-        return false;
-    }
-    if !message.additionals.as_slice().is_empty() {
-        return false;
-    }
-    if message.edns.is_some() {
-        return false;
-    }
-    message.signature().is_none()
-}
-
-/// The header and the question of a request that is served.
-pub fn served_question(message: Message) -> Option<(Metadata, Query)>
-    ensures { MatchOption result ((q : asked.Query) → ¬ (IsServed message q)) (λ served. IsServed message served.1 × (served.0 ≡ message.metadata)) }
-{
-    if !is_served(&message) {
-        return None;
-    }
-    let query = message.queries.into_vec().pop()?;
-    Some((message.metadata, query))
-}
-
-/// Whether the server has authority with this code.
+/// Returns `true` if the server has authority in a reply with this code.
 fn is_authoritative(code: ResponseCode) -> bool
     ensures { result ≡ has_authority code }
 {
     matches!(code, ResponseCode::NoError | ResponseCode::NXDomain)
 }
 
-/// The header of a reply with this code.
-pub fn metadata_of_reply(request: Metadata, code: ResponseCode) -> Metadata
+/// Returns the header of the reply with this code to a request.
+fn metadata_of_reply(request: Metadata, code: ResponseCode) -> Metadata
     ensures { result ≡ reply_metadata request code }
 {
     Metadata {
@@ -80,13 +40,58 @@ pub fn metadata_of_reply(request: Metadata, code: ResponseCode) -> Metadata
     }
 }
 
-/// How many bytes a reply may have: 512 at least.
-pub fn limit_of(road: Road) -> u16
-    ensures value { result ≡ reply_limit road }
+/// Returns the OPT record of the reply to a request with this OPT record, without taking memory.
+fn edns_of_reply(alloc: Global, request: &Edns) -> Edns
+    ensures { Some result ≡ reply_edns (Some request.now) }
+{
+    let mut edns = Edns::new(alloc);
+    edns.set_dnssec_ok(request.flags().dnssec_ok);
+    edns
+}
+
+/// Returns the reply to a request that has neither questions nor records, without taking memory.
+pub fn bare_reply(alloc: Global, request: &Message, code: ResponseCode) -> Message
+    ensures { result ≡ bare_reply request.now code }
+{
+    let metadata = request.metadata;
+    let mut reply = Message::response(alloc, metadata.id, metadata.op_code);
+    reply.metadata = metadata_of_reply(metadata, code);
+    if let Some(edns) = &request.edns {
+        reply.set_edns(edns_of_reply(alloc, edns));
+    }
+    reply
+}
+
+/// Returns the question section with one question, which is copied.
+pub fn copy_of(alloc: Global, query: &Query) -> Result<Sequence<Query>, AllocError>
+    ensures { IfOk result (λ queries. queries ≡ query.now ∷ []) }
+{
+    let queries = Vec::from_array(alloc, [query.clone()?])?;
+    Ok(Sequence::from_vec(queries))
+}
+
+/// Adds the questions and the records of an answer to a reply without any.
+pub fn with_answer(reply: Message, queries: Sequence<Query>, answer: Answer) -> Message
+    ensures { result ≡ record reply {
+      queries = queries;
+      answers = answer.answers;
+      authorities = answer.authorities;
+    } }
+{
+    let mut reply = reply;
+    reply.queries = queries;
+    reply.answers = answer.answers;
+    reply.authorities = answer.authorities;
+    reply
+}
+
+/// Returns how many bytes a reply to a request may have: at least 512.
+pub fn limit_of(road: Road, request: &Message) -> u16
+    ensures value { result ≡ reply_limit road request.now }
     ensures least { 512 ≤ result }
 {
     match road {
-        Road::Datagram(limit) => limit.value().min(512),
+        Road::Datagram(limit) => limit.value().min(request.max_payload()),
         Road::Stream => 65_535,
     }
 }

@@ -1,16 +1,16 @@
 //! Zones: read from text, and served.
 
-ghost use Rattle.std.specs.Prelude.{◌≡◌, ◌≢◌, IfOk, IsOk, IfErr, Ok, Err, option_map};
+ghost use Rattle.std.specs.Prelude.{◌≡◌, ◌≢◌, ◌≤◌, IfOk, IsOk, IfErr, Ok, Err, option_map};
 
 use crate::answer::{Answer, answer_from};
 use crate::entries::{origin_of, sets_of};
 use crate::road::Road;
-use crate::rows::RecordSet;
-use crate::serve::{has_request_header, limit_of, metadata_of_reply, served_question};
+use crate::serve::{bare_reply, copy_of, has_query_header, limit_of, with_answer};
 use crate::text::read_entries;
 use dns_messages::laws::messages_decode_unambiguously;
-use dns_messages::{Message, MessageType, Metadata, Query, Sequence};
+use dns_messages::{Message, OpCode, Query, ResponseCode};
 use dns_names::Name;
+use dns_records::RecordSet;
 use dns_wire::{DecodeError, EncodeError};
 use std::alloc::{AllocError, AllocFailed, Global};
 use std::marker::Model;
@@ -63,7 +63,9 @@ impl Model for Zone {
 impl Zone {
     ghost use Rattle.dns_zone.specs.ZoneText.{zone_of_text};
     ghost use Rattle.dns_zone.specs.Answer.{answer, is_refused, IsSoundAnswer};
-    ghost use Rattle.dns_zone.specs.Serving.{Serves, reply_to, has_request_header as is_request_header};
+    ghost use Rattle.dns_zone.specs.Serving.{Serves, IsReplyTo, query_reply, reply, has_query_header as is_query_header};
+    ghost use Rattle.dns_messages.specs.Cut.{front_reach};
+    ghost use Rattle.dns_messages.specs.Sound.{IsSound};
     ghost use Rattle.dns_zone.specs.Rows.{HasNoEmptySet};
     ghost use Rattle.std.specs.Prelude.{true, false, None};
 
@@ -105,55 +107,73 @@ impl Zone {
         answer_from(self.alloc, &self.origin, self.sets.as_slice(), query)
     }
 
-    /// The whole reply to a question of a request with this header.
-    fn reply_to(&self, request: Metadata, query: Query) -> Result<Message, AllocError>
-        ensures reply { IfOk result (λ message. message ≡ reply_to self.now request query) }
-        ensures sound { IfOk result (λ _. query.name.is_fqdn ≡ true → IsSoundAnswer (answer self.now query)) }
+    /// Returns the reply to a question of a query.
+    fn reply_to_query(&self, request: &Message, query: &Query) -> Result<Message, AllocError>
+        ensures reply { IfOk result (λ message.
+            message ≡ query_reply self.now request.now query.now) }
+        ensures sound { IfOk result (λ _.
+            query.now.name.is_fqdn ≡ true → IsSoundAnswer (answer self.now query.now)) }
     {
-        let answer = self.answer(&query)?;
-        let mut reply = Message::new(
-            self.alloc,
-            request.id,
-            MessageType::Response,
-            request.op_code,
-        );
-        reply.metadata = metadata_of_reply(request, answer.code);
-        reply.queries = Sequence::from_vec(Vec::from_array(self.alloc, [query])?);
-        reply.answers = answer.answers;
-        reply.authorities = answer.authorities;
-        Ok(reply)
+        let answer = self.answer(query)?;
+        let queries = copy_of(self.alloc, query)?;
+        Ok(with_answer(
+            bare_reply(self.alloc, request, answer.code),
+            queries,
+            answer,
+        ))
     }
 
-    /// Serves a request: its reply, or none where the bytes are no request that is served. Bytes without the header of a
-    /// request are dropped before memory is taken.
+    /// Returns the whole reply to a query.
+    fn reply_to(&self, request: &Message) -> Result<Message, AllocError>
+        ensures reply { IfOk result (λ message. message ≡ reply self.now request.now) }
+        ensures sound { IfOk result (λ message. IsSound request.now → IsSound message) }
+        ensures short { IfOk result (λ message. front_reach message ≤ 512) }
+    {
+        let OpCode::Query = request.metadata.op_code else {
+            return Ok(bare_reply(self.alloc, request, ResponseCode::NotImp));
+        };
+        let [query] = request.queries.as_slice() else {
+            return Ok(bare_reply(self.alloc, request, ResponseCode::FormErr));
+        };
+        prove!(query.name.encoded_len() <= Name::MAX_LENGTH);
+        self.reply_to_query(request, query)
+    }
+
+    /// Returns the bytes of the reply to a query.
+    fn reply_bytes(&self, request: &Message, road: Road) -> Result<Vec<u8>, AllocError>
+        ensures encodes { IfOk result (λ out. IsSound request.now
+            → IsReplyTo self.now road request.now out.items) }
+    {
+        let reply = self.reply_to(request)?;
+        match reply.to_vec_within(self.alloc, limit_of(road, request)) {
+            Ok(out) => Ok(out),
+            // The memory for the reply's bytes was refused.
+            Err(EncodeError::Memory) => Err(AllocError),
+            Err(EncodeError::MaxBufferSizeExceeded) => unreachable!(),
+        }
+    }
+
+    /// Serves a message: returns its reply, or `None` if the bytes do not decode or are a response. Bytes that do not begin
+    /// with the header of a query are dropped before memory is taken.
     pub fn serve(&mut self, bytes: &[u8], road: Road) -> Result<Option<Vec<u8>>, AllocError>
-        ensures reply { IfOk result (λ reply. Serves self.old road bytes.now (option_map (λ out. out.items) reply)) }
+        ensures reply { IfOk result (λ reply.
+            Serves self.old road bytes.now (option_map (λ out. out.items) reply)) }
         ensures same { self.new ≡ self.old }
-        ensures header { is_request_header bytes.now ≡ false → result ≡ Ok None }
+        ensures header { is_query_header bytes.now ≡ false → result ≡ Ok None }
     {
         messages_decode_unambiguously();
-        if !has_request_header(bytes) {
+        if !has_query_header(bytes) {
             return Ok(None);
         }
-        let message = match Message::from_vec(self.alloc, bytes) {
-            Ok(message) => message,
+        let request = match Message::from_vec(self.alloc, bytes) {
+            Ok(request) => request,
             Err(error) => match error {
                 // The memory for the message was refused.
                 DecodeError::Memory => return Err(AllocError),
                 _ => return Ok(None),
             },
         };
-        let Some((request, query)) = served_question(message) else {
-            return Ok(None);
-        };
-        prove!(query.name.encoded_len() <= Name::MAX_LENGTH);
-        let reply = self.reply_to(request, query)?;
-        match reply.to_vec_within(self.alloc, limit_of(road)) {
-            Ok(out) => Ok(Some(out)),
-            // The memory for the reply's bytes was refused.
-            Err(EncodeError::Memory) => Err(AllocError),
-            Err(EncodeError::MaxBufferSizeExceeded) => unreachable!(),
-        }
+        Ok(Some(self.reply_bytes(&request, road)?))
     }
 }
 
