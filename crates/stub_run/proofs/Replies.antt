@@ -9,6 +9,7 @@ use Rattle.dns_codes.specs.DNSClass.{class_number}
 use Rattle.dns_names.specs.Compare.{same_labels}
 use Rattle.dns_messages.specs.declared.query.Query.{Query}
 use Rattle.dns_messages.specs.declared.message.Message.{Message}
+use Rattle.dns_messages.specs.declared.message_type.MessageType.TheVariants as kinds
 use Rattle.dns_zone.specs.declared.road.Road.TheVariants.{Datagram}
 use Rattle.dns_zone.specs.Rows.{ZoneContent}
 use Rattle.dns_messages.specs.Question.{same_question}
@@ -37,7 +38,7 @@ same_question-refl q =
 
 -- ---- what the server replies matches
 
-pub reply-matches : (zone : ZoneContent) (limit : ℕ) (id : ℕ) (q : Query) → matches id q (sent_reply zone (Datagram limit) (request id q) q) ≡ true
+pub reply-matches : (zone : ZoneContent) (limit : ℕ) (id : ℕ) (q : Query) → matches id q (sent_reply zone (Datagram limit) (request id q)) ≡ true
 reply-matches zone limit id q =
     and_from (nat_eq id id) (same_question q q) (eq-eqb id id refl) (same_question-refl q)
 
@@ -49,7 +50,7 @@ OneWay = (bytes : List ℕ) (a b : Message) → ReadsMessage bytes a → ReadsMe
 
 -- the server's reply under the link's limit
 abbrev pub reply-over : ScriptedLink → ℕ → Query → Message
-reply-over link id q = sent_reply link.zone (Datagram link.limit) (request id q) q
+reply-over link id q = sent_reply link.zone (Datagram link.limit) (request id q)
 
 -- memory was refused to the link; or nothing is under way again, and the reply was taken, or memory wanted for it
 pub data Ends (id : ℕ) (q : Query) (old : ScriptedLink) (outcome : Result Message NetError) (new : ScriptedLink) : Type 0 where
@@ -79,18 +80,14 @@ heard-ends one_way id q old mid new bytes (Err Failed) dropped total next outcom
 heard-ends one_way id q old mid new bytes (Err Memory) dropped total next outcome reads w r h = (refused id q old mid new outcome r h.1, h.2)
 heard-ends one_way id q old mid new bytes (Ok None) dropped total next outcome reads w r h =
     let brings : Brings (bytes ∷ []) old None mid = subst (λ (ws : List (List ℕ)). Brings ws old None mid) w r in
-    absurd (brings.0 (request id q) q (record { reads = reads; served = record { asks = refl; of_code = refl; one_question = refl; no_answer = refl; no_authority = refl; no_additional = refl; no_edns = refl; no_signature = refl } }))
+    absurd (let response : kinds.Query ≡ kinds.Response = brings.0 (request id q) reads in cc response)
 heard-ends one_way id q old mid new bytes (Ok (Some out)) dropped total next outcome reads w r h =
     let brings : Brings (bytes ∷ []) old (Some out) mid = subst (λ (ws : List (List ℕ)). Brings ws old (Some out) mid) w r in
     took-ends one_way id q old mid new out dropped total next outcome (replied one_way id q old bytes out reads brings.0) brings.1 h
   where
     replied : OneWay → (id : ℕ) (q : Query) (old : ScriptedLink) (bytes out : List ℕ) → ReadsMessage bytes (request id q) → Serves old.zone (Datagram old.limit) bytes (Some out) → ReadsMessage out (reply-over old id q)
     replied one_way id q old bytes out reads s =
-        let m = one_way bytes s.0 (request id q) s.2.reads reads in
-        let asked : s.1 ∷ [] ≡ q ∷ [] = sym s.2.served.one_question ∙ ap (λ (x : Message). x.queries) m in
-        let same : s.1 ≡ q = cc in
-        subst (λ (x : Query). ReadsMessage out (sent_reply old.zone (Datagram old.limit) (request id q) x)) same
-        (subst (λ (x : Message). ReadsMessage out (sent_reply old.zone (Datagram old.limit) x s.1)) m s.4)
+        subst (λ (m : Message). ReadsMessage out (sent_reply old.zone (Datagram old.limit) m)) (one_way bytes s.request (request id q) s.reads reads) s.replied.decodes
 
 waits-ends : (one_way : OneWay) (id : ℕ) (q : Query) (left : ℕ) (old new : ScriptedLink) (bytes : List ℕ) (dropped total : ℕ) (outcome : Result Message NetError)
     → ReadsMessage bytes (request id q) → waiting_of old ≡ bytes ∷ [] → Waits Receives (suc left) id q old dropped outcome new total → Ends id q old outcome new × (total ≡ dropped)
@@ -105,7 +102,7 @@ ends-before : (id : ℕ) (q : Query) (old mid new : ScriptedLink) (ws : List (Li
 ends-before id q old mid new ws outcome b (at_refused h) = at_refused h
 ends-before id q old mid new ws outcome b (at_wanting c h) = at_wanting (becomes-then old mid new ws [] b c) h
 ends-before id q old mid new ws outcome b (at_taken c h) =
-    let same : reply-over mid id q ≡ reply-over old id q = λ i. sent_reply (b.zone i) (Datagram (b.limit i)) (request id q) q in
+    let same : reply-over mid id q ≡ reply-over old id q = λ i. sent_reply (b.zone i) (Datagram (b.limit i)) (request id q) in
     at_taken (becomes-then old mid new ws [] b c) (h ∙ ap accepted same)
 
 -- a request that was sent, or was not

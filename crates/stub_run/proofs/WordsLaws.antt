@@ -1,5 +1,6 @@
 -- The program's command, as clap parses it.
-use Rattle.std.proofs.Common.{◌≡◌, ◌∙◌, ℕ, zero, suc, List, [], ◌∷◌, Some, Result, IfErr, IsErrAnd, true, false, codes, bytes_eq, slice_index, All, refl, sym, ap, arith, inl, inr}
+use Rattle.std.proofs.Common.{◌≡◌, ◌⊎◌, ◌∙◌, ℕ, zero, suc, List, [], ◌∷◌, Option, Some, Result, IfErr, IsErrAnd, true, false, codes, bytes_eq, slice_index, All, refl, sym, ap, subst, arith, inl, inr}
+use Rattle.std.proofs.lemmas.Slice.Eq.{bytes_eq-Decides}
 use Rattle.clap.specs.Words.{AddsArg, IsParsedFrom, IsPlainArg, HasMatchesOf, App, args_of, first_of, first_value, found_of, groups_of, is_simple, matches_of, takes, kind_of, fault_of, is_simple_and_free, HasKind}
 use Rattle.clap.specs.Built.{AddsInTurn, FitsChain, HasDistinctIds, TakesValue}
 use Rattle.clap.specs.declared.error.Error.{Error}
@@ -13,42 +14,54 @@ use Rattle.clap.proofs.WalkLemmas.{first_value-rows}
 use Rattle.clap.proofs.OnLiterals.{clap_on_literals}
 use Rattle.std.proofs.lemmas.Result.{err_from_is_err_and}
 use Rattle.stub_run.specs.declared.words.WordsFault.{WordsFault}
-use Rattle.stub_run.specs.declared.words.WordsFault.TheVariants.{Memory}
-use Rattle.stub_run.specs.Words.{BecomesFault, HasFiles, IsWordsFault, stub_app, value_of}
+use Rattle.stub_run.specs.declared.words.WordsFault.TheVariants.{Clap, Bad, Memory}
+use Rattle.stub_run.specs.Words.{BecomesFault, HasFiles, IsNoOrigin, IsOriginFault, IsWordsFault, stub_app, value_of}
 
 app_is_simple : is_simple stub_app ≡ true
 unfolding clap_on_literals
 app_is_simple = refl
 
+-- clap's matches have the value that the words give an option
+pub value_in : (app : App) (words : List (List ℕ)) (m : ArgMatches) (id : List ℕ) → app ≡ stub_app → HasMatchesOf app words m
+    → value_of id words ≡ first_value (found_of m) id
+value_in app words m id same has =
+    let rows = (has (ap is_simple same ∙ app_is_simple)).0 in
+    ap (λ (a : App). first_of id (matches_of a words)) (sym same) ∙ ap (first_of id) (sym rows) ∙ sym (first_value-rows (found_of m) id)
+
 pub value_is : (app : App) (words : List (List ℕ)) (m : ArgMatches) (id value : List ℕ) → app ≡ stub_app → HasMatchesOf app words m
     → first_value (found_of m) id ≡ Some value → value_of id words ≡ Some value
-value_is app words m id value same has is =
-    let rows = (has (ap is_simple same ∙ app_is_simple)).0 in
-    ap (λ (a : App). first_of id (matches_of a words)) (sym same) ∙ ap (first_of id) (sym rows) ∙ sym (first_value-rows (found_of m) id) ∙ is
+value_is app words m id value same has is = value_in app words m id same has ∙ is
 
-not_same : (a b : List ℕ) → a ≡ codes "zone" → b ≡ codes "script" → (bytes_eq a b ≡ true → ⊥) × (bytes_eq b a ≡ true → ⊥)
-not_same a b z s = (
-  λ e. let bad : bytes_eq (codes "zone") (codes "script") ≡ true = rw (z, s) at e in let worse : false ≡ true = bad in cc worse,
-  λ e. let bad : bytes_eq (codes "script") (codes "zone") ≡ true = rw (z, s) at e in let worse : false ≡ true = bad in cc worse,
-)
+-- the first letters of the names of the options
+pub record HasLetter (a : Arg) (letter : ℕ) : Type 0 where
+  pub is : slice_index a.id.now 0 ≡ letter
 
-distinct : (zone script : Arg) → zone.id.now ≡ codes "zone" → script.id.now ≡ codes "script" → HasDistinctIds (zone ∷ script ∷ [])
-distinct zone script z s zero zero d e low high same = refl
-distinct zone script z s zero (suc zero) d e low high same = absurd ((not_same zone.id.now script.id.now z s).0 same)
-distinct zone script z s (suc zero) zero d e low high same = absurd ((not_same zone.id.now script.id.now z s).1 same)
-distinct zone script z s (suc zero) (suc zero) d e low high same = refl
-distinct zone script z s zero (suc (suc k)) d e low high same = absurd (omega arith)
-distinct zone script z s (suc zero) (suc (suc k)) d e low high same = absurd (omega arith)
-distinct zone script z s (suc (suc j)) k d e low high same = absurd (omega arith)
+no_letter : (a b : Arg) (x y : ℕ) → HasLetter a x → HasLetter b y → (x ≡ y → ⊥) → bytes_eq a.id.now b.id.now ≡ true → ⊥
+no_letter a b x y h k other same = other (sym h.is ∙ ap (λ (t : List ℕ). slice_index t 0) ((bytes_eq-Decides a.id.now b.id.now).0 same) ∙ k.is)
+
+distinct : (zone script origin : Arg) → HasLetter zone 122 → HasLetter script 115 → HasLetter origin 111 → HasDistinctIds (zone ∷ script ∷ origin ∷ [])
+distinct zone script origin z s o zero zero d e low high same = refl
+distinct zone script origin z s o zero (suc zero) d e low high same = absurd (no_letter zone script 122 115 z s (λ h. omega arith) same)
+distinct zone script origin z s o zero (suc (suc zero)) d e low high same = absurd (no_letter zone origin 122 111 z o (λ h. omega arith) same)
+distinct zone script origin z s o (suc zero) zero d e low high same = absurd (no_letter script zone 115 122 s z (λ h. omega arith) same)
+distinct zone script origin z s o (suc zero) (suc zero) d e low high same = refl
+distinct zone script origin z s o (suc zero) (suc (suc zero)) d e low high same = absurd (no_letter script origin 115 111 s o (λ h. omega arith) same)
+distinct zone script origin z s o (suc (suc zero)) zero d e low high same = absurd (no_letter origin zone 111 122 o z (λ h. omega arith) same)
+distinct zone script origin z s o (suc (suc zero)) (suc zero) d e low high same = absurd (no_letter origin script 111 115 o s (λ h. omega arith) same)
+distinct zone script origin z s o (suc (suc zero)) (suc (suc zero)) d e low high same = refl
+distinct zone script origin z s o (suc (suc (suc j))) k d e low high same = absurd (omega arith)
+distinct zone script origin z s o zero (suc (suc (suc k))) d e low high same = absurd (omega arith)
+distinct zone script origin z s o (suc zero) (suc (suc (suc k))) d e low high same = absurd (omega arith)
+distinct zone script origin z s o (suc (suc zero)) (suc (suc (suc k))) d e low high same = absurd (omega arith)
 
 -- where clap takes the words, only memory may be wanting
 pub only_memory : {T : Type 0} (app : App) (words : List (List ℕ)) (r : Result T WordsFault) (e : Error) → app ≡ stub_app
     → (takes app words ≡ true → kind_of e ≡ OutOfMemory) → IsErrAnd r (BecomesFault e)
-    → IfErr r (λ fault. takes stub_app words ≡ true → fault ≡ Memory)
+    → IfErr r (λ fault. takes stub_app words ≡ true → (fault ≡ Bad) ⊎ (fault ≡ Memory))
 only_memory app words r e same passes h =
     let found = err_from_is_err_and r h in
     rw found.1 (λ taken. elim found.2 [
-      | inl memory ↦ memory.1
+      | inl memory ↦ inr memory.1
       | inr other ↦ absurd (other.0 (passes (ap (λ (a : App). takes a words) same ∙ taken)))
     ])
 
@@ -74,40 +87,50 @@ fault_is app words r e same kinds h =
 pub no_fault : (app : App) (words : List (List ℕ)) → app ≡ stub_app → (is_simple_and_free app ≡ true → fault_of app words ≡ []) → fault_of stub_app words ≡ []
 no_fault app words same none = rw same at (none (rw same app_is_free))
 
+-- the fault of an origin, in words in which clap found none
+pub origin_fault : (app : App) (words : List (List ℕ)) (m : ArgMatches) (fault : WordsFault) → app ≡ stub_app → HasMatchesOf app words m
+    → (is_simple_and_free app ≡ true → fault_of app words ≡ []) → IsOriginFault (first_value (found_of m) (codes "origin")) fault
+    → IsWordsFault words fault
+origin_fault app words m (Clap error) same has none h = absurd h
+origin_fault app words m Bad same has none h = (no_fault app words same none, subst IsNoOrigin (sym (value_in app words m (codes "origin") same has)) h)
+origin_fault app words m Memory same has none h = tt
+
+-- it is passed on as it is
+pub origin_fault_passes : {T : Type 0} (app : App) (words : List (List ℕ)) (m : ArgMatches) (r : Result T WordsFault) (fault : WordsFault) → app ≡ stub_app
+    → HasMatchesOf app words m → (is_simple_and_free app ≡ true → fault_of app words ≡ []) → IsOriginFault (first_value (found_of m) (codes "origin")) fault
+    → IsErrAnd r (λ f. f ≡ fault) → IfErr r (IsWordsFault words)
+origin_fault_passes app words m r fault same has none is h =
+    let found = err_from_is_err_and r h in
+    rw (found.1, found.2) (origin_fault app words m fault same has none is)
+
+pub bad_or_memory : (value : Option (List ℕ)) (fault : WordsFault) → IsOriginFault value fault → (fault ≡ Bad) ⊎ (fault ≡ Memory)
+bad_or_memory value (Clap error) h = absurd h
+bad_or_memory value Bad h = inl refl
+bad_or_memory value Memory h = inr refl
+
 -- an option of this name
 pub record IsOption (name : List ℕ) (a : Arg) : Type 0 where
   pub id : a.id.now ≡ name
   pub plain : IsPlainArg a × (a.global ≡ false)
-  pub value : TakesValue a
 
-fits_zone : (a : Arg) → IsOption (codes "zone") a → FitsChain a
-fits_zone a h =
-    let first : (t : List ℕ) → a.id.now ≡ t → slice_index t 0 ≡ 122 = λ t e. rw (← e, h.id) refl in (
+letter_of : (name : List ℕ) (a : Arg) (letter : ℕ) → IsOption name a → slice_index name 0 ≡ letter → HasLetter a letter
+letter_of name a letter h e = record { is = ap (λ (t : List ℕ). slice_index t 0) h.id ∙ e }
+
+-- an option whose first letter is another than those of `help` and `version`
+fits : (name : List ℕ) (a : Arg) (letter : ℕ) → IsOption name a → HasLetter a letter → (0 ≡ letter → ⊥) → (104 ≡ letter → ⊥) → (118 ≡ letter → ⊥) → FitsChain a
+fits name a letter h first some help version =
+    let begins : (t : List ℕ) → a.id.now ≡ t → slice_index t 0 ≡ letter = λ t e. rw (← e) first.is in (
       h.plain.0,
       h.plain.1,
-      λ e. (let bad : 0 ≡ 122 = first [] e in omega arith),
-      λ auto. elim auto [
-        | inl e ↦ let bad : 104 ≡ 122 = first _ e in omega arith
-        | inr e ↦ let bad : 118 ≡ 122 = first _ e in omega arith
-      ],
+      λ e. some (begins [] e),
+      λ auto. elim auto [ inl e ↦ help (begins _ e) | inr e ↦ version (begins _ e) ],
     )
 
-fits_script : (a : Arg) → IsOption (codes "script") a → FitsChain a
-fits_script a h =
-    let first : (t : List ℕ) → a.id.now ≡ t → slice_index t 0 ≡ 115 = λ t e. rw (← e, h.id) refl in (
-      h.plain.0,
-      h.plain.1,
-      λ e. (let bad : 0 ≡ 115 = first [] e in omega arith),
-      λ auto. elim auto [
-        | inl e ↦ let bad : 104 ≡ 115 = first _ e in omega arith
-        | inr e ↦ let bad : 118 ≡ 115 = first _ e in omega arith
-      ],
-    )
-
-both_fit : (zone script : Arg) → FitsChain zone → FitsChain script → All FitsChain (zone ∷ script ∷ [])
-both_fit zone script z s zero d lt = z
-both_fit zone script z s (suc zero) d lt = s
-both_fit zone script z s (suc (suc k)) d lt = absurd (omega arith)
+all_fit : (zone script origin : Arg) → FitsChain zone → FitsChain script → FitsChain origin → All FitsChain (zone ∷ script ∷ origin ∷ [])
+all_fit zone script origin z s o zero d lt = z
+all_fit zone script origin z s o (suc zero) d lt = s
+all_fit zone script origin z s o (suc (suc zero)) d lt = o
+all_fit zone script origin z s o (suc (suc (suc k))) d lt = absurd (omega arith)
 
 -- a command without arguments
 pub record IsBare (c : Command) : Type 0 where
@@ -116,13 +139,27 @@ pub record IsBare (c : Command) : Type 0 where
   pub globals : (out-Command c).has_globals ≡ false
   pub negates : (out-Command c).subcommand_negates_reqs ≡ false
 
-pub has_files : (start middle cmd : Command) (zone script : Arg) (m : ArgMatches) → IsBare start → IsOption (codes "zone") zone → IsOption (codes "script") script
-    → AddsArg start zone middle → AddsArg middle script cmd → IsParsedFrom cmd m → HasFiles m
-has_files start middle cmd zone script m bare z s first second parsed =
-    let chain : AddsInTurn AddsArg start (zone ∷ script ∷ []) cmd = (middle, first, (cmd, second, refl)) in
-    let all = both_fit zone script (fits_zone zone z) (fits_script script s) in
-    let apart = distinct zone script z.id s.id in
+-- the command with the three options
+pub record IsStub (start cmd : Command) (zone script origin : Arg) : Type 0 where
+  pub bare : IsBare start
+  pub zone_option : IsOption (codes "zone") zone
+  pub script_option : IsOption (codes "script") script
+  pub origin_option : IsOption (codes "origin") origin
+  pub zone_value : TakesValue zone
+  pub script_value : TakesValue script
+  pub chain : AddsInTurn AddsArg start (zone ∷ script ∷ origin ∷ []) cmd
+
+pub has_files : (start cmd : Command) (zone script origin : Arg) (m : ArgMatches) → IsStub start cmd zone script origin → IsParsedFrom cmd m → HasFiles m
+has_files start cmd zone script origin m h parsed =
+    let z : HasLetter zone 122 = letter_of (codes "zone") zone 122 h.zone_option refl in
+    let s : HasLetter script 115 = letter_of (codes "script") script 115 h.script_option refl in
+    let o : HasLetter origin 111 = letter_of (codes "origin") origin 111 h.origin_option refl in
+    let all = all_fit zone script origin
+    (fits (codes "zone") zone 122 h.zone_option z (λ e. omega arith) (λ e. omega arith) (λ e. omega arith))
+    (fits (codes "script") script 115 h.script_option s (λ e. omega arith) (λ e. omega arith) (λ e. omega arith))
+    (fits (codes "origin") origin 111 h.origin_option o (λ e. omega arith) (λ e. omega arith) (λ e. omega arith)) in
+    let apart = distinct zone script origin z s o in
     record {
-      zone = rw (← z.id) (required_in_chain start cmd (zone ∷ script ∷ []) 0 zone m chain bare.args bare.groups bare.globals bare.negates all apart (omega arith) z.value parsed);
-      script = rw (← s.id) (required_in_chain start cmd (zone ∷ script ∷ []) 1 script m chain bare.args bare.groups bare.globals bare.negates all apart (omega arith) s.value parsed);
+      zone = rw (← h.zone_option.id) (required_in_chain start cmd (zone ∷ script ∷ origin ∷ []) 0 zone m h.chain h.bare.args h.bare.groups h.bare.globals h.bare.negates all apart (omega arith) h.zone_value parsed);
+      script = rw (← h.script_option.id) (required_in_chain start cmd (zone ∷ script ∷ origin ∷ []) 1 script m h.chain h.bare.args h.bare.groups h.bare.globals h.bare.negates all apart (omega arith) h.script_value parsed);
     }

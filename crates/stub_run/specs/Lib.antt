@@ -5,6 +5,7 @@ pub mod ScriptedLink
 pub mod World
 pub mod Run
 pub mod ScriptText
+pub mod ScriptWords
 pub mod Playing
 pub mod ReportText
 pub mod Program

@@ -6,7 +6,7 @@ use Rattle.std.specs.declared.io.ErrorKind.TheVariants.{OutOfMemory}
 use Rattle.stub_run.specs.declared.program.InputFile.{InputFile}
 use Rattle.stub_run.specs.declared.program.InputFile.TheVariants as files
 use Rattle.stub_run.specs.declared.program.Ending.{Ending}
-use Rattle.stub_run.specs.declared.program.Ending.TheVariants.{Arguments, NotUtf8, CannotRead, Fault, Memory}
+use Rattle.stub_run.specs.declared.program.Ending.TheVariants.{Arguments, BadWords, NotUtf8, CannotRead, Fault, Memory}
 use Rattle.stub_run.specs.declared.playing.PlayInput.{PlayInput}
 use Rattle.stub_run.specs.declared.words.Words.{Words}
 use Rattle.stub_run.specs.declared.words.WordsFault.{WordsFault}
@@ -33,11 +33,13 @@ unread_arguments kind = NotUtf8
 
 abbrev pub words_ending : WordsFault → Ending
 words_ending (words.Clap error) = Arguments error
+words_ending words.Bad = BadWords
 words_ending words.Memory = Memory
 
 -- the exit status
 abbrev pub status_of : Ending → ℕ
 status_of (Arguments error) = 2
+status_of BadWords = 2
 status_of NotUtf8 = 2
 status_of (CannotRead path) = 1
 status_of (Fault fault) = 1
@@ -46,6 +48,7 @@ status_of Memory = 1
 -- what is written to standard error; what clap says is clap's
 abbrev pub ending_text : Ending → Option (List ℕ)
 ending_text (Arguments error) = None
+ending_text BadWords = Some (codes "bad words" ++ 10 ∷ [])
 ending_text NotUtf8 = Some (codes "arguments are not valid UTF-8" ++ 10 ∷ [])
 ending_text (CannotRead path) = Some (codes "cannot read " ++ (string_bytes path ++ 10 ∷ []))
 ending_text (Fault fault) = Some (fault_text fault ++ 10 ∷ [])

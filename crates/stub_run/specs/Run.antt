@@ -41,7 +41,7 @@ IsInline name = (length name.labels ≤ 24) × (name_len name.labels ≤ length 
 
 -- what is left, under the datagram's limit, of the zone's answer to the question
 abbrev pub reply_to : WorldContent → ℕ → Query → Message
-reply_to world id q = sent_reply world.zone (Datagram world.limit) (request id q) q
+reply_to world id q = sent_reply world.zone (Datagram world.limit) (request id q)
 
 -- a reply that was cut is a fault; a whole one is the zone's answer
 abbrev pub looked_up : WorldContent → ℕ → Query → Result Lookup NetError

@@ -1,12 +1,15 @@
--- The text of a script: a line is blank, a comment, or `<at> lookup <name> A` with a name that is fully qualified and a
--- moment in decimal digits.
-use Rattle.std.specs.Prelude.{◌==◌, ◌&&◌, ◌+◌, not, codes, if◌then◌else◌, Bool, true, false, List, [], ◌∷◌, ℕ, Option, Some, Result, Ok, Err}
+-- The text of a script: a line is blank, a comment, or `<moment> lookup <name> <type>`, where the moment is in decimal
+-- digits, the name is fully qualified, and the type is a name in any case or `TYPE` and a number (RFC 3597 section 5).
+use Rattle.std.specs.Prelude.{◌==◌, ◌&&◌, ◌+◌, not, codes, if◌then◌else◌, Bool, true, false, List, [], ◌∷◌, ℕ, Option, Some, None, Result, Ok, Err}
 use Rattle.std.specs.Str.{bytes_eq}
 use Rattle.std.specs.Str.Lines.{lines}
-use Rattle.dns_codes.specs.declared.record_type.RecordType.TheVariants.{A}
-use Rattle.dns_names.specs.Name.{DomainName}
+use Rattle.dns_codes.specs.CodeText.{type_of_text}
 use Rattle.dns_codes.specs.Decimal.{decimal_up_to}
-use Rattle.dns_zone.specs.ZoneText.{is_blank, words, fqdn_of}
+use Rattle.dns_codes.specs.declared.record_type.RecordType.{RecordType}
+use Rattle.dns_names.specs.Name.{DomainName}
+use Rattle.dns_names.specs.Parse.{name_of_text}
+use Rattle.dns_names.specs.declared.error.ParseError.{ParseError}
+use Rattle.stub_run.specs.ScriptWords.{is_blank, is_escape, is_quoted, words}
 use Rattle.stub_run.specs.declared.event.Script.TheVariants.{Honest}
 use Rattle.stub_run.specs.declared.event.Event.{Event}
 use Rattle.stub_run.specs.declared.event.Event.TheVariants.{Lookup}
@@ -19,16 +22,33 @@ use Rattle.stub_run.specs.declared.script.ScriptFault.TheVariants.{Line}
 abbrev pub moment : List ℕ → Option ℕ
 moment text = decimal_up_to 18446744073709551615 text
 
-abbrev pub lookup_at : Option ℕ → Option DomainName → LineContent
-lookup_at (Some at) (Some name) = Holds (Lookup at name A Honest)
-lookup_at at name = Unreadable
+-- a name that ends at the root
+abbrev pub fqdn_if_ok : Result DomainName ParseError → Option DomainName
+fqdn_if_ok (Ok name) = if name.is_fqdn then Some name else None
+fqdn_if_ok (Err error) = None
+
+unfoldable pub fqdn_of : List ℕ → Option DomainName
+fqdn_of text = fqdn_if_ok (name_of_text text)
+
+abbrev pub lookup_at : Option ℕ → Option DomainName → Option RecordType → LineContent
+lookup_at (Some at) (Some name) (Some rtype) = Holds (Lookup at name rtype Honest)
+lookup_at at name rtype = Unreadable
+
+-- the lookup of the words of a moment, a name and a type
+unfoldable pub lookup_of_words : List ℕ → List ℕ → List ℕ → LineContent
+lookup_of_words at name rtype = lookup_at (moment at) (fqdn_of name) (type_of_text rtype)
 
 -- a line's words: none, or those of a lookup
 abbrev pub content_of_words : List (List ℕ) → LineContent
 content_of_words [] = Nothing
 content_of_words (at ∷ kind ∷ name ∷ rtype ∷ []) =
-    if bytes_eq kind (codes "lookup") && bytes_eq rtype (codes "A") then lookup_at (moment at) (fqdn_of name) else Unreadable
+    if bytes_eq kind (codes "lookup") then lookup_of_words at name rtype else Unreadable
 content_of_words line_words = Unreadable
+
+-- a line whose last quote is open, or that ends in a backslash with nothing to escape, has no words
+abbrev pub content_if_words : Option (List (List ℕ)) → LineContent
+content_if_words None = Unreadable
+content_if_words (Some line_words) = content_of_words line_words
 
 -- a text without the blanks in front
 abbrev pub behind_blanks : List ℕ → List ℕ
@@ -44,14 +64,6 @@ begins_comment (c ∷ cs) = c == 35
 abbrev pub begins_link_script : Bool → Bool → ℕ → Bool
 begins_link_script escaped quoted c = not escaped && (not quoted && c == 59)
 
--- a quote that isn't escaped opens, or closes
-abbrev pub is_quoted : Bool → Bool → ℕ → Bool
-is_quoted escaped quoted c = if not escaped && c == 34 then not quoted else quoted
-
--- a backslash that isn't escaped escapes the next character
-abbrev pub is_escape : Bool → ℕ → Bool
-is_escape escaped c = not escaped && c == 92
-
 -- whether a link script begins in a text, by whether its first character is escaped and whether a quote is open
 abbrev pub has_link_script : Bool → Bool → List ℕ → Bool
 has_link_script escaped quoted [] = false
@@ -64,7 +76,7 @@ abbrev pub content_of_line : List ℕ → LineContent
 content_of_line line =
     if begins_comment (behind_blanks line) then Nothing
     else if has_link_script false false line then Unreadable
-    else content_of_words (words line)
+    else content_if_words (words line)
 
 -- the events of the lines from this number on, each with its line, or the first line that can't be read
 abbrev pub then_events : LineContent → ℕ → Result (List (ℕ × Event)) ScriptFault → Result (List (ℕ × Event)) ScriptFault

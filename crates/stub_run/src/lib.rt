@@ -6,7 +6,7 @@
 //! - `wire_handle`: asks a question over any link, and takes only the reply to it;
 //! - `lookup`: what a lookup gives, and why it gives nothing;
 //! - `event`: what happens, and when; `world`: a world in which events happen, and the report of them;
-//! - `words`, `script`: the program's words, and the events of a script's text;
+//! - `words`, `script`: the program's words, and the events of a script's text; `script_words`: the words of a script's line;
 //! - `report_text`: the text of a report; `playing`: a whole run, from two texts to what is printed;
 //! - `program`: the files that the program reads, and how it reports each fault.
 #![tactic(auto)]
@@ -18,6 +18,7 @@ mod playing;
 mod program;
 mod report_text;
 mod script;
+mod script_words;
 mod scripted_link;
 mod wire_handle;
 mod words;

@@ -12,15 +12,17 @@ use crate::event::Event;
 use crate::report_text::write_report;
 use crate::script::{ScriptFault, ScriptText, read_script};
 use crate::world::{Report, Stopped, World, run};
+use dns_names::Name;
 use dns_zone::{DatagramLimit, Zone, ZoneFault};
 use std::alloc::{AllocError, Global};
 use std::{fmt, io};
 
-/// The texts of a zone and of a script.
+/// The texts of a zone and of a script, and the zone's origin, if it was given.
 #[derive(Drop)]
 pub struct PlayInput {
     pub zone: String,
     pub script: String,
+    pub origin: Option<Name>,
 }
 
 /// Why a run came to no end.
@@ -111,7 +113,7 @@ pub fn play<W: io::Write>(alloc: Global, input: &PlayInput, writer: &mut W) -> R
         ⊎ ((text : List ℕ) × TellsFirst (string_bytes input.now.zone) (string_bytes input.now.script) text
         × Appends (W.contents writer.old) (W.contents writer.new) text)) }
 {
-    let zone = Zone::from_text(alloc, input.zone.as_str(), &[], None)?;
+    let zone = Zone::from_text(alloc, input.zone.as_str(), &[], input.origin.as_ref())?;
     play_script(alloc, zone, input.script.as_str(), writer)
 }
 

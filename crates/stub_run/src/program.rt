@@ -1,6 +1,6 @@
 //! How the program begins and ends: the files that it reads, in their order, and how each fault is reported.
 
-ghost use Rattle.std.specs.Prelude.{◌≡◌, ◌∷◌, [], string_bytes};
+ghost use Rattle.std.specs.Prelude.{◌≡◌, ◌∷◌, [], None, string_bytes};
 ghost use Rattle.std.specs.IoError.{error_kind};
 ghost use Rattle.stub_run.specs.Program.{ending_text, status_of, path_of, with_text, unread_file, unread_arguments};
 
@@ -21,6 +21,8 @@ pub enum InputFile {
 pub enum Ending {
     /// The arguments are invalid, or ask for help. The error's text says which.
     Arguments(clap::Error),
+    /// The origin is not a name.
+    BadWords,
     /// An argument is not valid UTF-8.
     NotUtf8,
     /// A file could not be read, or is not valid UTF-8: its path, as given.
@@ -65,14 +67,16 @@ impl Words {
 }
 
 impl PlayInput {
-    /// An input whose texts are empty.
+    /// An input without an origin, whose texts are empty.
     pub fn new(alloc: Global) -> Self
         ensures zone { string_bytes result.zone ≡ [] }
         ensures script { string_bytes result.script ≡ [] }
+        ensures origin { result.origin ≡ None }
     {
         PlayInput {
             zone: String::new(alloc),
             script: String::new(alloc),
+            origin: None,
         }
     }
 
@@ -116,6 +120,7 @@ impl From<WordsFault> for Ending {
     fn from(fault: WordsFault) -> Ending {
         match fault {
             WordsFault::Clap(error) => Ending::Arguments(error),
+            WordsFault::Bad => Ending::BadWords,
             WordsFault::Memory => Ending::Memory,
         }
     }
@@ -137,7 +142,7 @@ impl Ending {
         ensures { result ≡ status_of self.now }
     {
         match self {
-            Ending::Arguments(_) | Ending::NotUtf8 => 2,
+            Ending::Arguments(_) | Ending::BadWords | Ending::NotUtf8 => 2,
             Ending::CannotRead(_) | Ending::Fault(_) | Ending::Memory => 1,
         }
     }
@@ -151,6 +156,7 @@ impl fmt::Display for Ending {
         match self {
             // Clap's text ends with a line break.
             Ending::Arguments(error) => write!(f, "{error}"),
+            Ending::BadWords => f.write_str("bad words\n"),
             Ending::NotUtf8 => f.write_str("arguments are not valid UTF-8\n"),
             Ending::CannotRead(path) => writeln!(f, "cannot read {path}"),
             Ending::Fault(fault) => writeln!(f, "{fault}"),

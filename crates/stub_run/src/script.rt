@@ -2,13 +2,13 @@
 
 ghost use Rattle.std.specs.Prelude.{◌≡◌, ◌≢◌, IfOk, IfErr, Ok, Err, false, map, length};
 ghost use Rattle.std.specs.Str.Lines.{lines};
-ghost use Rattle.stub_run.specs.ScriptText.{script_of_text, events_from, side_by_side, content_of_line, content_of_words, behind_blanks, begins_comment, has_link_script, begins_link_script, is_quoted, is_escape};
+ghost use Rattle.stub_run.specs.ScriptText.{script_of_text, events_from, side_by_side, content_of_line, content_of_words, behind_blanks, begins_comment, has_link_script, begins_link_script};
 
 use crate::event::{Event, Script};
+use crate::script_words::{is_blank, is_escape, is_quoted, split_words};
 use dns_codes::parse_decimal;
-use dns_names::Name;
+use dns_names::{Name, ParseError};
 use dns_wire::RecordType;
-use dns_zone::{parse_name, split_words};
 use std::alloc::{AllocError, AllocFailed, Global};
 use thiserror::Error;
 
@@ -104,7 +104,7 @@ fn is_comment(line: &[u8]) -> bool
     ensures { result ≡ begins_comment (behind_blanks line.now) }
 {
     for c in line {
-        if *c != b' ' && *c != b'\t' {
+        if !is_blank(*c) {
             return *c == b'#';
         }
     }
@@ -134,24 +134,6 @@ fn begins_link_script(escaped: bool, quoted: bool, c: u8) -> bool
     !escaped && !quoted && c == b';'
 }
 
-/// Whether a quote is open behind a character.
-fn is_quoted(escaped: bool, quoted: bool, c: u8) -> bool
-    ensures { result ≡ is_quoted escaped quoted c }
-{
-    if !escaped && c == b'"' {
-        !quoted
-    } else {
-        quoted
-    }
-}
-
-/// Whether a character is a backslash that escapes the next one.
-fn is_escape(escaped: bool, c: u8) -> bool
-    ensures { result ≡ is_escape escaped c }
-{
-    !escaped && c == b'\\'
-}
-
 /// What a line has. Link scripts are not read yet, so a line with one is unreadable.
 fn read_line(alloc: Global, line: &str) -> Result<LineContent, AllocError>
     ensures { IfOk result (λ content. content ≡ content_of_line line.now) }
@@ -163,7 +145,9 @@ fn read_line(alloc: Global, line: &str) -> Result<LineContent, AllocError>
     if has_link_script(bytes) {
         return Ok(LineContent::Unreadable);
     }
-    let line_words = split_words(alloc, bytes)?;
+    let Some(line_words) = split_words(alloc, bytes)? else {
+        return Ok(LineContent::Unreadable);
+    };
     read_line_words(alloc, line_words.as_slice())
 }
 
@@ -174,8 +158,8 @@ fn read_line_words(alloc: Global, line_words: &[Vec<u8>]) -> Result<LineContent,
     match line_words {
         [] => Ok(LineContent::Nothing),
         [at, kind, name, rtype] => {
-            if kind.as_slice() == b"lookup".as_slice() && rtype.as_slice() == b"A".as_slice() {
-                read_lookup(alloc, at, name)
+            if kind.as_slice() == b"lookup".as_slice() {
+                read_lookup(alloc, at, name, rtype)
             } else {
                 Ok(LineContent::Unreadable)
             }
@@ -184,23 +168,50 @@ fn read_line_words(alloc: Global, line_words: &[Vec<u8>]) -> Result<LineContent,
     }
 }
 
-ghost use Rattle.stub_run.specs.ScriptText.{lookup_at, moment};
-ghost use Rattle.dns_zone.specs.ZoneText.{fqdn_of};
+ghost use Rattle.stub_run.specs.ScriptText.{fqdn_of, lookup_of_words};
 
-/// The lookup of a moment's and a name's words.
-fn read_lookup(alloc: Global, at: &[u8], name: &[u8]) -> Result<LineContent, AllocError>
-    ensures { IfOk result (λ content. content ≡ lookup_at (moment at.now) (fqdn_of name.now)) }
+/// The lookup of the words of a moment, a name and a type.
+#[tactic(auto, unfolding(crate::specs::ScriptText::lookup_of_words))]
+fn read_lookup(
+    alloc: Global,
+    at: &[u8],
+    name: &[u8],
+    rtype: &[u8],
+) -> Result<LineContent, AllocError>
+    ensures { IfOk result (λ content. content ≡ lookup_of_words at.now name.now rtype.now) }
 {
     let Some(at) = parse_decimal(at, u64::MAX) else {
         return Ok(LineContent::Unreadable);
     };
-    let Some(name) = parse_name(alloc, name)? else {
+    let Some(rtype) = RecordType::from_ascii_bytes(rtype) else {
+        return Ok(LineContent::Unreadable);
+    };
+    let Some(name) = parse_fqdn(alloc, name)? else {
         return Ok(LineContent::Unreadable);
     };
     Ok(LineContent::Holds(Event::Lookup {
         at,
         name,
-        rtype: RecordType::A,
+        rtype,
         script: Script::Honest,
     }))
+}
+
+/// The name that a word spells, if it is fully qualified (RFC 1035 section 5.1).
+#[tactic(auto, unfolding(crate::specs::ScriptText::fqdn_of))]
+fn parse_fqdn(alloc: Global, word: &[u8]) -> Result<Option<Name>, AllocError>
+    ensures { IfOk result (λ name. name ≡ fqdn_of word.now) }
+{
+    match Name::from_ascii_bytes(alloc, word) {
+        Ok(name) => {
+            if name.is_fqdn() {
+                Ok(Some(name))
+            } else {
+                Ok(None)
+            }
+        }
+        // The memory for the name was refused.
+        Err(ParseError::Memory) => Err(AllocError),
+        Err(_) => Ok(None),
+    }
 }
