@@ -1,7 +1,7 @@
 //! The operations, by their words.
 //!
 //! - `items`: record data as rows write it; `reads`: data from bytes; `writes`: data to bytes;
-//! - `texts`: data from and to text; `values`: types, addresses and equality of data.
+//! - `texts`: data from and to text; `values`: types, addresses, lengths and equality of data.
 
 mod items;
 mod reads;
@@ -21,6 +21,7 @@ pub(crate) fn answer(alloc: Global, word: &str, input: &str) -> Answer {
         "print" => texts::print(alloc, input),
         "same" => values::same(alloc, input),
         "address" => values::address(alloc, input),
+        "length" => values::length(alloc, input),
         "held" => values::held(alloc, input),
         _ => Err(RowFault::UnknownOperation),
     }

@@ -12,6 +12,7 @@ pub(crate) fn played(alloc: Global, input: &str) -> Answer {
     let input = PlayInput {
         zone: String::from_str(alloc, zone)?,
         script: String::from_str(alloc, script)?,
+        origin: None,
     };
     let mut bytes: Vec<u8> = Vec::new(alloc);
     let outcome = play(alloc, &input, &mut bytes);

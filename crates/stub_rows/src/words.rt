@@ -2,20 +2,29 @@
 
 use rows::{Answer, text};
 use std::alloc::Global;
-use stub_run::{WordsFault, read_words};
+use std::fmt::Write;
+use stub_run::{Words, WordsFault, read_words};
 
-/// `words WORDS`: the files that words name, which bars part, or what is wrong with the words.
+/// `words WORDS`: the files and the origin that words name, which bars part, or what is wrong with the words.
 pub(crate) fn words(alloc: Global, input: &str) -> Answer {
     let given: Vec<&str> = input.split('|').collect(alloc)?;
     match read_words(alloc, given.as_slice()) {
-        Ok(words) => {
-            let (zone, script) = (words.zone.as_str(), words.script.as_str());
-            Ok(format!(in alloc; "zone {zone}, script {script}")?)
-        }
+        Ok(words) => words_text(alloc, &words),
         Err(WordsFault::Clap(error)) => {
             let kind = error.kind();
             Ok(format!(in alloc; "{kind:?}")?)
         }
+        Err(WordsFault::Bad) => text(alloc, "Bad"),
         Err(WordsFault::Memory) => text(alloc, "Memory"),
     }
+}
+
+/// Words in one line.
+fn words_text(alloc: Global, words: &Words) -> Answer {
+    let (zone, script) = (words.zone.as_str(), words.script.as_str());
+    let mut text = format!(in alloc; "zone {zone}, script {script}")?;
+    if let Some(origin) = &words.origin {
+        write!(text, ", origin {origin}")?;
+    }
+    Ok(text)
 }

@@ -7,7 +7,7 @@ use std::alloc::Global;
 use std::fmt::Write;
 use std::test::Fail;
 
-/// Returns the reply of a name server with a small zone, or `None` if it does not serve the request.
+/// Returns the reply of a name server with a small zone, or `None` if the bytes are not a query.
 fn reply_to(alloc: Global, request: &[u8]) -> Result<Option<Vec<u8>>, ZoneFault> {
     let text = "t. 60 IN SOA ns.t. h.t. 1 3600 600 86400 30\n\
                 a.t. 60 IN A 10.0.0.1\n";

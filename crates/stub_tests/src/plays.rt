@@ -31,6 +31,7 @@ fn a_writer_that_fails(rt: HostRuntime) -> Result<(), AllocError> {
         let input = PlayInput {
             zone: String::from_str(alloc, zone)?,
             script: String::from_str(alloc, "0 lookup a.t. A\n")?,
+            origin: None,
         };
         let mut writer = Failing { left };
         let played = play(alloc, &input, &mut writer);

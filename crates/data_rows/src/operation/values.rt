@@ -1,4 +1,4 @@
-//! Types, addresses and equality of record data.
+//! Types, addresses, lengths and equality of record data.
 
 use super::items::item_of;
 use dns_data::{A, AAAA, CNAME, MX, NS, OPT, PTR, RData, RecordData, SOA, SRV, TXT};
@@ -22,6 +22,12 @@ fn compared(alloc: Global, one: &RData, text: &str) -> Answer {
 pub(crate) fn address(alloc: Global, input: &str) -> Answer {
     let rdata = item_of(alloc, input)?;
     made_or_none(alloc, rdata.ip_addr())
+}
+
+/// `length DATA`: the number of bytes of the uncompressed encoding of data.
+pub(crate) fn length(alloc: Global, input: &str) -> Answer {
+    let rdata = item_of(alloc, input)?;
+    shown(alloc, rdata.encoded_len())
 }
 
 /// `held DATA`: the type of data, as it is borrowed by that type, and `update` for absent data.
