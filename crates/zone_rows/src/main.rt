@@ -3,7 +3,6 @@
 //! - `operation`: the operations by their words; `header`, `question`, `message`: messages and their parts;
 //! - `rebuilt`: messages that are made from others, and responses;
 //! - `damaged`: messages of which bytes are missing or changed; `record_set`, `answer_sets`, `update`: sets of records, and updates;
-//! - `zone_file`: zone files;
 //! - `zone`, `answer`, `serve`: zones, their answers and their replies.
 #![tactic(auto)]
 
@@ -19,7 +18,6 @@ mod record_set;
 mod serve;
 mod update;
 mod zone;
-mod zone_file;
 
 use rows::{Answer, Notation, Operations};
 use std::alloc::Global;

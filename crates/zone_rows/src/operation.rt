@@ -14,7 +14,6 @@ use crate::record_set::edited_set;
 use crate::serve::{limit, serve, served_size};
 use crate::update::{name_deletion, set_deletion, set_update, swap};
 use crate::zone::{fault, zone};
-use crate::zone_file::{zone_file, zone_file_at, zone_file_with};
 use rows::{Answer, RowFault};
 use std::alloc::Global;
 
@@ -58,9 +57,6 @@ pub(crate) fn answer(alloc: Global, word: &str, input: &str) -> Answer {
         "delete-all" => name_deletion(alloc, input),
         "zone" => zone(alloc, input),
         "fault" => fault(alloc, input),
-        "zone-file" => zone_file(alloc, input),
-        "zone-file-at" => zone_file_at(alloc, input),
-        "zone-file-with" => zone_file_with(alloc, input),
         "answer" => answered(alloc, input),
         "limit" => limit(alloc, input),
         "serve" => serve(alloc, input),
