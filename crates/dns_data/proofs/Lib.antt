@@ -17,3 +17,4 @@ pub mod TextLaws
 pub mod TextSteps
 pub mod CanonicalLaws
 pub mod SoundLaws
+pub mod ValidLaws

@@ -31,6 +31,9 @@ some_same o a b e f = cc
 ok_same : {A E : Type 0} (r : Result A E) (a b : A) → r ≡ Ok a → r ≡ Ok b → a ≡ b
 ok_same r a b e f = cc
 
+err_same : {A E : Type 0} (r : Result A E) (a b : E) → r ≡ Err a → r ≡ Err b → a ≡ b
+err_same r a b e f = cc
+
 not_both : {A E : Type 0} (r : Result A E) (a : A) (error : E) → r ≡ Ok a → r ≡ Err error → ⊥
 not_both r a error e f = absurd (cc)
 
@@ -46,6 +49,12 @@ strings_not_refused : {strings : List (List ℕ)} {tokens : List Lexeme} {error 
 strings_not_refused {error = error} no_string no_error = elim no_error [ ]
 strings_not_refused (one_string {string = s} {token = token} e more) (bad_string {error = error} f) = not_both (string_of_token token) s error e f
 strings_not_refused (one_string e more) (past_string f rest) = strings_not_refused more rest
+
+strings_refused_same : {tokens : List Lexeme} {a b : RDataParseError} → AreNoTokensOf tokens a → AreNoTokensOf tokens b → a ≡ b
+strings_refused_same (bad_string {token = token} {error = a} e) (bad_string {error = b} f) = err_same (string_of_token token) a b e f
+strings_refused_same (bad_string {token = token} {error = a} e) (past_string {string = s} f rest) = absurd (not_both (string_of_token token) s a f e)
+strings_refused_same (past_string {string = s} {token = token} e rest) (bad_string {error = b} f) = absurd (not_both (string_of_token token) s b e f)
+strings_refused_same (past_string e rest) (past_string f others) = strings_refused_same rest others
 
 module _ (origin : Option DomainName) where
   token_same : (kind : Kind) (token : Lexeme) (a b : ValueOf kind) → IsTokenOf origin kind a token → IsTokenOf origin kind b token → a ≡ b
@@ -88,6 +97,27 @@ module _ (origin : Option DomainName) where
   parsed_not_refused (kind ∷ kinds) tokens a error h (refused_token refused) = not_refused kind tokens a.0 h.0 error h.1 refused
   parsed_not_refused (kind ∷ kinds) tokens a error h (past_token {rest = rest} value takes more) =
       parsed_not_refused kinds rest a.1 error (subst (λ (left : List Lexeme). AreParsed origin kinds left a.1) (takes_same kind tokens a.0 value h.0 rest h.1 takes).1 h.2) more
+
+  -- ---- one refusal
+
+  token_refused_same : (kind : Kind) (token : Lexeme) (a b : RDataParseError) → IsNoTokenOf origin kind token a → IsNoTokenOf origin kind token b → a ≡ b
+  token_refused_same CompressibleName token a b h k = err_same _ a b h k
+  token_refused_same WholeName token a b h k = err_same _ a b h k
+  token_refused_same kind token a b h k = h.1 ∙ sym k.1
+
+  refused_same : (kind : Kind) (tokens : List Lexeme) (a b : RDataParseError) → RefusesToken origin kind tokens a → RefusesToken origin kind tokens b → a ≡ b
+  refused_same Strings [] a b h k = h ∙ sym k
+  refused_same Strings (token ∷ tokens) a b h k = strings_refused_same h k
+  refused_same kind [] a b h k = h ∙ sym k
+  refused_same kind (token ∷ tokens) a b h k = token_refused_same kind token a b h k
+
+  tokens_refused_same : (kinds : List Kind) (tokens : List Lexeme) (a b : RDataParseError) → RefusesTokens origin kinds tokens a → RefusesTokens origin kinds tokens b → a ≡ b
+  tokens_refused_same [] tokens a b (tokens_left some) (tokens_left others) = refl
+  tokens_refused_same (kind ∷ kinds) tokens a b (refused_token h) (refused_token k) = refused_same kind tokens a b h k
+  tokens_refused_same (kind ∷ kinds) tokens a b (refused_token h) (past_token {rest = rest} value takes more) = absurd (not_refused kind tokens value rest a takes h)
+  tokens_refused_same (kind ∷ kinds) tokens a b (past_token {rest = rest} value takes more) (refused_token k) = absurd (not_refused kind tokens value rest b takes k)
+  tokens_refused_same (kind ∷ kinds) tokens a b (past_token {rest = r} value takes more) (past_token {rest = s} other takes_other others) =
+      tokens_refused_same kinds s a b (subst (λ (left : List Lexeme). RefusesTokens origin kinds left a) (takes_same kind tokens value other r s takes takes_other).1 more) others
 
 -- ---- one value of data
 
@@ -139,3 +169,10 @@ data_not_refused origin t tokens d error p (no_text none) = let has = p.has_text
 data_not_refused origin t tokens d error p (bad_tokens some refused) =
     let x = data_parsed origin tokens t d p in
     parsed_not_refused origin (kinds_of_type (type_of (type_number t))) tokens x.0 error x.2 refused
+
+pub data_refused_same : (origin : Option DomainName) (t : RecordType) (tokens : List Lexeme) (a b : RDataParseError) → RefusesText origin t tokens a → RefusesText origin t tokens b → a ≡ b
+data_refused_same origin t tokens a b (no_text none) (no_text none') = refl
+data_refused_same origin t tokens a b (no_text none) (bad_tokens some refused) = absurd (cc)
+data_refused_same origin t tokens a b (bad_tokens some refused) (no_text none) = absurd (cc)
+data_refused_same origin t tokens a b (bad_tokens some refused) (bad_tokens some' others) =
+    tokens_refused_same origin (kinds_of_type (type_of (type_number t))) tokens a b refused others

@@ -38,17 +38,17 @@ at_most-fits greatest number (Some m) e = at (nat_le m greatest) refl e
     at true le same = let is : m ≡ number = cc in grind (arith, nat_tests)
     at false le same = absurd (cc)
 
-decimal_fits : (greatest number : ℕ) (text : List ℕ) → decimal_up_to greatest text ≡ Some number → number ≤ greatest
+pub decimal_fits : (greatest number : ℕ) (text : List ℕ) → decimal_up_to greatest text ≡ Some number → number ≤ greatest
 unfolding decimal_up_to
 decimal_fits greatest number text e = at_most-fits greatest number (decimal text) e
 
-time_fits : (number : ℕ) (text : List ℕ) → time text ≡ Some number → number ≤ 4294967295
+pub time_fits : (number : ℕ) (text : List ℕ) → time text ≡ Some number → number ≤ 4294967295
 time_fits number [] e = absurd (cc)
 time_fits number (c ∷ cs) e = at_most-fits 4294967295 number (seconds (runs (c ∷ cs))) e
 
 -- ---- addresses
 
-eight_segments : (text segments : List ℕ) → IsColonHex text segments → length segments ≡ 8
+pub eight_segments : (text segments : List ℕ) → IsColonHex text segments → length segments ≡ 8
 eight_segments text segments (inl groups) = groups.1
 eight_segments text segments (inr e) =
     let count : ℕ = 8 - length e.head - length e.tail in
@@ -68,14 +68,14 @@ appended-is_fqdn base name labels fqdn e = at (nat_lt max_name_len (name_len (ba
     at true f = absurd (cc)
     at false f = let same : made ≡ name = cc in ap (λ (n : DomainName). n.is_fqdn) (sym same) ∙ fqdn
 
-completed-is_fqdn : (origin base name : DomainName) → complete base (Some origin) ≡ Ok name → name.is_fqdn ≡ true
+pub completed-is_fqdn : (origin base name : DomainName) → complete base (Some origin) ≡ Ok name → name.is_fqdn ≡ true
 completed-is_fqdn origin base name e = at base.is_fqdn refl e
   where
     at : (fqdn : Bool) → base.is_fqdn ≡ fqdn → cond fqdn (Ok base) (append_labels (record base { is_fqdn = true }) origin.labels) ≡ Ok name → name.is_fqdn ≡ true
     at true is f = let same : base ≡ name = cc in ap (λ (n : DomainName). n.is_fqdn) (sym same) ∙ is
     at false is f = appended-is_fqdn (record base { is_fqdn = true }) name origin.labels refl f
 
-as_name-ok : (r : Result DomainName ParseError) (name : DomainName) → as_name r ≡ Ok name → r ≡ Ok name
+pub as_name-ok : (r : Result DomainName ParseError) (name : DomainName) → as_name r ≡ Ok name → r ≡ Ok name
 as_name-ok (Ok made) name e = cc
 as_name-ok (Err error) name e = absurd (cc)
 
@@ -133,7 +133,7 @@ module _ (origin : DomainName) where
   value_sound kind [] value rest h = absurd h
   value_sound kind (token ∷ tokens) value rest h = token_sound kind value token h.0
 
-  values_sound : (kinds : List Kind) (tokens : List Lexeme) (values : Values kinds) → AreParsed (Some origin) kinds tokens values → AreSoundValues kinds values
+  pub values_sound : (kinds : List Kind) (tokens : List Lexeme) (values : Values kinds) → AreParsed (Some origin) kinds tokens values → AreSoundValues kinds values
   values_sound [] tokens values h = tt
   values_sound (kind ∷ kinds) tokens values h = (value_sound kind tokens values.0 h.0 h.1, values_sound kinds h.0 values.1 h.2)
 

@@ -264,17 +264,34 @@ has_tokens (of.OPT o) sound valid text fields = absurd (cc)
 has_tokens (of.Update0 t) sound valid text fields = absurd (some_kind t fields)
 has_tokens (of.Unknown code bytes) sound valid text fields = absurd (cc)
 
+-- data of a type with a text form, parsed from tokens of its values
+of_tokens : (d : RData) (origin : Option DomainName) (tokens : List Lexeme) → IsSoundData d → has_text (data_kinds d) ≡ true → data_kinds d ≡ kinds_of_type (data_type d)
+    → AreParsed origin (data_kinds d) tokens (data_values d) → IsParsedData origin (data_type d) tokens d
+of_tokens d origin tokens sound has fields parsed = record {
+  has_text = subst (λ (u : RecordType). has_text (kinds_of_type u) ≡ true) (sym sound.type_named) (subst (λ (kinds : List Kind). has_text kinds ≡ true) fields has);
+  of_type = sym sound.type_named;
+  fields = fields;
+  values = parsed;
+}
+
+-- the text of data is the text of tokens that parse to the data, whatever the origin is
+pub record IsTextOf (d : RData) (token : Lexeme) (tokens : List Lexeme) : Type 0 where
+  pub each : AllByRecursion IsDatum (token ∷ tokens)
+  pub text : lexed.data_text (token ∷ tokens) ≡ data_text d
+  pub parsed : (origin : Option DomainName) → IsParsedData origin (data_type d) (token ∷ tokens) d
+
+pub printed_tokens : (d : RData) → IsSoundData d → AreValidValues (data_kinds d) (data_values d) → has_text (data_kinds d) ≡ true → data_kinds d ≡ kinds_of_type (data_type d)
+    → (token : Lexeme) × (tokens : List Lexeme) × IsTextOf d token tokens
+printed_tokens d sound valid has fields =
+    let t = has_tokens d sound.values valid has fields in (
+      t.0,
+      t.1,
+      record { each = t.2.each; text = t.2.text ∙ sym t.3; parsed = λ origin. of_tokens d origin (t.0 ∷ t.1) sound has fields (t.2.parsed origin) },
+    )
+
 pub printed_parses : (d : RData) (p : LexerState) → IsSoundData d → AreValidValues (data_kinds d) (data_values d) → has_text (data_kinds d) ≡ true → data_kinds d ≡ kinds_of_type (data_type d)
     → p.is_open ≡ false → p.text ≡ data_text d
     → (tokens : List Lexeme) × LexesTo p tokens (record p { text = []; is_front = false }) × ((origin : Option DomainName) → IsParsedData origin (data_type d) tokens d)
 printed_parses d p sound valid has fields closed e =
-    let t = has_tokens d sound.values valid has fields in (
-      t.0 ∷ t.1,
-      data_lex_back p t.0 t.1 t.2.each closed (e ∙ t.3 ∙ sym t.2.text),
-      λ origin. record {
-        has_text = subst (λ (u : RecordType). has_text (kinds_of_type u) ≡ true) (sym sound.type_named) (subst (λ (kinds : List Kind). has_text kinds ≡ true) fields has);
-        of_type = sym sound.type_named;
-        fields = fields;
-        values = t.2.parsed origin;
-      },
-    )
+    let t = printed_tokens d sound valid has fields in
+    (t.0 ∷ t.1, data_lex_back p t.0 t.1 t.2.each closed (e ∙ sym t.2.text), t.2.parsed)

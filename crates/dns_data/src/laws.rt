@@ -109,7 +109,8 @@ pub fn order_of_data()
 
 // ---- text
 
-/// Tokens parse to at most one value of a type, and tokens that parse are not refused.
+/// Tokens parse to at most one value of a type, and are then not refused. Tokens that are refused are refused with one
+/// error.
 pub fn parsed_data_is_unambiguous()
     ensures one { (origin : Option DomainName) (record_type : RecordType) (tokens : List Lexeme)
         (a b : RData) → IsParsedData origin record_type tokens a
@@ -117,6 +118,10 @@ pub fn parsed_data_is_unambiguous()
     ensures not_refused { (origin : Option DomainName) (record_type : RecordType)
         (tokens : List Lexeme) (d : RData) (error : RDataParseError)
         → IsParsedData origin record_type tokens d → ¬ RefusesText origin record_type tokens error }
+    ensures one_error { (origin : Option DomainName) (record_type : RecordType)
+        (tokens : List Lexeme) (error other : RDataParseError)
+        → RefusesText origin record_type tokens error → RefusesText origin record_type tokens other
+        → error ≡ other }
 {}
 
 /// Data that is parsed with an origin is sound if it is short enough to be encoded: the origin completes relative names,
