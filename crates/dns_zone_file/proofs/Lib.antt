@@ -1,5 +1,13 @@
 pub mod ContextLaws
+pub mod DistinctLaws
 pub mod EntryLaws
 pub mod FieldsLaws
+pub mod LineLaws
+pub mod OctetLaws
+pub mod OutcomeLaws
+pub mod ParsedLaws
+pub mod PrintedLaws
 pub mod RecordSetsLaws
 pub mod StepLaws
+pub mod ValidLaws
+pub mod ValueLaws

@@ -51,7 +51,7 @@ inserted_last (x ∷ xs) r h =
 
 -- ---- types
 
-both : (a b : Bool) → (a && b) ≡ true → (a ≡ true) × (b ≡ true)
+pub both : (a b : Bool) → (a && b) ≡ true → (a ≡ true) × (b ≡ true)
 both true b e = (refl, e)
 both false b e = absurd cc
 
@@ -61,11 +61,11 @@ owner_at xs r d h =
     let s : RecordSetValue = get_or xs (position_or_len (is_set_for r) xs) d in
     (both (same_name r.name s.name) (type_number (data_type r.rdata) == type_number s.record_type) (passes_at_first (is_set_for r) xs d h)).0
 
-same_number : (a b : ℕ) → (a == b) ≡ true → a ≡ b
+pub same_number : (a b : ℕ) → (a == b) ≡ true → a ≡ b
 same_number a b e = grind (arith, nat_tests)
 
 -- a number has one named type
-one_type : (a b : RecordType) → IsNamedType a → IsNamedType b → type_number a ≡ type_number b → a ≡ b
+pub one_type : (a b : RecordType) → IsNamedType a → IsNamedType b → type_number a ≡ type_number b → a ≡ b
 one_type a b named named' e = sym named ∙ ap (λ n. type_of n) e ∙ named'
 
 named_at : (xs : List RecordSetValue) (i : ℕ) (d : RecordSetValue) → i < length xs → HaveNamedTypes xs → IsNamedType (get_or xs i d).record_type

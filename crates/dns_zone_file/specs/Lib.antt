@@ -5,3 +5,5 @@ pub mod Entry
 pub mod Context
 pub mod Parsing
 pub mod internal
+pub mod Parsed
+pub mod Printed

@@ -186,7 +186,8 @@ impl Context {
 
     /// Parses the entry of a record.
     fn parse_record(&self, alloc: Global, tokens: &[Token<'_>]) -> Result<ParsedRecord, EntryError>
-        ensures ok { IfOk result (λ p. ReadsRecord self.now (map lexeme tokens.now) p.stated p.parsed) }
+        ensures ok { IfOk result (λ p.
+            ReadsRecord self.now (map lexeme tokens.now) p.stated p.parsed) }
         ensures named { IfOk result (λ p. IsNamedType (data_type p.parsed.rdata)) }
         ensures refused { IfErr result (IsFault (RefusesRecord self.now (map lexeme tokens.now))) }
     {
@@ -301,7 +302,8 @@ fn parse_rdata(
     tokens: &[Token<'_>],
     origin: &Name,
 ) -> Result<RData, EntryError>
-    ensures parsed { IfOk result (IsParsedData (Some origin.now) record_type (map lexeme tokens.now)) }
+    ensures parsed { IfOk result (IsParsedData (Some origin.now) record_type
+        (map lexeme tokens.now)) }
     ensures named { IfOk result (λ d. IsNamedType (data_type d)) }
     ensures refused { IfErr result (IsFault
         (IsDataFault (RefusesText (Some origin.now) record_type (map lexeme tokens.now)))) }

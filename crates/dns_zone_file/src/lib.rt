@@ -3,6 +3,7 @@
 //! - `parser`: the parser of a text; `entry`: its entries, and the arguments of directives; `fields`: owner, TTL, class and
 //!   type of a record; `context`: what entries determine for those after them;
 //! - `record_sets`: record sets by owner and type;
+//! - `laws`: theorems about the definitions of this crate;
 //! - `error`: why a text cannot be parsed.
 #![tactic(auto)]
 
@@ -10,6 +11,7 @@ mod context;
 mod entry;
 mod error;
 mod fields;
+pub mod laws;
 mod parser;
 mod record_sets;
 

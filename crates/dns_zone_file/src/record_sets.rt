@@ -46,6 +46,13 @@ impl RecordSets {
         self.sets.as_slice()
     }
 
+    /// Returns the sets by value, in their order.
+    pub fn into_vec(self) -> Vec<RecordSet>
+        ensures { result.items ≡ self }
+    {
+        self.sets
+    }
+
     /// Returns the number of sets.
     pub fn len(&self) -> usize
         ensures { result ≡ length self.now }
