@@ -15,7 +15,7 @@ use crate::op_code::OpCode;
 use crate::query::Query;
 use dns_data::RData;
 use dns_names::Name;
-use dns_records::{Record, RecordSet, RrsetRecords, Sequence};
+use dns_records::{Record, RecordSet, Sequence};
 use dns_wire::{DNSClass, RecordType};
 use std::alloc::{AllocError, Global};
 
@@ -29,9 +29,8 @@ pub fn create(
 ) -> Result<Message, AllocError>
     ensures { IfOk result (λ message. message ≡ create_message id rrset origin use_edns) }
 {
-    let record_type = rrset.record_type();
-    let absent = empty_record(alloc, DNSClass::NONE, rrset.name().clone()?, record_type)?;
-    addition_of(alloc, id, rrset, origin, use_edns, absent)
+    let prerequisites = absent(alloc, &rrset)?;
+    addition_of(alloc, id, rrset, origin, use_edns, prerequisites)
 }
 
 /// Creates an update that adds a set of records to those of its owner and type. If `must_exist`, the zone must have some
@@ -64,8 +63,10 @@ pub fn compare_and_swap(
     ensures { IfOk result (λ message.
         message ≡ compare_and_swap_message id current new origin use_edns) }
 {
-    let zones = zone_section(alloc, origin, new.dns_class())?;
-    let (prerequisites, updates) = swap_sections(alloc, current, new)?;
+    let prerequisites = required(alloc, current.as_slice())?;
+    let dns_class = new.dns_class();
+    let updates = replacement(current, new)?;
+    let zones = zone_section(alloc, origin, dns_class)?;
     Ok(message_of(alloc, id, zones, use_edns, prerequisites, updates))
 }
 
@@ -80,10 +81,7 @@ pub fn delete_by_rdata(
     ensures { IfOk result (λ message. message ≡ delete_by_rdata_message id rrset origin use_edns) }
 {
     let zones = zone_section(alloc, origin, rrset.dns_class())?;
-    let mut deletions = rrset;
-    deletions.set_ttl(0);
-    deletions.set_dns_class(DNSClass::NONE);
-    let updates = Sequence::from_vec(deletions.into_parts().records);
+    let updates = Sequence::from_vec(deletions_of(rrset));
     Ok(message_of(alloc, id, zones, use_edns, Sequence::new(alloc), updates))
 }
 
@@ -198,6 +196,15 @@ fn empty_record(
     Ok(Sequence::from_vec(Vec::from_array(alloc, [empty])?))
 }
 
+/// The prerequisite that the zone has no records of a set's owner and type.
+fn absent(alloc: Global, rrset: &RecordSet) -> Result<Sequence<Record>, AllocError>
+    ensures { IfOk result (λ section.
+        section ≡ empty_record classes.NONE rrset.now.name rrset.now.record_type ∷ []) }
+{
+    let record_type = rrset.record_type();
+    empty_record(alloc, DNSClass::NONE, rrset.name().clone()?, record_type)
+}
+
 /// The prerequisite that the zone has records of a set's owner and type, if it must.
 fn existing(
     alloc: Global,
@@ -214,42 +221,42 @@ fn existing(
     empty_record(alloc, DNSClass::ANY, rrset.name().clone()?, record_type)
 }
 
-/// The prerequisites and the updates that replace a set by another.
-fn swap_sections(
-    alloc: Global,
-    current: RecordSet,
-    new: RecordSet,
-) -> Result<(Sequence<Record>, Sequence<Record>), AllocError>
-    ensures { IfOk result (λ sections. (sections.0 ≡ each_with_ttl 0 current.records)
-        × (sections.1 ≡ as_deletions current.records ++ new.records)) }
+/// Returns the records of a set as deletions of their data.
+fn deletions_of(rrset: RecordSet) -> Vec<Record>
+    ensures { result.items ≡ as_deletions rrset.records }
 {
-    let mut replaced = current;
-    replaced.set_ttl(0);
-    let required = copy_set(alloc, &replaced)?;
-    replaced.set_dns_class(DNSClass::NONE);
-    let mut updates = replaced.into_parts().records;
+    let mut deletions = rrset;
+    deletions.set_ttl(0);
+    deletions.set_dns_class(DNSClass::NONE);
+    deletions.into_parts().records
+}
+
+/// Returns the updates that delete the data of a set and then add the records of another.
+fn replacement(current: RecordSet, new: RecordSet) -> Result<Sequence<Record>, AllocError>
+    ensures { IfOk result (λ updates. updates ≡ as_deletions current.records ++ new.records) }
+{
+    let mut updates = deletions_of(current);
     let mut additions = new.into_parts().records;
     updates.append(&mut additions)?;
-    Ok((Sequence::from_vec(required), Sequence::from_vec(updates)))
+    Ok(Sequence::from_vec(updates))
 }
 
-/// Copies records.
-fn copy_records(alloc: Global, records: &[Record]) -> Result<Vec<Record>, AllocError>
-    ensures { IfOk result (λ copies. copies.items ≡ records.now) }
+/// Copies a record, with a TTL of 0.
+fn copy_without_ttl(resource_record: &Record) -> Result<Record, AllocError>
+    ensures { IfOk result (λ copy. copy ≡ record resource_record.now { ttl = 0 }) }
 {
-    let mut copies = Vec::new(alloc);
+    let mut copy = resource_record.clone()?;
+    copy.ttl = 0;
+    Ok(copy)
+}
+
+/// The prerequisite that the zone has the data of these records.
+fn required(alloc: Global, records: &[Record]) -> Result<Sequence<Record>, AllocError>
+    ensures { IfOk result (λ section. section ≡ each_with_ttl 0 records.now) }
+{
+    let mut section = Sequence::new(alloc);
     for resource_record in records {
-        copies.push(resource_record.clone()?)?;
+        section.push(copy_without_ttl(resource_record)?)?;
     }
-    Ok(copies)
-}
-
-/// Copies the records of a set.
-fn copy_set(alloc: Global, set: &RecordSet) -> Result<Vec<Record>, AllocError>
-    ensures { IfOk result (λ copies. copies.items ≡ set.now.records) }
-{
-    match set.records() {
-        RrsetRecords::Empty => Ok(Vec::new(alloc)),
-        RrsetRecords::RecordsOnly(records) => copy_records(alloc, records),
-    }
+    Ok(section)
 }
