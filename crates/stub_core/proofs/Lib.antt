@@ -1,0 +1,4 @@
+pub mod AttemptedNamesLaws
+pub mod AttemptedNamesRows
+pub mod RequestRows
+pub mod SpecialNamesRows

@@ -1,0 +1,3 @@
+pub mod AttemptedNames
+pub mod Request
+pub mod SpecialNames
