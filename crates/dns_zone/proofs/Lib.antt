@@ -1,6 +1,12 @@
 pub mod AnswerLaws
-pub mod DataLaws
+pub mod FirstLaws
+pub mod InsertedLaws
+pub mod KeptLaws
+pub mod LineLaws
 pub mod ListLaws
+pub mod LoadLaws
+pub mod PrintableLaws
+pub mod PrintedLaws
 pub mod RowLaws
+pub mod SectionLaws
 pub mod ServingLaws
-pub mod TextLaws

@@ -1,5 +1,5 @@
 -- Lists, as loops walk over them.
-use Rattle.std.proofs.Common.{not, zero, set, ◌≡◌, ◌+◌, ◌<◌, ◌≤◌, ℕ, Bool, true, false, cond, ◌||◌, List, [], ◌∷◌, ◌++◌, refl, sym, ap, ◌∙◌, subst, length, drop, get_or, arith, suc, drop-cons, add-one}
+use Rattle.std.proofs.Common.{not, zero, ◌≡◌, ◌+◌, ◌<◌, ◌≤◌, ℕ, Bool, true, false, cond, ◌||◌, List, [], ◌∷◌, sym, ap, ◌∙◌, subst, length, drop, get_or, arith, suc, drop-cons, add-one}
 use Rattle.std.proofs.lemmas.List.{drop_all}
 use Rattle.std.specs.List.{list_any, position_or_len, AllByRecursion}
 
@@ -28,28 +28,10 @@ next_place i n = omega arith
 pub position_passed : {A : Type 0} (p : A → Bool) (xs : List A) (i : ℕ) (x : A) → i < length xs → x ≡ get_or xs i x → p x ≡ false → i + position_or_len p (drop i xs) ≡ (i + 1) + position_or_len p (drop (i + 1) xs)
 position_passed p xs i x h e f = ap (λ ys. i + position_or_len p ys) (drop_at xs i x h e) ∙ ap (λ b. i + cond (not b) (1 + position_or_len p (drop (i + 1) xs)) 0) f ∙ next_place i _
 
-pub All-set : {A : Type 0} (P : A → Type 0) (xs : List A) (i : ℕ) (y : A) → AllByRecursion P xs → P y → AllByRecursion P (set xs i y)
-All-set P [] i y all q = tt
-All-set P (x ∷ xs) zero y all q = (q, all.1)
-All-set P (x ∷ xs) (suc i) y all q = (all.0, All-set P xs i y all.1 q)
-
 pub All-at : {A : Type 0} (P : A → Type 0) (xs : List A) (i : ℕ) (x : A) → AllByRecursion P xs → i < length xs → x ≡ get_or xs i x → P x
 All-at P [] i x all h e = absurd (omega arith)
 All-at P (y ∷ ys) zero x all h e = subst P (sym e) all.0
 All-at P (y ∷ ys) (suc i) x all h e = All-at P ys i x all.1 (omega arith) e
 
-pub All-push : {A : Type 0} (P : A → Type 0) (xs : List A) (y : A) → AllByRecursion P xs → P y → AllByRecursion P (xs ++ y ∷ [])
-All-push P [] y all q = (q, tt)
-All-push P (x ∷ xs) y all q = (all.0, All-push P xs y all.1 q)
-
 pub position_found : {A : Type 0} (p : A → Bool) (xs : List A) (i : ℕ) (x : A) → i < length xs → x ≡ get_or xs i x → p x ≡ true → i + position_or_len p (drop i xs) ≡ i
 position_found p xs i x h e f = ap (λ ys. i + position_or_len p ys) (drop_at xs i x h e) ∙ ap (λ b. i + cond (not b) (1 + position_or_len p (drop (i + 1) xs)) 0) f ∙ no_more i
-
-pub get_or_inside : {A : Type 0} (xs : List A) (i : ℕ) (x y : A) → i < length xs → get_or xs i x ≡ get_or xs i y
-get_or_inside [] i x y h = absurd (omega arith)
-get_or_inside (z ∷ xs) zero x y h = refl
-get_or_inside (z ∷ xs) (suc i) x y h = get_or_inside xs i x y (omega arith)
-
-pub empty_of_length : {A : Type 0} (xs : List A) → length xs ≡ 0 → xs ≡ []
-empty_of_length [] e = refl
-empty_of_length (x ∷ xs) e = absurd (omega arith)

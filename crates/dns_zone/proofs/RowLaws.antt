@@ -1,36 +1,27 @@
 -- The rows of sets: where a set stands, and what one more row makes of them.
 use Rattle.std.proofs.lemmas.List.{length-map}
-use Rattle.std.proofs.Common.{◌≡◌, ◌==◌, ◌≢◌, ◌<◌, ◌≤◌, ℕ, Bool, true, false, cond, ◌&&◌, ◌||◌, List, [], ◌∷◌, ◌++◌, map, refl, sym, ap, ◌∙◌, subst, length, length-append, not, set, get_or, arith, Option, Some, None, unwrap_or}
+use Rattle.std.proofs.Common.{◌≡◌, ◌==◌, ◌≢◌, ◌<◌, ◌≤◌, ℕ, Bool, true, false, cond, ◌&&◌, ◌||◌, List, [], ◌∷◌, map, refl, sym, ap, ◌∙◌, subst, length, get_or, arith, Option, Some, None, unwrap_or}
 use Rattle.std.specs.List.{list_any, position_or_len}
 use Rattle.std.specs.Ordering.{eq_by_cmp, nat_cmp, ordering_then}
 use Rattle.std.proofs.Common.{Ordering, Less, Equal, Greater}
-use Rattle.std.specs.Cmp.{IsTotalOrder, both_tied, then_total, on_total, nat_cmp_total, unsigned_ties, eq_by_cmp_equiv}
+use Rattle.std.specs.Cmp.{IsTotalOrder, both_tied, then_total, on_total, nat_cmp_total, unsigned_ties}
 use Rattle.std.specs.Cmp.Lexicographic.{slice_cmp, lists_total, lists_ties, texts_ties, nat_list_cmp_total, pointwise}
-use Rattle.std.proofs.lemmas.Bool.{eqb-true}
-use Rattle.std.specs.Bool.{beq}
 use Rattle.std.specs.Str.{bytes_eq, str_to_ascii_lowercase}
 use Rattle.std.specs.List as list
 use Rattle.std.specs.FinMap as rows_map
-use Rattle.std.proofs.lemmas.List.{map-append}
 use Rattle.std.proofs.lemmas.Str.Ascii.{lowercase-lowercase}
-use Rattle.std.proofs.lemmas.List.Folds.{find_at, find-set, find_past}
-use Rattle.std.proofs.lemmas.List.Sums.{passes_at_first}
+use Rattle.std.proofs.lemmas.List.Folds.{find_at}
 use Rattle.std.proofs.lemmas.Option.{slice_get-get_or, slice_get_past}
 use Rattle.std.specs.List.{slice_get}
-use Rattle.dns_data.specs.declared.rdata.RData.{RData}
-use Rattle.dns_data.specs.rdata.{data_type, same_data}
-use Rattle.dns_zone.proofs.ListLaws.{All-push, All-set, All-at}
+use Rattle.dns_zone.proofs.ListLaws.{All-at}
 use Rattle.std.specs.FinMap.{IsAntisymmetric, slice_cmp-IsAntisymmetric, nat_cmp-IsAntisymmetric}
 use Rattle.std.specs.FinMap.Entries.{find, put, by_order}
-use Rattle.dns_codes.specs.RecordType.{type_number, type_of}
-use Rattle.dns_codes.specs.declared.record_type.RecordType.TheVariants as types
+use Rattle.dns_codes.specs.RecordType.{type_number}
 use Rattle.dns_codes.specs.declared.record_type.RecordType.{RecordType}
-use Rattle.dns_names.specs.Name.{DomainName}
-use Rattle.dns_names.specs.Compare.{lower, same_labels, same_name, at_or_below}
+use Rattle.dns_names.specs.Compare.{lower, same_labels, at_or_below}
 use Rattle.dns_records.specs.declared.row.Row.{Row}
-use Rattle.dns_records.specs.Record.{Record}
-use Rattle.dns_records.specs.RecordSet.{RecordSetValue, record_data, has_data, is_addition, added, supersedes, inserted, accepts_record, with_record}
-use Rattle.dns_zone.specs.Rows.{Key, key, key_cmp, set_key, row_data, row_of, rows_of, rows_of_sets, rows_at, with_row, some_row_below, IsSoundRow, IsSoundSet, AreSoundRows, AreSoundSets, HasNoEmptySet}
+use Rattle.dns_records.specs.RecordSet.{RecordSetValue}
+use Rattle.dns_zone.specs.Rows.{Key, key, key_cmp, set_key, row_of, rows_of, rows_of_sets, rows_at, some_row_below, IsSoundSet, AreSoundRows, AreSoundSets, HasNoEmptySet}
 
 -- ---- the order of keys
 
@@ -64,13 +55,13 @@ keys_tie a b t u = both_tied _ _ _ _ (labels_tie a b) (unsigned_ties (type_numbe
 
 -- ---- looking a set up
 
-abbrev tied : Key → RecordSetValue → Bool
+abbrev pub tied : Key → RecordSetValue → Bool
 tied q s = eq_by_cmp key_cmp q (set_key s)
 
 abbrev entries_of : List RecordSetValue → List (Key × List Row)
 entries_of sets = map (λ (s : RecordSetValue). (set_key s, rows_of s.records)) sets
 
-pub rows_if : Option RecordSetValue → Option (List Row)
+unfoldable pub rows_if : Option RecordSetValue → Option (List Row)
 rows_if None = None
 rows_if (Some s) = Some (rows_of s.records)
 
@@ -99,145 +90,19 @@ pub rows_nowhere : (sets : List RecordSetValue) (owner : List (List ℕ)) (t : R
     → rows_at (rows_of_sets sets) owner t ≡ []
 rows_nowhere sets owner t i e h = ap (λ o. unwrap_or o []) (get-sets sets (key owner t) ∙ find_none sets (key owner t) i e h)
 
--- ---- one more row
-
--- what an insertion leaves: the items, the new one alone, or the items and the new one behind them
-inserted_one : {A : Type 0} (Q : List A → Type 0) (rdata : A → RData) (xs : List A) (x : A) → Q xs → Q (x ∷ []) → Q (xs ++ x ∷ []) → Q (inserted rdata xs x)
-inserted_one {A} Q rdata xs x kept alone last = by_type (data_type (rdata x))
-  where
-    by_type : (t : RecordType) → Q (cond (is_addition rdata t xs x) (added t xs x) xs)
-    by_type types.CNAME = alone
-    by_type types.SOA = elim (is_addition rdata types.SOA xs x) as (λ b. Q (cond b (x ∷ []) xs)) [ true ↦ alone | false ↦ kept ]
-    by_type other = elim (has_data rdata xs (rdata x)) as (λ b. Q (cond (not b) (xs ++ x ∷ []) xs)) [ true ↦ kept | false ↦ last ]
-
-inserted_first : (row : Row) → inserted row_data [] row ≡ row ∷ []
-inserted_first row = by_type (data_type row.rdata)
-  where
-    by_type : (t : RecordType) → cond (is_addition row_data t [] row) (added t [] row) [] ≡ row ∷ []
-    by_type types.CNAME = refl
-    by_type types.SOA = refl
-    by_type other = refl
-
--- a record is inserted in a set as its row is among the rows of the set
-row_with_data : (records : List Record) (d : RData) → has_data record_data records d ≡ has_data row_data (rows_of records) d
-row_with_data [] d = refl
-row_with_data (r ∷ rs) d = ap (λ b. same_data r.rdata d || b) (row_with_data rs d)
-
-rows_inserted : (records : List Record) (r : Record) → rows_of (inserted record_data records r) ≡ inserted row_data (rows_of records) (row_of r)
-rows_inserted records r = by_type (data_type r.rdata)
-  where
-    by_type : (t : RecordType) → rows_of (cond (is_addition record_data t records r) (added t records r) records) ≡ cond (is_addition row_data t (rows_of records) (row_of r)) (added t (rows_of records) (row_of r)) (rows_of records)
-    by_type types.CNAME = refl
-    by_type types.SOA = soa records
-      where
-        soa : (rs : List Record) → rows_of (cond (is_addition record_data types.SOA rs r) (r ∷ []) rs) ≡ cond (is_addition row_data types.SOA (rows_of rs) (row_of r)) (row_of r ∷ []) (rows_of rs)
-        soa [] = refl
-        soa (old ∷ more) = elim (supersedes r.rdata old.rdata) as (λ b. rows_of (cond b (r ∷ []) (old ∷ more)) ≡ cond b (row_of r ∷ []) (row_of old ∷ rows_of more)) [ true ↦ refl | false ↦ refl ]
-    by_type other =
-        elim (has_data record_data records r.rdata) as (λ b. rows_of (cond (not b) (records ++ r ∷ []) records) ≡ cond (not b) (rows_of records ++ row_of r ∷ []) (rows_of records)) [
-          | true ↦ refl
-          | false ↦ map-append row_of records (r ∷ [])
-        ] ∙ ap (λ b. cond (not b) (rows_of records ++ row_of r ∷ []) (rows_of records)) (row_with_data records r.rdata)
-
-pub set_inserted : (s : RecordSetValue) (r : Record) (serial : ℕ) → rows_of (with_record s r serial).records ≡ inserted row_data (rows_of s.records) (row_of r)
-set_inserted s r serial = ap rows_of (by_test (accepts_record s r) refl) ∙ rows_inserted s.records r
-  where
-    by_test : (b : Bool) → accepts_record s r ≡ b → (cond b (record s { ttl = r.ttl; serial = serial; records = inserted record_data s.records r }) s).records ≡ inserted record_data s.records r
-    by_test true e = refl
-    by_test false e = sym (ap (λ b. cond b (added (data_type r.rdata) s.records r) s.records) e)
-
--- an insertion leaves owner and type
-same_head : (s : RecordSetValue) (r : Record) (serial : ℕ) → ((with_record s r serial).name ≡ s.name) × ((with_record s r serial).record_type ≡ s.record_type)
-same_head s r serial = elim (accepts_record s r) as (λ b. ((cond b (record s { ttl = r.ttl; serial = serial; records = inserted record_data s.records r }) s).name ≡ s.name) × ((cond b (record s { ttl = r.ttl; serial = serial; records = inserted record_data s.records r }) s).record_type ≡ s.record_type)) [ true ↦ (refl, refl) | false ↦ (refl, refl) ]
-
-pub new_set : (sets : List RecordSetValue) (s : RecordSetValue) (owner : List (List ℕ)) (row : Row) (i : ℕ) → i ≡ position_or_len (tied (key owner (data_type row.rdata))) sets → length sets ≤ i
-    → s.name.labels ≡ owner → s.record_type ≡ data_type row.rdata → rows_of s.records ≡ row ∷ []
-    → rows_of_sets (sets ++ s ∷ []) ≡ with_row (rows_of_sets sets) owner row
-new_set sets s owner row i e h n t r =
-    let k : Key = key owner (data_type row.rdata) in
-    let none : find key_cmp k (entries_of sets) ≡ None = find_set k sets ∙ find_none sets k i e h in
-    let entry : ◌≡◌ {A = Key × List Row} (set_key s, rows_of s.records) (k, row ∷ []) = λ j. (key (n j) (t j), r j) in
-    let pushed : rows_of_sets (sets ++ s ∷ []) ≡ rows_map.insert (rows_of_sets sets) k (row ∷ []) =
-    ap (rows_map.from_entries {R = key_cmp}) (map-append (λ (s : RecordSetValue). (set_key s, rows_of s.records)) sets (s ∷ []) ∙ ap (λ x. entries_of sets ++ x ∷ []) entry)
-    ∙ rows_map.from_entries_push key_total key_antisymmetric (entries_of sets) k (row ∷ []) none in
-    pushed ∙ ap (rows_map.insert (rows_of_sets sets) k) (sym (ap (λ rows. inserted row_data rows row) (rows_nowhere sets owner (data_type row.rdata) i e h) ∙ inserted_first row))
-
-first_place : (q k : Key) (sets : List RecordSetValue) → eq_by_cmp key_cmp q k ≡ true → position_or_len (tied q) sets ≡ position_or_len (tied k) sets
-first_place q k sets e = λ i. position_or_len (λ s. (eq_by_cmp_equiv key_total).congr q k (set_key s) e i) sets
-
-place_passes : (p : RecordSetValue → Bool) (sets : List RecordSetValue) (i : ℕ) (x : RecordSetValue) → i ≡ position_or_len p sets → i < length sets → x ≡ get_or sets i x → p x ≡ true
-place_passes p sets i x e h is = ap p (is ∙ ap (λ n. get_or sets n x) e) ∙ passes_at_first p sets x (subst (λ n. n < length sets) e h)
-
-found_at : (q k : Key) (sets : List RecordSetValue) (i : ℕ) (x y : RecordSetValue) (b : Bool) → eq_by_cmp key_cmp q k ≡ b
-    → i ≡ position_or_len (tied k) sets → i < length sets → x ≡ get_or sets i x → set_key y ≡ set_key x
-    → rows_if (list.find (tied q) (set sets i y)) ≡ cond b (Some (rows_of y.records)) (rows_if (list.find (tied q) sets))
-unfolding rows_if
-found_at q k sets i x y true t e h is same =
-    let passes : tied k x ≡ true = place_passes (tied k) sets i x e h is in
-    let here : tied q y ≡ true = ap (eq_by_cmp key_cmp q) same ∙ (eq_by_cmp_equiv key_total).congr q k (set_key x) t ∙ passes in
-    ap rows_if (find-set (tied q) sets i y (e ∙ sym (first_place q k sets t)) h here)
-found_at q k sets i x y false t e h is same =
-    let passes : tied k x ≡ true = place_passes (tied k) sets i x e h is in
-    let equiv = eq_by_cmp_equiv key_total in
-    let there : tied q x ≡ false = equiv.symm q (set_key x) ∙ sym (equiv.congr k (set_key x) q passes) ∙ equiv.symm k q ∙ t in
-    ap rows_if (find_past (tied q) sets i y x (ap (tied q) (sym is) ∙ there) (ap (eq_by_cmp key_cmp q) same ∙ there))
-
-pub old_set : (sets : List RecordSetValue) (x y : RecordSetValue) (owner : List (List ℕ)) (row : Row) (i : ℕ) → i ≡ position_or_len (tied (key owner (data_type row.rdata))) sets → i < length sets → x ≡ get_or sets i x
-    → set_key y ≡ set_key x → rows_of y.records ≡ inserted row_data (rows_of x.records) row
-    → rows_of_sets (set sets i y) ≡ with_row (rows_of_sets sets) owner row
-old_set sets x y owner row i e h is same r =
-    let k : Key = key owner (data_type row.rdata) in
-    let value : rows_of y.records ≡ inserted row_data (rows_at (rows_of_sets sets) owner (data_type row.rdata)) row = r ∙ ap (λ rows. inserted row_data rows row) (sym (rows_there sets owner (data_type row.rdata) i x e h is)) in
-    rows_map.same_map key_total key_antisymmetric _ _ (λ q.
-    get-sets (set sets i y) q
-    ∙ found_at q k sets i x y (eq_by_cmp key_cmp q k) refl e h is same
-    ∙ (λ j. cond (eq_by_cmp key_cmp q k) (Some (value j)) (sym (get-sets sets q) j))
-    ∙ sym (rows_map.get-insert key_total (rows_of_sets sets) k _ q))
-
-pub set_with_record : (sets : List RecordSetValue) (x y : RecordSetValue) (r : Record) (serial : ℕ) (i : ℕ) → i ≡ position_or_len (tied (key r.name.labels (data_type r.rdata))) sets → i < length sets → x ≡ get_or sets i x
-    → y ≡ with_record x r serial → rows_of_sets (set sets i y) ≡ with_row (rows_of_sets sets) r.name.labels (row_of r)
-set_with_record sets x y r serial i e h is same =
-    let head = same_head x r serial in
-    old_set sets x y r.name.labels (row_of r) i e h is
-    (ap set_key same ∙ (λ j. key (head.0 j).labels (head.1 j)))
-    (ap (λ (s : RecordSetValue). rows_of s.records) same ∙ set_inserted x r serial)
-
--- ---- soundness
-
--- what an insertion in the set at a place asks for
-tied_parts : (a b : Bool) → (a && b) ≡ true → (a ≡ true) × (b ≡ true)
-tied_parts true b e = (refl, e)
-tied_parts false b e = absurd (subst (λ x. cond x ⊥ (Unit {0})) e tt)
-
-tied_there : (sets : List RecordSetValue) (owner : List (List ℕ)) (t : RecordType) (i : ℕ) (x : RecordSetValue) → i ≡ position_or_len (tied (key owner t)) sets → i < length sets → x ≡ get_or sets i x
-    → (same_labels owner x.name.labels ≡ true) × ((type_number t == type_number x.record_type) ≡ true)
-tied_there sets owner t i x e h is = tied_parts _ _ (keys_tie owner x.name.labels t x.record_type ∙ place_passes (tied (key owner t)) sets i x e h is)
-
-pub same_owner : (sets : List RecordSetValue) (owner : DomainName) (t : RecordType) (i : ℕ) (x : RecordSetValue) → i ≡ position_or_len (tied (key owner.labels t)) sets → i < length sets → x ≡ get_or sets i x
-    → owner.is_fqdn ≡ true → AreSoundSets sets → same_name owner x.name ≡ true
-same_owner sets owner t i x e h is fqdn all =
-    let there = tied_there sets owner.labels t i x e h is in
-    λ j. beq (fqdn j) ((All-at IsSoundSet sets i x all h is).fqdn j) && there.0 j
-
-pub same_type : (sets : List RecordSetValue) (owner : List (List ℕ)) (t : RecordType) (i : ℕ) (x : RecordSetValue) → i ≡ position_or_len (tied (key owner t)) sets → i < length sets → x ≡ get_or sets i x
-    → type_of (type_number t) ≡ t → AreSoundSets sets → t ≡ x.record_type
-same_type sets owner t i x e h is named all =
-    let there = tied_there sets owner t i x e h is in
-    sym named ∙ ap type_of (eqb-true (type_number t) (type_number x.record_type) there.1) ∙ (All-at IsSoundSet sets i x all h is).type_named
-
 -- ---- names above rows
 
 label_twice : (l : List ℕ) → str_to_ascii_lowercase (str_to_ascii_lowercase l) ≡ str_to_ascii_lowercase l
 label_twice [] = refl
 label_twice (c ∷ cs) = λ i. lowercase-lowercase c i ∷ label_twice cs i
 
-same_lower : (a b : List (List ℕ)) → same_labels a (lower b) ≡ same_labels a b
+pub same_lower : (a b : List (List ℕ)) → same_labels a (lower b) ≡ same_labels a b
 same_lower [] [] = refl
 same_lower [] (y ∷ ys) = refl
 same_lower (x ∷ xs) [] = refl
 same_lower (x ∷ xs) (y ∷ ys) = λ i. bytes_eq (str_to_ascii_lowercase x) (label_twice y i) && same_lower xs ys i
 
-below_lower : (o a : List (List ℕ)) → at_or_below o (lower a) ≡ at_or_below o a
+pub below_lower : (o a : List (List ℕ)) → at_or_below o (lower a) ≡ at_or_below o a
 below_lower o [] = refl
 below_lower o (x ∷ xs) = λ i. same_lower o (x ∷ xs) i || below_lower o xs i
 
@@ -289,22 +154,6 @@ any_owners name (s ∷ ss) = λ i. sym (below_lower name s.name.labels) i || any
 pub row_below : (sets : List RecordSetValue) (name : List (List ℕ)) → list_any (λ (s : RecordSetValue). at_or_below name s.name.labels) sets ≡ some_row_below (rows_of_sets sets) name
 unfolding keys_pass
 row_below sets name = any_owners name sets ∙ sym (any_entries (λ k. at_or_below name k.0) (entries_of sets))
-
-pub sound_set : (sets : List RecordSetValue) (x y : RecordSetValue) (r : Record) (serial : ℕ) (i : ℕ) → AreSoundSets sets → IsSoundRow (row_of r) → i < length sets → x ≡ get_or sets i x
-    → y ≡ with_record x r serial → AreSoundSets (set sets i y)
-sound_set sets x y r serial i all sound h is same =
-    let old = All-at IsSoundSet sets i x all h is in
-    let head = same_head x r serial in
-    let rows = set_inserted x r serial in
-    let some : 0 < length (rows_of x.records) = omega (arith, old.filled, length-map x.records row_of) in
-    let filled : 0 < length (inserted row_data (rows_of x.records) (row_of r)) =
-    inserted_one (λ rows. 0 < length rows) row_data (rows_of x.records) (row_of r) some (omega arith) (omega (arith, length-append (rows_of x.records) (row_of r ∷ []))) in
-    subst (λ s. AreSoundSets (set sets i s)) (sym same) (All-set IsSoundSet sets i (with_record x r serial) all (record {
-      fqdn = ap (λ (name : DomainName). name.is_fqdn) head.0 ∙ old.fqdn;
-      type_named = ap (λ t. type_of (type_number t)) head.1 ∙ old.type_named ∙ sym head.1;
-      filled = omega (arith, filled, ap (λ (rows : List Row). length rows) rows, length-map (with_record x r serial).records row_of);
-      rows = subst AreSoundRows (sym rows) (inserted_one AreSoundRows row_data (rows_of x.records) (row_of r) old.rows (sound, tt) (All-push IsSoundRow (rows_of x.records) (row_of r) old.rows sound));
-    }))
 
 pub sound_there : (sets : List RecordSetValue) (i : ℕ) (x : RecordSetValue) → AreSoundSets sets → i < length sets → x ≡ get_or sets i x → AreSoundRows (rows_of x.records)
 sound_there sets i x all h is = (All-at IsSoundSet sets i x all h is).rows

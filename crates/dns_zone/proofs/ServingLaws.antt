@@ -1,14 +1,12 @@
 -- Requests and replies.
-use Rattle.std.proofs.Common.{◌≡◌, ◌&&◌, ◌<◌, ◌≤◌, ◌^◌, ◌/◌, get_or, ℕ, Bool, true, false, cond, List, [], ◌∷◌, refl, sym, ap, ◌∙◌, subst, length, arith, lit<, Option, Some, None, Result, Ok, Err, not}
-use Rattle.std.specs.Prelude.{nat_le, IfSome, IfOk}
+use Rattle.std.proofs.Common.{◌≡◌, ◌&&◌, ◌<◌, ◌≤◌, get_or, ℕ, Bool, true, false, cond, List, [], ◌∷◌, refl, sym, ap, ◌∙◌, subst, length, arith, lit<, Option, Some, None, not}
+use Rattle.std.specs.Prelude.{IfSome}
 use Rattle.std.proofs.lemmas.Bool.{true≢false, le-leb}
 use Rattle.std.specs.List.{AllByRecursion}
 use Rattle.std.proofs.lemmas.List.{get_or-take}
 use Rattle.dns_wire.specs.Name.{name_len}
 use Rattle.dns_wire.specs.Encodable.{Plain, start_position}
 use Rattle.dns_wire.proofs.SectionLaws.{reach-most}
-use Rattle.dns_data.specs.declared.rdata.RData.TheVariants as of
-use Rattle.dns_data.specs.rdata.{IsSoundData}
 use Rattle.dns_messages.specs.declared.query.Query.{Query}
 use Rattle.dns_messages.specs.declared.message.Message.{Message}
 use Rattle.dns_messages.specs.declared.edns.Edns.{Edns}
@@ -25,7 +23,9 @@ use Rattle.dns_messages.specs.Grammar.{ReadsMessage, extended}
 use Rattle.dns_records.specs.Record.{Record}
 use Rattle.dns_zone.specs.Rows.{ZoneContent}
 use Rattle.dns_zone.specs.Answer.{answer, IsSoundAnswer}
-use Rattle.dns_zone.specs.Serving.{has_query_header, bare_reply, query_reply, reply_metadata, reply_edns, reply, reply_limit, IsReplyTo}
+use Rattle.dns_zone.specs.Section.{borrowed_answer}
+use Rattle.dns_zone.specs.Serving.{has_query_header, bare_reply, query_reply, reply_metadata, reply_edns, reply_to_queries, reply_by_code, reply, reply_limit, IsReplyTo}
+use Rattle.dns_zone.specs.declared.zone.answer.AnswerRef.{AnswerRef}
 use Rattle.dns_zone.specs.declared.road.Road.{Road}
 
 -- ---- the header
@@ -140,23 +140,20 @@ query_sound zone m q op one sound request =
       signature = tt;
     }
 
--- ---- the reply to the only question, unless memory was refused
+-- ---- the reply to the only question
 
 pub only_item : {A : Type 0} (xs : List A) (x : A) → 1 ≤ length xs → length xs < 2 → x ≡ get_or xs 0 x → xs ≡ x ∷ []
 only_item [] x least below e = absurd (omega (arith, least))
 only_item {A} (y ∷ []) x least below e = ap (λ (z : A). z ∷ []) (sym e)
 only_item (y ∷ z ∷ more) x least below e = absurd (omega (arith, below))
 
-pub sound_if_ok : {E : Type 0} (zone : ZoneContent) (m : Message) (q : Query) (r : Result Message E)
-    → IfOk r (λ w. w ≡ query_reply zone m q) → IfOk r (λ w. q.name.is_fqdn ≡ true → IsSoundAnswer (answer zone q))
-    → m.metadata.op_code ≡ ops.Query → m.queries ≡ q ∷ [] → IfOk r (λ w. IsSound m → IsSound w)
-sound_if_ok zone m q (Ok w) is sound op one = λ request. subst IsSound (sym is) (query_sound zone m q op one sound request)
-sound_if_ok zone m q (Err error) is sound op one = tt
+-- the reply that repeats the only question, with the borrowed answer to it
+pub is_query_reply : (zone : ZoneContent) (m : Message) (q : Query) (queries : List Query) (a : AnswerRef) → queries ≡ q ∷ [] → borrowed_answer a ≡ answer zone q
+    → ◌≡◌ {A = Message} (record (bare_reply m a.code) { queries = queries; answers = (borrowed_answer a).answers; authorities = (borrowed_answer a).authorities }) (query_reply zone m q)
+is_query_reply zone m q queries a one e = λ i. record (bare_reply m (e i).code) { queries = one i; answers = (e i).answers; authorities = (e i).authorities }
 
-pub short_if_ok : {E : Type 0} (zone : ZoneContent) (m : Message) (q : Query) (r : Result Message E)
-    → IfOk r (λ w. w ≡ query_reply zone m q) → name_len q.name.labels ≤ 255 → IfOk r (λ w. front_reach w ≤ 512)
-short_if_ok zone m q (Ok w) is h = subst (λ (x : Message). front_reach x ≤ 512) (sym is) (question_fits zone m q h)
-short_if_ok zone m q (Err error) is h = tt
+pub is_reply : (zone : ZoneContent) (m : Message) (q : Query) → m.metadata.op_code ≡ ops.Query → m.queries ≡ q ∷ [] → query_reply zone m q ≡ reply zone m
+is_reply zone m q op one = sym (ap (reply_by_code zone m) op ∙ ap (reply_to_queries zone m) one)
 
 -- ---- the bytes of the reply
 

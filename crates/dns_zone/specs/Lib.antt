@@ -1,4 +1,7 @@
 pub mod Rows
 pub mod Answer
-pub mod ZoneText
+pub mod Load
+pub mod Printed
+pub mod Section
 pub mod Serving
+pub mod internal

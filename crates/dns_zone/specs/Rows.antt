@@ -1,26 +1,20 @@
 -- The rows of a zone, and the record sets that it keeps.
-use Rattle.std.specs.Prelude.{◌≡◌, ◌<◌, ◌^◌, length, map, true, false, List, ℕ}
+use Rattle.std.specs.Prelude.{◌≡◌, ◌<◌, ◌^◌, length, map, true, false, List, IfSome}
 use Rattle.std.specs.List.{AllByRecursion}
 use Rattle.std.specs.FinMap as rows_map
 use Rattle.dns_codes.specs.RecordType.{type_number, type_of}
+use Rattle.dns_codes.specs.declared.record_type.RecordType.TheVariants as types
 use Rattle.dns_names.specs.Name.{DomainName}
+use Rattle.dns_names.specs.Compare.{at_or_below, same_labels}
 use Rattle.dns_data.specs.declared.rdata.RData.{RData}
 use Rattle.dns_data.specs.rdata.{data_type, is_update_data, IsSoundData}
 use Rattle.dns_records.specs.declared.row.Row.{Row}
-use Rattle.dns_records.specs.RecordSet.{RecordSetValue, inserted}
+use Rattle.dns_records.specs.RecordSet.{RecordSetValue, AreDistinct, record_data}
+use Rattle.dns_zone_file.specs.Parsed.{is_singleton_type}
 use Rattle.dns_messages.specs.Section.{is_opt_type, is_tsig_type}
 pub use Rattle.dns_records.specs.Rows.{Key, key_cmp, Rows, key, rows_at, some_row_below}
 pub use Rattle.dns_messages.specs.update.Change.{row_of}
 pub use Rattle.dns_messages.specs.update.Builders.{set_key, rows_of, HasNoEmptySet}
-
-abbrev pub row_data : Row → RData
-row_data row = row.rdata
-
--- the rows with one more at an owner, which is inserted among those of its type
-abbrev pub with_row : Rows → List (List ℕ) → Row → Rows
-with_row rows owner row =
-    rows_map.insert rows (key owner (data_type row.rdata))
-    (inserted row_data (rows_at rows owner (data_type row.rdata)) row)
 
 -- what contracts see of a zone: its origin, and its rows
 pub record ZoneContent : Type 0 where
@@ -45,16 +39,41 @@ pub record IsSoundRow (row : Row) : Type 0 where
   pub ttl_fits : row.ttl < 2 ^ 32
   pub rdata : IsSoundRowData row.rdata
 
+abbrev pub row_data : Row → RData
+row_data row = row.rdata
+
 abbrev pub AreSoundRows : List Row → Type 0
 AreSoundRows rows = AllByRecursion IsSoundRow rows
 
--- A set that a zone keeps: its owner is fully qualified, its type is the one of its number, it has a record, and its records
--- can be encoded and decoded again.
+-- A set that a zone keeps: its owner is fully qualified, its type is the one of its number and that of its data, it has a record,
+-- its records can be encoded and decoded again, no two of its data are equal, and a CNAME or SOA record is the only one.
 pub record IsSoundSet (s : RecordSetValue) : Type 0 where
   pub fqdn : s.name.is_fqdn ≡ true
   pub type_named : type_of (type_number s.record_type) ≡ s.record_type
   pub filled : 0 < length s.records
   pub rows : AreSoundRows (rows_of s.records)
+  pub of_type : AllByRecursion (λ r. data_type r.rdata ≡ s.record_type) s.records
+  pub distinct : AreDistinct record_data s.records
+  pub single : is_singleton_type s.record_type ≡ true → length s.records ≡ 1
 
 abbrev pub AreSoundSets : List RecordSetValue → Type 0
 AreSoundSets sets = AllByRecursion IsSoundSet sets
+
+-- ---- zones
+
+-- The rows at a key of a zone: their owner is at or below the origin, there is at least one, they can be encoded and decoded
+-- again, they have the type of the key, no two have equal data, a CNAME or SOA is the only one, and an SOA is at the origin.
+pub record AreRowsAt (origin : DomainName) (k : Key) (rows : List Row) : Type 0 where
+  pub inside : at_or_below origin.labels k.0 ≡ true
+  pub filled : 0 < length rows
+  pub sound : AreSoundRows rows
+  pub of_type : AllByRecursion (λ row. type_number (data_type row.rdata) ≡ k.1) rows
+  pub distinct : AreDistinct row_data rows
+  pub single : is_singleton_type (type_of k.1) ≡ true → length rows ≡ 1
+  pub soa_at_origin : k.1 ≡ 6 → same_labels origin.labels k.0 ≡ true
+
+-- A zone has a fully qualified origin, with exactly one SOA record (RFC 1034 section 4.2.1), and sound rows at each key.
+pub record IsZone (zone : ZoneContent) : Type 0 where
+  pub origin_fqdn : zone.origin.is_fqdn ≡ true
+  pub soa : length (rows_at zone.rows zone.origin.labels types.SOA) ≡ 1
+  pub rows : (k : Key) → IfSome (rows_map.get zone.rows k) (AreRowsAt zone.origin k)

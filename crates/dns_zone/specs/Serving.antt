@@ -1,4 +1,4 @@
--- What a zone's server replies (RFC 1035 sections 4.1 and 4.2, RFC 6891 sections 6 and 7).
+-- The replies of a zone's server (RFC 1035 sections 4.1 and 4.2, RFC 6891 sections 6 and 7).
 use Rattle.std.specs.Prelude.{◌≡◌, ◌≤◌, ◌&&◌, not, nat_le, length, slice_index, min, true, false, Bool, List, [], ◌∷◌, ℕ, Option, Some, None}
 use Rattle.dns_messages.specs.declared.message_type.MessageType.TheVariants as kinds
 use Rattle.dns_messages.specs.declared.op_code.OpCode.{OpCode}
@@ -12,19 +12,21 @@ use Rattle.dns_messages.specs.declared.message.Message.{Message}
 use Rattle.dns_zone.specs.declared.road.Road.{Road}
 use Rattle.dns_zone.specs.declared.road.Road.TheVariants.{Datagram, Stream}
 use Rattle.dns_zone.specs.Rows.{ZoneContent}
-use Rattle.dns_zone.specs.declared.answer.Answer.{Answer}
+use Rattle.dns_zone.specs.declared.zone.answer.Answer.{Answer}
+use Rattle.dns_zone.specs.declared.zone.reply.ReplyRef.{ReplyRef}
 use Rattle.dns_zone.specs.Answer.{answer}
+use Rattle.dns_zone.specs.Section.{borrowed_answer}
 use Rattle.dns_messages.specs.Header.{has_bit}
 use Rattle.dns_messages.specs.Message.{payload_of}
 use Rattle.dns_messages.specs.Cut.{cut, cut_form}
 use Rattle.dns_messages.specs.Grammar.{ReadsMessage}
 
--- Bytes that begin with the header of a query: twelve bytes, with QR clear. All others get no reply, and this is decided
--- before memory is taken.
+-- Whether bytes begin with the header of a query: twelve bytes, with QR clear. There is no reply to any others, and this is
+-- decided before memory is taken.
 abbrev pub has_query_header : List ℕ → Bool
 has_query_header bytes = nat_le 12 (length bytes) && not (has_bit 128 (slice_index bytes 2))
 
--- the server has authority where it found out whether something is there
+-- AA is set if the zone decides whether the records exist
 abbrev pub has_authority : ResponseCode → Bool
 has_authority NoError = true
 has_authority NXDomain = true
@@ -68,13 +70,13 @@ bare_reply m code = record {
   signature = None;
 }
 
--- the reply to a question of a request: the question again, and the zone's answer to it
+-- the reply to a question of a request: the question, and the zone's answer to it
 abbrev pub query_reply : ZoneContent → Message → Query → Message
 query_reply zone m q =
     let a : Answer = answer zone q in
     record (bare_reply m a.code) { queries = q ∷ []; answers = a.answers; authorities = a.authorities }
 
--- the reply to a request with opcode Query: it has exactly one question, or is malformed
+-- the reply to a request with opcode Query, which is malformed unless it has exactly one question
 abbrev pub reply_to_queries : ZoneContent → Message → List Query → Message
 reply_to_queries zone m (q ∷ []) = query_reply zone m q
 reply_to_queries zone m queries = bare_reply m FormErr
@@ -87,8 +89,20 @@ reply_by_code zone m other = bare_reply m NotImp
 abbrev pub reply : ZoneContent → Message → Message
 reply zone m = reply_by_code zone m m.metadata.op_code
 
--- How many bytes a reply may have: in a datagram what the request announces, 512 at least (RFC 6891 section 6.2.3), and no
--- more than the server's own limit; in a stream 65,535 (RFC 1035 sections 4.2.1 and 4.2.2).
+-- the message that a borrowed reply is
+abbrev pub borrowed_reply : ReplyRef → Message
+borrowed_reply r = record {
+  metadata = r.metadata;
+  queries = r.queries.now;
+  answers = (borrowed_answer r.answer).answers;
+  authorities = (borrowed_answer r.answer).authorities;
+  additionals = [];
+  edns = r.edns;
+  signature = None;
+}
+
+-- The maximum size of a reply: in a datagram, what the request announces, at least 512 (RFC 6891 section 6.2.3), and no more
+-- than the server's own maximum; in a stream, 65,535 (RFC 1035 sections 4.2.1 and 4.2.2).
 abbrev pub reply_limit : Road → Message → ℕ
 reply_limit (Datagram limit) m = min limit (payload_of m.edns)
 reply_limit Stream m = 65535
@@ -97,7 +111,7 @@ reply_limit Stream m = 65535
 abbrev pub sent_reply : ZoneContent → Road → Message → Message
 sent_reply zone road m = cut (reply_limit road m) (reply zone m)
 
--- The bytes are those of what is left of the reply to a request, decode to it, and keep its limit.
+-- The bytes are the encoding of what is left of the reply to a request, decode to it, and are within its limit.
 pub record IsReplyTo (zone : ZoneContent) (road : Road) (m : Message) (out : List ℕ) : Type 0 where
   pub form_is : out ≡ cut_form (reply_limit road m) (reply zone m)
   pub decodes : ReadsMessage out (sent_reply zone road m)

@@ -1,20 +1,18 @@
-//! A zone of DNS (RFC 1034, RFC 1035): read from its text, and served, message by message.
+//! Zones of DNS (RFC 1034, RFC 1035): parsed from zone files, and served.
 //!
-//! A zone is the rows of its text, or its first fault; what is served is the zone's answer by one table.
+//! A zone has the rows that its zone file defines. What it answers to a question, one table decides, and its server
+//! encodes the answer without copying a record.
 //!
-//! - `text`, `entries`: a zone's text; `rows`: record sets;
-//! - `zone`: the zone; `answer`: its table; `serve`, `road`: its server.
+//! - `zone`: zones; `zone::load`: the zone of a zone file; `zone::display`: the zone file of a zone; `zone::answer`: its
+//!   answers; `zone::serve`: its replies;
+//! - `rows`: record sets; `road`: the transports of a message;
+//! - `laws`: theorems about the definitions of this crate.
 #![tactic(auto)]
 
-mod answer;
-mod entries;
+pub mod laws;
 mod road;
 mod rows;
-mod serve;
-mod text;
 mod zone;
 
-pub use answer::Answer;
 pub use road::{DatagramLimit, LimitTooSmall, Road};
-pub use text::{parse_name, split_words};
-pub use zone::{Zone, ZoneFault};
+pub use zone::{Answer, Zone, ZoneFault};

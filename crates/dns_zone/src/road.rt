@@ -1,11 +1,11 @@
-//! The roads that a message takes: a datagram, or a stream.
+//! The transports of a message: datagrams and streams.
 
 ghost use Rattle.std.specs.Prelude.{◌≡◌, ◌≤◌, ◌<◌, IfOk, OnErr};
 
 use std::marker::Model;
 use thiserror::Error;
 
-/// How many bytes a server's datagram may have: 512 at least (RFC 1035 section 4.2.1).
+/// The maximum size of the datagrams that a server sends, in bytes. It is at least 512 (RFC 1035 section 4.2.1).
 #[derive(Clone, Copy, Debug, PartialEq, Eq)]
 pub struct DatagramLimit {
     value: u16,
@@ -26,13 +26,13 @@ impl Model for DatagramLimit {
     ghost inverse = { λ number. record { value = number } };
 }
 
-/// A limit below 512 bytes, which every datagram may have.
+/// The error for a maximum size below 512 bytes, which every datagram may have.
 #[derive(Clone, Copy, Debug, PartialEq, Eq, Drop, Error)]
 #[error("a limit of less than 512 bytes")]
 pub struct LimitTooSmall;
 
 impl DatagramLimit {
-    /// The limit of so many bytes. It is refused below 512.
+    /// Creates a maximum size, in bytes. Less than 512 is refused.
     pub fn new(value: u16) -> Result<DatagramLimit, LimitTooSmall>
         ensures ok { IfOk result (λ limit. limit ≡ value) }
         ensures refused { OnErr result (value < 512) }
@@ -43,7 +43,7 @@ impl DatagramLimit {
         Ok(DatagramLimit { value })
     }
 
-    /// So many bytes.
+    /// Returns the maximum size, in bytes.
     pub fn value(self) -> u16
         ensures value { result ≡ self }
         ensures least { 512 ≤ result }
@@ -52,10 +52,11 @@ impl DatagramLimit {
     }
 }
 
-/// The road that a request came on, and its reply goes on.
+/// The transport on which a request arrives and its reply is sent. It limits the size of the reply.
 #[derive(Clone, Copy, Debug, PartialEq, Eq)]
 pub enum Road {
-    /// A datagram (RFC 1035 section 4.2.1).
+    /// A datagram (RFC 1035 section 4.2.1). The reply has at most the server's maximum size, and at most the size that the
+    /// request announces in its OPT record, or 512 bytes (RFC 6891 section 6.2.3).
     Datagram(DatagramLimit),
     /// A stream, whose messages have at most 65,535 bytes (RFC 1035 section 4.2.2).
     Stream,

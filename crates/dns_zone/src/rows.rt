@@ -1,17 +1,15 @@
 //! The record sets of a zone: one for each owner and type (RFC 2181 section 5).
 
-ghost use Rattle.std.specs.Prelude.{◌≡◌, OnOk, true};
-ghost use Rattle.std.specs.FinMap as rows_map;
+ghost use Rattle.std.specs.Prelude.{◌≡◌};
 ghost use Rattle.std.specs.List.{position_or_len};
 ghost use Rattle.std.specs.Ordering.{eq_by_cmp};
-ghost use Rattle.dns_zone.specs.Rows.{key, key_cmp, set_key, row_of, rows_of, rows_of_sets, rows_at, some_row_below, with_row, AreSoundRows, AreSoundSets, IsSoundRow};
+ghost use Rattle.dns_zone.specs.Rows.{key, key_cmp, set_key, rows_of, rows_of_sets, rows_at, some_row_below, AreSoundRows, AreSoundSets};
 
 use dns_names::Name;
 use dns_records::{Record, RecordSet};
 use dns_wire::RecordType;
-use std::alloc::{AllocError, Global};
 
-/// Returns whether a set is the one of an owner and a type.
+/// Returns `true` if a set has this owner and this type.
 fn is_at(set: &RecordSet, name: &Name, record_type: RecordType) -> bool
     ensures { result ≡ eq_by_cmp key_cmp (key name.now.labels record_type) (set_key set.now) }
 {
@@ -31,33 +29,10 @@ fn position(sets: &[RecordSet], name: &Name, record_type: RecordType) -> usize
     sets.len()
 }
 
-/// Inserts a record in the set of its owner and type, or adds a set of this record.
-pub fn insert_record(
-    alloc: Global,
-    sets: &mut Vec<RecordSet>,
-    resource_record: Record,
-) -> Result<(), AllocError>
-    requires fqdn { resource_record.name.is_fqdn ≡ true }
-    requires row { IsSoundRow (row_of resource_record) }
-    requires sets { AreSoundSets sets.old.items }
-    ensures rows { OnOk result (rows_of_sets sets.new.items
-        ≡ with_row (rows_of_sets sets.old.items) resource_record.name.labels (row_of resource_record)) }
-    ensures sound { OnOk result (AreSoundSets sets.new.items) }
-{
-    let record_type = resource_record.record_type();
-    let place = position(sets.as_slice(), &resource_record.name, record_type);
-    if place < sets.len() {
-        sets[place].insert(resource_record, 0)?;
-        return Ok(());
-    }
-    let set = RecordSet::from_record(alloc, resource_record)?;
-    sets.push(set)?;
-    Ok(())
-}
-
 /// Returns the records of a type at a name, in their order.
 pub fn records_at<'a>(sets: &'a [RecordSet], name: &Name, record_type: RecordType) -> &'a [Record]
-    ensures rows { rows_of result.now ≡ rows_at (rows_of_sets sets.now) name.now.labels record_type }
+    ensures rows { rows_of result.now
+        ≡ rows_at (rows_of_sets sets.now) name.now.labels record_type }
     ensures sound { AreSoundSets sets.now → AreSoundRows (rows_of result.now) }
 {
     let place = position(sets, name, record_type);
@@ -67,7 +42,7 @@ pub fn records_at<'a>(sets: &'a [RecordSet], name: &Name, record_type: RecordTyp
     &[]
 }
 
-/// Returns whether the owner of some record is the name or below it.
+/// Returns `true` if the owner of some record is at or below the name.
 pub fn has_row_below(sets: &[RecordSet], name: &Name) -> bool
     ensures { result ≡ some_row_below (rows_of_sets sets.now) name.now.labels }
 {

@@ -1,0 +1,272 @@
+//! Zones of zone files (RFC 1035 section 5.2).
+
+ghost use Rattle.std.specs.Prelude.{◌≡◌, ◌≢◌, ◌&&◌, not, true, option_copied, IfOk, IfErr, IfSome, Ok, Err, Some, None};
+ghost use Rattle.std.specs.List.{list_any, position_or_len, AllByRecursion};
+ghost use Rattle.dns_names.specs.Print.{AreOctets};
+ghost use Rattle.dns_zone_file.specs.Parsed.{IsParsedSet, AreDistinctSets};
+ghost use Rattle.dns_zone_file.specs.Parsing.{HasRecords};
+ghost use Rattle.dns_zone_file.specs.Printed.{IsValidName};
+ghost use Rattle.dns_zone_file.specs.internal.Parsing.{includes_view};
+ghost use Rattle.dns_zone.specs.Load.{ReadsZone, zone_origin, is_internet, is_inside, is_soa, is_apex, has_long_data, fault_at, fault_of};
+ghost use Rattle.dns_zone.specs.Printed.{is_start, IsPrintable};
+ghost use Rattle.dns_zone.specs.Rows.{HasNoEmptySet, IsZone, rows_of_sets};
+ghost use Rattle.dns_zone.specs.internal.{with_first};
+
+use crate::zone::{Zone, ZoneFault};
+use dns_names::Name;
+use dns_records::RecordSet;
+use dns_wire::{DNSClass, RecordType};
+use dns_zone_file::laws::parsed_sets_have_records;
+use dns_zone_file::{Parser, RecordSets, ZoneFileError, ZoneRecords};
+use std::alloc::{AllocError, Global};
+
+/// The greatest length of data that can be encoded (RFC 1035 section 3.2.1).
+const MAX_DATA_LENGTH: u128 = 65_535;
+
+impl Zone {
+    /// Parses a zone file, with texts to include by name. The origin completes relative names and is the zone's. Without
+    /// it relative names end at the root, and the zone's origin is the owner of the first SOA record.
+    ///
+    /// The records must be of the class `IN`, at or below the origin, and have an SOA record at the origin and nowhere else.
+    pub fn from_text(
+        alloc: Global,
+        text: &str,
+        includes: &[(String, String)],
+        origin: Option<&Name>,
+    ) -> Result<Zone, ZoneFault>
+        ensures ok { IfOk result (λ zone. ReadsZone
+            (includes_view includes.now) (option_copied origin.entry) text.now (Ok zone)) }
+        ensures refused { IfErr result (λ fault. fault ≢ ZoneFault.Memory → ReadsZone
+            (includes_view includes.now) (option_copied origin.entry) text.now (Err fault)) }
+        ensures well_formed { IfOk result IsZone }
+        ensures filled { IfOk result (λ zone. HasNoEmptySet zone.rows) }
+        ensures printable { AllByRecursion (λ i. AreOctets i.1) (includes_view includes.now)
+            → IfSome (option_copied origin.entry) IsValidName → IfOk result IsPrintable }
+    {
+        parsed_sets_have_records();
+        let records = parse_records(alloc, text, includes, origin)?;
+        let origin = zone_origin(origin, records.soa_owner)?;
+        zone_of(alloc, origin, records.sets)
+    }
+}
+
+/// Copies a name, if there is one.
+fn copy_of(name: Option<&Name>) -> Result<Option<Name>, AllocError>
+    ensures { IfOk result (λ copy. copy ≡ option_copied name.entry) }
+{
+    match name {
+        Some(name) => Ok(Some(name.clone()?)),
+        None => Ok(None),
+    }
+}
+
+/// Parses the records of a zone file.
+fn parse_records(
+    alloc: Global,
+    text: &str,
+    includes: &[(String, String)],
+    origin: Option<&Name>,
+) -> Result<ZoneRecords, ZoneFault>
+    ensures ok { IfOk result (HasRecords (record {
+      text = text.now;
+      includes = includes_view includes.now;
+      origin = option_copied origin.entry;
+    })) }
+    ensures refused { IfErr result (λ fault. fault ≢ ZoneFault.Memory → ReadsZone
+        (includes_view includes.now) (option_copied origin.entry) text.now (Err fault)) }
+{
+    let origin = copy_of(origin)?;
+    match Parser::new(text, includes, origin).parse(alloc) {
+        Ok(records) => Ok(records),
+        // Memory was refused while the text was parsed.
+        Err(ZoneFileError::Memory) => Err(ZoneFault::Memory),
+        Err(error) => Err(ZoneFault::Parse(error)),
+    }
+}
+
+/// Returns the origin of a zone: the one that is given, fully qualified, or else the owner of an SOA record.
+fn zone_origin(origin: Option<&Name>, soa_owner: Option<Name>) -> Result<Option<Name>, AllocError>
+    ensures { IfOk result (λ found. found ≡ zone_origin (option_copied origin.entry) soa_owner) }
+{
+    match origin {
+        Some(origin) => {
+            let mut origin = origin.clone()?;
+            origin.set_fqdn(true);
+            Ok(Some(origin))
+        }
+        None => Ok(soa_owner),
+    }
+}
+
+/// Returns the zone of record sets, or their first fault.
+fn zone_of(alloc: Global, origin: Option<Name>, sets: RecordSets) -> Result<Zone, ZoneFault>
+    requires origin { IfSome origin (λ o. o.is_fqdn ≡ true) }
+    requires sets { AllByRecursion IsParsedSet sets }
+    requires distinct { AreDistinctSets sets }
+    ensures origin { IfOk result (λ zone. origin ≡ Some zone.origin) }
+    ensures rows { IfOk result (λ zone. zone.rows ≡ rows_of_sets sets) }
+    ensures faultless { IfOk result (λ _. fault_of origin sets ≡ None) }
+    ensures refused { IfErr result (λ fault. fault_of origin sets ≡ Some fault) }
+    ensures well_formed { IfOk result IsZone }
+    ensures filled { IfOk result (λ zone. HasNoEmptySet zone.rows) }
+{
+    if let Some(fault) = fault_of(origin.as_ref(), sets.as_slice()) {
+        return Err(fault);
+    }
+    let Some(origin) = origin else {
+        unreachable!();
+    };
+    let sets = with_start_first(&origin, sets.into_vec());
+    Ok(Zone {
+        origin,
+        sets,
+        alloc,
+    })
+}
+
+/// Moves the set of the origin's SOA record before the others, without taking memory.
+fn with_start_first(origin: &Name, sets: Vec<RecordSet>) -> Vec<RecordSet>
+    ensures { result.items ≡ with_first (is_start origin.now) sets.items }
+{
+    let mut sets = sets;
+    let place = start_position(origin, sets.as_slice());
+    if place >= sets.len() {
+        return sets;
+    }
+    let start = sets.remove(place);
+    match sets.insert(0, start) {
+        Ok(()) => sets,
+        // The place of the set that was removed is free.
+        Err(_) => unreachable!(),
+    }
+}
+
+/// Returns the index of the set of the origin's SOA record, or the number of sets if there is none.
+fn start_position(origin: &Name, sets: &[RecordSet]) -> usize
+    ensures { result ≡ position_or_len (is_start origin.now) sets.now }
+{
+    for (i, set) in sets.iter().enumerate() {
+        if is_start(origin, set) {
+            return i;
+        }
+    }
+    sets.len()
+}
+
+/// Returns the first fault of record sets, by kind. Without an origin nothing is outside, and the SOA record is missing.
+fn fault_of(origin: Option<&Name>, sets: &[RecordSet]) -> Option<ZoneFault>
+    ensures { result ≡ fault_of (option_copied origin.entry) sets.now }
+{
+    if has_other_class(sets) {
+        return Some(ZoneFault::NotInternet);
+    }
+    match origin {
+        Some(origin) => fault_at(origin, sets),
+        None => Some(ZoneFault::NoSoa),
+    }
+}
+
+/// Returns the first fault of record sets at an origin, by kind.
+fn fault_at(origin: &Name, sets: &[RecordSet]) -> Option<ZoneFault>
+    ensures { result ≡ fault_at origin.now sets.now }
+{
+    if has_owner_outside(origin, sets) {
+        return Some(ZoneFault::OutsideOrigin);
+    }
+    if !has_soa_at(origin, sets) {
+        return Some(ZoneFault::NoSoa);
+    }
+    if has_soa_elsewhere(origin, sets) {
+        return Some(ZoneFault::SoaElsewhere);
+    }
+    if has_set_of_long_data(sets) {
+        return Some(ZoneFault::DataTooLong);
+    }
+    None
+}
+
+/// Returns `true` if some set has another class than `IN`.
+fn has_other_class(sets: &[RecordSet]) -> bool
+    ensures { result ≡ list_any (λ s. not (is_internet s)) sets.now }
+{
+    for set in sets {
+        if u16::from(set.dns_class()) != u16::from(DNSClass::IN) {
+            return true;
+        }
+    }
+    false
+}
+
+/// Returns `true` if some owner is not at or below the origin.
+fn has_owner_outside(origin: &Name, sets: &[RecordSet]) -> bool
+    ensures { result ≡ list_any (λ s. not (is_inside origin.now s)) sets.now }
+{
+    for set in sets {
+        if !origin.zone_of(set.name()) {
+            return true;
+        }
+    }
+    false
+}
+
+/// Returns `true` if a set has SOA records.
+fn is_soa(set: &RecordSet) -> bool
+    ensures { result ≡ is_soa set.now }
+{
+    u16::from(set.record_type()) == u16::from(RecordType::SOA)
+}
+
+/// Returns `true` if a set has the SOA record of the origin.
+fn is_start(origin: &Name, set: &RecordSet) -> bool
+    ensures { result ≡ is_start origin.now set.now }
+{
+    is_soa(set) && origin.eq_ignore_root(set.name())
+}
+
+/// Returns `true` if the origin has an SOA record.
+fn has_soa_at(origin: &Name, sets: &[RecordSet]) -> bool
+    ensures { result ≡ list_any (λ s. is_soa s && is_apex origin.now s) sets.now }
+{
+    for set in sets {
+        if is_start(origin, set) {
+            return true;
+        }
+    }
+    false
+}
+
+/// Returns `true` if another name than the origin has an SOA record.
+fn has_soa_elsewhere(origin: &Name, sets: &[RecordSet]) -> bool
+    ensures { result ≡ list_any (λ s. is_soa s && not (is_apex origin.now s)) sets.now }
+{
+    for set in sets {
+        if is_soa(set) && !origin.eq_ignore_root(set.name()) {
+            return true;
+        }
+    }
+    false
+}
+
+/// Returns `true` if some data of a set is too long to be encoded.
+fn has_long_data(set: &RecordSet) -> bool
+    ensures { result ≡ has_long_data set.now }
+{
+    for resource_record in set.as_slice() {
+        if resource_record.rdata.encoded_len() > MAX_DATA_LENGTH {
+            return true;
+        }
+    }
+    false
+}
+
+/// Returns `true` if some data is too long to be encoded.
+fn has_set_of_long_data(sets: &[RecordSet]) -> bool
+    ensures { result ≡ list_any has_long_data sets.now }
+{
+    for set in sets {
+        if has_long_data(set) {
+            return true;
+        }
+    }
+    false
+}

@@ -1,0 +1,105 @@
+//! The server of a zone: requests and their replies (RFC 1035 sections 4.1 and 4.2).
+
+ghost use Rattle.std.specs.Prelude.{◌≡◌, ◌≤◌, IfOk};
+ghost use Rattle.dns_zone.specs.Serving.{borrowed_reply, reply_limit, has_query_header as is_query_header};
+
+use crate::road::Road;
+use crate::zone::Zone;
+use crate::zone::answer::AnswerRef;
+use crate::zone::reply::ReplyRef;
+use dns_messages::laws::messages_decode_unambiguously;
+use dns_messages::{Message, OpCode, ResponseCode};
+use dns_names::Name;
+use dns_wire::{DecodeError, EncodeError};
+use std::alloc::AllocError;
+
+impl Zone {
+    ghost use Rattle.dns_zone.specs.Serving.{Serves, IsReplyTo, bare_reply, reply};
+    ghost use Rattle.dns_messages.specs.Cut.{front_reach};
+    ghost use Rattle.dns_messages.specs.Sound.{IsSound};
+    ghost use Rattle.std.specs.Prelude.{false, None, Ok, option_map};
+
+    /// Returns the reply to a request without questions and records, without taking memory.
+    fn bare_reply<'a>(&'a self, request: &Message, code: ResponseCode) -> ReplyRef<'a>
+        ensures { borrowed_reply result ≡ bare_reply request.now code }
+    {
+        ReplyRef::new(
+            self.alloc,
+            request,
+            &[],
+            AnswerRef::refusal(&self.origin, code),
+        )
+    }
+
+    /// Returns the whole reply to a query, without taking memory.
+    fn reply_to<'a>(&'a self, request: &'a Message) -> ReplyRef<'a>
+        ensures reply { borrowed_reply result ≡ reply self.now request.now }
+        ensures sound { IsSound request.now → IsSound (borrowed_reply result) }
+        ensures short { front_reach (borrowed_reply result) ≤ 512 }
+    {
+        let OpCode::Query = request.metadata.op_code else {
+            return self.bare_reply(request, ResponseCode::NotImp);
+        };
+        let queries = request.queries.as_slice();
+        let [query] = queries else {
+            return self.bare_reply(request, ResponseCode::FormErr);
+        };
+        prove!(query.name.encoded_len() <= Name::MAX_LENGTH);
+        ReplyRef::new(self.alloc, request, queries, self.answer_ref(query))
+    }
+
+    /// Returns the bytes of the reply to a query.
+    fn reply_bytes(&self, request: &Message, road: Road) -> Result<Vec<u8>, AllocError>
+        ensures encodes { IfOk result (λ out. IsSound request.now
+            → IsReplyTo self.now road request.now out.items) }
+    {
+        let reply = self.reply_to(request);
+        match reply.to_vec_within(self.alloc, limit_of(road, request)) {
+            Ok(out) => Ok(out),
+            // The memory for the reply's bytes was refused.
+            Err(EncodeError::Memory) => Err(AllocError),
+            Err(EncodeError::MaxBufferSizeExceeded) => unreachable!(),
+        }
+    }
+
+    /// Serves a message: returns its reply, or `None` if the bytes do not decode or are a response. Bytes that do not begin
+    /// with the header of a query are dropped before memory is taken.
+    pub fn serve(&mut self, bytes: &[u8], road: Road) -> Result<Option<Vec<u8>>, AllocError>
+        ensures reply { IfOk result (λ reply.
+            Serves self.old road bytes.now (option_map (λ out. out.items) reply)) }
+        ensures same { self.new ≡ self.old }
+        ensures header { is_query_header bytes.now ≡ false → result ≡ Ok None }
+    {
+        messages_decode_unambiguously();
+        if !has_query_header(bytes) {
+            return Ok(None);
+        }
+        let request = match Message::from_vec(self.alloc, bytes) {
+            Ok(request) => request,
+            Err(error) => match error {
+                // The memory for the message was refused.
+                DecodeError::Memory => return Err(AllocError),
+                _ => return Ok(None),
+            },
+        };
+        Ok(Some(self.reply_bytes(&request, road)?))
+    }
+}
+
+/// Returns `true` if bytes begin with the header of a query: twelve bytes, with QR clear.
+fn has_query_header(bytes: &[u8]) -> bool
+    ensures { result ≡ is_query_header bytes.now }
+{
+    bytes.len() >= 12 && bytes[2] / 128 % 2 != 1
+}
+
+/// Returns how many bytes a reply to a request may have: at least 512.
+fn limit_of(road: Road, request: &Message) -> u16
+    ensures value { result ≡ reply_limit road request.now }
+    ensures least { 512 ≤ result }
+{
+    match road {
+        Road::Datagram(limit) => limit.value().min(request.max_payload()),
+        Road::Stream => 65_535,
+    }
+}
