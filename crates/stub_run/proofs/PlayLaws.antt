@@ -1,9 +1,9 @@
 -- What lines and events side by side are, and what the exits of a whole run say.
-use Rattle.std.proofs.Common.{◌≡◌, ◌≢◌, ◌↔◌, ◌≤◌, ℕ, List, [], ◌∷◌, ◌++◌, suc, zero, length, take, slice_get, Option, Some, IfSome, Result, Ok, Err, OnOk, IfErr, refl, sym, subst, ap, ◌∙◌, inl, inr, arith}
+use Rattle.std.proofs.Common.{◌≡◌, ◌≢◌, ◌↔◌, ◌≤◌, ℕ, List, [], ◌∷◌, ◌++◌, suc, zero, length, take, slice_get, Option, Some, IfSome, Result, Ok, Err, OnOk, refl, sym, subst, ap, ◌∙◌, inl, inr, arith}
 use Rattle.std.proofs.lemmas.List.{length-take-le}
 use Rattle.std.proofs.Math.Seq.{take-nil}
 use Rattle.dns_zone.specs.Rows.{ZoneContent}
-use Rattle.dns_zone.specs.ZoneText.{zone_of_text}
+use Rattle.dns_zone_file.specs.Parsing.{ZoneFile}
 use Rattle.stub_run.specs.declared.event.Event.{Event}
 use Rattle.stub_run.specs.declared.script.ScriptFault.{ScriptFault}
 use Rattle.stub_run.specs.declared.script.ScriptFault.TheVariants.{Line, Memory}
@@ -21,7 +21,7 @@ use Rattle.stub_run.specs.World.{WorldContent}
 use Rattle.stub_run.specs.Run.{InOrder, Runs, memory_report}
 use Rattle.stub_run.specs.ReportText.{event_text, reply_text, report_text}
 use Rattle.stub_run.specs.ScriptText.{script_of_text, side_by_side}
-use Rattle.stub_run.specs.Playing.{events_of, lines_of, IsFirstOutOfOrder, IsLineOutOfOrder, IsZone, IsScript, IsAtFault, Faults, IsWorldOver, IsPlayed, Tells, TellsAll, TellsFirst, script_fault}
+use Rattle.stub_run.specs.Playing.{events_of, lines_of, IsFirstOutOfOrder, IsLineOutOfOrder, ZoneIs, IsZone, IsScript, IsAtFault, Faults, IsWorldOver, IsPlayed, Tells, TellsAll, TellsFirst, script_fault}
 use Rattle.stub_run.proofs.OrderLaws.{in_order_if_not_out}
 
 pub events_beside : (numbers : List ℕ) (events : List Event) → length numbers ≡ length events → events_of (side_by_side numbers events) ≡ events
@@ -74,8 +74,8 @@ module _ (found text : List ℕ) (numbers : List ℕ) (events : List Event) (sam
   pub moment_is_at_fault : (line : ℕ) → IsLineOutOfOrder (side_by_side numbers events) line → IsAtFault text line
   moment_is_at_fault line out = inr (side_by_side numbers events, rw same at read, out)
 
-pub zone_is : (found text : List ℕ) (zone : ZoneContent) → found ≡ text → zone_of_text found ≡ Ok zone → IsZone text
-zone_is found text zone same read = (zone, rw same at read)
+pub zone_is : (file : ZoneFile) (zone : ZoneContent) → ZoneIs file (Ok zone) → IsZone file
+zone_is file zone read = (zone, read)
 
 pub on_ok : {T E P : Type 0} (r : Result T E) → P → OnOk r P
 on_ok (Ok x) p = p
@@ -107,16 +107,16 @@ front_is world n events reports sent within runs =
     front_text n events reports few
 
 -- a run over the zone's rows tells this
-module _ (found text : List ℕ) (rows : ZoneContent) (world : WorldContent) (same : found ≡ text) (read : zone_of_text found ≡ Ok rows)
+module _ (file : ZoneFile) (rows : ZoneContent) (world : WorldContent) (read : ZoneIs file (Ok rows))
     (over : IsWorldOver rows world) where
   pub tells : (asked events : List Event) (reports : List EventReport) (sent : List (ℕ × Query)) → asked ≡ events → Runs world [] asked reports sent
-      → Tells text events (report_text events reports)
+      → Tells file events (report_text events reports)
   tells asked events reports sent is runs = record {
     rows = rows;
     world = world;
     reports = reports;
     sent = sent;
-    is_zone = rw same at read;
+    is_zone = read;
     is_over = over;
     runs = rw is at runs;
     is_text = refl;
@@ -124,12 +124,12 @@ module _ (found text : List ℕ) (rows : ZoneContent) (world : WorldContent) (sa
 
   pub tells_front : (asked events : List Event) (report : Report) → asked ≡ events
       → (n : ℕ) × (n ≤ length asked) × Runs world [] (take n asked) report.events.items report.sent.items
-      → (n : ℕ) × (n ≤ length events) × Tells text (take n events) (report_text events report.events.items)
+      → (n : ℕ) × (n ≤ length events) × Tells file (take n events) (report_text events report.events.items)
   tells_front asked events report is h =
       let within : h.0 ≤ length events = rw is at h.1 in
       let runs : Runs world [] (take h.0 events) report.events.items report.sent.items = rw is at h.2 in
       let front = front_is world h.0 events report.events.items report.sent.items within runs in
-      (h.0, within, subst (Tells text (take h.0 events)) (sym front) (tells (take h.0 events) (take h.0 events) report.events.items report.sent.items refl runs))
+      (h.0, within, subst (Tells file (take h.0 events)) (sym front) (tells (take h.0 events) (take h.0 events) report.events.items report.sent.items refl runs))
 
 -- what is said of a run that was stopped for memory
 pub stopped_is : (P : Report → Type 0) (error : Stopped) (report : Report) → error ≡ stops.Memory report → IfSome (memory_report (Err error)) P → P report
@@ -137,7 +137,7 @@ stopped_is P error report is h = rw is at h
 
 module _ (found text : List ℕ) (numbers : List ℕ) (events : List Event) (same : found ≡ text)
     (read : script_of_text found ≡ Ok (side_by_side numbers events)) (beside : length numbers ≡ length events) (order : InOrder 0 events) where
-  pub tells_all : (zone : List ℕ) (told : List ℕ) → Tells zone events told → TellsAll zone text told
+  pub tells_all : (zone : ZoneFile) (told : List ℕ) → Tells zone events told → TellsAll zone text told
   tells_all zone told h = (
     side_by_side numbers events,
     rw same at read,
@@ -145,7 +145,7 @@ module _ (found text : List ℕ) (numbers : List ℕ) (events : List Event) (sam
     rw (events_beside numbers events beside) h,
   )
 
-  pub tells_first : (zone : List ℕ) (n : ℕ) (told : List ℕ) → n ≤ length events → Tells zone (take n events) told → TellsFirst zone text told
+  pub tells_first : (zone : ZoneFile) (n : ℕ) (told : List ℕ) → n ≤ length events → Tells zone (take n events) told → TellsFirst zone text told
   tells_first zone n told few h =
       let len : length (side_by_side numbers events) ≡ length events = sides_len numbers events beside in
       let front : n ≤ length (side_by_side numbers events) = omega arith in (
@@ -159,11 +159,11 @@ module _ (found text : List ℕ) (numbers : List ℕ) (events : List Event) (sam
 
 -- ---- how a whole run ends
 
-module _ (zone_text text : List ℕ) (same : Type 0) (old new : Option (List ℕ)) where
+module _ (file : ZoneFile) (text : List ℕ) (same : Type 0) (old new : Option (List ℕ)) where
   -- nothing was written, and this was the fault
-  pub silent_end : (fault : PlayFault) → Faults zone_text text fault → same → IsPlayed zone_text text same old new (Err fault)
+  pub silent_end : (fault : PlayFault) → Faults file text fault → same → IsPlayed file text same old new (Err fault)
   silent_end fault faults unwritten = record {
-    zone = tt;
+    zone_is = tt;
     script = tt;
     fault = faults;
     silent = λ _. unwritten;
@@ -172,9 +172,9 @@ module _ (zone_text text : List ℕ) (same : Type 0) (old new : Option (List ℕ
   }
 
   -- the report could not be written
-  pub unwritten_end : IsZone zone_text → IsScript text → IsPlayed zone_text text same old new (Err Write)
+  pub unwritten_end : IsZone file → IsScript text → IsPlayed file text same old new (Err Write)
   unwritten_end zone script = record {
-    zone = tt;
+    zone_is = tt;
     script = tt;
     fault = (zone, script);
     silent = λ before. absurd before;
@@ -183,9 +183,9 @@ module _ (zone_text text : List ℕ) (same : Type 0) (old new : Option (List ℕ
   }
 
   -- the whole report was written
-  pub told_end : (report : List ℕ) → IsZone zone_text → IsScript text → TellsAll zone_text text report → Appends old new report → IsPlayed zone_text text same old new (Ok tt)
+  pub told_end : (report : List ℕ) → IsZone file → IsScript text → TellsAll file text report → Appends old new report → IsPlayed file text same old new (Ok tt)
   told_end report zone script tells written = record {
-    zone = zone;
+    zone_is = zone;
     script = script;
     fault = tt;
     silent = tt;
@@ -194,9 +194,9 @@ module _ (zone_text text : List ℕ) (same : Type 0) (old new : Option (List ℕ
   }
 
   -- what was told before memory was refused was written
-  pub stopped_end : (report : List ℕ) → IsZone zone_text → TellsFirst zone_text text report → Appends old new report → IsPlayed zone_text text same old new (Err plays.Memory)
+  pub stopped_end : (report : List ℕ) → IsZone file → TellsFirst file text report → Appends old new report → IsPlayed file text same old new (Err plays.Memory)
   stopped_end report zone tells written = record {
-    zone = tt;
+    zone_is = tt;
     script = tt;
     fault = zone;
     silent = λ before. absurd before;
@@ -205,7 +205,7 @@ module _ (zone_text text : List ℕ) (same : Type 0) (old new : Option (List ℕ
   }
 
 -- the script's fault is the run's
-pub script_faults : (zone_text found text : List ℕ) (fault : ScriptFault) → IsZone zone_text → found ≡ text → (fault ≢ Memory → script_of_text found ≡ Err fault)
-    → Faults zone_text text (script_fault fault)
-script_faults zone_text found text (Line line) zone same refused = (zone, line_is_at_fault found text (Line line) line same refl refused)
-script_faults zone_text found text Memory zone same refused = zone
+pub script_faults : (file : ZoneFile) (found text : List ℕ) (fault : ScriptFault) → IsZone file → found ≡ text → (fault ≢ Memory → script_of_text found ≡ Err fault)
+    → Faults file text (script_fault fault)
+script_faults file found text (Line line) zone same refused = (zone, line_is_at_fault found text (Line line) line same refl refused)
+script_faults file found text Memory zone same refused = zone

@@ -1,16 +1,20 @@
 -- What a run of the program's two texts comes to, and in which order its faults are looked for: the zone's text, the
 -- script's lines, the script's moments.
-use Rattle.std.specs.Prelude.{◌≡◌, ◌≢◌, ◌<◌, ◌≤◌, ◌+◌, ◌⊎◌, List, [], ℕ, map, length, take, slice_get, slice_index, EachIndex, Option, Some, Result, Ok, Err, OnOk, IfErr, ⊤, ◌++◌, codes}
+use Rattle.std.specs.Prelude.{◌≡◌, ◌≢◌, ◌<◌, ◌≤◌, ◌+◌, ◌⊎◌, List, [], ℕ, map, length, take, slice_get, slice_index, EachIndex, Option, Some, None, Result, Ok, Err, OnOk, IfErr, ⊤, ◌++◌, codes, string_bytes}
 use Rattle.std.specs.Fmt.{decimal}
 use Rattle.std.specs.Io.KnownBytes.{Appends}
 use Rattle.dns_zone.specs.Rows.{ZoneContent}
-use Rattle.dns_zone.specs.ZoneText.{zone_of_text}
+use Rattle.dns_zone.specs.Load.{ReadsZone}
+use Rattle.dns_zone.specs.declared.zone.ZoneFault.{ZoneFault}
 use Rattle.dns_zone.specs.declared.zone.ZoneFault.TheVariants as zones
+use Rattle.dns_zone_file.specs.Error.{line_of}
+use Rattle.dns_zone_file.specs.Parsing.{ZoneFile}
 use Rattle.stub_run.specs.declared.event.Event.{Event}
 use Rattle.stub_run.specs.declared.script.ScriptFault.{ScriptFault}
 use Rattle.stub_run.specs.declared.script.ScriptFault.TheVariants.{Line}
 use Rattle.stub_run.specs.declared.script.ScriptFault.TheVariants as scripts
 use Rattle.stub_run.specs.declared.playing.PlayFault.{PlayFault}
+use Rattle.stub_run.specs.declared.playing.PlayInput.{PlayInput}
 use Rattle.stub_run.specs.declared.playing.PlayFault.TheVariants.{Zone, Script, Memory, Write}
 use Rattle.dns_messages.specs.declared.query.Query.{Query}
 use Rattle.stub_run.specs.declared.world.EventReport.{EventReport}
@@ -31,9 +35,17 @@ events_of = map (λ e. e.1)
 abbrev pub lines_of : List (ℕ × Event) → List ℕ
 lines_of = map (λ e. e.0)
 
--- the zone's text is that of a zone
-abbrev pub IsZone : List ℕ → Type 0
-IsZone text = (zone : ZoneContent) × (zone_of_text text ≡ Ok zone)
+-- the zone file of a run: it includes no text, and its origin is the program's
+abbrev pub zone_file : PlayInput → ZoneFile
+zone_file input = record { text = string_bytes input.zone; includes = []; origin = input.origin }
+
+-- the zone of a zone file, or its first fault
+abbrev pub ZoneIs : ZoneFile → Result ZoneContent ZoneFault → Type 0
+ZoneIs file outcome = ReadsZone file.includes file.origin file.text outcome
+
+-- the zone file is that of a zone
+abbrev pub IsZone : ZoneFile → Type 0
+IsZone file = (zone : ZoneContent) × ZoneIs file (Ok zone)
 
 -- the script's text is that of a script whose moments are in order
 abbrev pub IsScript : List ℕ → Type 0
@@ -49,9 +61,9 @@ IsAtFault text line =
     (script_of_text text ≡ Err (Line line))
     ⊎ ((script : List (ℕ × Event)) × (script_of_text text ≡ Ok script) × IsLineOutOfOrder script line)
 
--- what a fault says of the two texts
-abbrev pub Faults : List ℕ → List ℕ → PlayFault → Type 0
-Faults zone script (Zone fault) = fault ≢ zones.Memory → zone_of_text zone ≡ Err fault
+-- what a fault says of the zone file and the script
+abbrev pub Faults : ZoneFile → List ℕ → PlayFault → Type 0
+Faults zone script (Zone fault) = fault ≢ zones.Memory → ZoneIs zone (Err fault)
 Faults zone script (Script line) = IsZone zone × IsAtFault script line
 Faults zone script Memory = IsZone zone
 Faults zone script Write = IsZone zone × IsScript script
@@ -70,24 +82,24 @@ pub record IsWorldOver (rows : ZoneContent) (world : WorldContent) : Type 0 wher
   pub ids : EachIndex world.ids (λ k. slice_index world.ids k ≡ k + 1)
   pub all : length world.ids ≡ 65535
 
--- reports that the events may have, over the zone's text, have this text
-pub record Tells (zone : List ℕ) (events : List Event) (text : List ℕ) : Type 0 where
+-- reports that the events may have, over the zone of a file, have this text
+pub record Tells (zone : ZoneFile) (events : List Event) (text : List ℕ) : Type 0 where
   pub rows : ZoneContent
   pub world : WorldContent
   pub reports : List EventReport
   pub sent : List (ℕ × Query)
-  pub is_zone : zone_of_text zone ≡ Ok rows
+  pub is_zone : ZoneIs zone (Ok rows)
   pub is_over : IsWorldOver rows world
   pub runs : Runs world [] events reports sent
   pub is_text : text ≡ report_text events reports
 
 -- the text that is told of all events of the script
-abbrev pub TellsAll : List ℕ → List ℕ → List ℕ → Type 0
+abbrev pub TellsAll : ZoneFile → List ℕ → List ℕ → Type 0
 TellsAll zone script text =
     (numbered : List (ℕ × Event)) × (script_of_text script ≡ Ok numbered) × InOrder 0 (events_of numbered) × Tells zone (events_of numbered) text
 
 -- the text that is told of the script's events before memory was refused
-abbrev pub TellsFirst : List ℕ → List ℕ → List ℕ → Type 0
+abbrev pub TellsFirst : ZoneFile → List ℕ → List ℕ → Type 0
 TellsFirst zone script text =
     (numbered : List (ℕ × Event)) × (n : ℕ) × (script_of_text script ≡ Ok numbered) × InOrder 0 (events_of numbered)
     × (n ≤ length numbered) × Tells zone (take n (events_of numbered)) text
@@ -97,21 +109,28 @@ abbrev pub script_fault : ScriptFault → PlayFault
 script_fault (Line line) = Script line
 script_fault scripts.Memory = Memory
 
--- what a whole run of two texts comes to; `same` says that nothing was written
-pub record IsPlayed (zone_text script_text : List ℕ) (same : Type 0) (old new : Option (List ℕ)) (result : Result (Unit {0}) PlayFault) : Type 0 where
-  pub zone : OnOk result (IsZone zone_text)
+-- what a whole run of a zone file and a script comes to; `same` says that nothing was written
+pub record IsPlayed (zone : ZoneFile) (script_text : List ℕ) (same : Type 0) (old new : Option (List ℕ)) (result : Result (Unit {0}) PlayFault) : Type 0 where
+  pub zone_is : OnOk result (IsZone zone)
   pub script : OnOk result (IsScript script_text)
-  pub fault : IfErr result (Faults zone_text script_text)
+  pub fault : IfErr result (Faults zone script_text)
   pub silent : IfErr result (λ fault. IsBeforeRun fault → same)
-  pub told : OnOk result ((text : List ℕ) × TellsAll zone_text script_text text × Appends old new text)
-  pub stopped : IfErr result (λ fault. fault ≡ Memory → same ⊎ ((text : List ℕ) × TellsFirst zone_text script_text text × Appends old new text))
+  pub told : OnOk result ((text : List ℕ) × TellsAll zone script_text text × Appends old new text)
+  pub stopped : IfErr result (λ fault. fault ≡ Memory → same ⊎ ((text : List ℕ) × TellsFirst zone script_text text × Appends old new text))
+
+-- the line that the program ends with if the zone file cannot be parsed; without a line memory was refused
+abbrev pub parse_fault_text : Option ℕ → List ℕ
+parse_fault_text (Some line) = codes "zone: Z1 line " ++ decimal line
+parse_fault_text None = codes "zone: Z7"
 
 -- the line that the program ends with
 abbrev pub fault_text : PlayFault → List ℕ
-fault_text (Zone (zones.Line line)) = codes "zone: Z1 line " ++ decimal line
+fault_text (Zone (zones.Parse error)) = parse_fault_text (line_of error)
+fault_text (Zone zones.NotInternet) = codes "zone: Z2"
 fault_text (Zone zones.OutsideOrigin) = codes "zone: Z3"
 fault_text (Zone zones.NoSoa) = codes "zone: Z4"
 fault_text (Zone zones.SoaElsewhere) = codes "zone: Z5"
+fault_text (Zone zones.DataTooLong) = codes "zone: Z6"
 fault_text (Zone zones.Memory) = codes "zone: Z7"
 fault_text (Script line) = codes "script line " ++ decimal line
 fault_text Memory = codes "no memory"

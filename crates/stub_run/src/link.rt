@@ -42,13 +42,15 @@ pub trait Link {
     fn send_datagram(&mut self, bytes: &[u8]) -> Result<(), LinkError>
         ensures sends { sends self.old bytes.now result self.new }
         ensures kept { failure_count self.old ≤ failure_count self.new }
-        ensures fails { result ≡ Err LinkError.Failed → Rises (failure_count self.old) (failure_count self.new) };
+        ensures fails { result ≡ Err LinkError.Failed
+            → Rises (failure_count self.old) (failure_count self.new) };
 
     /// The datagram that comes next, or none.
     fn next_datagram(&mut self) -> Result<Option<Vec<u8>>, LinkError>
         ensures receives { receives self.old (datagram_of result) self.new }
         ensures kept { failure_count self.old ≤ failure_count self.new }
-        ensures fails { result ≡ Err LinkError.Failed → Rises (failure_count self.old) (failure_count self.new) };
+        ensures fails { result ≡ Err LinkError.Failed
+            → Rises (failure_count self.old) (failure_count self.new) };
 
     /// How many calls have failed; it stays at the greatest number.
     fn failures(&self) -> u64

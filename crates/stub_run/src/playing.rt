@@ -4,9 +4,9 @@ ghost use Rattle.std.specs.Prelude.{◌≡◌, ◌↔◌, ◌<◌, ◌+◌, ◌�
 ghost use Rattle.std.specs.Io.KnownBytes.{Appends};
 ghost use Rattle.stub_run.specs.ReportText.{report_text};
 ghost use Rattle.stub_run.specs.Run.{InOrder};
-ghost use Rattle.dns_zone.specs.ZoneText.{zone_of_text};
+ghost use Rattle.dns_zone_file.specs.Parsing.{ZoneFile};
 ghost use Rattle.stub_run.specs.ScriptText.{script_of_text, side_by_side};
-ghost use Rattle.stub_run.specs.Playing.{IsFirstOutOfOrder, IsZone, IsScript, IsLineOutOfOrder, IsWorldOver, IsPlayed, Faults, IsBeforeRun, TellsAll, TellsFirst, fault_text};
+ghost use Rattle.stub_run.specs.Playing.{IsFirstOutOfOrder, zone_file, ZoneIs, IsZone, IsScript, IsLineOutOfOrder, IsWorldOver, IsPlayed, Faults, IsBeforeRun, TellsAll, TellsFirst, fault_text};
 
 use crate::event::Event;
 use crate::report_text::write_report;
@@ -87,10 +87,15 @@ impl fmt::Display for PlayFault {
     /// The line that the program ends with, as `zone: Z1 line 3`.
     fn fmt<W: fmt::Write>(&self, f: &mut fmt::Formatter<W>) -> fmt::Result {
         match self {
-            PlayFault::Zone(ZoneFault::Line(line)) => write!(f, "zone: Z1 line {line}"),
+            PlayFault::Zone(ZoneFault::Parse(error)) => match error.line() {
+                Some(line) => write!(f, "zone: Z1 line {line}"),
+                None => f.write_str("zone: Z7"),
+            },
+            PlayFault::Zone(ZoneFault::NotInternet) => f.write_str("zone: Z2"),
             PlayFault::Zone(ZoneFault::OutsideOrigin) => f.write_str("zone: Z3"),
             PlayFault::Zone(ZoneFault::NoSoa) => f.write_str("zone: Z4"),
             PlayFault::Zone(ZoneFault::SoaElsewhere) => f.write_str("zone: Z5"),
+            PlayFault::Zone(ZoneFault::DataTooLong) => f.write_str("zone: Z6"),
             PlayFault::Zone(ZoneFault::Memory) => f.write_str("zone: Z7"),
             PlayFault::Script(line) => write!(f, "script line {line}"),
             PlayFault::Memory => f.write_str("no memory"),
@@ -102,15 +107,16 @@ impl fmt::Display for PlayFault {
 /// Reads the zone and the script, lets the events happen in a world over the zone, and writes what each gave. Where
 /// memory is refused to the run, what it gave before is written first.
 pub fn play<W: io::Write>(alloc: Global, input: &PlayInput, writer: &mut W) -> Result<(), PlayFault>
-    ensures zone { OnOk result (IsZone (string_bytes input.now.zone)) }
+    ensures zone { OnOk result (IsZone (zone_file input.now)) }
     ensures script { OnOk result (IsScript (string_bytes input.now.script)) }
-    ensures fault { IfErr result (Faults (string_bytes input.now.zone) (string_bytes input.now.script)) }
+    ensures fault { IfErr result (Faults (zone_file input.now) (string_bytes input.now.script)) }
     ensures silent { IfErr result (λ fault. IsBeforeRun fault → writer.new ≡ writer.old) }
-    ensures told { OnOk result ((text : List ℕ) × TellsAll (string_bytes input.now.zone) (string_bytes input.now.script) text
+    ensures told { OnOk result ((text : List ℕ)
+        × TellsAll (zone_file input.now) (string_bytes input.now.script) text
         × Appends (W.contents writer.old) (W.contents writer.new) text) }
     // Where memory is refused before the run, nothing is written.
     ensures stopped { IfErr result (λ fault. fault ≡ PlayFault.Memory → (writer.new ≡ writer.old)
-        ⊎ ((text : List ℕ) × TellsFirst (string_bytes input.now.zone) (string_bytes input.now.script) text
+        ⊎ ((text : List ℕ) × TellsFirst (zone_file input.now) (string_bytes input.now.script) text
         × Appends (W.contents writer.old) (W.contents writer.new) text)) }
 {
     let zone = Zone::from_text(alloc, input.zone.as_str(), &[], input.origin.as_ref())?;
@@ -124,8 +130,8 @@ fn play_script<W: io::Write>(
     text: &str,
     writer: &mut W,
 ) -> Result<(), PlayFault>
-    ensures { (zone_text : List ℕ) → zone_of_text zone_text ≡ Ok zone
-        → IsPlayed zone_text text.now (writer.new ≡ writer.old)
+    ensures { (file : ZoneFile) → ZoneIs file (Ok zone)
+        → IsPlayed file text.now (writer.new ≡ writer.old)
         (W.contents writer.old) (W.contents writer.new) result }
 {
     let script = read_script(alloc, text, zone.origin())?;
@@ -140,9 +146,9 @@ fn play_events<W: io::Write>(
     writer: &mut W,
 ) -> Result<(), PlayFault>
     requires { length script.now.lines.items ≡ length script.now.events.items }
-    ensures { (zone_text text : List ℕ) → zone_of_text zone_text ≡ Ok zone
+    ensures { (file : ZoneFile) (text : List ℕ) → ZoneIs file (Ok zone)
         → script_of_text text ≡ Ok (side_by_side script.now.lines.items script.now.events.items)
-        → IsPlayed zone_text text (writer.new ≡ writer.old)
+        → IsPlayed file text (writer.new ≡ writer.old)
         (W.contents writer.old) (W.contents writer.new) result }
 {
     let world = new_world(alloc, zone)?;
@@ -182,7 +188,8 @@ fn new_world(alloc: Global, zone: Zone) -> Result<World, AllocError>
 fn line_out_of_order(script: &ScriptText) -> usize
     requires beside { length script.now.lines.items ≡ length script.now.events.items }
     requires late { ¬ InOrder 0 script.now.events.items }
-    ensures { IsLineOutOfOrder (side_by_side script.now.lines.items script.now.events.items) result }
+    ensures { IsLineOutOfOrder
+        (side_by_side script.now.lines.items script.now.events.items) result }
 {
     script.lines[first_out_of_order(script.events.as_slice()).unwrap()]
 }

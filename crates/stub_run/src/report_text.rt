@@ -19,7 +19,8 @@ pub fn write_report<W: io::Write>(
     report: &Report,
     writer: &mut W,
 ) -> io::Result<()>
-    ensures { OnOk result (Appends (W.contents writer.old) (W.contents writer.new) (report_text events.now report.now.events.items)) }
+    ensures { OnOk result (Appends (W.contents writer.old) (W.contents writer.new)
+        (report_text events.now report.now.events.items)) }
 {
     for (event, told) in events.iter().zip(report.events.iter()) {
         write_event(event, writer)?;
@@ -30,7 +31,8 @@ pub fn write_report<W: io::Write>(
 
 /// Writes what happened, as `0 lookup a.t. A: `.
 fn write_event<W: io::Write>(event: &Event, writer: &mut W) -> io::Result<()>
-    ensures { OnOk result (Appends (W.contents writer.old) (W.contents writer.new) (event_text event.now)) }
+    ensures { OnOk result (Appends (W.contents writer.old) (W.contents writer.new)
+        (event_text event.now)) }
 {
     match event {
         Event::Lookup {
@@ -47,7 +49,8 @@ fn write_event<W: io::Write>(event: &Event, writer: &mut W) -> io::Result<()>
 
 /// Writes what an event gave: the records, or why there are none.
 fn write_reply<W: io::Write>(reply: &EventReply, writer: &mut W) -> io::Result<()>
-    ensures { OnOk result (Appends (W.contents writer.old) (W.contents writer.new) (reply_text reply.now)) }
+    ensures { OnOk result (Appends (W.contents writer.old) (W.contents writer.new)
+        (reply_text reply.now)) }
 {
     match reply {
         EventReply::Lookup(Ok(lookup)) => write_lookup(lookup, writer),
@@ -57,7 +60,8 @@ fn write_reply<W: io::Write>(reply: &EventReply, writer: &mut W) -> io::Result<(
 
 /// Writes how many records there are, and each on a line of its own.
 fn write_lookup<W: io::Write>(lookup: &Lookup, writer: &mut W) -> io::Result<()>
-    ensures { OnOk result (Appends (W.contents writer.old) (W.contents writer.new) (lookup_text lookup.now)) }
+    ensures { OnOk result (Appends (W.contents writer.old) (W.contents writer.new)
+        (lookup_text lookup.now)) }
 {
     let records = lookup.answers.as_slice();
     let count = records.len();
@@ -67,7 +71,8 @@ fn write_lookup<W: io::Write>(lookup: &Lookup, writer: &mut W) -> io::Result<()>
 
 /// Writes each record on a line of its own.
 fn write_records<W: io::Write>(records: &[Record], writer: &mut W) -> io::Result<()>
-    ensures { OnOk result (Appends (W.contents writer.old) (W.contents writer.new) (flat_map record_text records.now)) }
+    ensures { OnOk result (Appends (W.contents writer.old) (W.contents writer.new)
+        (flat_map record_text records.now)) }
 {
     for record in records {
         write_record(record, writer)?;
@@ -77,7 +82,8 @@ fn write_records<W: io::Write>(records: &[Record], writer: &mut W) -> io::Result
 
 /// Writes a record, as `  a.t. 60 IN A 10.0.0.1`.
 fn write_record<W: io::Write>(found: &Record, writer: &mut W) -> io::Result<()>
-    ensures { OnOk result (Appends (W.contents writer.old) (W.contents writer.new) (record_text found.now)) }
+    ensures { OnOk result (Appends (W.contents writer.old) (W.contents writer.new)
+        (record_text found.now)) }
 {
     let owner = Owner { name: &found.name };
     let ttl = found.ttl;
@@ -88,7 +94,8 @@ fn write_record<W: io::Write>(found: &Record, writer: &mut W) -> io::Result<()>
 
 /// Writes why there are no records.
 fn write_error<W: io::Write>(error: &NetError, writer: &mut W) -> io::Result<()>
-    ensures { OnOk result (Appends (W.contents writer.old) (W.contents writer.new) (reason_text error.now ++ 10 ∷ [])) }
+    ensures { OnOk result (Appends (W.contents writer.old) (W.contents writer.new)
+        (reason_text error.now ++ 10 ∷ [])) }
 {
     match error {
         NetError::Dns(DnsError::NoRecordsFound(none)) => {

@@ -62,9 +62,12 @@ enum LineContent {
 
 /// The script of a text. The origin isn't looked at yet.
 pub fn read_script(alloc: Global, text: &str, origin: &Name) -> Result<ScriptText, ScriptFault>
-    ensures ok { IfOk result (λ script. script_of_text text.now ≡ Ok (side_by_side script.lines.items script.events.items)) }
-    ensures beside { IfOk result (λ script. length script.lines.items ≡ length script.events.items) }
-    ensures refused { IfErr result (λ fault. fault ≢ ScriptFault.Memory → script_of_text text.now ≡ Err fault) }
+    ensures ok { IfOk result (λ script. script_of_text text.now
+        ≡ Ok (side_by_side script.lines.items script.events.items)) }
+    ensures beside { IfOk result (λ script.
+        length script.lines.items ≡ length script.events.items) }
+    ensures refused { IfErr result (λ fault. fault ≢ ScriptFault.Memory
+        → script_of_text text.now ≡ Err fault) }
 {
     let _origin = origin;
     let all = lines_of(alloc, text)?;
@@ -73,9 +76,12 @@ pub fn read_script(alloc: Global, text: &str, origin: &Name) -> Result<ScriptTex
 
 /// The script of a text's lines.
 fn read_lines(alloc: Global, all: &[&str]) -> Result<ScriptText, ScriptFault>
-    ensures ok { IfOk result (λ script. events_from 1 (map (λ line. line.now) all.now) ≡ Ok (side_by_side script.lines.items script.events.items)) }
-    ensures beside { IfOk result (λ script. length script.lines.items ≡ length script.events.items) }
-    ensures refused { IfErr result (λ fault. fault ≢ ScriptFault.Memory → events_from 1 (map (λ line. line.now) all.now) ≡ Err fault) }
+    ensures ok { IfOk result (λ script. events_from 1 (map (λ line. line.now) all.now)
+        ≡ Ok (side_by_side script.lines.items script.events.items)) }
+    ensures beside { IfOk result (λ script.
+        length script.lines.items ≡ length script.events.items) }
+    ensures refused { IfErr result (λ fault. fault ≢ ScriptFault.Memory
+        → events_from 1 (map (λ line. line.now) all.now) ≡ Err fault) }
 {
     let mut events = Vec::new(alloc);
     let mut lines = Vec::new(alloc);
@@ -153,7 +159,8 @@ fn read_line(alloc: Global, line: &str) -> Result<LineContent, AllocError>
 
 /// What a line has, by its words.
 fn read_line_words(alloc: Global, line_words: &[Vec<u8>]) -> Result<LineContent, AllocError>
-    ensures { IfOk result (λ content. content ≡ content_of_words (map (λ word. word.items) line_words.now)) }
+    ensures { IfOk result (λ content.
+        content ≡ content_of_words (map (λ word. word.items) line_words.now)) }
 {
     match line_words {
         [] => Ok(LineContent::Nothing),

@@ -47,7 +47,8 @@ impl ScriptedLink {
 
 /// Adds a copy of a datagram behind those that are under way.
 fn queue(alloc: Global, waiting: &mut Vec<Vec<u8>>, bytes: &[u8]) -> Result<(), AllocError>
-    ensures { OnOk result (map (λ b. b.items) waiting.new.items ≡ map (λ b. b.items) waiting.old.items ++ bytes.now ∷ []) }
+    ensures { OnOk result (map (λ b. b.items) waiting.new.items
+        ≡ map (λ b. b.items) waiting.old.items ++ bytes.now ∷ []) }
 {
     let copy = Vec::from_slice(alloc, bytes)?;
     waiting.push(copy)?;

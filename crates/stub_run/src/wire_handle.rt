@@ -55,7 +55,8 @@ impl<L: Link> WireHandle<L> {
 
     /// The link, to be changed; all else stays.
     pub fn link_mut(&mut self) -> &mut L
-        ensures* lends { sem 𝓛 (Lends (handle_row L.row) L.row self.entry result (with_link self.old)) }
+        ensures* lends { sem 𝓛 (Lends (handle_row L.row) L.row self.entry result
+            (with_link self.old)) }
         ensures link { result.now ≡ link_of self.old }
     {
         &mut self.link
@@ -70,7 +71,8 @@ impl<L: Link> WireHandle<L> {
 
     /// Makes room for so many more drawn ids.
     pub(crate) fn reserve(&mut self, additional: usize) -> Result<(), AllocError>
-        ensures room { OnOk result (vec_len self.new.sent + additional ≤ vec_capacity self.new.sent) }
+        ensures room { OnOk result (
+            vec_len self.new.sent + additional ≤ vec_capacity self.new.sent) }
         ensures ids { self.new.ids ≡ self.old.ids }
         ensures none { DrawsNone self.old self.new }
     {
@@ -89,7 +91,8 @@ impl<L: Link> WireHandle<L> {
     /// Asks a question, and counts the datagrams with it that are sent.
     pub(crate) fn ask(&mut self, query: &Query) -> Asked
         ensures asks { Asks L.sends L.receives self.old query.now result.outcome self.new }
-        ensures failed { FailsByLink result.outcome (L.failure_count self.old.link) (L.failure_count self.new.link) }
+        ensures failed { FailsByLink result.outcome (L.failure_count self.old.link)
+            (L.failure_count self.new.link) }
         ensures questions { MaySend result.outcome result.questions }
         // No more are sent than ids are drawn.
         ensures drawn { length self.old.sent.items + result.questions ≤ length self.new.sent.items }
@@ -153,8 +156,10 @@ fn exchange<L: Link>(
     dropped: &mut u64,
 ) -> Asked
     requires { IsSoundQuery query.now }
-    ensures exchange { Exchanges L.sends L.receives id query.now link.old dropped.old result.outcome link.new dropped.new }
-    ensures failed { FailsByLink result.outcome (L.failure_count link.old) (L.failure_count link.new) }
+    ensures exchange { Exchanges L.sends L.receives id query.now link.old dropped.old
+        result.outcome link.new dropped.new }
+    ensures failed { FailsByLink result.outcome (L.failure_count link.old)
+        (L.failure_count link.new) }
     ensures questions { MaySend result.outcome result.questions }
     ensures one { result.questions ≤ 1 }
 {
@@ -206,7 +211,8 @@ fn wait<L: Link>(
     query: &Query,
     dropped: &mut u64,
 ) -> Result<Message, NetError>
-    ensures waits { Waits L.receives 16 id query.now link.old dropped.old result link.new dropped.new }
+    ensures waits { Waits L.receives 16 id query.now link.old dropped.old
+        result link.new dropped.new }
     ensures failed { FailsByLink result (L.failure_count link.old) (L.failure_count link.new) }
     ensures questions { MaySend result 1 }
 {

@@ -57,9 +57,15 @@ impl From<clap::Error> for WordsFault {
 /// The program's words, of which the first is its name: `--zone FILE` and `--script FILE`, each once, and `--origin NAME`,
 /// at most once. The name is read as by `Name::from_ascii`.
 pub fn read_words(alloc: Global, words: &[&str]) -> Result<Words, WordsFault>
-    ensures zone { IfOk result (λ found. value_of (codes "zone") (map (λ word. word.now) words.now) ≡ Some (string_bytes found.zone)) }
-    ensures script { IfOk result (λ found. value_of (codes "script") (map (λ word. word.now) words.now) ≡ Some (string_bytes found.script)) }
-    ensures origin { IfOk result (λ found. origin_of (value_of (codes "origin") (map (λ word. word.now) words.now)) ≡ Ok found.origin) }
+    ensures zone { IfOk result (λ found.
+        value_of (codes "zone") (map (λ word. word.now) words.now)
+        ≡ Some (string_bytes found.zone)) }
+    ensures script { IfOk result (λ found.
+        value_of (codes "script") (map (λ word. word.now) words.now)
+        ≡ Some (string_bytes found.script)) }
+    ensures origin { IfOk result (λ found.
+        origin_of (value_of (codes "origin") (map (λ word. word.now) words.now))
+        ≡ Ok found.origin) }
     // None is taken in which clap finds a fault.
     ensures only { OnOk result (fault_of stub_app (map (λ word. word.now) words.now) ≡ []) }
     ensures fault { IfErr result (IsWordsFault (map (λ word. word.now) words.now)) }
@@ -78,7 +84,8 @@ pub fn read_words(alloc: Global, words: &[&str]) -> Result<Words, WordsFault>
 /// The program's command, for clap.
 fn stub_command<'a>(alloc: Global) -> Result<Command<'a>, AllocError>
     ensures app { IfOk result (λ command. app_of command ≡ stub_app) }
-    ensures files { IfOk result (λ command. (matches : ArgMatches) → IsParsedFrom command matches → HasFiles matches) }
+    ensures files { IfOk result (λ command. (matches : ArgMatches)
+        → IsParsedFrom command matches → HasFiles matches) }
 {
     let zone = file_option(alloc, "zone", "The zone's text");
     let script = file_option(alloc, "script", "The script: what happens, line by line");
@@ -120,15 +127,18 @@ fn origin_option<'a>(alloc: Global) -> Arg<'a>
 /// The value of an option that has one.
 fn value_of(alloc: Global, matches: &ArgMatches<'_>, name: &str) -> Result<String, AllocError>
     requires { is_some (first_value (found_of matches.now) name.now) ≡ true }
-    ensures { IfOk result (λ value. first_value (found_of matches.now) name.now ≡ Some (string_bytes value)) }
+    ensures { IfOk result (λ value.
+        first_value (found_of matches.now) name.now ≡ Some (string_bytes value)) }
 {
     String::from_str(alloc, matches.get_str(name).unwrap())
 }
 
 /// The origin, if its option has a value.
 fn origin_in(alloc: Global, matches: &ArgMatches<'_>) -> Result<Option<Name>, WordsFault>
-    ensures ok { IfOk result (λ origin. origin_of (first_value (found_of matches.now) (codes "origin")) ≡ Ok origin) }
-    ensures fault { IfErr result (IsOriginFault (first_value (found_of matches.now) (codes "origin"))) }
+    ensures ok { IfOk result (λ origin.
+        origin_of (first_value (found_of matches.now) (codes "origin")) ≡ Ok origin) }
+    ensures fault { IfErr result (IsOriginFault
+        (first_value (found_of matches.now) (codes "origin"))) }
 {
     let Some(text) = matches.get_str("origin") else {
         return Ok(None);

@@ -163,10 +163,12 @@ fn refusal_of(handle: &WireHandle<ScriptedLink>, event: &Event) -> Option<NetErr
 /// Lets an event happen. None where memory was refused to the link or to its server.
 fn happen(handle: &mut WireHandle<ScriptedLink>, event: &Event) -> Option<EventReport>
     requires { IsQuiet handle.old.link }
-    ensures step { IfSome result (λ report. Step (content handle.old) handle.old.sent.items event.now report handle.new.sent.items) }
+    ensures step { IfSome result (λ report.
+        Step (content handle.old) handle.old.sent.items event.now report handle.new.sent.items) }
     ensures quiet { IfSome result (λ _. IsQuiet handle.new.link) }
     ensures same { IfSome result (λ _. content handle.new ≡ content handle.old) }
-    ensures front { take (length handle.old.sent.items) handle.new.sent.items ≡ handle.old.sent.items }
+    ensures front { take (length handle.old.sent.items) handle.new.sent.items
+        ≡ handle.old.sent.items }
     ensures dropped { handle.new.dropped ≡ handle.old.dropped }
 {
     messages_decode_unambiguously();
@@ -226,11 +228,13 @@ fn keep(reports: &mut Vec<EventReport>, report: EventReport)
 pub fn run(world: World, events: &[Event]) -> Result<Report, Stopped>
     // The moments are looked at first.
     ensures moments { (result ≡ Err Stopped.Moments) ↔ ¬ InOrder 0 events.now }
-    ensures run { IfOk result (λ report. Runs world [] events.now report.events.items report.sent.items) }
+    ensures run { IfOk result (λ report.
+        Runs world [] events.now report.events.items report.sent.items) }
     ensures dropped { IfOk result (λ report. report.dropped ≡ 0) }
     // What was reported before memory was refused is so, too.
     ensures stopped { IfSome (memory_report result) (λ report.
-        (n : ℕ) × (n ≤ length events.now) × Runs world [] (take n events.now) report.events.items report.sent.items) }
+        (n : ℕ) × (n ≤ length events.now)
+        × Runs world [] (take n events.now) report.events.items report.sent.items) }
     ensures stopped_dropped { IfSome (memory_report result) (λ report. report.dropped ≡ 0) }
 {
     if !is_in_order(events) {
