@@ -43,9 +43,11 @@ pub(crate) fn play_fault(alloc: Global, name: &str) -> Answer {
         // A row may ask for the text of want of memory.
         "Memory" => shown(alloc, PlayFault::Memory),
         "Write" => shown(alloc, PlayFault::Write),
+        "Zone NotInternet" => shown(alloc, PlayFault::Zone(ZoneFault::NotInternet)),
         "Zone OutsideOrigin" => shown(alloc, PlayFault::Zone(ZoneFault::OutsideOrigin)),
         "Zone NoSoa" => shown(alloc, PlayFault::Zone(ZoneFault::NoSoa)),
         "Zone SoaElsewhere" => shown(alloc, PlayFault::Zone(ZoneFault::SoaElsewhere)),
+        "Zone DataTooLong" => shown(alloc, PlayFault::Zone(ZoneFault::DataTooLong)),
         // A row may ask for the text of want of memory in a zone.
         "Zone Memory" => shown(alloc, PlayFault::Zone(ZoneFault::Memory)),
         _ => shown(alloc, PlayFault::Script(line_of(name)?)),

@@ -3,7 +3,7 @@
 use crate::asking::{asked, looked_up};
 use crate::fault::{link_fault, play_fault, script_fault};
 use crate::linking::linked;
-use crate::playing::{play_size, played, script};
+use crate::playing::{play_size, played, played_at, script};
 use crate::running::ran;
 use crate::words::words;
 use rows::{Answer, RowFault};
@@ -17,6 +17,7 @@ pub(crate) fn answer(alloc: Global, word: &str, input: &str) -> Answer {
         "link" => linked(alloc, input),
         "run" => ran(alloc, input),
         "play" => played(alloc, input),
+        "play-at" => played_at(alloc, input),
         "play-size" => play_size(alloc, input),
         "script" => script(alloc, input),
         "words" => words(alloc, input),

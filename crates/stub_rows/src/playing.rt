@@ -1,21 +1,39 @@
 //! Whole runs, from two texts to what is printed.
 
+use crate::question::name_of;
 use dns_names::Name;
-use rows::{Answer, named, split};
+use rows::{Answer, RowFault, named, split};
 use std::alloc::Global;
 use std::fmt::Write;
 use stub_run::{Event, PlayInput, ScriptText, play, read_script};
 
 /// `play ZONE || SCRIPT`: what a run prints, and behind it the line of its fault.
 pub(crate) fn played(alloc: Global, input: &str) -> Answer {
-    let (zone, script) = split(input, " || ", "a zone and a script")?;
-    let input = PlayInput {
+    printed(alloc, &input_of(alloc, input)?)
+}
+
+/// `play-at ORIGIN || ZONE || SCRIPT`: what a run over a zone with this origin prints, and behind it the line of its fault.
+pub(crate) fn played_at(alloc: Global, input: &str) -> Answer {
+    let (origin, texts) = split(input, " || ", "an origin")?;
+    let mut input = input_of(alloc, texts)?;
+    input.origin = Some(name_of(alloc, origin)?);
+    printed(alloc, &input)
+}
+
+/// The texts of a zone and a script.
+fn input_of(alloc: Global, texts: &str) -> Result<PlayInput, RowFault> {
+    let (zone, script) = split(texts, " || ", "a zone and a script")?;
+    Ok(PlayInput {
         zone: String::from_str(alloc, zone)?,
         script: String::from_str(alloc, script)?,
         origin: None,
-    };
+    })
+}
+
+/// What a run prints, and behind it the line of its fault.
+fn printed(alloc: Global, input: &PlayInput) -> Answer {
     let mut bytes: Vec<u8> = Vec::new(alloc);
-    let outcome = play(alloc, &input, &mut bytes);
+    let outcome = play(alloc, input, &mut bytes);
     let mut text = String::from_utf8_lossy(alloc, bytes.as_slice())?;
     if let Err(fault) = outcome {
         writeln!(text, "{fault}")?;

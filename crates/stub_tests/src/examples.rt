@@ -9,8 +9,10 @@ use std::test::Fail;
 
 /// Returns the reply of a name server with a small zone, or `None` if the bytes are not a query.
 fn reply_to(alloc: Global, request: &[u8]) -> Result<Option<Vec<u8>>, ZoneFault> {
-    let text = "t. 60 IN SOA ns.t. h.t. 1 3600 600 86400 30\n\
-                a.t. 60 IN A 10.0.0.1\n";
+    let text = "$ORIGIN t.\n\
+                $TTL 60\n\
+                @ SOA ns h ( 1 1h 10m 1d 30 )\n\
+                a A 10.0.0.1\n";
     let mut zone = Zone::from_text(alloc, text, &[], None)?;
     Ok(zone.serve(request, Road::Stream)?)
 }

@@ -3,6 +3,7 @@
 //!
 //! - `calls`: the link of a handle, which a program may use by itself;
 //! - `plays`: a writer that fails in the middle of a report;
+//! - `zones`: a zone that is printed as a zone file;
 //! - `examples`: the examples of the README.
 #![tactic(auto)]
 
@@ -12,3 +13,5 @@ mod calls;
 mod examples;
 #[cfg(test)]
 mod plays;
+#[cfg(test)]
+mod zones;

@@ -3,6 +3,7 @@
 //! - `operation`: the operations by their words; `header`, `question`, `message`: messages and their parts;
 //! - `rebuilt`: messages that are made from others, and responses;
 //! - `damaged`: messages of which bytes are missing or changed; `record_set`, `answer_sets`, `update`: sets of records, and updates;
+//! - `zone_file`, `includes`: zone files, and the texts that they include;
 //! - `zone`, `answer`, `serve`: zones, their answers and their replies.
 #![tactic(auto)]
 
@@ -10,6 +11,7 @@ mod answer;
 mod answer_sets;
 mod damaged;
 mod header;
+mod includes;
 mod message;
 mod operation;
 mod question;
@@ -18,6 +20,7 @@ mod record_set;
 mod serve;
 mod update;
 mod zone;
+mod zone_file;
 
 use rows::{Answer, Notation, Operations};
 use std::alloc::Global;

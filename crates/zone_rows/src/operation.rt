@@ -13,7 +13,8 @@ use crate::rebuilt::{all_records, rebuilt, response, response_of};
 use crate::record_set::edited_set;
 use crate::serve::{limit, serve, served_size};
 use crate::update::{name_deletion, set_deletion, set_update, swap};
-use crate::zone::{fault, zone};
+use crate::zone::{fault, zone, zone_at, zone_fault, zone_with};
+use crate::zone_file::{zone_file, zone_file_at, zone_file_repeated, zone_file_with};
 use rows::{Answer, RowFault};
 use std::alloc::Global;
 
@@ -56,7 +57,14 @@ pub(crate) fn answer(alloc: Global, word: &str, input: &str) -> Answer {
         "delete-rrset" => set_deletion(alloc, input),
         "delete-all" => name_deletion(alloc, input),
         "zone" => zone(alloc, input),
+        "zone-at" => zone_at(alloc, input),
+        "zone-with" => zone_with(alloc, input),
+        "zone-fault" => zone_fault(alloc, input),
         "fault" => fault(alloc, input),
+        "zone-file" => zone_file(alloc, input),
+        "zone-file-at" => zone_file_at(alloc, input),
+        "zone-file-with" => zone_file_with(alloc, input),
+        "zone-file-repeated" => zone_file_repeated(alloc, input),
         "answer" => answered(alloc, input),
         "limit" => limit(alloc, input),
         "serve" => serve(alloc, input),
