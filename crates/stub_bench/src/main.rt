@@ -5,6 +5,7 @@
 mod data;
 mod message;
 mod operation;
+mod zone;
 
 use anyhow::{Result, bail};
 use clap::{Arg, Command, Error, value_parser};
@@ -14,7 +15,7 @@ use std::env;
 use std::process::ExitCode;
 
 /// What may be repeated.
-const WHAT: [&str; 12] = [
+const WHAT: [&str; 16] = [
     "all",
     "name-read",
     "name-write",
@@ -27,6 +28,10 @@ const WHAT: [&str; 12] = [
     "data-print",
     "message-read",
     "message-write",
+    "zone-read",
+    "serve-a",
+    "serve-cname",
+    "serve-nxdomain",
 ];
 
 fn main(rt: HostRuntime) -> Result<ExitCode> {

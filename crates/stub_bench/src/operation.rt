@@ -4,6 +4,7 @@ ghost use Rattle.std.specs.Prelude.{◌≡◌, []};
 
 use crate::data::{parse_data, print_data, read_data, write_data};
 use crate::message::{read_messages, write_messages};
+use crate::zone::{read_zones, serve_addresses, serve_aliases, serve_missing};
 use anyhow::Result;
 use dns_names::Name;
 use dns_wire::{BinDecoder, BinEncoder};
@@ -34,6 +35,14 @@ pub(crate) enum Operation {
     MessageRead,
     /// Encodes this reply.
     MessageWrite,
+    /// Reads a zone file of 10,000 records and an SOA record.
+    ZoneRead,
+    /// Serves a question for the addresses of a name in that zone.
+    ServeA,
+    /// Serves a question for the addresses of an alias in that zone.
+    ServeCname,
+    /// Serves a question for a name that is not in that zone.
+    ServeNxdomain,
 }
 
 /// Two names of four labels, equal up to ASCII case.
@@ -58,7 +67,7 @@ const BYTES: &[u8; 29] = b"\x03com\x00\x07example\xC0\x00\x03www\xC0\x05\x01a\xC
 
 impl Operation {
     /// All of them.
-    pub(crate) const ALL: [Operation; 11] = [
+    pub(crate) const ALL: [Operation; 15] = [
         Operation::NameRead,
         Operation::NameWrite,
         Operation::NameParse,
@@ -70,6 +79,10 @@ impl Operation {
         Operation::DataPrint,
         Operation::MessageRead,
         Operation::MessageWrite,
+        Operation::ZoneRead,
+        Operation::ServeA,
+        Operation::ServeCname,
+        Operation::ServeNxdomain,
     ];
 
     /// The word that means it.
@@ -86,6 +99,10 @@ impl Operation {
             Operation::DataPrint => "data-print",
             Operation::MessageRead => "message-read",
             Operation::MessageWrite => "message-write",
+            Operation::ZoneRead => "zone-read",
+            Operation::ServeA => "serve-a",
+            Operation::ServeCname => "serve-cname",
+            Operation::ServeNxdomain => "serve-nxdomain",
         }
     }
 
@@ -103,6 +120,10 @@ impl Operation {
             Operation::DataPrint => print_data(alloc, count),
             Operation::MessageRead => read_messages(alloc, count),
             Operation::MessageWrite => write_messages(alloc, count),
+            Operation::ZoneRead => read_zones(alloc, count),
+            Operation::ServeA => serve_addresses(alloc, count),
+            Operation::ServeCname => serve_aliases(alloc, count),
+            Operation::ServeNxdomain => serve_missing(alloc, count),
         }
     }
 }

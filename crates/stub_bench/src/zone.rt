@@ -1,0 +1,110 @@
+//! The operations on zones: reading a zone file of an SOA record and 10,000 others, which 5,000 owners have, and serving
+//! questions over that zone.
+
+use anyhow::Result;
+use dns_zone::{DatagramLimit, Road, Zone};
+use std::alloc::{AllocError, Global};
+use std::fmt::Write;
+
+/// The start of the zone file.
+const HEAD: &str = "$ORIGIN example.com.\n$TTL 3600\n@ SOA ns host 1 3600 600 86400 300\n";
+
+/// How many groups of four owners the zone has.
+const GROUPS: u32 = 1_250;
+
+/// The header of a query with one question.
+const HEADER: &[u8] = b"\x00\x07\x01\x00\x00\x01\x00\x00\x00\x00\x00\x00";
+
+/// The end of a question: the labels of the origin, the type A and the class IN.
+const QUESTION: &[u8] = b"\x07example\x03com\x00\x00\x01\x00\x01";
+
+/// Reads the zone file.
+pub(crate) fn read_zones(alloc: Global, count: u64) -> Result<u64> {
+    let text = zone_text(alloc)?;
+    let mut checksum = 0_u64;
+    for _ in 0..count {
+        let zone = Zone::from_text(alloc, text.as_str(), &[], None)?;
+        checksum = checksum.wrapping_add(zone.origin().len() as u64);
+    }
+    Ok(checksum)
+}
+
+/// Serves questions for the addresses of the first and the last owner that has two, by turns.
+pub(crate) fn serve_addresses(alloc: Global, count: u64) -> Result<u64> {
+    serve(alloc, b"\x02a0", b"\x05a1249", count)
+}
+
+/// Serves questions for the addresses of the first and the last alias, by turns.
+pub(crate) fn serve_aliases(alloc: Global, count: u64) -> Result<u64> {
+    serve(alloc, b"\x02c0", b"\x05c1249", count)
+}
+
+/// Serves questions for the addresses of two names that do not exist, by turns.
+pub(crate) fn serve_missing(alloc: Global, count: u64) -> Result<u64> {
+    serve(alloc, b"\x02n0", b"\x05n1249", count)
+}
+
+/// Serves questions for the addresses of two names below the origin, by turns. The checksum is the length of the replies.
+fn serve(alloc: Global, even: &[u8], odd: &[u8], count: u64) -> Result<u64> {
+    let even = request(alloc, even)?;
+    let odd = request(alloc, odd)?;
+    let mut zone = large_zone(alloc)?;
+    serve_by_turns(&mut zone, even.as_slice(), odd.as_slice(), count)
+}
+
+/// Serves two requests by turns.
+fn serve_by_turns(zone: &mut Zone, even: &[u8], odd: &[u8], count: u64) -> Result<u64> {
+    let mut checksum = 0_u64;
+    for turn in 0..count {
+        let bytes = if turn % 2 == 0 { even } else { odd };
+        checksum = checksum.wrapping_add(reply_len(zone, bytes)?);
+    }
+    Ok(checksum)
+}
+
+/// The length of the reply to a request in a datagram, or 0 if there is none.
+fn reply_len(zone: &mut Zone, request: &[u8]) -> Result<u64> {
+    let limit = DatagramLimit::new(1232)?;
+    match zone.serve(request, Road::Datagram(limit))? {
+        Some(reply) => Ok(reply.len() as u64),
+        None => Ok(0),
+    }
+}
+
+/// A request for the addresses of a name below the origin.
+fn request(alloc: Global, label: &[u8]) -> Result<Vec<u8>, AllocError> {
+    let mut bytes = Vec::new(alloc);
+    bytes.extend_from_slice(HEADER)?;
+    bytes.extend_from_slice(label)?;
+    bytes.extend_from_slice(QUESTION)?;
+    Ok(bytes)
+}
+
+/// The zone of the zone file.
+fn large_zone(alloc: Global) -> Result<Zone> {
+    let text = zone_text(alloc)?;
+    Ok(Zone::from_text(alloc, text.as_str(), &[], None)?)
+}
+
+/// The zone file.
+fn zone_text(alloc: Global) -> Result<String, AllocError> {
+    let mut text = String::from_str(alloc, HEAD)?;
+    for group in 0..GROUPS {
+        push_owners(&mut text, group)?;
+    }
+    Ok(text)
+}
+
+/// Adds the eight records of four owners: one with two addresses; one with an address of each family; an alias; and one with
+/// an address, a mail exchange and a text.
+fn push_owners(text: &mut String, group: u32) -> Result<(), AllocError> {
+    let (high, low) = (group / 256, group % 256);
+    writeln!(text, "a{group} A 10.0.{high}.{low}")?;
+    writeln!(text, " A 10.1.{high}.{low}")?;
+    writeln!(text, "b{group} A 10.2.{high}.{low}")?;
+    writeln!(text, " AAAA 2001:db8::{group}")?;
+    writeln!(text, "c{group} CNAME a{group}")?;
+    writeln!(text, "d{group} A 10.3.{high}.{low}")?;
+    writeln!(text, " MX 10 a{group}")?;
+    writeln!(text, " TXT \"text {group}\"")
+}
