@@ -83,7 +83,7 @@ printable_sets zone sets all e q =
 
 -- ---- zones
 
-octets_of : (l : List ℕ) → ((k : ℕ) → get_or l k 0 < 256) → AreOctets l
+pub octets_of : (l : List ℕ) → ((k : ℕ) → get_or l k 0 < 256) → AreOctets l
 octets_of [] fits = tt
 octets_of (c ∷ cs) fits = (fits 0, octets_of cs (λ k. fits (suc k)))
 

@@ -40,15 +40,49 @@ impl Zone {
             (includes_view includes.now) (option_copied origin.entry) text.now (Err fault)) }
         ensures well_formed { IfOk result IsZone }
         ensures filled { IfOk result (λ zone. HasNoEmptySet zone.rows) }
-        ensures printable { AllByRecursion (λ i. AreOctets i.1) (includes_view includes.now)
-            → IfSome (option_copied origin.entry) IsValidName → IfOk result IsPrintable }
+        ensures printable { IfOk result IsPrintable }
     {
         parsed_sets_have_records();
+        texts_are_octets(includes);
+        origin_is_valid(origin);
         let records = parse_records(alloc, text, includes, origin)?;
         let origin = zone_origin(origin, records.soa_owner)?;
         zone_of(alloc, origin, records.sets)
     }
 }
+
+/// Proves that texts to include consist of octets; nothing is computed.
+fn texts_are_octets(includes: &[(String, String)])
+    ensures { AllByRecursion (λ i. AreOctets i.1) (includes_view includes.now) }
+{
+    for (_, text) in includes {
+        bytes_are_octets(text.as_str().as_bytes());
+    }
+}
+
+/// Proves that an origin is a valid name, if there is one; nothing is computed.
+fn origin_is_valid(origin: Option<&Name>)
+    ensures { IfSome (option_copied origin.entry) IsValidName }
+{
+    if let Some(origin) = origin {
+        name_is_valid(origin);
+    }
+}
+
+/// Proves that a name is valid; nothing is computed.
+fn name_is_valid(name: &Name)
+    ensures { IsValidName name.now }
+{
+    let _ = name.encoded_len();
+    for label in name.iter() {
+        bytes_are_octets(label);
+    }
+}
+
+/// Proves that bytes are octets; nothing is computed.
+fn bytes_are_octets(_bytes: &[u8])
+    ensures { AreOctets _bytes.now }
+{}
 
 /// Copies a name, if there is one.
 fn copy_of(name: Option<&Name>) -> Result<Option<Name>, AllocError>

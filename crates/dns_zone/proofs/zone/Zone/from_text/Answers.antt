@@ -16,4 +16,4 @@ returns-clause-refused c =
 pub returns-clause-printable : goal.returns-clause-printable
 returns-clause-printable c =
     printable_zone _ _ c.args.text.now c.in_ok-records.records c.in_ok-records.ensures.ok c.zone_of.result c.zone_of.ensures.rows
-    (λ k. omega (arith, c.type_inv.text k))
+    (λ k. omega (arith, c.type_inv.text k)) c.texts_are_octets.ensures c.origin_is_valid.ensures
