@@ -1,0 +1,4 @@
+pub mod FileLaws
+pub mod HostsLaws
+pub mod LinesLaws
+pub mod WordsLaws

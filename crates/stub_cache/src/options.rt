@@ -11,9 +11,10 @@ use std::collections::BTreeSet;
 
 /// The options of a resolver.
 ///
-/// `ndots`, `edns0`, `ip_strategy`, `cache_size`, `use_hosts_file`, the bounds of TTLs, `preserve_intermediates`,
-/// `recursion_desired` and `edns_payload_len` take effect. A resolver is refused that sets `case_randomization`,
-/// `trust_anchor` or `deny_answers`. The other options are kept without effect.
+/// `ndots`, `edns0`, `ip_strategy`, `use_hosts_file`, `recursion_desired` and `edns_payload_len` take effect. A resolver is
+/// refused that sets `case_randomization`, `trust_anchor` or `deny_answers`. `cache_size`, the bounds of TTLs and
+/// `preserve_intermediates` are for a cache and for aliases, which are not implemented yet. The other options are kept
+/// without effect.
 #[derive(Drop)]
 pub struct ResolverOpts {
     /// A name with more labels than this is looked up as it is, before it is completed.
