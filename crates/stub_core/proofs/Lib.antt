@@ -1,4 +1,10 @@
 pub mod AttemptedNamesLaws
 pub mod AttemptedNamesRows
+pub mod AttemptsLaws
+pub mod LooksLaws
 pub mod RequestRows
+pub mod ResolverLaws
+pub mod ResolverRows
 pub mod SpecialNamesRows
+pub mod StepLaws
+pub mod StrategiesLaws

@@ -1,3 +1,10 @@
 pub mod AttemptedNames
+pub mod Attempts
+pub mod Handle
+pub mod Looks
 pub mod Request
+pub mod Resolver
+pub mod ResolverBuilder
 pub mod SpecialNames
+pub mod Step
+pub mod Strategies

@@ -12,10 +12,10 @@ const ONION_SERVICE_LEN: usize = 56;
 
 /// Returns the names that a lookup of a name attempts, in order, all of them fully qualified.
 ///
-/// A fully qualified name and the name of an onion service are attempted alone. Any other name is joined with `domain`
-/// and with each zone of `search`. As it is, it comes before these names if it has more than `ndots` labels or ends in
-/// `localhost`, and else after them. A joined name is left out if it is too long or equal to one that is attempted
-/// later.
+/// A fully qualified name and a name at or below an onion service are attempted alone. Any other name is joined with
+/// `domain` and with each zone of `search`. As it is, it comes before these names if it has more than `ndots` labels, not
+/// counting a leading `*`, or ends in `localhost`, and else after them. A joined name is left out if it is too long or
+/// equal to one that is attempted later.
 pub fn names_to_attempt(
     alloc: Global,
     name: &Name,
@@ -110,7 +110,7 @@ fn push_search(stack: &mut Vec<Name>, name: &Name, search: &[Name]) -> Result<()
     Ok(())
 }
 
-/// Pushes a name joined with a zone, unless it is too long.
+/// Pushes a name joined with a zone, unless it is too long or on the stack already.
 fn push_joined(stack: &mut Vec<Name>, name: &Name, zone: &Name) -> Result<(), AllocError>
     ensures { OnOk result (reverse stack.new.items
         ≡ joined_before (append_domain name.now zone.now) (reverse stack.old.items)) }

@@ -1,0 +1,17 @@
+use Rattle.std.proofs.Common.{◌≡◌, sym, ◌∙◌}
+use Rattle.std.specs.Prelude.{true}
+use Rattle.dns_messages.specs.Message.{all_records}
+use Rattle.stub_core.specs.Step.{is_found}
+use Rattle.stub_core.proofs.StepLaws.{found-here, found-nowhere}
+use Rattle.stub_core.proofs.caching_client.step.is_any_found.Goals as goal
+
+pub returns-then-is_found : goal.returns-then-is_found
+returns-then-is_found c =
+    let passes : is_found c.args.query.now c.in-Some.entry.now ≡ true = sym c.is_found.ensures ∙ c.if-is_found.true in
+    found-here (is_found c.args.query.now) (all_records c.args.message.now) c.loop-entry.entry-iterator c.next.new.self
+    c.in-Some.entry.now c.in-Some.ensures.steps c.loop-entry.invariant passes
+
+pub returns : goal.returns
+returns c =
+    found-nowhere (is_found c.args.query.now) (all_records c.args.message.now) c.loop-entry.entry-iterator
+    c.in-None.ensures.steps.0 c.loop-entry.invariant

@@ -1,0 +1,122 @@
+-- Lookups of a resolver: of a name, or of a host.
+use Rattle.std.specs.Prelude.{◌≡◌, ◌+◌, ◌⊎◌, nat_lt, true, false, List, [], ◌∷◌, ℕ, Bool, Option, Some, None, option_map, Result, Ok, Err}
+use Rattle.std.specs.declared.net.ip_addr.IpAddr.{IpAddr}
+use Rattle.dns_codes.specs.RecordType.{type_number, type_of}
+use Rattle.dns_codes.specs.declared.record_type.RecordType.{RecordType}
+use Rattle.dns_names.specs.Name.{DomainName}
+use Rattle.dns_names.specs.declared.error.ParseError.{ParseError}
+use Rattle.dns_data.specs.declared.rdata.RData.{RData}
+use Rattle.dns_messages.specs.declared.query.Query.{Query}
+use Rattle.dns_messages.specs.declared.response.DnsResponse.{DnsResponse}
+use Rattle.stub_cache.specs.Error.{error_of_name}
+use Rattle.stub_cache.specs.Hosts.{address_data, address_type, question}
+use Rattle.stub_cache.specs.Lookup.{LookupContent, lookup_of, max_ttl, record_for}
+use Rattle.stub_cache.specs.declared.error.NetError.{NetError}
+use Rattle.stub_cache.specs.declared.options.ResolverOpts.{ResolverOpts}
+use Rattle.stub_cache.specs.declared.request_options.DnsRequestOptions.{DnsRequestOptions}
+use Rattle.stub_core.specs.AttemptedNames.{attempted_names}
+use Rattle.stub_core.specs.Attempts.{AttemptsWithHosts}
+use Rattle.stub_core.specs.Looks.{Answers, Reply, out_of_memory}
+use Rattle.stub_core.specs.Strategies.{LooksUpIp}
+use Rattle.stub_core.specs.declared.request.DnsRequest.{DnsRequest}
+use Rattle.stub_core.specs.declared.resolver.Resolver.{Resolver}
+use Rattle.stub_core.specs.declared.resolver.settings.Settings.{Settings}
+
+-- the options of a resolver's requests
+abbrev pub request_options : ResolverOpts → DnsRequestOptions
+request_options options = record {
+  use_edns = options.edns0;
+  edns_payload_len = options.edns_payload_len;
+  edns_set_dnssec_ok = false;
+  recursion_desired = options.recursion_desired;
+}
+
+-- the names that a lookup of a name attempts
+abbrev pub names_for : Settings → DomainName → List DomainName
+names_for settings name = attempted_names settings.options.ndots settings.config.domain settings.config.search name
+
+-- a type by its number
+abbrev pub known_type : RecordType → RecordType
+known_type kind = type_of (type_number kind)
+
+-- want of memory may end a lookup before a name is asked for
+abbrev pub UnlessMemory : {S : Type 0} → Type 0 → S → Reply → S → Type 0
+UnlessMemory looks old reply new = ((reply ≡ out_of_memory) × (new ≡ old)) ⊎ looks
+
+-- ---- lookups of names
+
+-- records of a type for a name, or the error of a text that is not a name
+abbrev pub AnswersName : {S : Type 0} → Settings → ℕ → (S → Query → Reply → S → Type 0) → Result DomainName ParseError → RecordType → S → Reply → S → Type 0
+AnswersName settings now asks (Err error) kind old reply new = (reply ≡ Err (error_of_name error)) × (new ≡ old)
+AnswersName settings now asks (Ok name) kind old reply new = AttemptsWithHosts settings.hosts now asks kind old (names_for settings name) reply new
+
+-- A lookup of records. The type is taken by its number.
+abbrev pub LooksUp : {S : Type 0} → Settings → ℕ → (S → Query → Reply → S → Type 0) → Result DomainName ParseError → RecordType → S → Reply → S → Type 0
+LooksUp settings now asks name kind old reply new =
+    UnlessMemory (AnswersName settings now asks name (known_type kind) old reply new) old reply new
+
+-- ---- lookups of hosts
+
+-- a literal address, at the text as a name, or at the empty name
+abbrev pub owner_of : Result DomainName ParseError → DomainName
+owner_of (Ok name) = name
+owner_of (Err error) = record { is_fqdn = false; labels = [] }
+
+abbrev pub literal : DomainName → IpAddr → ℕ → LookupContent
+literal owner address now =
+    let asked = question owner (address_type address) in
+    lookup_of asked (record_for asked (address_data address) ∷ []) (now + max_ttl)
+
+-- what is returned for a text that is not a name: a literal address at the empty name, or the error
+abbrev pub without_name : ParseError → Option IpAddr → ℕ → Reply
+without_name error None now = Err (error_of_name error)
+without_name error (Some address) now = Ok (literal (owner_of (Err error)) address now)
+
+-- whether a literal address that is a name is looked up as one: `ndots` is above 4
+abbrev pub tries_literals : Settings → Bool
+tries_literals settings = nat_lt 4 settings.options.ndots
+
+-- whether a literal address is only returned where no name had one
+abbrev pub is_tried_as_name : Settings → Result DomainName ParseError → Bool
+is_tried_as_name settings (Ok name) = tries_literals settings
+is_tried_as_name settings (Err error) = false
+
+-- a lookup of the addresses of a name, with an address that is returned where there are none
+abbrev pub LooksUpName : {S : Type 0} → Settings → ℕ → (S → Query → Reply → S → Type 0) → Option RData → Result DomainName ParseError → S → Reply → S → Type 0
+LooksUpName settings now asks finally (Err error) old reply new = (reply ≡ Err (error_of_name error)) × (new ≡ old)
+LooksUpName settings now asks finally (Ok name) old reply new =
+    LooksUpIp settings.options.ip_strategy settings.hosts now asks finally old (names_for settings name) reply new
+
+-- a literal address that is returned at once, or a lookup
+abbrev pub AnswersHost : {S : Type 0} → Settings → ℕ → (S → Query → Reply → S → Type 0) → Bool → Option IpAddr → Result DomainName ParseError → S → Reply → S → Type 0
+AnswersHost settings now asks tried None name old reply new = LooksUpName settings now asks None name old reply new
+AnswersHost settings now asks false (Some address) name old reply new = (reply ≡ Ok (literal (owner_of name) address now)) × (new ≡ old)
+AnswersHost settings now asks true (Some address) name old reply new =
+    LooksUpName settings now asks (Some (address_data address)) name old reply new
+
+-- A lookup of a host: a literal address, or a name.
+abbrev pub LooksUpHost : {S : Type 0} → Settings → ℕ → (S → Query → Reply → S → Type 0) → Option IpAddr → Result DomainName ParseError → S → Reply → S → Type 0
+LooksUpHost settings now asks address name old reply new =
+    UnlessMemory (AnswersHost settings now asks (is_tried_as_name settings name) address name old reply new) old reply new
+
+-- ---- lookups of a resolver: its settings stay
+
+-- what its client is asked
+abbrev pub asks_of : {H : Type 0} → (H → DnsRequest → ℕ → Result DnsResponse NetError → H → Type 0) → ℕ → Resolver H → H → Query → Reply → H → Type 0
+asks_of gives now resolver old q reply new = Answers gives (request_options resolver.settings.options) now old q reply new
+
+-- a lookup of records of a type for a name
+pub record ResolvesName {H : Type 0} (gives : H → DnsRequest → ℕ → Result DnsResponse NetError → H → Type 0) (now : ℕ) (name : Result DomainName ParseError) (kind : RecordType) (old : Resolver H) (reply : Reply) (new : Resolver H) : Type 0 where
+  pub lookup : LooksUp old.settings now (asks_of gives now old) name kind old.client.handle reply new.client.handle
+  pub settings : new.settings ≡ old.settings
+
+-- a lookup of the addresses of a host, of which `is_ip` says which address it spells
+pub record ResolvesHost {H : Type 0} (gives : H → DnsRequest → ℕ → Result DnsResponse NetError → H → Type 0) (now : ℕ) (is_ip : Option IpAddr → Type 0) (name : Result DomainName ParseError) (old : Resolver H) (reply : Reply) (new : Resolver H) : Type 0 where
+  pub address : Option IpAddr
+  pub is_address : is_ip address
+  pub lookup : LooksUpHost old.settings now (asks_of gives now old) address name old.client.handle reply new.client.handle
+  pub settings : new.settings ≡ old.settings
+
+-- a resolver with another handle
+abbrev pub with_handle : {H : Type 0} → Resolver H → H → Resolver H
+with_handle resolver handle = record resolver { client = record resolver.client { handle = handle } }

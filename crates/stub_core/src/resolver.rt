@@ -1,0 +1,121 @@
+//! A resolver: lookups of names and hosts over a handle, by a configuration, options and hosts.
+
+ghost use Rattle.std.specs.Prelude.{◌≡◌, ◌≤◌, ◌^◌};
+
+mod builder;
+mod literal;
+mod lookup_ip;
+mod settings;
+mod typed;
+
+use crate::attempts::lookup_names_with_hosts;
+use crate::caching_client::CachingClient;
+use crate::handle::DnsHandle;
+pub use builder::ResolverBuilder;
+use dns_names::Name;
+use dns_text::IntoName;
+use dns_wire::RecordType;
+use settings::Settings;
+use std::alloc::Global;
+use stub_cache::{Hosts, Lookup, Moment, NetError, ResolverConfig, ResolverOpts};
+
+/// A resolver over a handle.
+#[derive(Drop)]
+pub struct Resolver<H> {
+    settings: Settings,
+    client: CachingClient<H>,
+    alloc: Global,
+}
+
+impl<H> Resolver<H> {
+    ghost use Rattle.std.specs.Borrow.{sem, Lends};
+    ghost use Rattle.stub_core.specs.Resolver.{with_handle};
+    ghost use Rattle.stub_core.specs.ResolverBuilder.{default_settings};
+    ghost use Rattle.stub_core.specs.contracts.resolver.Resolver.{the_row as resolver_row};
+
+    /// Creates a builder of a resolver over a handle, with the default options and no hosts.
+    pub fn builder_with_config(
+        alloc: Global,
+        config: ResolverConfig,
+        handle: H,
+    ) -> ResolverBuilder<H>
+        ensures settings { result.settings ≡ default_settings config }
+        ensures handle { result.handle ≡ handle }
+    {
+        ResolverBuilder::new(alloc, config, handle)
+    }
+
+    /// Returns the options.
+    pub fn options(&self) -> &ResolverOpts
+        ensures { result.now ≡ self.now.settings.options }
+    {
+        &self.settings.options
+    }
+
+    /// Sets the hosts, whatever the options say of them.
+    pub fn set_hosts(&mut self, hosts: Hosts)
+        ensures { self.new ≡ record self.old {
+          settings = record self.old.settings { hosts = hosts };
+        } }
+    {
+        self.settings.hosts = hosts;
+    }
+
+    /// Returns a mutable reference to the handle.
+    pub fn handle_mut(&mut self) -> &mut H
+        ensures value { result.now ≡ self.old.client.handle }
+        ensures* lends { sem 𝓛 (Lends (resolver_row H.row) H.row self.entry result
+            (with_handle self.old)) }
+    {
+        let client = &mut self.client;
+        &mut client.handle
+    }
+}
+
+impl<H: DnsHandle> Resolver<H> {
+    ghost use Rattle.std.specs.Prelude.{Ok};
+    ghost use Rattle.stub_core.specs.Resolver.{AnswersName, ResolvesName, UnlessMemory, asks_of};
+
+    /// Looks up records of a type for a name, as it is or completed with the domain and the search list.
+    ///
+    /// The hosts are asked for the first of the names. A type is taken by its number. If a text is not a name, the error
+    /// is [`NetError::Proto`].
+    pub fn lookup<N: IntoName>(
+        &mut self,
+        name: N,
+        record_type: RecordType,
+        now: Moment,
+    ) -> Result<Lookup, NetError>
+        requires { now ≤ 2 ^ 62 }
+        ensures { ResolvesName H.gives now (N.name name) record_type self.old result self.new }
+    {
+        let name = name.into_name(self.alloc)?;
+        self.lookup_name(&name, RecordType::from(u16::from(record_type)), now)
+    }
+
+    /// Looks up records of a type, which is used as it is, for a name.
+    fn lookup_name(
+        &mut self,
+        name: &Name,
+        record_type: RecordType,
+        now: Moment,
+    ) -> Result<Lookup, NetError>
+        requires { now ≤ 2 ^ 62 }
+        ensures lookup { UnlessMemory (AnswersName self.old.settings now
+            (asks_of H.gives now self.old) (Ok name.now) record_type self.old.client.handle
+            result self.new.client.handle) self.old.client.handle result self.new.client.handle }
+        ensures settings { self.new.settings ≡ self.old.settings }
+    {
+        let names = self.settings.names_for(self.alloc, name)?;
+        let options = self.settings.request_options();
+        lookup_names_with_hosts(
+            self.alloc,
+            names,
+            record_type,
+            options,
+            &mut self.client,
+            &self.settings.hosts,
+            now,
+        )
+    }
+}
