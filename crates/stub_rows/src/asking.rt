@@ -1,8 +1,9 @@
 //! Asking a question over any link.
 
 use crate::list_link::ListLink;
-use crate::question::{ids_of, push_records, question_of};
+use crate::question::{ids_of, question_of};
 use dns_messages::{Message, Query};
+use record_text::push_records;
 use rows::{Answer, RowFault, bytes_of, named, shown, split, text, two_words};
 use std::alloc::Global;
 use stub_run::{DnsError, Lookup, NetError, WireHandle};

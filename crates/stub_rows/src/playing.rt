@@ -1,7 +1,7 @@
 //! Whole runs, from two texts to what is printed.
 
-use crate::question::name_of;
 use dns_names::Name;
+use record_text::name_of;
 use rows::{Answer, RowFault, named, split};
 use std::alloc::Global;
 use std::fmt::Write;

@@ -1,7 +1,8 @@
 //! Runs of events in a world.
 
 use crate::linking::{limit_of, zone_of};
-use crate::question::{ids_of, name_of, type_of};
+use crate::question::ids_of;
+use record_text::{name_of, type_of};
 use rows::{Answer, RowFault, parsed, split, text, two_words};
 use std::alloc::Global;
 use std::fmt::Write;

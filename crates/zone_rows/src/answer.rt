@@ -1,9 +1,8 @@
 //! Answers of a zone.
 
-use crate::message::push_records;
-use crate::question::question_of;
 use dns_messages::Query;
 use dns_zone::{Answer as ZoneAnswer, Zone};
+use record_text::{push_section, question_of};
 use rows::{Answer, named, split};
 use std::alloc::Global;
 
@@ -25,7 +24,7 @@ fn answered_by(alloc: Global, query: &Query, text: &str) -> Answer {
 fn answer_text(alloc: Global, answer: &ZoneAnswer) -> Answer {
     let code = answer.code;
     let mut text = format!(in alloc; "{code}")?;
-    push_records(&mut text, answer.answers.as_slice())?;
-    push_records(&mut text, answer.authorities.as_slice())?;
+    push_section(&mut text, answer.answers.as_slice())?;
+    push_section(&mut text, answer.authorities.as_slice())?;
     Ok(text)
 }

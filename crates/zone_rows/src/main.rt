@@ -1,24 +1,14 @@
-//! `zone_rows FILE..`: tries each row of the files, as the library `rows` describes, on messages, zones and their server.
+//! `zone_rows FILE..`: tries each row of the files, as the library `rows` describes, on zones and their server.
 //!
-//! - `operation`: the operations by their words; `header`, `question`, `message`: messages and their parts;
-//! - `rebuilt`: messages that are made from others, and responses;
-//! - `damaged`: messages of which bytes are missing or changed; `record_set`, `answer_sets`, `update`: sets of records, and updates;
+//! - `operation`: the operations by their words;
 //! - `zone_file`, `includes`: zone files, and the texts that they include;
 //! - `zone`, `answer`, `serve`: zones, their answers and their replies.
 #![tactic(auto)]
 
 mod answer;
-mod answer_sets;
-mod damaged;
-mod header;
 mod includes;
-mod message;
 mod operation;
-mod question;
-mod rebuilt;
-mod record_set;
 mod serve;
-mod update;
 mod zone;
 mod zone_file;
 
@@ -27,7 +17,7 @@ use std::alloc::Global;
 use std::io;
 use std::process::ExitCode;
 
-/// The operations on messages and zones.
+/// The operations on zones.
 struct ZoneOperations;
 
 impl Operations for ZoneOperations {

@@ -2,8 +2,8 @@
 
 use crate::includes::split_includes;
 use dns_names::Name;
-use dns_records::Record;
 use dns_zone_file::{Parser, ZoneRecords};
+use record_text::push_record;
 use rows::{Answer, RowFault, named, parsed, split};
 use std::alloc::{AllocError, Global};
 
@@ -72,17 +72,9 @@ fn records_text(alloc: Global, zone: &ZoneRecords) -> Result<String, AllocError>
     };
     for set in zone.sets.as_slice() {
         for record in set.records() {
-            push_record(alloc, &mut lines, record)?;
+            lines.push('\n')?;
+            push_record(&mut lines, record)?;
         }
     }
     Ok(lines)
-}
-
-/// Adds a record on a line of its own.
-fn push_record(alloc: Global, lines: &mut String, record: &Record) -> Result<(), AllocError> {
-    let (name, ttl, rdata) = (&record.name, record.ttl, &record.rdata);
-    let class = record.dns_class;
-    let record_type = rdata.record_type();
-    let line = format!(in alloc; "\n{name} {ttl} {class} {record_type} {rdata}")?;
-    lines.push_str(line.as_str())
 }

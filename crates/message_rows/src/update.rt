@@ -4,12 +4,13 @@
 //! and answers the encoding of the message. Sets are those of `record_set`.
 
 use crate::message::encoded_within;
-use crate::record_set::{name_of, set_of};
+use crate::record_set::set_of;
 use dns_messages::{
     Message, append, compare_and_swap, create, delete_all, delete_by_rdata, delete_rrset,
 };
 use dns_records::{Record, RecordSet};
 use dns_wire::{DNSClass, RecordType};
+use record_text::name_of;
 use rows::{Answer, RowFault, parsed, split, two_words};
 use std::alloc::{AllocError, Global};
 

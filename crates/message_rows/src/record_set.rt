@@ -2,12 +2,11 @@
 
 ghost use Rattle.std.specs.Prelude.{◌≡◌, true};
 
-use crate::message::push_record;
 use dns_data::RData;
-use dns_names::Name;
 use dns_records::{Record, RecordSet};
 use dns_text::{Lexer, Token};
 use dns_wire::RecordType;
+use record_text::{name_of, push_record};
 use rows::{Answer, RowFault, parsed, two_words};
 use std::alloc::{AllocError, Global};
 use std::fmt::Write;
@@ -44,14 +43,6 @@ fn new_set(alloc: Global, text: &str) -> Result<RecordSet, RowFault> {
     let (name, kind) = two_words(text)?;
     let kind = parsed::<RecordType>(kind)?;
     Ok(RecordSet::new(alloc, name_of(alloc, name)?, kind, 0))
-}
-
-/// The name that a text spells.
-pub(crate) fn name_of(alloc: Global, text: &str) -> Result<Name, RowFault> {
-    match Name::from_ascii(alloc, text) {
-        Ok(name) => Ok(name),
-        Err(_) => Err(RowFault::Lacks("a name")),
-    }
 }
 
 /// Edits a set, and returns whether it changed.

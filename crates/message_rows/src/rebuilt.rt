@@ -1,7 +1,8 @@
 //! Messages that are made from others.
 
-use crate::message::{encoded_within, push_record};
+use crate::message::encoded_within;
 use dns_messages::{DnsResponse, Edns, Message, UpdateMessage};
+use record_text::push_record;
 use rows::{Answer, RowFault, bytes_of, digits_of, named};
 use std::alloc::{AllocError, Global};
 use std::fmt::Write;

@@ -1,11 +1,11 @@
 //! Messages and records.
 
 use crate::header::header_text;
-use crate::question::{push_question, push_questions};
 use dns_data::A;
 use dns_messages::{Edns, Message, Query};
 use dns_records::{Record, Sequence};
 use dns_wire::{BinDecodable, BinDecoder, DecodeError};
+use record_text::{push_question, push_questions, push_record, push_section};
 use rows::{Answer, RowFault, bytes_of, digits_of, named, parsed, shown, split, two_words};
 use std::alloc::{AllocError, Global};
 use std::fmt::Write;
@@ -30,9 +30,9 @@ pub(crate) fn decoded_text(alloc: Global, bytes: &[u8]) -> Answer {
 fn message_text(alloc: Global, message: &Message) -> Answer {
     let mut text = header_text(alloc, message.metadata)?;
     push_questions(&mut text, message.queries.as_slice())?;
-    push_records(&mut text, message.answers.as_slice())?;
-    push_records(&mut text, message.authorities.as_slice())?;
-    push_records(&mut text, message.additionals.as_slice())?;
+    push_section(&mut text, message.answers.as_slice())?;
+    push_section(&mut text, message.authorities.as_slice())?;
+    push_section(&mut text, message.additionals.as_slice())?;
     if let Some(edns) = &message.edns {
         push_edns(&mut text, edns)?;
     }
@@ -52,24 +52,6 @@ fn push_edns(text: &mut String, edns: &Edns) -> Result<(), AllocError> {
         text,
         " | opt {payload} {rcode_high} {version} {flags} {options}"
     )?;
-    Ok(())
-}
-
-/// Adds a bar and, each behind a blank, records as a zone's text has them.
-pub(crate) fn push_records(text: &mut String, records: &[Record]) -> Result<(), AllocError> {
-    text.push_str(" |")?;
-    for found in records {
-        text.push(' ')?;
-        push_record(text, found)?;
-    }
-    Ok(())
-}
-
-/// Adds a record as a zone's text has it.
-pub(crate) fn push_record(text: &mut String, found: &Record) -> Result<(), AllocError> {
-    let (owner, ttl, class) = (&found.name, found.ttl, found.dns_class);
-    let (kind, rdata) = (found.rdata.record_type(), &found.rdata);
-    write!(text, "{owner} {ttl} {class} {kind} {rdata}")?;
     Ok(())
 }
 
