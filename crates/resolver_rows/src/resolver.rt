@@ -1,0 +1,249 @@
+//! Lookups of a resolver.
+
+use crate::addresses::{address_of, strategy_of};
+use crate::error_text::error_text;
+use crate::exchange::{Exchange, Recorder};
+use crate::hosts::hosts_of;
+use crate::lookup_text::{addresses_text, reply_text};
+use crate::question::{NOW, names_of};
+use crate::reply::outcomes_of;
+use dns_messages::Sequence;
+use dns_names::AddrPrefix;
+use record_text::{name_of, type_of};
+use rows::{Answer, RowFault, parsed, split, text, two_words};
+use std::alloc::Global;
+use std::net::{IpAddr, Ipv4Addr};
+use stub_cache::{Hosts, Lookup, NetError, ResolveHosts, ResolverConfig, ResolverOpts};
+use stub_core::{DnsHandle, ListHandle, Resolver, ResolverBuilder};
+
+/// `resolver SETTINGS || LOOKUP || HOSTS || OUTCOMES`: a lookup of a resolver with hosts; behind bars the questions that were
+/// asked, and how many outcomes are left.
+pub(crate) fn resolver(alloc: Global, input: &str) -> Answer {
+    let (settings, rest) = split(input, " || ", "settings")?;
+    let (asked, rest) = split(rest, " || ", "a lookup")?;
+    let (hosts, outcomes) = split(rest, " || ", "hosts and outcomes")?;
+    let mut exchange = Exchange::of_outcomes(alloc, outcomes)?;
+    let text = resolved(alloc, &mut exchange, settings, hosts, asked)?;
+    exchange.with_questions(alloc, text)
+}
+
+/// `requests SETTINGS || LOOKUP || OUTCOMES`: a lookup of a resolver without hosts, and behind a bar the encodings of its
+/// requests.
+pub(crate) fn requests(alloc: Global, input: &str) -> Answer {
+    let (settings, rest) = split(input, " || ", "settings")?;
+    let (asked, outcomes) = split(rest, " || ", "a lookup and outcomes")?;
+    let mut exchange = Exchange::of_outcomes(alloc, outcomes)?;
+    let text = resolved(alloc, &mut exchange, settings, "", asked)?;
+    exchange.with_requests(alloc, text)
+}
+
+/// A lookup of a resolver over an exchange.
+fn resolved(
+    alloc: Global,
+    exchange: &mut Exchange,
+    settings: &str,
+    hosts: &str,
+    asked: &str,
+) -> Answer {
+    let hosts = hosts_of(alloc, hosts)?;
+    let mut resolver = build(alloc, settings, hosts, Recorder::new(alloc, exchange))?;
+    let text = answer_or_refusal(alloc, &mut resolver, asked);
+    drop(resolver);
+    text
+}
+
+/// A lookup of a resolver, or why there is none.
+fn answer_or_refusal<H: DnsHandle>(
+    alloc: Global,
+    resolver: &mut Result<Resolver<H>, NetError>,
+    asked: &str,
+) -> Answer {
+    match resolver {
+        Ok(resolver) => answer_of(alloc, resolver, asked),
+        Err(error) => error_text(alloc, error),
+    }
+}
+
+/// `set-hosts SETTINGS || LOOKUP || HOSTS || OUTCOMES`: as `resolver`, over a `ListHandle`, with hosts that are set once the
+/// resolver is built; behind a bar, how many outcomes are left.
+pub(crate) fn set_hosts(alloc: Global, input: &str) -> Answer {
+    let (settings, rest) = split(input, " || ", "settings")?;
+    let (asked, rest) = split(rest, " || ", "a lookup")?;
+    let (hosts, outcomes) = split(rest, " || ", "hosts and outcomes")?;
+    let outcomes = outcomes_of(alloc, outcomes)?;
+    let handle = ListHandle { outcomes };
+    let mut resolver = build(alloc, settings, Hosts::default(alloc), handle)?;
+    let text = listed_or_refusal(alloc, &mut resolver, hosts, asked);
+    drop(resolver);
+    text
+}
+
+/// A lookup of a resolver over a list with hosts, or why there is none.
+fn listed_or_refusal(
+    alloc: Global,
+    resolver: &mut Result<Resolver<ListHandle>, NetError>,
+    hosts: &str,
+    asked: &str,
+) -> Answer {
+    match resolver {
+        Ok(resolver) => listed(alloc, resolver, hosts, asked),
+        Err(error) => error_text(alloc, error),
+    }
+}
+
+/// A lookup of a resolver over a list, once its hosts were set, and how many outcomes are left.
+fn listed(alloc: Global, resolver: &mut Resolver<ListHandle>, hosts: &str, asked: &str) -> Answer {
+    resolver.set_hosts(hosts_of(alloc, hosts)?);
+    let text = answer_of(alloc, resolver, asked)?;
+    let left = resolver.handle_mut().outcomes.len();
+    Ok(format!(in alloc; "{text} | {left} left")?)
+}
+
+/// `build SETTINGS`: some of the options of the resolver that is built, or the refusal.
+pub(crate) fn built(alloc: Global, input: &str) -> Answer {
+    let outcomes = Vec::new(alloc);
+    let resolver = build(alloc, input, Hosts::default(alloc), ListHandle { outcomes })?;
+    let text = options_or_refusal(alloc, &resolver);
+    drop(resolver);
+    text
+}
+
+/// Some of the options of a resolver, or why there is none.
+fn options_or_refusal(alloc: Global, resolver: &Result<Resolver<ListHandle>, NetError>) -> Answer {
+    match resolver {
+        Ok(resolver) => {
+            let (ndots, strategy) = (resolver.options().ndots, resolver.options().ip_strategy);
+            Ok(format!(in alloc; "ndots {ndots}, {strategy:?}")?)
+        }
+        Err(error) => error_text(alloc, error),
+    }
+}
+
+/// The resolver with settings and hosts over a handle, or its refusal.
+fn build<H: DnsHandle + Drop>(
+    alloc: Global,
+    settings: &str,
+    hosts: Hosts,
+    handle: H,
+) -> Result<Result<Resolver<H>, NetError>, RowFault> {
+    let builder = builder_of(alloc, settings, handle)?;
+    Ok(builder.with_hosts(hosts).build())
+}
+
+/// The builder of a resolver with settings over a handle.
+fn builder_of<H: DnsHandle + Drop>(
+    alloc: Global,
+    settings: &str,
+    handle: H,
+) -> Result<ResolverBuilder<H>, RowFault> {
+    let options = options_of(alloc, settings)?;
+    let config = config_of(alloc, settings)?;
+    Ok(Resolver::builder_with_config(alloc, config, handle).with_options(options))
+}
+
+/// The configuration of settings: `domain:NAME` and `search:NAMES`, which commas part.
+fn config_of(alloc: Global, settings: &str) -> Result<ResolverConfig, RowFault> {
+    let mut config = ResolverConfig::default(alloc);
+    for word in settings.split(' ') {
+        match word.split_once(':') {
+            Some(("domain", name)) => config.domain = Some(name_of(alloc, name)?),
+            Some(("search", names)) => {
+                config.search = Sequence::from_vec(names_of(alloc, names)?);
+            }
+            _ => {}
+        }
+    }
+    Ok(config)
+}
+
+/// The options of settings. Those that no word sets are the defaults.
+fn options_of(alloc: Global, settings: &str) -> Result<ResolverOpts, RowFault> {
+    let mut options = ResolverOpts::default(alloc);
+    for word in settings.split(' ') {
+        match word.split_once(':') {
+            Some((word, value)) => set_value(&mut options, word, value)?,
+            None => set_flag(alloc, &mut options, word)?,
+        }
+    }
+    Ok(options)
+}
+
+/// Sets the option of a word that has a value: `ndots`, `payload`, `strategy` or `hosts`.
+fn set_value(options: &mut ResolverOpts, word: &str, value: &str) -> Result<(), RowFault> {
+    match word {
+        "domain" | "search" => {}
+        "ndots" => options.ndots = parsed::<usize>(value)?,
+        "payload" => options.edns_payload_len = parsed::<u16>(value)?,
+        "strategy" => options.ip_strategy = strategy_of(value)?,
+        "hosts" => options.use_hosts_file = hosts_choice_of(value)?,
+        _ => return Err(RowFault::Lacks("a setting")),
+    }
+    Ok(())
+}
+
+/// Sets the option of a word: `no-edns`, `no-rd`, `random-case`, `trust-anchor` or `deny`. `-` sets none.
+fn set_flag(alloc: Global, options: &mut ResolverOpts, word: &str) -> Result<(), RowFault> {
+    match word {
+        "-" => {}
+        "no-edns" => options.edns0 = false,
+        "no-rd" => options.recursion_desired = false,
+        "random-case" => options.case_randomization = true,
+        "trust-anchor" => options.trust_anchor = Some(String::from_str(alloc, "anchors")?),
+        "deny" => {
+            if let Some(prefix) = AddrPrefix::new(IpAddr::V4(Ipv4Addr::LOCALHOST), 8) {
+                options.deny_answers.push(prefix)?;
+            }
+        }
+        _ => return Err(RowFault::Lacks("a setting")),
+    }
+    Ok(())
+}
+
+/// Whether hosts are looked up.
+fn hosts_choice_of(word: &str) -> Result<ResolveHosts, RowFault> {
+    match word {
+        "Always" => Ok(ResolveHosts::Always),
+        "Never" => Ok(ResolveHosts::Never),
+        "Auto" => Ok(ResolveHosts::Auto),
+        _ => Err(RowFault::Lacks("a choice of hosts")),
+    }
+}
+
+/// What a resolver looks up: `lookup NAME TYPE`, `ip HOST`, `ip-of-name NAME`, `reverse ADDRESS`, or a type's own lookup.
+fn answer_of<H: DnsHandle>(alloc: Global, resolver: &mut Resolver<H>, asked: &str) -> Answer {
+    let (word, rest) = two_words(asked)?;
+    match word {
+        "lookup" => {
+            let (name, kind) = two_words(rest)?;
+            reply_text(alloc, resolver.lookup(name, type_of(kind)?, NOW))
+        }
+        "ip" => addresses_text(alloc, resolver.lookup_ip(rest, NOW)),
+        "ip-of-name" => addresses_text(alloc, resolver.lookup_ip(name_of(alloc, rest)?, NOW)),
+        "reverse" => reply_text(alloc, resolver.reverse_lookup(address_of(rest)?, NOW)),
+        word => match typed(resolver, word, rest) {
+            Some(reply) => reply_text(alloc, reply),
+            None => text(alloc, "no such lookup"),
+        },
+    }
+}
+
+/// A lookup of the type that a word names, or `None` if it names none.
+fn typed<H: DnsHandle>(
+    resolver: &mut Resolver<H>,
+    word: &str,
+    name: &str,
+) -> Option<Result<Lookup, NetError>> {
+    match word {
+        "ipv4" => Some(resolver.ipv4_lookup(name, NOW)),
+        "ipv6" => Some(resolver.ipv6_lookup(name, NOW)),
+        "mx" => Some(resolver.mx_lookup(name, NOW)),
+        "ns" => Some(resolver.ns_lookup(name, NOW)),
+        "soa" => Some(resolver.soa_lookup(name, NOW)),
+        "srv" => Some(resolver.srv_lookup(name, NOW)),
+        "txt" => Some(resolver.txt_lookup(name, NOW)),
+        "cert" => Some(resolver.cert_lookup(name, NOW)),
+        "smimea" => Some(resolver.smimea_lookup(name, NOW)),
+        "tlsa" => Some(resolver.tlsa_lookup(name, NOW)),
+        _ => None,
+    }
+}
