@@ -12,7 +12,7 @@ use Rattle.dns_codes.specs.RecordType.{type_of}
 use Rattle.dns_codes.specs.declared.record_type.RecordType.{RecordType}
 use Rattle.dns_codes.specs.declared.record_type.RecordType.TheVariants as types
 use Rattle.dns_messages.specs.declared.query.Query.{Query}
-use Rattle.stub_cache.specs.Lookup.{LookupContent, joined}
+use Rattle.stub_lookup.specs.Lookup.{LookupContent, joined}
 use Rattle.stub_cache.specs.Hosts.{HostsContent, qualified, fresh, entry, with_entry, with_lookup_of, with_lookup, lookup_of_type, pointers, pointer, has_address}
 use Rattle.stub_cache.specs.internal.Hosts.{place, one_more, joined_at}
 use Rattle.stub_cache.specs.declared.hosts.table.HostEntry.{HostEntry}

@@ -19,7 +19,7 @@ use Rattle.dns_data.specs.declared.rdata.RData.TheVariants as of
 use Rattle.dns_data.specs.rdata.{data_addr}
 use Rattle.dns_records.specs.Record.{Record}
 use Rattle.dns_messages.specs.declared.query.Query.{Query}
-use Rattle.stub_cache.specs.Lookup.{LookupContent, lookup_of, joined, max_ttl, record_for}
+use Rattle.stub_lookup.specs.Lookup.{LookupContent, lookup_of, joined, max_ttl, record_for}
 use Rattle.stub_cache.specs.HostsFile.{Host}
 use Rattle.stub_cache.specs.declared.hosts.table.HostEntry.{HostEntry}
 

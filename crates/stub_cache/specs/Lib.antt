@@ -1,12 +1,6 @@
-pub mod Error
+pub mod Cache
 pub mod Hosts
 pub mod HostsFile
-pub mod Lookup
-pub mod LookupEquality
-pub mod LookupIp
-pub mod Opportunistic
-pub mod Options
-pub mod Outcome
-pub mod RequestOptions
-pub mod config
+pub mod Ttl
+pub mod TtlEquality
 pub mod internal

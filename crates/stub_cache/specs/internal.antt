@@ -1,3 +1,4 @@
 pub mod Hosts
 pub mod HostsFile
-pub mod LookupEquality
+pub mod Ttl
+pub mod TtlEquality

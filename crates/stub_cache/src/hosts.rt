@@ -2,13 +2,11 @@
 
 ghost use Rattle.std.specs.Prelude.{◌≡◌, ◌⊎◌, ◌+◌, ◌≤◌, ◌^◌, [], IfOk, OnOk, OnErr};
 ghost use Rattle.dns_codes.specs.RecordType.{type_number, type_of};
-ghost use Rattle.stub_cache.specs.Lookup.{lookup_of, max_ttl};
+ghost use Rattle.stub_lookup.specs.Lookup.{lookup_of, max_ttl};
 
 mod file;
 mod table;
 
-use crate::lookup::Lookup;
-use crate::moment::Moment;
 use dns_messages::Query;
 use dns_names::Name;
 use dns_wire::RecordType;
@@ -16,6 +14,7 @@ pub use file::HostsFault;
 use std::alloc::{AllocError, Global};
 use std::marker::Model;
 use std::net::IpAddr;
+use stub_lookup::{Lookup, Moment};
 use table::HostTable;
 
 /// Names and their addresses, as a hosts file has them.
@@ -49,7 +48,7 @@ impl Hosts {
 
     /// Inserts a lookup for a name, taken as fully qualified, and a type, `A` or `AAAA`. Its records are appended to those
     /// of the name and the type, and the sooner deadline is kept; that of a new name and type is at most
-    /// [`MAX_TTL`](crate::MAX_TTL) seconds after `now`.
+    /// [`MAX_TTL`](stub_lookup::MAX_TTL) seconds after `now`.
     pub fn insert(
         &mut self,
         alloc: Global,

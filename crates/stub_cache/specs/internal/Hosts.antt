@@ -3,7 +3,7 @@ use Rattle.std.specs.Prelude.{ℕ, zero, suc, List, [], ◌∷◌, Result, Ok, E
 use Rattle.std.specs.declared.cmp.Ordering.TheVariants.{Less, Equal, Greater}
 use Rattle.dns_names.specs.Name.{DomainName}
 use Rattle.dns_names.specs.Compare.{name_cmp}
-use Rattle.stub_cache.specs.Lookup.{LookupContent, joined}
+use Rattle.stub_lookup.specs.Lookup.{LookupContent, joined}
 use Rattle.stub_cache.specs.Hosts.{entry}
 use Rattle.stub_cache.specs.declared.hosts.table.HostEntry.{HostEntry}
 

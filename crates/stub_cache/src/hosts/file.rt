@@ -8,8 +8,6 @@ ghost use Rattle.stub_cache.specs.HostsFile.{without_mark, without_comment, host
 ghost use Rattle.stub_cache.specs.internal.HostsFile.{InsertsHosts};
 
 use crate::hosts::Hosts;
-use crate::lookup::Lookup;
-use crate::moment::Moment;
 use dns_data::{A, AAAA, RData};
 use dns_messages::Query;
 use dns_names::{Name, ParseError};
@@ -18,6 +16,7 @@ use dns_wire::RecordType;
 use std::alloc::{AllocError, Global};
 use std::net::IpAddr;
 use std::str::SplitWhitespace;
+use stub_lookup::{Lookup, Moment};
 use thiserror::Error;
 
 /// An error of reading a hosts file.
@@ -49,7 +48,7 @@ impl Hosts {
     ///
     /// A byte-order mark at the start of the file is skipped, and a `#` begins a comment. Lines whose first word is not
     /// an address are skipped, and so are words that are not names. The ASCII letters of names are converted to lower
-    /// case, and names are fully qualified; the TTL of their records is [`MAX_TTL`](crate::MAX_TTL). Addresses of the same
+    /// case, and names are fully qualified; the TTL of their records is [`MAX_TTL`](stub_lookup::MAX_TTL). Addresses of the same
     /// name are appended to those before.
     ///
     /// Reading ends at the first line that is not valid UTF-8, its comment included, or when memory cannot be allocated.

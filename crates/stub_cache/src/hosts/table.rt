@@ -5,10 +5,8 @@ ghost use Rattle.stub_cache.specs.Hosts.{with_entry, entry, fresh, lookup_at, an
 ghost use Rattle.stub_cache.specs.internal.Hosts.{place, joined_at};
 ghost use Rattle.dns_data.specs.rdata.{data_addr};
 ghost use Rattle.std.specs.List.{list_any};
-ghost use Rattle.stub_cache.specs.Lookup.{joined};
+ghost use Rattle.stub_lookup.specs.Lookup.{joined};
 
-use crate::lookup::{Lookup, MAX_TTL};
-use crate::moment::Moment;
 use dns_data::{PTR, RData};
 use dns_messages::{Query, Record};
 use dns_names::Name;
@@ -18,6 +16,7 @@ use std::cmp::Ordering;
 use std::marker::Model;
 use std::mem;
 use std::net::IpAddr;
+use stub_lookup::{Lookup, MAX_TTL, Moment};
 
 /// The lookup of a name.
 #[derive(Drop)]

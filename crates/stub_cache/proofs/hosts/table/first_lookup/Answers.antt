@@ -1,6 +1,6 @@
 use Rattle.std.proofs.Common.{◌≡◌, ◌+◌, ap, ◌∙◌}
 use Rattle.std.proofs.lemmas.Result.{IfOk-weaker}
-use Rattle.stub_cache.specs.Lookup.{lookup_of, joined, max_ttl}
+use Rattle.stub_lookup.specs.Lookup.{lookup_of, joined, max_ttl}
 use Rattle.stub_cache.specs.Hosts.{question, fresh}
 use Rattle.stub_cache.proofs.hosts.table.first_lookup.Goals as goal
 

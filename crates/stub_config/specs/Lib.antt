@@ -1,0 +1,4 @@
+pub mod Opportunistic
+pub mod Options
+pub mod RequestOptions
+pub mod config

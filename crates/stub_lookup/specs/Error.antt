@@ -1,0 +1,43 @@
+-- Why a lookup found nothing.
+use Rattle.std.specs.Prelude.{ℕ, None}
+use Rattle.dns_names.specs.declared.error.ParseError.{ParseError}
+use Rattle.dns_names.specs.declared.error.ParseError.TheVariants as names
+use Rattle.dns_messages.specs.declared.query.Query.{Query}
+use Rattle.dns_messages.specs.declared.response_code.ResponseCode.{ResponseCode}
+use Rattle.stub_lookup.specs.declared.error.LinkFault.{LinkFault}
+use Rattle.stub_lookup.specs.declared.error.LinkFault.TheVariants.{NotSent, NotReceived, Quiet, NoMatch, StreamFailed, Truncated, StreamUnreadable, StreamMismatch, NoId}
+use Rattle.stub_lookup.specs.declared.error.NetError.{NetError}
+use Rattle.stub_lookup.specs.declared.error.NetError.TheVariants.{Proto, Memory}
+use Rattle.stub_lookup.specs.declared.error.NoRecords.{NoRecords}
+
+-- how reports number the faults
+abbrev pub fault_number : LinkFault → ℕ
+fault_number NotSent = 1
+fault_number NotReceived = 2
+fault_number Quiet = 3
+fault_number NoMatch = 4
+fault_number StreamFailed = 5
+fault_number Truncated = 6
+fault_number StreamUnreadable = 7
+fault_number StreamMismatch = 8
+fault_number NoId = 9
+
+-- a negative answer without records
+abbrev pub no_records : Query → ResponseCode → NoRecords
+no_records query code = record {
+  query = query;
+  soa = None;
+  ns = None;
+  negative_ttl = None;
+  response_code = code;
+  authorities = None;
+}
+
+-- a negative answer without its SOA record
+abbrev pub without_soa : NoRecords → NoRecords
+without_soa answer = record answer { soa = None }
+
+-- a text is not a name, or there was no memory for the name
+abbrev pub error_of_name : ParseError → NetError
+error_of_name names.Memory = Memory
+error_of_name error = Proto error

@@ -1,0 +1,19 @@
+//! What lookups find, how long it is valid, and why they find nothing.
+//!
+//! - `moment`: moments; `lookup`: the response to a question, with its deadline; `lookup_ip`: its addresses
+//! - `copy`: copies of messages, of negative answers, and of their records
+//! - `error`: why a lookup found nothing; `outcome`: what a response means (RFC 2308)
+#![tactic(auto)]
+
+mod copy;
+mod error;
+mod lookup;
+mod lookup_ip;
+mod moment;
+mod outcome;
+
+pub use copy::{copy_message, copy_records};
+pub use error::{DnsError, ForwardNSData, LinkFault, NetError, NoRecords};
+pub use lookup::{Lookup, MAX_TTL};
+pub use lookup_ip::{LookupIp, LookupIpIntoIter, LookupIpIter};
+pub use moment::Moment;

@@ -1,0 +1,100 @@
+//! What a reply means: records, a negative answer, or an error.
+
+ghost use Rattle.std.specs.Prelude.{◌≡◌, IfOk, Err, true};
+ghost use Rattle.dns_wire.specs.Error.{IsUnless};
+ghost use Rattle.stub_lookup.specs.Outcome.{any_records, as_soa, error_in, first_question, is_negative, no_records_in, outcome};
+ghost use Rattle.stub_lookup.specs.declared.error.NetError.TheVariants.{Memory};
+
+use crate::error::{DnsError, NetError, NoRecords};
+use dns_data::{RData, SOA};
+use dns_messages::{DnsResponse, Message, Query, Record, ResponseCode, Sequence};
+use std::alloc::{AllocError, Global};
+
+impl DnsError {
+    /// Returns the response, or the error that it means (RFC 2308 section 2).
+    ///
+    /// A response with the code `NoError` or `NXDomain` that is not truncated and contains no answer is a negative
+    /// answer. One with another code that has a name is [`DnsError::ResponseCode`]. A response that is not an error is
+    /// returned as it is, without taking memory.
+    pub fn from_response(alloc: Global, response: DnsResponse) -> Result<DnsResponse, NetError>
+        ensures outcome { IsUnless Memory (outcome response) result }
+        ensures memory { result ≡ Err Memory
+            → is_negative (error_in response.message) ≡ true }
+    {
+        match response.message().metadata.response_code {
+            ResponseCode::NoError | ResponseCode::NXDomain => {
+                if response.contains_answer() || response.message().metadata.truncation {
+                    return Ok(response);
+                }
+                let answer = no_records(alloc, response)?;
+                Err(NetError::Dns(DnsError::NoRecordsFound(answer)))
+            }
+            ResponseCode::Unknown(_) => Ok(response),
+            code => Err(NetError::Dns(DnsError::ResponseCode(code))),
+        }
+    }
+}
+
+/// Returns the negative answer of a response.
+fn no_records(alloc: Global, response: DnsResponse) -> Result<NoRecords, AllocError>
+    ensures { IfOk result (λ answer. answer ≡ no_records_in response.message) }
+{
+    let soa = copy_soa(response.soa())?;
+    let negative_ttl = response.negative_ttl();
+    let Message {
+        metadata,
+        queries,
+        authorities,
+        ..
+    } = response.into_message();
+    Ok(NoRecords {
+        query: first_question(alloc, queries),
+        soa,
+        ns: None,
+        negative_ttl,
+        response_code: metadata.response_code,
+        authorities: any_records(authorities),
+    })
+}
+
+ghost use Rattle.std.specs.Prelude.{option_copied};
+
+/// Copies a record with data of the type SOA.
+fn copy_soa(found: Option<&Record>) -> Result<Option<Record<SOA>>, AllocError>
+    ensures { IfOk result (λ copy. copy ≡ as_soa (option_copied found.entry)) }
+{
+    let Some(found) = found else {
+        return Ok(None);
+    };
+    let RData::SOA(soa) = &found.rdata else {
+        return Ok(None);
+    };
+    let rdata = soa.clone()?;
+    Ok(Some(Record {
+        name: found.name.clone()?,
+        dns_class: found.dns_class,
+        ttl: found.ttl,
+        rdata,
+    }))
+}
+
+/// Returns the first question, or that for the addresses of the root.
+fn first_question(alloc: Global, queries: Sequence<Query>) -> Query
+    ensures { result ≡ first_question queries }
+{
+    match queries.into_vec().into_iter().next() {
+        Some(query) => query,
+        None => Query::new(alloc),
+    }
+}
+
+/// Returns the records, if there are any.
+fn any_records(records: Sequence<Record>) -> Option<Sequence<Record>>
+    ensures { result ≡ any_records records }
+{
+    if records.is_empty() {
+        None
+    } else {
+        Some(records)
+    }
+}
