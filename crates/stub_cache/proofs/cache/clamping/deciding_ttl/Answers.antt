@@ -1,0 +1,17 @@
+use Rattle.std.proofs.Common.{◌∙◌, List, Option, ℕ, ap, sym}
+use Rattle.std.specs.List.{filter}
+use Rattle.dns_records.specs.Record.{Record}
+use Rattle.stub_cache.specs.Ttl.{least_ttl}
+use Rattle.stub_cache.specs.internal.Ttl.{is_deciding_record, lesser_of}
+use Rattle.stub_cache.proofs.LifetimeLaws.{least_for_ns}
+use Rattle.stub_cache.proofs.cache.clamping.deciding_ttl.Goals as goal
+
+pub returns : goal.returns
+returns c =
+    let asked = c.args.query_type in
+    let m = c.args.message.now in
+    let least : List Record → Option ℕ = λ rs. least_ttl (filter (is_deciding_record asked) rs) in
+    c.lesser_of.ensures
+    ∙ ap (λ first. lesser_of first c.least_ttl-authorities.result) (c.least_ttl-answers.ensures ∙ ap least c.as_slice.ensures)
+    ∙ ap (λ second. lesser_of (least m.answers) second) (c.least_ttl-authorities.ensures ∙ ap least c.as_slice-2.ensures)
+    ∙ least_for_ns asked m (sym c.is_same_type.ensures ∙ c.if-not-is_same_type.false)

@@ -1,0 +1,160 @@
+//! The cache of responses.
+
+ghost use Rattle.std.specs.Prelude.{◌≡◌, ◌≤◌, ◌^◌, [], IfOk, OnOk, OnErr, option_copied, option_map};
+ghost use Rattle.std.specs.List.{find};
+
+mod ageing;
+mod clamping;
+mod entry;
+mod eviction;
+
+use crate::ttl::TtlConfig;
+use clamping::{clamp_message, positive_lifetime};
+use dns_messages::{Message, Query};
+use dns_wire::RecordType;
+use entry::Entry;
+use eviction::{make_room, remove_entries};
+use std::alloc::{AllocError, Global};
+use std::marker::Model;
+use stub_lookup::{DnsError, Moment, NetError};
+
+/// A cache of responses and of negative answers (RFC 1034 section 5.3.3, RFC 2308 section 5).
+///
+/// Each entry has a deadline, after which it is not returned. What is returned has the TTLs that are left.
+#[derive(Drop)]
+pub struct ResponseCache {
+    entries: Vec<Entry>,
+    capacity: u64,
+    config: TtlConfig,
+    alloc: Global,
+}
+
+impl Model for ResponseCache {
+    ghost use Rattle.stub_cache.specs.Cache.{CacheContent};
+
+    ghost Value = { CacheContent };
+
+    ghost view = { λ c. record { entries = c.entries.items; capacity = c.capacity; config = c.config } };
+}
+
+impl ResponseCache {
+    ghost use Rattle.stub_cache.specs.Cache.{cleared_of, current, inserted, kept_of_result, result_of_kept, storing_any};
+    ghost use Rattle.stub_cache.specs.Ttl.{clamped, positive_lifetime};
+
+    /// Creates an empty cache with a capacity: the maximum number of its entries.
+    pub fn new(alloc: Global, capacity: u64, ttl_config: TtlConfig) -> ResponseCache
+        ensures { result ≡ record { entries = []; capacity = capacity; config = ttl_config } }
+    {
+        ResponseCache {
+            entries: Vec::new(alloc),
+            capacity,
+            config: ttl_config,
+            alloc,
+        }
+    }
+
+    /// Stores the response to a question, or a negative answer, at a moment.
+    ///
+    /// The TTLs of a response are brought within the bounds of their types. It is current for the least of the TTLs of
+    /// the answers that have the type of the question or are aliases; for `NS`, of the NS records of the answer and
+    /// authority sections. A negative answer is current for its `negative_ttl`, within the bounds of the type of the
+    /// question (RFC 2308 section 5). An entry for the same question is replaced. If there is none and the cache is
+    /// full, the entry with the earliest deadline is removed, the oldest of these. Other errors are not stored, nor is
+    /// anything in a cache of capacity 0. If memory runs out, the cache is left as it was.
+    pub fn insert(
+        &mut self,
+        query: Query,
+        reply: Result<Message, NetError>,
+        now: Moment,
+    ) -> Result<(), AllocError>
+        requires { now ≤ 2 ^ 62 }
+        ensures stored { OnOk result
+            (self.new ≡ storing_any self.old query (kept_of_result reply) now) }
+        ensures memory { OnErr result (self.new ≡ self.old) }
+    {
+        match reply {
+            Ok(message) => {
+                let entry = Entry::positive(&self.config, query, message, now);
+                self.store(entry)
+            }
+            Err(NetError::Dns(DnsError::NoRecordsFound(answer))) => {
+                let entry = Entry::negative(&self.config, query, answer, now);
+                self.store(entry)
+            }
+            Err(_) => Ok(()),
+        }
+    }
+
+    /// Stores an entry in place of those for the same question, or of the one that is due first if the cache is full.
+    fn store(&mut self, entry: Entry) -> Result<(), AllocError>
+        ensures stored { OnOk result (self.new ≡ record self.old {
+          entries = inserted self.old.capacity self.old.entries entry;
+        }) }
+        ensures memory { OnErr result (self.new ≡ self.old) }
+    {
+        let capacity = self.capacity;
+        if capacity == 0 {
+            return Ok(());
+        }
+        self.entries.reserve(1)?;
+        make_room(&mut self.entries, capacity, &entry.question);
+        self.entries.push(entry)?;
+        Ok(())
+    }
+
+    /// Returns a copy of what is stored for a question, if it is current at a moment. Its TTLs are reduced by the seconds
+    /// since it was stored, to 0 at the least.
+    ///
+    /// A negative answer is [`DnsError::NoRecordsFound`](stub_lookup::DnsError::NoRecordsFound).
+    pub fn get(
+        &self,
+        query: &Query,
+        now: Moment,
+    ) -> Result<Option<Result<Message, NetError>>, AllocError>
+        ensures { IfOk result (λ found.
+            found ≡ option_map result_of_kept (current self.now.entries query.now now)) }
+    {
+        match find_current(self.entries.as_slice(), query, now) {
+            Some(entry) => Ok(Some(entry.reply_at(self.alloc, now)?)),
+            None => Ok(None),
+        }
+    }
+
+    /// Brings the TTLs of the records of a message within the bounds of their types, and returns for how long the
+    /// message is stored as the response to a question of a type, in seconds.
+    pub fn clamp_positive_ttls(&self, query_type: RecordType, message: &mut Message) -> u32
+        ensures message { message.new ≡ clamped self.now.config message.old }
+        ensures lifetime { result ≡ positive_lifetime self.now.config query_type message.new }
+    {
+        clamp_message(&self.config, message);
+        positive_lifetime(&self.config, query_type, message)
+    }
+
+    /// Removes all entries.
+    pub fn clear(&mut self)
+        ensures { self.new ≡ record self.old { entries = [] } }
+    {
+        self.entries.clear();
+    }
+
+    /// Removes the entry for a question, if there is one.
+    pub fn clear_query(&mut self, query: &Query)
+        ensures { self.new ≡ record self.old { entries = cleared_of query.now self.old.entries } }
+    {
+        remove_entries(&mut self.entries, query);
+    }
+}
+
+ghost use Rattle.stub_cache.specs.Cache.{is_current};
+
+/// Returns the first entry for a question that is current at a moment.
+fn find_current<'a>(entries: &'a [Entry], query: &Query, now: Moment) -> Option<&'a Entry>
+    ensures { option_copied result ≡ find (is_current query.now now) entries.now }
+{
+    for entry in entries {
+        if entry.is_current(query, now) {
+            return Some(entry);
+        }
+    }
+    None
+}

@@ -1,0 +1,115 @@
+//! Entries of a cache.
+
+ghost use Rattle.std.specs.Prelude.{◌≡◌, ◌≤◌, ◌-◌, ◌^◌, IfOk, Ok, Err};
+ghost use Rattle.stub_cache.specs.Cache.{aged, entry_of, is_about, is_current, result_of_kept};
+ghost use Rattle.stub_cache.specs.Ttl.{aged_answer, aged_message};
+
+use super::ageing::{age_answer, age_message};
+use super::clamping::{clamp_message, negative_lifetime, positive_lifetime};
+use crate::ttl::TtlConfig;
+use dns_messages::{Message, Query};
+use std::alloc::{AllocError, Global};
+use stub_lookup::{DnsError, Moment, NetError, NoRecords, copy_message};
+
+/// What is kept for a question since a moment.
+#[derive(Drop)]
+pub struct Entry {
+    /// The question.
+    pub question: Query,
+    /// A response, or a negative answer.
+    pub kept: Result<Message, NoRecords>,
+    /// When it was stored.
+    pub moment: Moment,
+    /// The last moment at which it is current.
+    pub deadline: Moment,
+}
+
+impl Entry {
+    /// Creates an entry for a question with a response, whose TTLs are brought within the bounds of their types.
+    pub fn positive(config: &TtlConfig, question: Query, message: Message, now: Moment) -> Entry
+        requires { now ≤ 2 ^ 62 }
+        ensures { result ≡ entry_of config.now question (Ok message) now }
+    {
+        let mut message = message;
+        clamp_message(config, &mut message);
+        let lifetime = positive_lifetime(config, question.query_type, &message);
+        Entry {
+            question,
+            kept: Ok(message),
+            moment: now,
+            deadline: now + u64::from(lifetime),
+        }
+    }
+
+    /// Creates an entry for a question with a negative answer.
+    pub fn negative(config: &TtlConfig, question: Query, answer: NoRecords, now: Moment) -> Entry
+        requires { now ≤ 2 ^ 62 }
+        ensures { result ≡ entry_of config.now question (Err answer) now }
+    {
+        let lifetime = negative_lifetime(config, question.query_type, &answer);
+        Entry {
+            question,
+            kept: Err(answer),
+            moment: now,
+            deadline: now + u64::from(lifetime),
+        }
+    }
+
+    /// Returns `true` if the entry is for a question with the same name, ignoring ASCII case, and the same numbers of its
+    /// type and class.
+    pub fn is_about(&self, query: &Query) -> bool
+        ensures { result ≡ is_about query.now self.now }
+    {
+        self.question.name == query.name
+            && u16::from(self.question.query_type) == u16::from(query.query_type)
+            && u16::from(self.question.query_class) == u16::from(query.query_class)
+    }
+
+    /// Returns `true` if the entry is for a question and is current at a moment.
+    pub fn is_current(&self, query: &Query, now: Moment) -> bool
+        ensures { result ≡ is_current query.now now self.now }
+    {
+        self.is_about(query) && now <= self.deadline
+    }
+
+    /// Returns a copy of what is kept, with the TTLs that are left at a moment.
+    pub fn reply_at(
+        &self,
+        alloc: Global,
+        now: Moment,
+    ) -> Result<Result<Message, NetError>, AllocError>
+        ensures { IfOk result (λ reply.
+            reply ≡ result_of_kept (aged (now - self.now.moment) self.now.kept)) }
+    {
+        let seconds = now.saturating_sub(self.moment);
+        match &self.kept {
+            Ok(message) => Ok(Ok(copy_aged_message(alloc, message, seconds)?)),
+            Err(answer) => {
+                let answer = copy_aged_answer(alloc, answer, seconds)?;
+                Ok(Err(NetError::Dns(DnsError::NoRecordsFound(answer))))
+            }
+        }
+    }
+}
+
+/// Copies a message, and reduces its TTLs by `seconds`, to 0 at the least.
+fn copy_aged_message(alloc: Global, message: &Message, seconds: u64) -> Result<Message, AllocError>
+    ensures { IfOk result (λ copy. copy ≡ aged_message seconds message.now) }
+{
+    let mut copy = copy_message(alloc, message)?;
+    age_message(&mut copy, seconds);
+    Ok(copy)
+}
+
+/// Copies a negative answer, and reduces its TTLs by `seconds`, to 0 at the least.
+fn copy_aged_answer(
+    alloc: Global,
+    answer: &NoRecords,
+    seconds: u64,
+) -> Result<NoRecords, AllocError>
+    ensures { IfOk result (λ copy. copy ≡ aged_answer seconds answer.now) }
+{
+    let mut copy = answer.clone(alloc)?;
+    age_answer(&mut copy, seconds);
+    Ok(copy)
+}
