@@ -1,17 +1,16 @@
 -- Attempts of names, and questions that the hosts are asked first, over any relation of one question.
-use Rattle.std.proofs.Common.{◌≡◌, ◌∷◌, [], true, false, ℕ, Some, None, List, Result, length, refl, inl, inr, arith}
+use Rattle.std.proofs.Common.{◌≡◌, ◌∷◌, [], true, false, ℕ, Some, None, List, length, refl, inl, inr, subst, sym, arith}
 use Rattle.std.specs.Prelude.{Bool, Option}
 use Rattle.dns_codes.specs.declared.record_type.RecordType.{RecordType}
 use Rattle.dns_names.specs.Name.{DomainName}
 use Rattle.dns_messages.specs.declared.query.Query.{Query}
-use Rattle.dns_messages.specs.declared.response.DnsResponse.{DnsResponse}
+use Rattle.stub_config.specs.declared.request_options.DnsRequestOptions.{DnsRequestOptions}
+use Rattle.stub_lookup.specs.Lookup.{LookupContent}
 use Rattle.stub_cache.specs.Hosts.{question}
-use Rattle.stub_cache.specs.Lookup.{LookupContent}
-use Rattle.stub_cache.specs.declared.error.NetError.{NetError}
-use Rattle.stub_cache.specs.declared.request_options.DnsRequestOptions.{DnsRequestOptions}
-use Rattle.stub_core.specs.Attempts.{Attempts, Continues, Unless, is_final}
+use Rattle.stub_core.specs.Attempts.{Attempts, Continues, Lookups, Unless, is_final}
+use Rattle.stub_core.specs.Handle.{Behavior}
 use Rattle.stub_core.specs.Looks.{Answers, Reply, out_of_memory}
-use Rattle.stub_core.specs.declared.request.DnsRequest.{DnsRequest}
+use Rattle.stub_core.specs.declared.caching_client.CachingClient.{CachingClient}
 
 -- ---- the last reply ends the lookup, or the rest follows
 
@@ -27,7 +26,7 @@ goes-on false rest last old reply new h r = r
 
 -- ---- names
 
-module _ {S : Type 0} (tries : S → DomainName → Reply → S → Type 0) where
+module _ {S : Type 0} (tries : Lookups S DomainName) where
   pub no-more-names : (last : Reply) (old : S) (names : List DomainName) → is_final last ≡ true
       → Attempts tries last old names last old
   no-more-names last old [] h = (refl, refl)
@@ -50,6 +49,14 @@ module _ {S : Type 0} (tries : S → DomainName → Reply → S → Type 0) wher
   LeadsOn last old names first start all =
       (reply : Reply) (new : S) → Attempts tries last old names reply new → Attempts tries first start all reply new
 
+  pub next-leads-on : (last : Reply) (old : S) (names rest : List DomainName) (name : DomainName) (next : Reply) (mid : S)
+      → (first : Reply) (start : S) (all : List DomainName)
+      → LeadsOn last old names first start all → names ≡ name ∷ rest → is_final last ≡ false → tries old name next mid
+      → LeadsOn next mid rest first start all
+  next-leads-on last old names rest name next mid first start all leads is h tried = λ reply new attempted.
+      leads reply new (subst (λ (ns : List DomainName). Attempts tries last old ns reply new) (sym is)
+      (next-name last old name rest next mid reply new h tried attempted))
+
 -- ---- hosts
 
 module _ {S : Type 0} (asks : Reply → S → Type 0) (old : S) where
@@ -58,11 +65,17 @@ module _ {S : Type 0} (asks : Reply → S → Type 0) (old : S) where
   host-without-memory (Some other) asked = (inr refl, refl)
 
 -- a client that has no memory for a question asks none
-pub asked-without-memory : {H : Type 0} (gives : H → DnsRequest → ℕ → Result DnsResponse NetError → H → Type 0) (options : DnsRequestOptions) (now : ℕ) (old : H) (q : Query)
+pub asked-without-memory : {H : Type 0} (gives : Behavior H) (options : DnsRequestOptions) (now : ℕ) (old : CachingClient H) (q : Query)
     → Answers gives options now old q out_of_memory old
-asked-without-memory gives options now old q = record { asks = []; led = refl; looks = (refl, inl refl) }
+asked-without-memory gives options now old q = record {
+  asks = [];
+  led = refl;
+  looks = (refl, inl refl);
+  few = omega arith;
+  settings = refl;
+}
 
 -- a lookup of a name by a client
-abbrev pub OfName : {H : Type 0} → (H → DnsRequest → ℕ → Result DnsResponse NetError → H → Type 0)
-    → DnsRequestOptions → ℕ → RecordType → H → DomainName → Reply → H → Type 0
+abbrev pub OfName : {H : Type 0} → Behavior H → DnsRequestOptions → ℕ → RecordType → CachingClient H → DomainName → Reply
+    → CachingClient H → Type 0
 OfName gives options now kind old name reply new = Answers gives options now old (question name kind) reply new

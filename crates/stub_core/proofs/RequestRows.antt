@@ -5,7 +5,7 @@ use Rattle.dns_codes.specs.declared.record_type.RecordType.TheVariants as types
 use Rattle.dns_codes.specs.declared.dns_class.DNSClass.TheVariants as classes
 use Rattle.dns_messages.specs.Message.{payload_of}
 use Rattle.dns_messages.specs.declared.query.Query.{Query}
-use Rattle.stub_cache.specs.declared.request_options.DnsRequestOptions.{DnsRequestOptions}
+use Rattle.stub_config.specs.declared.request_options.DnsRequestOptions.{DnsRequestOptions}
 use Rattle.stub_core.specs.Request.{request_of}
 
 abbrev asked : Query

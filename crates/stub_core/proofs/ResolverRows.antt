@@ -1,16 +1,14 @@
 -- The definitions of a resolver, computed.
-use Rattle.std.specs.Prelude.{◌≡◌, true, false, [], ◌∷◌, ℕ, Some, None, Err, Ok}
+use Rattle.std.specs.Prelude.{◌≡◌, true, false, [], ◌∷◌, ℕ, Some, None, Err}
 use Rattle.std.proofs.Common.{refl}
-use Rattle.std.specs.declared.net.ip_addr.IpAddr.{IpAddr}
 use Rattle.dns_codes.specs.declared.record_type.RecordType.TheVariants as types
 use Rattle.dns_names.specs.declared.error.ParseError.TheVariants as names
 use Rattle.dns_names.specs.declared.reverse.AddrPrefix.{AddrPrefix}
+use Rattle.stub_config.specs.Options.{default_options}
+use Rattle.stub_config.specs.declared.config.ResolverConfig.{ResolverConfig}
+use Rattle.stub_config.specs.declared.strategy.ResolveHosts.TheVariants.{Always, Auto, Never}
+use Rattle.stub_lookup.specs.declared.error.NetError.TheVariants as errors
 use Rattle.stub_cache.specs.Hosts.{HostsContent}
-use Rattle.stub_cache.specs.Options.{default_options}
-use Rattle.stub_cache.specs.declared.config.ResolverConfig.{ResolverConfig}
-use Rattle.stub_cache.specs.declared.error.NetError.TheVariants as errors
-use Rattle.stub_cache.specs.declared.options.ResolverOpts.{ResolverOpts}
-use Rattle.stub_cache.specs.declared.strategy.ResolveHosts.TheVariants.{Always, Auto, Never}
 use Rattle.stub_core.specs.Resolver.{is_tried_as_name, known_type, request_options, tries_literals, without_name}
 use Rattle.stub_core.specs.ResolverBuilder.{default_settings, is_unsupported, no_hosts, used_hosts}
 use Rattle.stub_core.specs.declared.resolver.settings.Settings.{Settings}
@@ -39,6 +37,19 @@ denied prefix = refl
 
 random_case : is_unsupported (record default_options { case_randomization = true }) ≡ true
 random_case = refl
+
+-- a minimum TTL above its maximum is refused, also above the default maximum of one day
+equal_bounds : is_unsupported (record default_options { positive_min_ttl = Some 7; positive_max_ttl = Some 7 }) ≡ false
+equal_bounds = refl
+
+reversed_bounds : is_unsupported (record default_options { positive_min_ttl = Some 8; positive_max_ttl = Some 7 }) ≡ true
+reversed_bounds = refl
+
+above_a_day : is_unsupported (record default_options { positive_min_ttl = Some 86401 }) ≡ true
+above_a_day = refl
+
+reversed_negative_bounds : is_unsupported (record default_options { negative_min_ttl = Some 1; negative_max_ttl = Some 0 }) ≡ true
+reversed_negative_bounds = refl
 
 -- hosts that are never looked up are left out
 always : (hosts : HostsContent) → used_hosts Always hosts ≡ hosts

@@ -1,36 +1,36 @@
 -- Lookups of two types, and how their replies are joined.
-use Rattle.std.proofs.Common.{◌≡◌, true, false, ℕ, Ok, Err, Result, refl, sym, ap, subst, ◌∙◌}
+use Rattle.std.proofs.Common.{◌≡◌, true, false, ℕ, Ok, Err, refl, sym, ap, subst, ◌∙◌}
 use Rattle.dns_codes.specs.declared.record_type.RecordType.{RecordType}
 use Rattle.dns_names.specs.Name.{DomainName}
-use Rattle.dns_messages.specs.declared.response.DnsResponse.{DnsResponse}
+use Rattle.stub_config.specs.declared.request_options.DnsRequestOptions.{DnsRequestOptions}
+use Rattle.stub_config.specs.declared.strategy.LookupIpStrategy.{LookupIpStrategy}
+use Rattle.stub_lookup.specs.declared.error.NetError.{NetError}
+use Rattle.stub_lookup.specs.declared.error.NetError.TheVariants as errors
 use Rattle.stub_cache.specs.Hosts.{HostsContent, question}
-use Rattle.stub_cache.specs.declared.error.NetError.{NetError}
-use Rattle.stub_cache.specs.declared.error.NetError.TheVariants as errors
-use Rattle.stub_cache.specs.declared.request_options.DnsRequestOptions.{DnsRequestOptions}
-use Rattle.stub_cache.specs.declared.strategy.LookupIpStrategy.{LookupIpStrategy}
-use Rattle.stub_core.specs.Attempts.{WithHosts, is_final}
+use Rattle.stub_core.specs.Attempts.{Lookups, WithHosts, is_final}
+use Rattle.stub_core.specs.Handle.{Behavior}
 use Rattle.stub_core.specs.Looks.{Answers, Reply}
 use Rattle.stub_core.specs.Strategies.{Both, Joins, LooksUpAddresses, Then, is_out_of_memory}
-use Rattle.stub_core.specs.declared.request.DnsRequest.{DnsRequest}
+use Rattle.stub_core.specs.declared.caching_client.CachingClient.{CachingClient}
 use Rattle.stub_core.proofs.AttemptsLaws.{stops, goes-on}
 
 -- ---- the relations of the contracts
 
 -- a lookup of one type of a name
-abbrev pub OfType : {H : Type 0} → (H → DnsRequest → ℕ → Result DnsResponse NetError → H → Type 0)
-    → DnsRequestOptions → HostsContent → ℕ → DomainName → H → RecordType → Reply → H → Type 0
+abbrev pub OfType : {H : Type 0} → Behavior H → DnsRequestOptions → HostsContent → ℕ → DomainName → CachingClient H → RecordType
+    → Reply → CachingClient H → Type 0
 OfType gives options hosts now name old kind reply new =
     WithHosts hosts now (λ old q reply new. Answers gives options now old q reply new) old (question name kind) reply new
 
 -- a lookup of the addresses of a name
-abbrev pub OfAddresses : {H : Type 0} → (H → DnsRequest → ℕ → Result DnsResponse NetError → H → Type 0)
-    → DnsRequestOptions → LookupIpStrategy → HostsContent → ℕ → H → DomainName → Reply → H → Type 0
+abbrev pub OfAddresses : {H : Type 0} → Behavior H → DnsRequestOptions → LookupIpStrategy → HostsContent → ℕ → CachingClient H
+    → DomainName → Reply → CachingClient H → Type 0
 OfAddresses gives options strategy hosts now old name reply new =
     LooksUpAddresses strategy hosts now (λ old q reply new. Answers gives options now old q reply new) old name reply new
 
 -- ---- two types
 
-module _ {S : Type 0} (tries : S → RecordType → Reply → S → Type 0) (first second : RecordType) (old : S) where
+module _ {S : Type 0} (tries : Lookups S RecordType) (first second : RecordType) (old : S) where
   pub both-without-memory : (one : Reply) (mid : S) → tries old first one mid → is_out_of_memory one ≡ true
       → Both tries first second old one mid
   both-without-memory one mid tried h =

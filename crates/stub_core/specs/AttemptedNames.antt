@@ -22,8 +22,8 @@ is_onion_path labels = false
 abbrev pub is_complete : DomainName → Bool
 is_complete name = name.is_fqdn || is_onion_path (reverse name.labels)
 
--- whether the name as it is comes before those of the domain and the search list: it has more than `ndots` labels (without a leading `*`), or its
--- last one is `localhost`
+-- whether the name as it is comes before those of the domain and the search list: it has more than `ndots` labels (without a
+-- leading `*`), or its last one is `localhost`
 abbrev pub is_first : ℕ → DomainName → Bool
 is_first ndots name = nat_lt ndots (num_labels name.labels) || ends_in_localhost name.labels
 

@@ -4,10 +4,18 @@ use Rattle.dns_codes.specs.declared.record_type.RecordType.{RecordType}
 use Rattle.dns_names.specs.Name.{DomainName}
 use Rattle.dns_messages.specs.Response.{is_empty}
 use Rattle.dns_messages.specs.declared.query.Query.{Query}
+use Rattle.stub_lookup.specs.Lookup.{LookupContent}
+use Rattle.stub_lookup.specs.declared.error.NetError.TheVariants as errors
 use Rattle.stub_cache.specs.Hosts.{HostsContent, question, static_lookup}
-use Rattle.stub_cache.specs.Lookup.{LookupContent}
-use Rattle.stub_cache.specs.declared.error.NetError.TheVariants as errors
+use Rattle.stub_core.specs.Handle.{IsMessage}
 use Rattle.stub_core.specs.Looks.{Reply, out_of_memory}
+
+-- ---- lookups over states
+
+-- Lookups of questions, of names or of types, over states of what is asked: from a state one of them may have this reply and lead
+-- to that state.
+abbrev pub Lookups : Type 0 → Type 0 → Type 1
+Lookups S Asked = S → Asked → Reply → S → Type 0
 
 -- ---- which reply ends a lookup
 
@@ -25,19 +33,15 @@ Continues true rest last old reply new = (reply ≡ last) × (new ≡ old)
 Continues false rest last old reply new = rest reply new
 
 -- The names in order, after a last reply: the first reply that ends the lookup, or else that of the last name.
-abbrev pub Attempts : {S : Type 0} → (S → DomainName → Reply → S → Type 0) → Reply → S → List DomainName → Reply → S → Type 0
+abbrev pub Attempts : {S : Type 0} → Lookups S DomainName → Reply → S → List DomainName → Reply → S → Type 0
 Attempts tries last old [] reply new = (reply ≡ last) × (new ≡ old)
 Attempts {S} tries last old (name ∷ names) reply new =
-    Continues (is_final last) (λ reply new. (next : Reply) × (mid : S) × tries old name next mid × Attempts tries next mid names reply new)
+    Continues (is_final last)
+    (λ reply new. (next : Reply) × (mid : S) × tries old name next mid × Attempts tries next mid names reply new)
     last old reply new
 
--- an error with this text
-abbrev pub IsMessage : List ℕ → Reply → Type 0
-IsMessage text (Err (errors.Message message)) = message.now ≡ text
-IsMessage text other = ⊥
-
 -- The names in order; if there are none, an error with this text.
-abbrev pub AttemptsAll : {S : Type 0} → List ℕ → (S → DomainName → Reply → S → Type 0) → S → List DomainName → Reply → S → Type 0
+abbrev pub AttemptsAll : {S : Type 0} → List ℕ → Lookups S DomainName → S → List DomainName → Reply → S → Type 0
 AttemptsAll text tries old names reply new =
     (none : Reply) × IsMessage text none × Attempts tries none old names reply new
 
@@ -51,11 +55,12 @@ abbrev pub Unless : {S : Type 0} → Option LookupContent → (Reply → S → T
 Unless None asks old reply new = asks reply new
 Unless (Some lookup) asks old reply new = ((reply ≡ Ok lookup) ⊎ (reply ≡ out_of_memory)) × (new ≡ old)
 
-abbrev pub WithHosts : {S : Type 0} → HostsContent → ℕ → (S → Query → Reply → S → Type 0) → S → Query → Reply → S → Type 0
+abbrev pub WithHosts : {S : Type 0} → HostsContent → ℕ → Lookups S Query → S → Query → Reply → S → Type 0
 WithHosts hosts now asks old q reply new = Unless (static_lookup hosts q now) (λ reply new. asks old q reply new) old reply new
 
 -- The names in order. The hosts are asked for the first one alone.
-abbrev pub AttemptsWithHosts : {S : Type 0} → HostsContent → ℕ → (S → Query → Reply → S → Type 0) → RecordType → S → List DomainName → Reply → S → Type 0
+abbrev pub AttemptsWithHosts : {S : Type 0} → HostsContent → ℕ → Lookups S Query → RecordType → S → List DomainName → Reply → S
+    → Type 0
 AttemptsWithHosts hosts now asks kind old [] reply new = IsMessage no_names reply × (new ≡ old)
 AttemptsWithHosts {S} hosts now asks kind old (name ∷ names) reply new =
     (first : Reply) × (mid : S) × WithHosts hosts now asks old (question name kind) first mid

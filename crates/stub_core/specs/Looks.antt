@@ -1,18 +1,27 @@
 -- One lookup of a client, as a relation over the questions that it asks its handle (RFC 1034 section 5.3.3).
-use Rattle.std.specs.Prelude.{◌≡◌, ◌+◌, ◌⊎◌, List, [], ◌∷◌, ℕ, min, Result, Ok, Err}
+use Rattle.std.specs.Prelude.{◌≡◌, ◌≤◌, ◌+◌, ◌⊎◌, suc, length, List, [], ◌∷◌, ℕ, Option, Some, None, Result, Ok, Err}
+use Rattle.std.specs.Option.{unwrap_or}
 use Rattle.dns_records.specs.Record.{Record}
 use Rattle.dns_messages.specs.declared.message.Message.{Message}
 use Rattle.dns_messages.specs.declared.query.Query.{Query}
 use Rattle.dns_messages.specs.declared.response.DnsResponse.{DnsResponse}
-use Rattle.stub_cache.specs.Error.{no_records}
-use Rattle.stub_cache.specs.Lookup.{LookupContent, lookup_of, max_ttl}
-use Rattle.stub_cache.specs.declared.error.DnsError.TheVariants as dns
-use Rattle.stub_cache.specs.declared.error.NetError.{NetError}
-use Rattle.stub_cache.specs.declared.error.NetError.TheVariants as errors
-use Rattle.stub_cache.specs.declared.request_options.DnsRequestOptions.{DnsRequestOptions}
-use Rattle.stub_core.specs.Handle.{Ask, Led}
+use Rattle.stub_config.specs.declared.request_options.DnsRequestOptions.{DnsRequestOptions}
+use Rattle.stub_lookup.specs.Error.{no_records}
+use Rattle.stub_lookup.specs.Lookup.{LookupContent, lookup_of, max_ttl, response_to}
+use Rattle.stub_lookup.specs.declared.error.DnsError.TheVariants as dns
+use Rattle.stub_lookup.specs.declared.error.NetError.{NetError}
+use Rattle.stub_lookup.specs.declared.error.NetError.TheVariants as errors
+use Rattle.stub_lookup.specs.declared.error.NoRecords.{NoRecords}
+use Rattle.stub_cache.specs.Cache.{CacheContent, Kept, current, storing}
+use Rattle.stub_cache.specs.Ttl.{clamped, least_ttl, positive_lifetime}
+use Rattle.stub_cache.specs.Ttl.{TtlConfigContent}
+use Rattle.stub_core.specs.Handle.{Ask, Led, Outcome}
 use Rattle.stub_core.specs.SpecialNames.{special_answer}
-use Rattle.stub_core.specs.Step.{Step, Gives, Misses, Stops, Follows, step_of}
+use Rattle.stub_core.specs.Step.{meaning, step_of, with_question}
+use Rattle.stub_core.specs.declared.caching_client.CachingClient.{CachingClient}
+use Rattle.stub_core.specs.declared.caching_client.step.LookupSettings.{LookupSettings}
+use Rattle.stub_core.specs.declared.caching_client.step.Step.{Step}
+use Rattle.stub_core.specs.declared.caching_client.step.Step.TheVariants.{Gives, Misses, Stops, Follows}
 use Rattle.stub_core.specs.declared.request.DnsRequest.{DnsRequest}
 use Rattle.stub_core.specs.declared.special_names.SpecialAnswer.{SpecialAnswer}
 use Rattle.stub_core.specs.declared.special_names.SpecialAnswer.TheVariants.{Ordinary, Loopback, Nothing}
@@ -24,53 +33,99 @@ Reply = Result LookupContent NetError
 abbrev pub out_of_memory : Reply
 out_of_memory = Err errors.Memory
 
+abbrev pub negative : NoRecords → Reply
+negative answer = Err (errors.Dns (dns.NoRecordsFound answer))
+
 -- ---- answers without a question
 
--- a question that is answered without the handle
-abbrev pub IsAnsweredHere : ℕ → Query → SpecialAnswer → Reply → Type 0
-IsAnsweredHere now q (Loopback r) reply = reply ≡ Ok (lookup_of q (r ∷ []) (now + max_ttl))
-IsAnsweredHere now q (Nothing code) reply = reply ≡ Err (errors.Dns (dns.NoRecordsFound (no_records q code)))
-IsAnsweredHere now q Ordinary reply = ⊥
+-- What a cache has for a question. A message without a question has this one. It is valid as long as each of its answers, and
+-- for a day if it has none.
+abbrev pub cached_reply : ℕ → Query → Kept → Reply
+cached_reply now q (Ok m) = Ok (record {
+  message = with_question q m;
+  valid_until = now + unwrap_or (least_ttl m.answers) max_ttl;
+})
+cached_reply now q (Err answer) = negative answer
+
+-- a question that is answered without the handle, by what is special about its name or by what the cache has
+abbrev pub IsAnsweredHere : ℕ → Query → SpecialAnswer → Option Kept → Reply → Type 0
+IsAnsweredHere now q (Loopback r) hit reply = reply ≡ Ok (lookup_of q (r ∷ []) (now + max_ttl))
+IsAnsweredHere now q (Nothing code) hit reply = reply ≡ negative (no_records q code)
+IsAnsweredHere now q Ordinary (Some kept) reply = reply ≡ cached_reply now q kept
+IsAnsweredHere now q Ordinary None reply = ⊥
 
 -- ---- replies of the handle
 
--- how long answers are valid, in seconds: as long as each of them, and a day at most
-abbrev pub lifetime : List Record → ℕ
-lifetime [] = max_ttl
-lifetime (r ∷ rs) = min r.ttl (lifetime rs)
+-- The reply of a message that is stored: its TTLs are within their bounds, and it is valid as long as it is stored.
+abbrev pub given_reply : TtlConfigContent → ℕ → Query → Message → Reply
+given_reply config now q m = Ok (record {
+  message = clamped config m;
+  valid_until = now + positive_lifetime config q.query_type (clamped config m);
+})
 
-abbrev pub lookup_at : ℕ → Message → LookupContent
-lookup_at now m = record { message = m; valid_until = now + lifetime m.answers }
+-- What is stored under a question whose alias led to a reply: the records of the reply as a response to the question, or its
+-- negative answer, and no other error.
+abbrev pub kept_of : Query → Reply → Option Kept
+kept_of q (Ok lookup) = Some (Ok (record (response_to q lookup.message.answers) {
+  authorities = lookup.message.authorities;
+  additionals = lookup.message.additionals;
+}))
+kept_of q (Err (errors.Dns (dns.NoRecordsFound answer))) = Some (Err answer)
+kept_of q (Err error) = None
 
--- The reply of a step that follows no alias.
-abbrev pub Replies : ℕ → Step → Reply → Type 0
-Replies now (Gives m) reply = reply ≡ Ok (lookup_at now m)
-Replies now (Misses answer) reply = reply ≡ Err (errors.Dns (dns.NoRecordsFound answer))
-Replies now (Stops error) reply = reply ≡ Err error
-Replies now (Follows target kept) reply = ⊥
+-- What a question came to is stored, if it can be, and the reply is returned. If memory runs out, it is stored or not.
+abbrev pub Stores : ℕ → CacheContent → Query → Option Kept → Reply → Reply → CacheContent → Type 0
+Stores now old q None given reply new = (reply ≡ given) × (new ≡ old)
+Stores now old q (Some kept) given reply new =
+    ((reply ≡ given) × (new ≡ storing old q kept now))
+    ⊎ ((reply ≡ out_of_memory) × ((new ≡ old) ⊎ (new ≡ storing old q kept now)))
 
 -- The rest of a lookup, by what the reply to its question comes to. `next` says of another question and the aliases that are
--- kept which reply and which cache a lookup of it may lead to. Want of memory may end the lookup.
-abbrev pub Proceeds : {Cache : Type 0} → (Query → List Record → Reply → Cache → Type 0) → ℕ → Cache → Step → List Ask → Reply → Cache → Type 0
-Proceeds next now old (Gives m) asks reply new = (asks ≡ []) × ((reply ≡ Ok (lookup_at now m)) ⊎ (reply ≡ out_of_memory)) × (new ≡ old)
-Proceeds next now old (Misses answer) asks reply new = (asks ≡ []) × (reply ≡ Err (errors.Dns (dns.NoRecordsFound answer))) × (new ≡ old)
-Proceeds next now old (Stops error) asks reply new = (asks ≡ []) × (reply ≡ Err error) × (new ≡ old)
-Proceeds next now old (Follows target kept) asks reply new = next target kept reply new
+-- kept which reply and which cache a lookup of it may lead to.
+abbrev pub Proceeds : (Query → List Record → Reply → CacheContent → Type 0) → ℕ → CacheContent → Query → Step → List Ask
+    → Reply → CacheContent → Type 0
+Proceeds next now old q (Gives m) asks reply new =
+    (asks ≡ []) × Stores now old q (Some (Ok m)) (given_reply old.config now q m) reply new
+Proceeds next now old q (Misses answer) asks reply new =
+    (asks ≡ []) × Stores now old q (Some (Err answer)) (negative answer) reply new
+Proceeds next now old q (Stops error) asks reply new = (asks ≡ []) × (reply ≡ Err error) × (new ≡ old)
+Proceeds next now old q (Follows target kept) asks reply new =
+    (inner : Reply) × (mid : CacheContent) × next target kept inner mid × Stores now mid q (kept_of q inner) inner reply new
 
 -- ---- lookups
 
--- A lookup of a question, with the aliases that are kept: these questions with these outcomes, from the old cache to the new
--- one. Want of memory may end it before a question, and after an outcome.
-abbrev pub Looks : {Cache : Type 0} → ℕ → List Record → Cache → Query → List Ask → Reply → Cache → Type 0
-Looks now kept old q [] reply new =
-    (new ≡ old) × ((reply ≡ out_of_memory) ⊎ IsAnsweredHere now q (special_answer q) reply)
-Looks now kept old q (ask ∷ asks) reply new =
-    (ask.question ≡ q) × (special_answer q ≡ Ordinary)
-    × (((asks ≡ []) × (reply ≡ out_of_memory) × (new ≡ old))
-    ⊎ Proceeds (λ target aliases inner mid. Looks now aliases old target asks inner mid) now old (step_of q ask.outcome) asks reply new)
+-- whether memory may be taken for what an outcome means: for a response, and for a negative answer
+abbrev pub MayRunOut : Outcome → Type 0
+MayRunOut (Ok response) = Unit {0}
+MayRunOut (Err (errors.Dns (dns.NoRecordsFound answer))) = Unit {0}
+MayRunOut (Err error) = ⊥
 
--- a client without a cache looks up a question: its handle is led from the old state to the new one
-pub record Answers {H : Type 0} (gives : H → DnsRequest → ℕ → Result DnsResponse NetError → H → Type 0) (options : DnsRequestOptions) (now : ℕ) (old : H) (q : Query) (reply : Reply) (new : H) : Type 0 where
+-- A lookup of a question at a depth of aliases, with those that are kept: these questions with these outcomes, from the old
+-- cache to the new one. Want of memory may end it before a question, and after an outcome.
+abbrev pub Looks : LookupSettings → ℕ → ℕ → List Record → CacheContent → Query → List Ask → Reply → CacheContent → Type 0
+Looks settings now depth kept old q [] reply new =
+    (new ≡ old)
+    × ((reply ≡ out_of_memory) ⊎ IsAnsweredHere now q (special_answer q) (current old.entries q now) reply)
+Looks settings now depth kept old q (ask ∷ asks) reply new =
+    (ask.question ≡ q) × (special_answer q ≡ Ordinary) × (current old.entries q now ≡ None)
+    × (((asks ≡ []) × MayRunOut (meaning ask.outcome) × (reply ≡ out_of_memory) × (new ≡ old))
+    ⊎ Proceeds (λ target aliases inner mid. Looks settings now (suc depth) aliases old target asks inner mid)
+    now old q (step_of settings q kept depth ask.outcome) asks reply new)
+
+-- ---- clients
+
+abbrev pub lookup_settings : {H : Type 0} → CachingClient H → DnsRequestOptions → LookupSettings
+lookup_settings client options = record {
+  preserve_intermediates = client.preserve_intermediates;
+  dnssec_ok = options.edns_set_dnssec_ok;
+}
+
+-- a lookup of a client: its handle is led from the old state to the new one, by at most eight questions
+pub record Answers {H : Type 0} (gives : H → DnsRequest → ℕ → Result DnsResponse NetError → H → Type 0)
+    (options : DnsRequestOptions) (now : ℕ) (old : CachingClient H) (q : Query) (reply : Reply) (new : CachingClient H)
+    : Type 0 where
   pub asks : List Ask
-  pub led : Led gives options now old asks new
-  pub looks : Looks {Cache = Unit {0}} now [] tt q asks reply tt
+  pub led : Led gives options now old.handle asks new.handle
+  pub looks : Looks (lookup_settings old options) now 0 [] old.cache q asks reply new.cache
+  pub few : length asks ≤ 8
+  pub settings : new.preserve_intermediates ≡ old.preserve_intermediates

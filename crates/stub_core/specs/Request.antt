@@ -8,7 +8,7 @@ use Rattle.dns_messages.specs.declared.message_type.MessageType.TheVariants as k
 use Rattle.dns_messages.specs.declared.op_code.OpCode.TheVariants as ops
 use Rattle.dns_messages.specs.declared.response_code.ResponseCode.TheVariants as codes
 use Rattle.dns_messages.specs.declared.query.Query.{Query}
-use Rattle.stub_cache.specs.declared.request_options.DnsRequestOptions.{DnsRequestOptions}
+use Rattle.stub_config.specs.declared.request_options.DnsRequestOptions.{DnsRequestOptions}
 
 -- the metadata of a query, with RD as the options say; the id is chosen when the request is sent
 abbrev pub request_metadata : DnsRequestOptions → Metadata

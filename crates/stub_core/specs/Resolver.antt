@@ -1,5 +1,5 @@
--- Lookups of a resolver: of a name, or of a host.
-use Rattle.std.specs.Prelude.{◌≡◌, ◌+◌, ◌⊎◌, nat_lt, true, false, List, [], ◌∷◌, ℕ, Bool, Option, Some, None, option_map, Result, Ok, Err}
+-- Lookups of a resolver: of a name, or of a host. What is removed from its cache.
+use Rattle.std.specs.Prelude.{◌≡◌, ◌+◌, ◌⊎◌, nat_lt, true, false, List, [], ◌∷◌, ℕ, Bool, Option, Some, None, Result, Ok, Err}
 use Rattle.std.specs.declared.net.ip_addr.IpAddr.{IpAddr}
 use Rattle.dns_codes.specs.RecordType.{type_number, type_of}
 use Rattle.dns_codes.specs.declared.record_type.RecordType.{RecordType}
@@ -7,18 +7,19 @@ use Rattle.dns_names.specs.Name.{DomainName}
 use Rattle.dns_names.specs.declared.error.ParseError.{ParseError}
 use Rattle.dns_data.specs.declared.rdata.RData.{RData}
 use Rattle.dns_messages.specs.declared.query.Query.{Query}
-use Rattle.dns_messages.specs.declared.response.DnsResponse.{DnsResponse}
-use Rattle.stub_cache.specs.Error.{error_of_name}
+use Rattle.stub_config.specs.declared.options.ResolverOpts.{ResolverOpts}
+use Rattle.stub_config.specs.declared.request_options.DnsRequestOptions.{DnsRequestOptions}
+use Rattle.stub_lookup.specs.Error.{error_of_name}
+use Rattle.stub_lookup.specs.Lookup.{LookupContent, lookup_of, max_ttl, record_for}
+use Rattle.stub_cache.specs.Cache.{cleared_of}
 use Rattle.stub_cache.specs.Hosts.{address_data, address_type, question}
-use Rattle.stub_cache.specs.Lookup.{LookupContent, lookup_of, max_ttl, record_for}
-use Rattle.stub_cache.specs.declared.error.NetError.{NetError}
-use Rattle.stub_cache.specs.declared.options.ResolverOpts.{ResolverOpts}
-use Rattle.stub_cache.specs.declared.request_options.DnsRequestOptions.{DnsRequestOptions}
+use Rattle.stub_cache.specs.declared.cache.entry.Entry.{Entry}
 use Rattle.stub_core.specs.AttemptedNames.{attempted_names}
-use Rattle.stub_core.specs.Attempts.{AttemptsWithHosts}
+use Rattle.stub_core.specs.Attempts.{AttemptsWithHosts, Lookups}
+use Rattle.stub_core.specs.Handle.{Behavior}
 use Rattle.stub_core.specs.Looks.{Answers, Reply, out_of_memory}
 use Rattle.stub_core.specs.Strategies.{LooksUpIp}
-use Rattle.stub_core.specs.declared.request.DnsRequest.{DnsRequest}
+use Rattle.stub_core.specs.declared.caching_client.CachingClient.{CachingClient}
 use Rattle.stub_core.specs.declared.resolver.Resolver.{Resolver}
 use Rattle.stub_core.specs.declared.resolver.settings.Settings.{Settings}
 
@@ -46,12 +47,15 @@ UnlessMemory looks old reply new = ((reply ≡ out_of_memory) × (new ≡ old)) 
 -- ---- lookups of names
 
 -- records of a type for a name, or the error of a text that is not a name
-abbrev pub AnswersName : {S : Type 0} → Settings → ℕ → (S → Query → Reply → S → Type 0) → Result DomainName ParseError → RecordType → S → Reply → S → Type 0
+abbrev pub AnswersName : {S : Type 0} → Settings → ℕ → Lookups S Query → Result DomainName ParseError → RecordType
+    → S → Reply → S → Type 0
 AnswersName settings now asks (Err error) kind old reply new = (reply ≡ Err (error_of_name error)) × (new ≡ old)
-AnswersName settings now asks (Ok name) kind old reply new = AttemptsWithHosts settings.hosts now asks kind old (names_for settings name) reply new
+AnswersName settings now asks (Ok name) kind old reply new =
+    AttemptsWithHosts settings.hosts now asks kind old (names_for settings name) reply new
 
 -- A lookup of records. The type is taken by its number.
-abbrev pub LooksUp : {S : Type 0} → Settings → ℕ → (S → Query → Reply → S → Type 0) → Result DomainName ParseError → RecordType → S → Reply → S → Type 0
+abbrev pub LooksUp : {S : Type 0} → Settings → ℕ → Lookups S Query → Result DomainName ParseError → RecordType
+    → S → Reply → S → Type 0
 LooksUp settings now asks name kind old reply new =
     UnlessMemory (AnswersName settings now asks name (known_type kind) old reply new) old reply new
 
@@ -82,41 +86,63 @@ is_tried_as_name settings (Ok name) = tries_literals settings
 is_tried_as_name settings (Err error) = false
 
 -- a lookup of the addresses of a name, with an address that is returned where there are none
-abbrev pub LooksUpName : {S : Type 0} → Settings → ℕ → (S → Query → Reply → S → Type 0) → Option RData → Result DomainName ParseError → S → Reply → S → Type 0
+abbrev pub LooksUpName : {S : Type 0} → Settings → ℕ → Lookups S Query → Option RData → Result DomainName ParseError
+    → S → Reply → S → Type 0
 LooksUpName settings now asks finally (Err error) old reply new = (reply ≡ Err (error_of_name error)) × (new ≡ old)
 LooksUpName settings now asks finally (Ok name) old reply new =
     LooksUpIp settings.options.ip_strategy settings.hosts now asks finally old (names_for settings name) reply new
 
 -- a literal address that is returned at once, or a lookup
-abbrev pub AnswersHost : {S : Type 0} → Settings → ℕ → (S → Query → Reply → S → Type 0) → Bool → Option IpAddr → Result DomainName ParseError → S → Reply → S → Type 0
+abbrev pub AnswersHost : {S : Type 0} → Settings → ℕ → Lookups S Query → Bool → Option IpAddr → Result DomainName ParseError
+    → S → Reply → S → Type 0
 AnswersHost settings now asks tried None name old reply new = LooksUpName settings now asks None name old reply new
-AnswersHost settings now asks false (Some address) name old reply new = (reply ≡ Ok (literal (owner_of name) address now)) × (new ≡ old)
+AnswersHost settings now asks false (Some address) name old reply new =
+    (reply ≡ Ok (literal (owner_of name) address now)) × (new ≡ old)
 AnswersHost settings now asks true (Some address) name old reply new =
     LooksUpName settings now asks (Some (address_data address)) name old reply new
 
 -- A lookup of a host: a literal address, or a name.
-abbrev pub LooksUpHost : {S : Type 0} → Settings → ℕ → (S → Query → Reply → S → Type 0) → Option IpAddr → Result DomainName ParseError → S → Reply → S → Type 0
+abbrev pub LooksUpHost : {S : Type 0} → Settings → ℕ → Lookups S Query → Option IpAddr → Result DomainName ParseError
+    → S → Reply → S → Type 0
 LooksUpHost settings now asks address name old reply new =
     UnlessMemory (AnswersHost settings now asks (is_tried_as_name settings name) address name old reply new) old reply new
 
 -- ---- lookups of a resolver: its settings stay
 
 -- what its client is asked
-abbrev pub asks_of : {H : Type 0} → (H → DnsRequest → ℕ → Result DnsResponse NetError → H → Type 0) → ℕ → Resolver H → H → Query → Reply → H → Type 0
+abbrev pub asks_of : {H : Type 0} → Behavior H → ℕ → Resolver H → CachingClient H → Query → Reply → CachingClient H → Type 0
 asks_of gives now resolver old q reply new = Answers gives (request_options resolver.settings.options) now old q reply new
 
 -- a lookup of records of a type for a name
-pub record ResolvesName {H : Type 0} (gives : H → DnsRequest → ℕ → Result DnsResponse NetError → H → Type 0) (now : ℕ) (name : Result DomainName ParseError) (kind : RecordType) (old : Resolver H) (reply : Reply) (new : Resolver H) : Type 0 where
-  pub lookup : LooksUp old.settings now (asks_of gives now old) name kind old.client.handle reply new.client.handle
+pub record ResolvesName {H : Type 0} (gives : Behavior H) (now : ℕ) (name : Result DomainName ParseError) (kind : RecordType)
+    (old : Resolver H) (reply : Reply) (new : Resolver H) : Type 0 where
+  pub lookup : LooksUp old.settings now (asks_of gives now old) name kind old.client reply new.client
   pub settings : new.settings ≡ old.settings
 
 -- a lookup of the addresses of a host, of which `is_ip` says which address it spells
-pub record ResolvesHost {H : Type 0} (gives : H → DnsRequest → ℕ → Result DnsResponse NetError → H → Type 0) (now : ℕ) (is_ip : Option IpAddr → Type 0) (name : Result DomainName ParseError) (old : Resolver H) (reply : Reply) (new : Resolver H) : Type 0 where
+pub record ResolvesHost {H : Type 0} (gives : Behavior H) (now : ℕ) (is_ip : Option IpAddr → Type 0)
+    (name : Result DomainName ParseError) (old : Resolver H) (reply : Reply) (new : Resolver H) : Type 0 where
   pub address : Option IpAddr
   pub is_address : is_ip address
-  pub lookup : LooksUpHost old.settings now (asks_of gives now old) address name old.client.handle reply new.client.handle
+  pub lookup : LooksUpHost old.settings now (asks_of gives now old) address name old.client reply new.client
   pub settings : new.settings ≡ old.settings
 
 -- a resolver with another handle
 abbrev pub with_handle : {H : Type 0} → Resolver H → H → Resolver H
 with_handle resolver handle = record resolver { client = record resolver.client { handle = handle } }
+
+-- ---- the cache
+
+-- the entries without those for the questions for some names
+abbrev pub cleared_names : RecordType → List DomainName → List Entry → List Entry
+cleared_names kind [] entries = entries
+cleared_names kind (name ∷ names) entries = cleared_names kind names (cleared_of (question name kind) entries)
+
+-- the entries without those for the questions of a lookup, of which a text that is not a name has none
+abbrev pub cleared_lookup : Settings → Result DomainName ParseError → RecordType → List Entry → List Entry
+cleared_lookup settings (Err error) kind entries = entries
+cleared_lookup settings (Ok name) kind entries = cleared_names kind (names_for settings name) entries
+
+-- a client with other entries in its cache
+abbrev pub with_entries : {H : Type 0} → CachingClient H → List Entry → CachingClient H
+with_entries client entries = record client { cache = record client.cache { entries = entries } }

@@ -1,5 +1,7 @@
 -- The answers of special-use names (RFC 6303, RFC 6761, RFC 7686).
 use Rattle.std.specs.Prelude.{◌||◌, if◌then◌else◌, Bool, [], ◌∷◌, Option, Some, None}
+use Rattle.dns_codes.specs.DNSClass.{class_number, class_of}
+use Rattle.dns_codes.specs.RecordType.{type_number, type_of}
 use Rattle.dns_codes.specs.declared.record_type.RecordType.{RecordType}
 use Rattle.dns_codes.specs.declared.record_type.RecordType.TheVariants as types
 use Rattle.dns_codes.specs.declared.dns_class.DNSClass.{DNSClass}
@@ -13,6 +15,7 @@ use Rattle.dns_data.specs.declared.rdata.RData.TheVariants as of
 use Rattle.dns_records.specs.Record.{Record}
 use Rattle.dns_messages.specs.declared.query.Query.{Query}
 use Rattle.dns_messages.specs.declared.response_code.ResponseCode.TheVariants.{NoError, NXDomain}
+use Rattle.stub_lookup.specs.Lookup.{max_ttl}
 use Rattle.stub_core.specs.declared.special_names.SpecialAnswer.{SpecialAnswer}
 use Rattle.stub_core.specs.declared.special_names.SpecialAnswer.TheVariants.{Ordinary, Loopback, Nothing}
 
@@ -38,7 +41,7 @@ loopback_data other = None
 
 -- a record of the local host, with a TTL of a day
 abbrev pub loopback_record : DomainName → RData → Record
-loopback_record name rdata = record { name = name; dns_class = classes.IN; ttl = 86400; rdata = rdata }
+loopback_record name rdata = record { name = name; dns_class = classes.IN; ttl = max_ttl; rdata = rdata }
 
 -- a name of the local host exists, with records of these types alone
 abbrev pub loopback_answer : DomainName → Option RData → SpecialAnswer
@@ -56,6 +59,7 @@ abbrev pub in_class : DNSClass → SpecialAnswer → SpecialAnswer
 in_class classes.IN answer = answer
 in_class other answer = Ordinary
 
--- how a question is answered without cache and servers, if it is
+-- How a question is answered without cache and servers, if it is. Its type and its class are taken by their numbers.
 abbrev pub special_answer : Query → SpecialAnswer
-special_answer q = in_class q.query_class (name_answer q.name q.query_type)
+special_answer q =
+    in_class (class_of (class_number q.query_class)) (name_answer q.name (type_of (type_number q.query_type)))

@@ -2,7 +2,8 @@
 
 ghost use Rattle.std.specs.Prelude.{◌≡◌, ◌≤◌, ◌^◌};
 ghost use Rattle.std.specs.Vec.Iter.{into_iter_items};
-ghost use Rattle.stub_core.specs.Attempts.{Attempts, AttemptsAll, AttemptsWithHosts, IsMessage, WithHosts, is_final, no_names};
+ghost use Rattle.stub_core.specs.Attempts.{Attempts, AttemptsAll, AttemptsWithHosts, WithHosts, is_final, no_names};
+ghost use Rattle.stub_core.specs.Handle.{IsMessage};
 ghost use Rattle.stub_core.specs.Looks.{Answers};
 ghost use Rattle.stub_cache.specs.Hosts.{question};
 
@@ -13,7 +14,9 @@ use dns_names::Name;
 use dns_wire::RecordType;
 use std::alloc::Global;
 use std::vec;
-use stub_cache::{DnsRequestOptions, Hosts, Lookup, Moment, NetError};
+use stub_cache::Hosts;
+use stub_config::DnsRequestOptions;
+use stub_lookup::{Lookup, Moment, NetError};
 
 /// Looks up records of a type for names, in order, up to the first name whose response has answers.
 ///
@@ -30,7 +33,7 @@ pub fn lookup_names<C: DnsHandle>(
     requires { now ≤ 2 ^ 62 }
     ensures { AttemptsAll no_names (λ old name reply new.
         Answers C.gives options now old (question name record_type) reply new)
-        client.old.handle names.items result client.new.handle }
+        client.old names.items result client.new }
 {
     let names = names.into_iter();
     attempt(no_names(), names, record_type, options, client, now)
@@ -49,7 +52,7 @@ pub fn lookup_names_with_hosts<C: DnsHandle>(
     requires { now ≤ 2 ^ 62 }
     ensures { AttemptsWithHosts hosts.now now
         (λ old q reply new. Answers C.gives options now old q reply new)
-        record_type client.old.handle names.items result client.new.handle }
+        record_type client.old names.items result client.new }
 {
     let mut names = names.into_iter();
     let Some(name) = names.next() else {
@@ -79,7 +82,7 @@ fn attempt<C: DnsHandle>(
     requires { now ≤ 2 ^ 62 }
     ensures { Attempts (λ old name reply new.
         Answers C.gives options now old (question name record_type) reply new)
-        last client.old.handle (into_iter_items names) result client.new.handle }
+        last client.old (into_iter_items names) result client.new }
 {
     for name in names {
         if is_final(&last) {
@@ -115,7 +118,7 @@ pub(crate) fn ask_with_hosts<C: DnsHandle>(
     requires { now ≤ 2 ^ 62 }
     ensures { WithHosts hosts.now now
         (λ old q reply new. Answers C.gives options now old q reply new)
-        client.old.handle query result client.new.handle }
+        client.old query result client.new }
 {
     match hosts.lookup_static_host(alloc, &query, now)? {
         Some(lookup) => Ok(lookup),

@@ -5,7 +5,8 @@ ghost use Rattle.std.specs.Prelude.{◌≡◌};
 use crate::request::DnsRequest;
 use dns_messages::{DnsResponse, Query};
 use std::alloc::Global;
-use stub_cache::{DnsRequestOptions, Moment, NetError};
+use stub_config::DnsRequestOptions;
+use stub_lookup::{Moment, NetError};
 
 /// Sends requests and returns their responses.
 ///
@@ -14,8 +15,8 @@ use stub_cache::{DnsRequestOptions, Moment, NetError};
 pub trait DnsHandle {
     ghost use Rattle.std.specs.Prelude.{◌≡◌, ◌⊎◌, ℕ, Result, Err};
     ghost use Rattle.dns_messages.specs.declared.response.DnsResponse.{DnsResponse};
-    ghost use Rattle.stub_cache.specs.declared.error.NetError.{NetError};
-    ghost use Rattle.stub_cache.specs.declared.error.NetError.TheVariants.{Memory};
+    ghost use Rattle.stub_lookup.specs.declared.error.NetError.{NetError};
+    ghost use Rattle.stub_lookup.specs.declared.error.NetError.TheVariants.{Memory};
     ghost use Rattle.stub_core.specs.Handle.{request_for};
     ghost use Rattle.stub_core.specs.declared.request.DnsRequest.{DnsRequest};
 

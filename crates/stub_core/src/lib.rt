@@ -3,6 +3,7 @@
 //! - `resolver`: lookups of names and hosts, by a configuration, options and hosts
 //! - `attempted_names`: the names that a lookup attempts, in order; `attempts`, `strategies`: lookups of these
 //! - `caching_client`: a lookup of one question; `special_names`: the answers of special-use names
+//! - `laws`: what every lookup of a client keeps
 //! - `handle`: what sends requests; `list_handle`: a handle of outcomes in memory; `request`: requests
 #![tactic(auto)]
 
@@ -10,6 +11,7 @@ mod attempted_names;
 mod attempts;
 mod caching_client;
 mod handle;
+pub mod laws;
 mod list_handle;
 mod request;
 mod resolver;

@@ -3,7 +3,7 @@
 use crate::handle::DnsHandle;
 use crate::request::DnsRequest;
 use dns_messages::DnsResponse;
-use stub_cache::{Moment, NetError};
+use stub_lookup::{Moment, NetError};
 
 /// Returns the outcomes of a list, in order, whatever it is asked, and then [`NetError::Message`].
 #[derive(Drop)]

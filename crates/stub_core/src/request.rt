@@ -4,7 +4,7 @@ ghost use Rattle.std.specs.Prelude.{◌≡◌, IfOk};
 
 use dns_messages::{Edns, Message, Query};
 use std::alloc::{AllocError, Global};
-use stub_cache::DnsRequestOptions;
+use stub_config::DnsRequestOptions;
 
 /// A message to send, and the options of the request.
 #[derive(Drop)]

@@ -1,8 +1,9 @@
-//! A resolver: lookups of names and hosts over a handle, by a configuration, options and hosts.
+//! A resolver: lookups of names and hosts over a handle and a cache, by a configuration, options and hosts.
 
 ghost use Rattle.std.specs.Prelude.{◌≡◌, ◌≤◌, ◌^◌};
 
 mod builder;
+mod cache;
 mod literal;
 mod lookup_ip;
 mod settings;
@@ -17,9 +18,14 @@ use dns_text::IntoName;
 use dns_wire::RecordType;
 use settings::Settings;
 use std::alloc::Global;
-use stub_cache::{Hosts, Lookup, Moment, NetError, ResolverConfig, ResolverOpts};
+use stub_cache::Hosts;
+use stub_config::{ResolverConfig, ResolverOpts};
+use stub_lookup::{Lookup, Moment, NetError};
 
-/// A resolver over a handle.
+/// A resolver over a handle, with a cache.
+///
+/// A question is answered by the hosts where a lookup asks them, or else as one for a special-use name (RFC 6761), or from
+/// the cache, or by the handle. Responses and negative answers of the handle are stored; other errors are not.
 #[derive(Drop)]
 pub struct Resolver<H> {
     settings: Settings,
@@ -102,8 +108,8 @@ impl<H: DnsHandle> Resolver<H> {
     ) -> Result<Lookup, NetError>
         requires { now ≤ 2 ^ 62 }
         ensures lookup { UnlessMemory (AnswersName self.old.settings now
-            (asks_of H.gives now self.old) (Ok name.now) record_type self.old.client.handle
-            result self.new.client.handle) self.old.client.handle result self.new.client.handle }
+            (asks_of H.gives now self.old) (Ok name.now) record_type self.old.client
+            result self.new.client) self.old.client result self.new.client }
         ensures settings { self.new.settings ≡ self.old.settings }
     {
         let names = self.settings.names_for(self.alloc, name)?;

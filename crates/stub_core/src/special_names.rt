@@ -11,9 +11,7 @@ use dns_text::{ZoneUsage, usage};
 use dns_wire::{DNSClass, RecordType};
 use std::alloc::{AllocError, Global};
 use std::net::{Ipv4Addr, Ipv6Addr};
-
-/// The TTL of records of the local host: a day, in seconds.
-const LOOPBACK_TTL: u32 = 86_400;
+use stub_lookup::MAX_TTL;
 
 /// How a resolver answers a question without asking for it.
 #[derive(Drop)]
@@ -30,12 +28,16 @@ pub enum SpecialAnswer {
 ///
 /// In class `IN`, names at or below `localhost.`, `127.in-addr.arpa.` and the reverse name of `::1` have an A record
 /// with `127.0.0.1`, an AAAA record with `::1` and a PTR record with `localhost.`, each with a TTL of 86,400 seconds.
-/// Names at or below `invalid.` and `onion.` do not exist. Names below `local.` are asked for as any other.
+/// Names at or below `invalid.` and `onion.` do not exist. Names below `local.` are asked for as any other. The class and
+/// the type are taken by their numbers.
 pub fn special_answer(alloc: Global, query: &Query) -> Result<SpecialAnswer, AllocError>
     ensures { IfOk result (λ answer. answer ≡ special_answer query.now) }
 {
-    match query.query_class {
-        DNSClass::IN => name_answer(alloc, &query.name, query.query_type),
+    match DNSClass::from(u16::from(query.query_class)) {
+        DNSClass::IN => {
+            let record_type = RecordType::from(u16::from(query.query_type));
+            name_answer(alloc, &query.name, record_type)
+        }
         _ => Ok(SpecialAnswer::Ordinary),
     }
 }
@@ -94,7 +96,7 @@ fn loopback_answer(
     match loopback_data(alloc, record_type)? {
         Some(rdata) => {
             let name = name.clone()?;
-            Ok(SpecialAnswer::Loopback(Record::from_rdata(name, LOOPBACK_TTL, rdata)))
+            Ok(SpecialAnswer::Loopback(Record::from_rdata(name, MAX_TTL, rdata)))
         }
         None => Ok(SpecialAnswer::Nothing(ResponseCode::NoError)),
     }

@@ -2,7 +2,8 @@
 
 ghost use Rattle.std.specs.Prelude.{◌≡◌, ◌≤◌, ◌^◌, IfOk, Some};
 ghost use Rattle.std.specs.Vec.Iter.{into_iter_items};
-ghost use Rattle.stub_core.specs.Attempts.{Attempts, IsMessage};
+ghost use Rattle.stub_core.specs.Attempts.{Attempts};
+ghost use Rattle.stub_core.specs.Handle.{IsMessage};
 ghost use Rattle.stub_core.specs.Looks.{Answers};
 ghost use Rattle.stub_core.specs.Strategies.{EndsWith, LooksUpAddresses, LooksUpIp, fallback, no_addresses};
 
@@ -17,9 +18,9 @@ use dns_names::Name;
 use one_name::look_up_addresses;
 use std::alloc::{AllocError, Global};
 use std::vec;
-use stub_cache::{
-    DnsRequestOptions, Hosts, Lookup, LookupIp, LookupIpStrategy, MAX_TTL, Moment, NetError,
-};
+use stub_cache::Hosts;
+use stub_config::{DnsRequestOptions, LookupIpStrategy};
+use stub_lookup::{Lookup, LookupIp, MAX_TTL, Moment, NetError};
 
 /// Looks up the addresses of names, in order, up to the first that has answers. The hosts are asked for each name and
 /// type, before the client.
@@ -41,7 +42,7 @@ pub fn lookup_ip_names<C: DnsHandle>(
     requires { now ≤ 2 ^ 62 }
     ensures { LooksUpIp strategy hosts.now now
         (λ old q reply new. Answers C.gives options now old q reply new)
-        finally_ip_addr client.old.handle names.items result client.new.handle }
+        finally_ip_addr client.old names.items result client.new }
 {
     let names = names.into_iter();
     let last = attempt(
@@ -78,7 +79,7 @@ fn attempt<C: DnsHandle>(
     requires { now ≤ 2 ^ 62 }
     ensures { Attempts (λ old name reply new. LooksUpAddresses strategy hosts.now now
         (λ old q reply new. Answers C.gives options now old q reply new) old name reply new)
-        last client.old.handle (into_iter_items names) result client.new.handle }
+        last client.old (into_iter_items names) result client.new }
 {
     for name in names {
         if is_final(&last) {

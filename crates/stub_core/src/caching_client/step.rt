@@ -1,127 +1,214 @@
-//! What a client does with the reply to a question (RFC 1034 section 5.3.3, RFC 2308 section 2).
+//! What a client does with the outcome of a question (RFC 1034 section 5.3.3, RFC 2308 section 2).
 
-ghost use Rattle.std.specs.Prelude.{◌≡◌, ◌≤◌, ◌<◌, ◌⊎◌, ◌^◌, not, length, IfOk, Ok};
-ghost use Rattle.dns_messages.specs.Response.{is_empty, soa_in};
-ghost use Rattle.stub_cache.specs.Outcome.{as_soa, with_soa_data};
-ghost use Rattle.stub_core.specs.Looks.{Replies, lifetime, lookup_at, out_of_memory};
-ghost use Rattle.stub_core.specs.Step.{asks_for, found, given_message, is_found, nothing_found, step_along, step_of};
+ghost use Rattle.std.specs.Prelude.{◌≡◌, ◌≢◌, ◌&&◌, ℕ, nat_lt, false, IfOk, IsOk, IsErr, Ok, Err};
+ghost use Rattle.dns_messages.specs.declared.query.Query.{Query};
+ghost use Rattle.dns_messages.specs.Response.{soa_in};
+ghost use Rattle.stub_lookup.specs.Outcome.{as_soa, outcome, with_soa_data};
+ghost use Rattle.stub_core.specs.Looks.{MayRunOut};
+ghost use Rattle.stub_core.specs.Step.{given_message, is_given, kept_aliases, max_depth, meaning, next_question, nothing_found, step_along, step_of, step_on};
+ghost use Rattle.stub_core.specs.declared.caching_client.step.LookupSettings.{LookupSettings};
+ghost use Rattle.stub_core.specs.declared.caching_client.step.Step.TheVariants as steps;
+ghost use Rattle.stub_lookup.specs.declared.error.DnsError.TheVariants as errors;
+ghost use Rattle.stub_lookup.specs.declared.error.NetError.TheVariants.{Dns, Memory};
 
+use super::answers::{given_message, is_given, kept_aliases};
+use super::chain::{Chain, chain_of};
 use dns_data::{RData, SOA};
-use dns_messages::{DnsResponse, Message, Query, Record};
-use dns_wire::RecordType;
+use dns_messages::{DnsResponse, Message, Query, Record, Sequence};
 use std::alloc::{AllocError, Global};
-use stub_cache::{DnsError, Lookup, MAX_TTL, Moment, NetError, NoRecords};
+use stub_lookup::{DnsError, NetError, NoRecords};
 
-/// Returns the lookup that a response leads to, or the error that it means.
-pub(super) fn read_response(
+/// The number of aliases that are followed.
+const MAX_DEPTH: u8 = 7;
+
+/// What a lookup is told.
+#[derive(Clone, Copy)]
+pub struct LookupSettings {
+    /// Whether the answers have the aliases that lead to them.
+    pub preserve_intermediates: bool,
+    /// Whether records of DNSSEC are wanted (RFC 3225 section 3).
+    pub dnssec_ok: bool,
+}
+
+/// What the outcome of a question leads to.
+#[derive(Drop)]
+pub enum Step {
+    /// A message with records, which the cache stores.
+    Gives(Message),
+    /// A negative answer, which the cache stores.
+    Misses(NoRecords),
+    /// An error, which the cache does not store.
+    Stops(NetError),
+    /// An alias leads to another question; these aliases are kept.
+    Follows(Query, Sequence<Record>),
+}
+
+/// Returns what the outcome of a question leads to, at a depth of aliases and with those that are kept.
+pub(super) fn step_of(
     alloc: Global,
-    query: Query,
+    settings: LookupSettings,
+    query: &Query,
+    kept: Sequence<Record>,
+    depth: u8,
+    outcome: Result<DnsResponse, NetError>,
+) -> Result<Step, AllocError>
+    ensures step { IfOk result (λ step. step ≡ step_of settings query.now kept depth outcome) }
+    ensures memory { IsErr result → MayRunOut (meaning outcome) }
+{
+    match outcome {
+        Ok(response) => step_on_response(alloc, settings, query, kept, depth, response),
+        Err(error) => Ok(step_on_error(error)),
+    }
+}
+
+/// Returns what a response leads to.
+fn step_on_response(
+    alloc: Global,
+    settings: LookupSettings,
+    query: &Query,
+    kept: Sequence<Record>,
+    depth: u8,
     response: DnsResponse,
-    now: Moment,
-) -> Result<Lookup, NetError>
-    requires { now ≤ 2 ^ 62 }
-    ensures { (result ≡ out_of_memory) ⊎ Replies now (step_of query (Ok response)) result }
+) -> Result<Step, AllocError>
+    ensures step { IfOk result (λ step.
+        step ≡ step_on settings query.now kept depth (outcome response)) }
+    ensures memory { IsErr result → MayRunOut (outcome response) }
 {
     match DnsError::from_response(alloc, response) {
-        Ok(response) => read_reply(query, response, now),
-        Err(error) => Err(error),
+        Ok(response) => step_along(settings, query, kept, depth, response),
+        Err(error) => step_on_meaning(error),
     }
 }
 
-/// Returns the lookup of a response that is no error, or the error that it has no record for the question.
-fn read_reply(query: Query, response: DnsResponse, now: Moment) -> Result<Lookup, NetError>
-    requires { now ≤ 2 ^ 62 }
-    ensures { (result ≡ out_of_memory) ⊎ Replies now (step_along query response.message) result }
+/// Returns what the error that a response means leads to. Fails if there was no memory for it.
+fn step_on_meaning(error: NetError) -> Result<Step, AllocError>
+    ensures step { IfOk result (λ step.
+        (settings : LookupSettings) (q : Query) (kept : _) (depth : ℕ)
+        → step ≡ step_on settings q kept depth (Err error)) }
+    ensures ok { IsOk result → error ≢ Memory }
+    ensures err { IsErr result → error ≡ Memory }
 {
-    if is_any_found(&query, response.message()) {
-        return found_lookup(query, response, now);
+    match error {
+        NetError::Memory => Err(AllocError),
+        error => Ok(step_on_error(error)),
     }
-    let answer = nothing_found(query, &response)?;
-    Err(NetError::Dns(DnsError::NoRecordsFound(answer)))
 }
 
-// ---- found records
-
-/// Returns `true` if a record of any section is found.
-fn is_any_found(query: &Query, message: &Message) -> bool
-    ensures { result ≡ not (is_empty (found query.now message.now)) }
+/// Returns what an error leads to: a negative answer is stored, any other error is not.
+fn step_on_error(error: NetError) -> Step
+    ensures { (settings : LookupSettings) (q : Query) (kept : _) (depth : ℕ)
+        → result ≡ step_on settings q kept depth (Err error) }
 {
-    for entry in message.all_sections() {
-        if is_found(query, entry) {
-            return true;
-        }
+    match error {
+        NetError::Dns(error) => step_on_dns_error(error),
+        error => Step::Stops(error),
     }
-    false
 }
 
-/// Returns `true` if a record has the class, the type and the name of a question.
-fn is_found(query: &Query, entry: &Record) -> bool
-    ensures { result ≡ is_found query.now entry.now }
+/// Returns what an error of a server leads to.
+fn step_on_dns_error(error: DnsError) -> Step
+    ensures { (settings : LookupSettings) (q : Query) (kept : _) (depth : ℕ)
+        → result ≡ step_on settings q kept depth (Err (Dns error)) }
 {
-    u16::from(entry.dns_class) == u16::from(query.query_class)
-        && asks_for(query, entry)
-        && entry.name.eq_ignore_root(&query.name)
-}
-
-/// Returns `true` if a record has the type of a question, or any type is asked for (RFC 1035 section 3.2.3).
-fn asks_for(query: &Query, entry: &Record) -> bool
-    ensures { result ≡ asks_for query.now entry.now }
-{
-    let asked = u16::from(query.query_type);
-    asked == u16::from(RecordType::ANY) || asked == u16::from(entry.record_type())
-}
-
-/// Returns the lookup of a response in which records are found.
-fn found_lookup(query: Query, response: DnsResponse, now: Moment) -> Result<Lookup, NetError>
-    requires { now ≤ 2 ^ 62 }
-    ensures { (result ≡ out_of_memory)
-        ⊎ (result ≡ Ok (lookup_at now (given_message query response.message))) }
-{
-    let message = with_question(query, response.into_message())?;
-    Ok(lookup_at(message, now))
-}
-
-/// Adds a question to a message that has none.
-fn with_question(query: Query, message: Message) -> Result<Message, AllocError>
-    ensures message { IfOk result (λ given. given ≡ given_message query message) }
-    ensures question { IfOk result (λ given. 0 < length given.queries) }
-{
-    let mut message = message;
-    if message.queries.is_empty() {
-        message.add_query(query)?;
+    match error {
+        DnsError::NoRecordsFound(answer) => Step::Misses(answer),
+        error => Step::Stops(NetError::Dns(error)),
     }
-    Ok(message)
 }
 
-/// Returns a lookup that is valid as long as each answer of a message, a day at most.
-fn lookup_at(message: Message, now: Moment) -> Lookup
-    requires moment { now ≤ 2 ^ 62 }
-    requires question { 0 < length message.queries }
-    ensures { result ≡ lookup_at now message }
+/// Returns what a response that is no error leads to.
+fn step_along(
+    settings: LookupSettings,
+    query: &Query,
+    kept: Sequence<Record>,
+    depth: u8,
+    response: DnsResponse,
+) -> Result<Step, AllocError>
+    ensures { IfOk result (λ step.
+        step ≡ step_on settings query.now kept depth (Ok response)) }
 {
-    let valid_until = now + u64::from(lifetime(message.answers.as_slice()));
-    Lookup::new(message, valid_until)
-}
-
-/// Returns how long answers are valid, in seconds.
-fn lifetime(answers: &[Record]) -> u32
-    ensures { result ≡ lifetime answers.now }
-{
-    let mut least = MAX_TTL;
-    for answer in answers {
-        least = least.min(answer.ttl);
+    let chain = chain_of(query, response.message())?;
+    if is_given(query, &chain, kept.as_slice(), response.message()) {
+        gives(settings, query, &chain, kept, response.into_message())
+    } else {
+        follows_or_stops(settings, query, chain, kept, depth, response)
     }
-    least
+}
+
+/// Returns what a response leads to whose records are not returned.
+fn follows_or_stops(
+    settings: LookupSettings,
+    query: &Query,
+    chain: Chain,
+    kept: Sequence<Record>,
+    depth: u8,
+    response: DnsResponse,
+) -> Result<Step, AllocError>
+    requires { is_given query.now chain kept response.message ≡ false }
+    ensures { IfOk result (λ step.
+        step ≡ step_along settings query.now chain kept depth response.message) }
+{
+    if is_followed(&chain, depth) {
+        follows(settings, query, chain, kept, response.message())
+    } else {
+        stops(query, &response)
+    }
+}
+
+/// Returns `true` if aliases at a depth are followed.
+fn is_followed(chain: &Chain, depth: u8) -> bool
+    ensures { result ≡ (chain.now.is_alias && nat_lt depth max_depth) }
+{
+    chain.is_alias && depth < MAX_DEPTH
+}
+
+/// Returns the step to the message in which records are found.
+fn gives(
+    settings: LookupSettings,
+    query: &Query,
+    chain: &Chain,
+    kept: Sequence<Record>,
+    message: Message,
+) -> Result<Step, AllocError>
+    ensures { IfOk result (λ step.
+        step ≡ steps.Gives (given_message settings query.now chain.now kept message)) }
+{
+    let given = given_message(settings, query, chain, kept, message)?;
+    Ok(Step::Gives(given))
+}
+
+/// Returns the step to the question that the aliases lead to.
+fn follows(
+    settings: LookupSettings,
+    query: &Query,
+    chain: Chain,
+    kept: Sequence<Record>,
+    message: &Message,
+) -> Result<Step, AllocError>
+    ensures { IfOk result (λ step. step ≡ steps.Follows (next_question query.now chain)
+        (kept_aliases settings query.now chain kept message.now)) }
+{
+    let aliases = kept_aliases(settings, query, &chain, kept, message)?;
+    Ok(Step::Follows(Query::query(chain.name, query.query_type), aliases))
+}
+
+/// Returns the error that there is no record for a question.
+fn stops(query: &Query, response: &DnsResponse) -> Result<Step, AllocError>
+    ensures { IfOk result (λ step. step ≡ steps.Stops
+        (Dns (errors.NoRecordsFound (nothing_found query.now response.now.message)))) }
+{
+    let answer = nothing_found(query, response)?;
+    Ok(Step::Stops(NetError::Dns(DnsError::NoRecordsFound(answer))))
 }
 
 // ---- no records
 
 /// Returns the negative answer of a response without a record for the question (RFC 2308 section 5).
-fn nothing_found(query: Query, response: &DnsResponse) -> Result<NoRecords, AllocError>
-    ensures { IfOk result (λ answer. answer ≡ nothing_found query response.now.message) }
+fn nothing_found(query: &Query, response: &DnsResponse) -> Result<NoRecords, AllocError>
+    ensures { IfOk result (λ answer. answer ≡ nothing_found query.now response.now.message) }
 {
     let soa = copy_soa(response)?;
-    let mut answer = NoRecords::new(query, response.message().metadata.response_code);
+    let mut answer = NoRecords::new(query.clone()?, response.message().metadata.response_code);
     answer.soa = soa;
     answer.negative_ttl = response.negative_ttl();
     Ok(answer)

@@ -7,7 +7,9 @@ use super::settings::Settings;
 use crate::caching_client::CachingClient;
 use crate::handle::DnsHandle;
 use std::alloc::Global;
-use stub_cache::{Hosts, NetError, ResolverConfig, ResolverOpts};
+use stub_cache::{Hosts, ResponseCache};
+use stub_config::{ResolverConfig, ResolverOpts};
+use stub_lookup::NetError;
 
 /// Builds a [`Resolver`] over a handle from a configuration, options and hosts.
 #[derive(Drop)]
@@ -19,7 +21,7 @@ pub struct ResolverBuilder<H> {
 
 impl<H> ResolverBuilder<H> {
     ghost use Rattle.std.specs.Borrow.{sem, Lends};
-    ghost use Rattle.stub_cache.specs.contracts.options.ResolverOpts.{the_row as options_row};
+    ghost use Rattle.stub_config.specs.contracts.options.ResolverOpts.{the_row as options_row};
     ghost use Rattle.stub_core.specs.ResolverBuilder.{default_settings, with_options};
     ghost use Rattle.stub_core.specs.contracts.resolver.builder.ResolverBuilder.{the_row as builder_row};
 
@@ -67,26 +69,26 @@ impl<H> ResolverBuilder<H> {
 }
 
 impl<H: DnsHandle + Drop> ResolverBuilder<H> {
-    ghost use Rattle.stub_core.specs.ResolverBuilder.{is_unsupported, with_used_hosts};
+    ghost use Rattle.stub_core.specs.ResolverBuilder.{Builds, is_unsupported};
 
-    /// Builds the resolver. If the options say that hosts are never looked up, it has none.
+    /// Builds the resolver. Its cache is empty. If the options say that hosts are never looked up, it has none.
     ///
-    /// The error is [`NetError::Unsupported`] if `deny_answers` is not empty, `case_randomization` is set or
-    /// `trust_anchor` is given. There is no other error.
+    /// The error is [`NetError::Unsupported`] if `deny_answers` is not empty, `case_randomization` is set, `trust_anchor`
+    /// is given, or a minimum TTL is above its maximum. There is no other error.
     pub fn build(self) -> Result<Resolver<H>, NetError>
         ensures unsupported { is_unsupported self.settings.options ≡ true
             → IsErrOf result NetError.Unsupported }
         ensures supported { is_unsupported self.settings.options ≡ false
-            → IsOkAnd result (λ resolver. (resolver.settings ≡ with_used_hosts self.settings)
-            × (resolver.client.handle ≡ self.handle)) }
+            → IsOkAnd result (λ resolver. Builds self resolver) }
     {
-        if self.settings.is_unsupported() {
-            return Err(NetError::Unsupported);
-        }
         let alloc = self.alloc;
+        let ttl_config = self.settings.ttl_config(alloc)?;
+        let cache_size = self.settings.options.cache_size;
+        let preserve_intermediates = self.settings.options.preserve_intermediates;
+        let cache = ResponseCache::new(alloc, cache_size, ttl_config);
         Ok(Resolver {
             settings: self.settings.with_used_hosts(alloc),
-            client: CachingClient::new(alloc, self.handle),
+            client: CachingClient::with_cache(alloc, cache, self.handle, preserve_intermediates),
             alloc,
         })
     }

@@ -11,7 +11,7 @@ use dns_names::{Name, ParseError};
 use dns_wire::RecordType;
 use std::alloc::{AllocError, Global};
 use std::net::IpAddr;
-use stub_cache::{Lookup, LookupIp, Moment, NetError};
+use stub_lookup::{Lookup, LookupIp, Moment, NetError};
 
 /// Returns the lookup of a literal address: one record at an owner.
 pub(super) fn literal_lookup(

@@ -10,7 +10,7 @@ use dns_data::RData;
 use dns_names::Name;
 use dns_text::IntoName;
 use std::net::IpAddr;
-use stub_cache::{LookupIp, Moment, NetError};
+use stub_lookup::{LookupIp, Moment, NetError};
 
 impl<H: DnsHandle> Resolver<H> {
     ghost use Rattle.std.specs.Prelude.{Ok, Some};
@@ -18,7 +18,7 @@ impl<H: DnsHandle> Resolver<H> {
 
     /// Looks up the addresses of a host, by the strategy of the options. The hosts are asked for each name and type.
     ///
-    /// A literal address is answered at once, with a TTL of [`MAX_TTL`](stub_cache::MAX_TTL), unless it is a name and
+    /// A literal address is answered at once, with a TTL of [`MAX_TTL`](stub_lookup::MAX_TTL), unless it is a name and
     /// `ndots` is above 4; then it is returned where no name has an address. If a text is neither an address nor a name,
     /// the error is [`NetError::Proto`].
     pub fn lookup_ip<N: IntoName>(&mut self, host: N, now: Moment) -> Result<LookupIp, NetError>
@@ -42,7 +42,7 @@ impl<H: DnsHandle> Resolver<H> {
     ) -> Result<LookupIp, NetError>
         requires { now ≤ 2 ^ 62 }
         ensures lookup { LooksUpHost self.old.settings now (asks_of H.gives now self.old) address
-            (Ok name) self.old.client.handle result self.new.client.handle }
+            (Ok name) self.old.client result self.new.client }
         ensures settings { self.new.settings ≡ self.old.settings }
     {
         match address {
@@ -60,8 +60,8 @@ impl<H: DnsHandle> Resolver<H> {
     ) -> Result<LookupIp, NetError>
         requires { now ≤ 2 ^ 62 }
         ensures lookup { LooksUpHost self.old.settings now (asks_of H.gives now self.old)
-            (Some address) (Ok name) self.old.client.handle result
-            self.new.client.handle }
+            (Some address) (Ok name) self.old.client result
+            self.new.client }
         ensures settings { self.new.settings ≡ self.old.settings }
     {
         if self.settings.tries_literals() {
@@ -80,9 +80,9 @@ impl<H: DnsHandle> Resolver<H> {
     ) -> Result<LookupIp, NetError>
         requires { now ≤ 2 ^ 62 }
         ensures lookup { UnlessMemory (LooksUpName self.old.settings now
-            (asks_of H.gives now self.old) finally_ip_addr (Ok name.now) self.old.client.handle
-            result self.new.client.handle) self.old.client.handle result
-            self.new.client.handle }
+            (asks_of H.gives now self.old) finally_ip_addr (Ok name.now) self.old.client
+            result self.new.client) self.old.client result
+            self.new.client }
         ensures settings { self.new.settings ≡ self.old.settings }
     {
         let names = self.settings.names_for(self.alloc, name)?;

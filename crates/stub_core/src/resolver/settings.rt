@@ -5,7 +5,9 @@ ghost use Rattle.std.specs.Prelude.{◌≡◌, IfOk};
 use crate::attempted_names::names_to_attempt;
 use dns_names::Name;
 use std::alloc::{AllocError, Global};
-use stub_cache::{DnsRequestOptions, Hosts, ResolveHosts, ResolverConfig, ResolverOpts};
+use stub_cache::{Hosts, TtlBoundsError, TtlConfig};
+use stub_config::{DnsRequestOptions, ResolveHosts, ResolverConfig, ResolverOpts};
+use stub_lookup::NetError;
 
 /// The greatest `ndots` with which a literal address is not looked up as a name: an IPv4 address has four labels.
 const MAX_NDOTS_OF_LITERALS: usize = 4;
@@ -20,7 +22,7 @@ pub(crate) struct Settings {
 
 impl Settings {
     ghost use Rattle.stub_core.specs.Resolver.{names_for, request_options, tries_literals};
-    ghost use Rattle.stub_core.specs.ResolverBuilder.{default_settings, is_unsupported, with_used_hosts};
+    ghost use Rattle.stub_core.specs.ResolverBuilder.{default_settings, sets_unsupported, supported_config, with_used_hosts};
 
     /// Creates settings with the default options and no hosts.
     pub(crate) fn new(alloc: Global, config: ResolverConfig) -> Settings
@@ -33,9 +35,22 @@ impl Settings {
         }
     }
 
-    /// Returns `true` if an option is set that a resolver does not support.
-    pub(crate) fn is_unsupported(&self) -> bool
-        ensures { result ≡ is_unsupported self.now.options }
+    /// Returns the bounds of TTLs that the options set, or [`NetError::Unsupported`] if no resolver has such options.
+    pub(crate) fn ttl_config(&self, alloc: Global) -> Result<TtlConfig, NetError>
+        ensures { result ≡ supported_config self.now.options }
+    {
+        if self.sets_unsupported() {
+            return Err(NetError::Unsupported);
+        }
+        match TtlConfig::from_opts(alloc, &self.options) {
+            Ok(config) => Ok(config),
+            Err(TtlBoundsError::MinimumAboveMaximum) => Err(NetError::Unsupported),
+        }
+    }
+
+    /// Returns `true` if an option is set that no resolver supports.
+    fn sets_unsupported(&self) -> bool
+        ensures { result ≡ sets_unsupported self.now.options }
     {
         !self.options.deny_answers.is_empty()
             || self.options.case_randomization

@@ -8,7 +8,7 @@ use dns_names::Name;
 use dns_text::IntoName;
 use dns_wire::RecordType;
 use std::net::IpAddr;
-use stub_cache::{Lookup, Moment, NetError};
+use stub_lookup::{Lookup, Moment, NetError};
 
 /// Each is [`Resolver::lookup`] with its type.
 impl<H: DnsHandle> Resolver<H> {

@@ -13,7 +13,9 @@ use dns_messages::Query;
 use dns_names::Name;
 use dns_wire::RecordType;
 use std::alloc::Global;
-use stub_cache::{DnsRequestOptions, Hosts, Lookup, LookupIpStrategy, Moment, NetError};
+use stub_cache::Hosts;
+use stub_config::{DnsRequestOptions, LookupIpStrategy};
+use stub_lookup::{Lookup, Moment, NetError};
 
 /// Looks up the addresses of a name, of the types and in the order of a strategy.
 pub(super) fn look_up_addresses<C: DnsHandle>(
@@ -28,7 +30,7 @@ pub(super) fn look_up_addresses<C: DnsHandle>(
     requires { now ≤ 2 ^ 62 }
     ensures { LooksUpAddresses strategy hosts.now now
         (λ old q reply new. Answers C.gives options now old q reply new)
-        client.old.handle name.now result client.new.handle }
+        client.old name.now result client.new }
 {
     let v4 = RecordType::A;
     let v6 = RecordType::AAAA;
@@ -55,7 +57,7 @@ fn one<C: DnsHandle>(
     requires { now ≤ 2 ^ 62 }
     ensures { WithHosts hosts.now now
         (λ old q reply new. Answers C.gives options now old q reply new)
-        client.old.handle (question name.now record_type) result client.new.handle }
+        client.old (question name.now record_type) result client.new }
 {
     let query = Query::query(name.clone()?, record_type);
     ask_with_hosts(alloc, query, options, client, hosts, now)
@@ -76,7 +78,7 @@ fn both<C: DnsHandle>(
     ensures { Both (λ old kind reply new. WithHosts hosts.now now
         (λ old q reply new. Answers C.gives options now old q reply new)
         old (question name.now kind) reply new)
-        first second client.old.handle result client.new.handle }
+        first second client.old result client.new }
 {
     let reply = one(alloc, name, first, client, options, hosts, now);
     if is_out_of_memory(&reply) {
@@ -101,7 +103,7 @@ fn then<C: DnsHandle>(
     ensures { Then (λ old kind reply new. WithHosts hosts.now now
         (λ old q reply new. Answers C.gives options now old q reply new)
         old (question name.now kind) reply new)
-        first second client.old.handle result client.new.handle }
+        first second client.old result client.new }
 {
     let found = one(alloc, name, first, client, options, hosts, now);
     if is_final(&found) {

@@ -5,5 +5,5 @@ use Rattle.stub_core.proofs.attempts.attempt.Given as goal
 
 abbrev pub invariant-loop-name : goal.invariant-loop-name
 invariant-loop-name g l =
-    LeadsOn (OfName g.C.DnsHandle.gives l.options l.now l.record_type) l.last l.client.handle
-    (into_iter_items l.name-iterator) l.fn.last l.fn.client.handle (into_iter_items l.fn.names)
+    LeadsOn (OfName g.C.DnsHandle.gives l.options l.now l.record_type) l.last l.client
+    (into_iter_items l.name-iterator) l.fn.last l.fn.client (into_iter_items l.fn.names)

@@ -12,7 +12,7 @@ returns g c = (
   (
     c.no_addresses.result,
     c.no_addresses.ensures,
-    subst (λ (names : List DomainName). Attempts (OfAddresses g.C.DnsHandle.gives c.args.options c.args.strategy c.args.hosts.now c.args.now) c.no_addresses.result c.args.client.now.handle names c.attempt-last.result c.attempt-last.new.client.handle)
+    subst (λ (names : List DomainName). Attempts (OfAddresses g.C.DnsHandle.gives c.args.options c.args.strategy c.args.hosts.now c.args.now) c.no_addresses.result c.args.client.now names c.attempt-last.result c.attempt-last.new.client)
         c.into_iter-names.ensures.rest c.attempt-last.ensures,
   ),
   subst (λ (reply : Reply). EndsWith c.args.finally_ip_addr c.args.now c.attempt-last.result reply) (sym c.addresses.ensures) c.or_fallback.ensures,

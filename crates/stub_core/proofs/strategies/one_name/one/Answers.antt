@@ -12,12 +12,12 @@ pub returns-in_err-clone : goal.returns-in_err-clone
 returns-in_err-clone g c =
     let p = err_from_is_err_and c.from_residual.result c.from_residual.ensures.1 in
     let asked = question c.args.name.now c.args.record_type in
-    rw (p.1, p.2) (host-without-memory (λ reply new. Answers g.C.DnsHandle.gives c.args.options c.args.now c.args.client.now.handle asked reply new) c.args.client.now.handle
+    rw (p.1, p.2) (host-without-memory (λ reply new. Answers g.C.DnsHandle.gives c.args.options c.args.now c.args.client.now asked reply new) c.args.client.now
     (static_lookup c.args.hosts.now asked c.args.now)
-    (asked-without-memory g.C.DnsHandle.gives c.args.options c.args.now c.args.client.now.handle asked))
+    (asked-without-memory g.C.DnsHandle.gives c.args.options c.args.now c.args.client.now asked))
 
 pub returns : goal.returns
 returns g c =
     let asked : c.query-query.result ≡ question c.args.name.now c.args.record_type =
     c.query-query.ensures ∙ ap (λ (name : DomainName). question name c.args.record_type) c.in_ok-clone.ensures.ok in
-    subst (λ (q : Query). WithHosts c.args.hosts.now c.args.now (λ old q reply new. Answers g.C.DnsHandle.gives c.args.options c.args.now old q reply new) c.args.client.now.handle q c.ask_with_hosts.result c.ask_with_hosts.new.client.handle) asked c.ask_with_hosts.ensures
+    subst (λ (q : Query). WithHosts c.args.hosts.now c.args.now (λ old q reply new. Answers g.C.DnsHandle.gives c.args.options c.args.now old q reply new) c.args.client.now q c.ask_with_hosts.result c.ask_with_hosts.new.client) asked c.ask_with_hosts.ensures

@@ -1,9 +1,0 @@
-use Rattle.std.proofs.Common.{◌≡◌}
-use Rattle.std.specs.List.{list_any}
-use Rattle.dns_messages.specs.Message.{all_records}
-use Rattle.stub_core.specs.Step.{is_found}
-use Rattle.stub_core.proofs.caching_client.step.is_any_found.Given as goal
-
--- none of the records so far is found
-abbrev pub invariant-loop-entry : goal.invariant-loop-entry
-invariant-loop-entry l = list_any (is_found l.query) l.entry-iterator ≡ list_any (is_found l.query) (all_records l.message)
