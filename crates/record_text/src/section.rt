@@ -19,6 +19,17 @@ pub fn push_records(text: &mut String, records: &[Record]) -> Result<(), AllocEr
     Ok(())
 }
 
+/// Adds records as a zone's text has them, parted by `, `.
+pub fn push_list(text: &mut String, records: &[Record]) -> Result<(), AllocError> {
+    for (index, found) in records.iter().enumerate() {
+        if index > 0 {
+            text.push_str(", ")?;
+        }
+        push_record(text, found)?;
+    }
+    Ok(())
+}
+
 /// Adds a record as a zone's text has it.
 pub fn push_record(text: &mut String, found: &Record) -> Result<(), AllocError> {
     let (owner, ttl, class) = (&found.name, found.ttl, found.dns_class);

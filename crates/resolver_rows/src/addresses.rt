@@ -1,18 +1,20 @@
 //! Lookups of addresses, by a strategy.
 
-use crate::error_text::error_text;
-use crate::exchange::{Exchange, Recorder};
+use crate::addresses_text::{addresses_text, push_addresses};
+use crate::exchange::{Exchange, new_client};
 use crate::hosts::hosts_of;
-use crate::lookup_text::{addresses_text, push_addresses};
-use crate::question::{NOW, names_of};
+use crate::parts::NOW;
 use dns_data::{A, AAAA, RData};
 use dns_names::Name;
 use dns_text::parse_ip;
+use record_text::{error_text, names_of};
 use rows::{Answer, RowFault, split, two_words};
 use std::alloc::Global;
 use std::net::IpAddr;
-use stub_cache::{DnsRequestOptions, Hosts, LookupIp, LookupIpStrategy, NetError};
-use stub_core::{CachingClient, lookup_ip_names};
+use stub_cache::Hosts;
+use stub_config::{DnsRequestOptions, LookupIpStrategy};
+use stub_core::lookup_ip_names;
+use stub_lookup::{LookupIp, NetError};
 
 /// `strategy STRATEGY || OUTCOMES`: the addresses of the root, without hosts; behind bars the questions that were asked, and
 /// how many outcomes are left.
@@ -28,7 +30,7 @@ pub(crate) fn strategy(alloc: Global, input: &str) -> Answer {
 fn addresses_of_root(alloc: Global, exchange: &mut Exchange, strategy: LookupIpStrategy) -> Answer {
     let names = names_of(alloc, ".")?;
     let hosts = Hosts::default(alloc);
-    let mut client = CachingClient::new(alloc, Recorder::new(alloc, exchange));
+    let mut client = new_client(alloc, exchange);
     let options = DnsRequestOptions::default();
     let reply = lookup_ip_names(
         alloc,
@@ -105,7 +107,7 @@ fn addresses_of_names(
     address: Option<IpAddr>,
     names: Vec<Name>,
 ) -> Answer {
-    let mut client = CachingClient::new(alloc, Recorder::new(alloc, exchange));
+    let mut client = new_client(alloc, exchange);
     let options = DnsRequestOptions::default();
     let finally = match address {
         Some(address) => Some(data_of(address)),

@@ -1,8 +1,8 @@
 //! The names that a lookup attempts.
 
-use crate::question::{names_of, optional_name_of};
+use crate::parts::optional_name_of;
 use dns_names::Name;
-use record_text::name_of;
+use record_text::{name_of, names_of};
 use rows::{Answer, parsed, two_words};
 use std::alloc::Global;
 use std::fmt::Write;

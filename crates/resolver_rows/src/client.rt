@@ -2,18 +2,19 @@
 
 ghost use Rattle.std.specs.Prelude.{◌≤◌, ◌^◌};
 
-use crate::exchange::{Exchange, Recorder};
+use crate::exchange::{Exchange, new_client};
 use crate::hosts::hosts_of;
-use crate::lookup_text::reply_text;
-use crate::question::{NOW, moment_of, names_of, question_of};
+use crate::parts::NOW;
 use dns_messages::Query;
 use dns_names::Name;
 use dns_wire::RecordType;
-use record_text::type_of;
+use record_text::{moment_of, names_of, question_of, reply_text, type_of};
 use rows::{Answer, split, two_words};
 use std::alloc::Global;
-use stub_cache::{DnsRequestOptions, Hosts, Moment};
-use stub_core::{CachingClient, lookup_names, lookup_names_with_hosts};
+use stub_cache::Hosts;
+use stub_config::DnsRequestOptions;
+use stub_core::{lookup_names, lookup_names_with_hosts};
+use stub_lookup::Moment;
 
 /// `client MOMENT QUESTION || OUTCOMES`: a client's lookup of a question at a moment; behind bars the questions that it asked,
 /// and how many outcomes are left.
@@ -30,7 +31,7 @@ pub(crate) fn client(alloc: Global, input: &str) -> Answer {
 fn looked_up(alloc: Global, exchange: &mut Exchange, query: Query, now: Moment) -> Answer
     requires { now ≤ 2 ^ 62 }
 {
-    let mut client = CachingClient::new(alloc, Recorder::new(alloc, exchange));
+    let mut client = new_client(alloc, exchange);
     let reply = client.lookup(query, DnsRequestOptions::default(), now);
     reply_text(alloc, reply)
 }
@@ -52,7 +53,7 @@ fn names_looked_up(
     names: Vec<Name>,
     kind: RecordType,
 ) -> Answer {
-    let mut client = CachingClient::new(alloc, Recorder::new(alloc, exchange));
+    let mut client = new_client(alloc, exchange);
     let options = DnsRequestOptions::default();
     let reply = lookup_names(alloc, names, kind, options, &mut client, NOW);
     reply_text(alloc, reply)
@@ -82,7 +83,7 @@ fn names_looked_up_with_hosts(
     names: Vec<Name>,
     kind: RecordType,
 ) -> Answer {
-    let mut client = CachingClient::new(alloc, Recorder::new(alloc, exchange));
+    let mut client = new_client(alloc, exchange);
     let options = DnsRequestOptions::default();
     let reply = lookup_names_with_hosts(alloc, names, kind, options, &mut client, hosts, NOW);
     reply_text(alloc, reply)

@@ -1,13 +1,13 @@
 //! Configurations of a resolver.
 
 use crate::addresses::address_of;
-use crate::question::{names_of, optional_name_of};
+use crate::parts::optional_name_of;
 use dns_names::Name;
-use record_text::name_of;
+use record_text::{name_of, names_of};
 use rows::{Answer, RowFault, two_words};
 use std::alloc::{AllocError, Global};
 use std::fmt::Write;
-use stub_cache::{
+use stub_config::{
     NameServerConfig, PublicServers, ResolverConfig, ServerIter, cloudflare, google, quad9,
 };
 

@@ -7,8 +7,9 @@ use rows::{Answer, RowFault};
 use std::alloc::{AllocError, Global};
 use std::fmt::Write;
 use std::net::Ipv4Addr;
-use stub_cache::{Moment, NetError, ResolverConfig};
+use stub_config::ResolverConfig;
 use stub_core::{DnsHandle, DnsRequest, Resolver};
+use stub_lookup::{Moment, NetError};
 
 /// A handle that answers questions from a table of records.
 #[derive(Drop)]

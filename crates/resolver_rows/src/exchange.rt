@@ -1,18 +1,17 @@
 //! A handle that records what it is asked.
 
-use crate::reply::outcomes_of;
 use dns_messages::DnsResponse;
+use record_text::{outcomes_of, push_asked};
 use rows::{Answer, RowFault, digits_of};
 use std::alloc::{AllocError, Global};
-use std::fmt::Write;
-use stub_cache::{Moment, NetError};
-use stub_core::{DnsHandle, DnsRequest, ListHandle};
+use stub_core::{CachingClient, DnsHandle, DnsRequest, ListHandle};
+use stub_lookup::{Moment, NetError};
 
 /// The outcomes that are left, and the requests that were sent.
 #[derive(Drop)]
 pub(crate) struct Exchange {
     handle: ListHandle,
-    /// The questions of the requests, each a name and a type.
+    /// The questions of the requests.
     questions: String,
     /// The encodings of the requests, in hexadecimal digits.
     requests: String,
@@ -31,7 +30,7 @@ impl Exchange {
 
     /// Records a request.
     fn record(&mut self, alloc: Global, request: &DnsRequest) -> Result<(), NetError> {
-        push_questions(&mut self.questions, request)?;
+        push_asked(&mut self.questions, request.message().queries.as_slice())?;
         let Ok(bytes) = request.message().to_vec(alloc) else {
             return Err(NetError::Unsupported);
         };
@@ -58,18 +57,6 @@ impl Exchange {
 /// What was asked, or `-` if nothing was.
 fn asked(text: &String) -> &str {
     if text.is_empty() { "-" } else { text.as_str() }
-}
-
-/// Adds the name and the type of each question of a request.
-fn push_questions(text: &mut String, request: &DnsRequest) -> Result<(), AllocError> {
-    for query in request.message().queries.as_slice() {
-        if !text.is_empty() {
-            text.push_str(", ")?;
-        }
-        let (name, kind) = (&query.name, query.query_type);
-        write!(text, "{name} {kind}")?;
-    }
-    Ok(())
 }
 
 /// Adds a part behind others.
@@ -101,4 +88,15 @@ impl<'a> DnsHandle for Recorder<'a> {
         self.exchange.record(self.alloc, &request)?;
         self.exchange.handle.send(request, now)
     }
+}
+
+/// The number of entries in the cache of a client.
+const CACHE_SIZE: u64 = 32;
+
+/// A client over an exchange, with an empty cache. It preserves aliases, as a resolver does by default.
+pub(crate) fn new_client<'a>(
+    alloc: Global,
+    exchange: &'a mut Exchange,
+) -> CachingClient<Recorder<'a>> {
+    CachingClient::new(alloc, CACHE_SIZE, Recorder::new(alloc, exchange), true)
 }

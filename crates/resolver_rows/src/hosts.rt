@@ -1,15 +1,15 @@
 //! Hosts.
 
 use crate::lookup::lookup_of;
-use crate::lookup_text::lookup_text;
-use crate::question::{NOW, question_of};
+use crate::parts::NOW;
 use dns_names::Name;
 use dns_wire::RecordType;
-use record_text::{name_of, type_of};
+use record_text::{lookup_text, name_of, question_of, type_of};
 use rows::{Answer, RowFault, bytes_of, split, text, two_words};
 use std::alloc::Global;
 use std::fmt::Write;
-use stub_cache::{Hosts, HostsFault, Lookup};
+use stub_cache::{Hosts, HostsFault};
+use stub_lookup::Lookup;
 
 /// `hosts QUESTION, .. || TEXT`: what the hosts of a file have for each of the questions, parted by ` / `. A fault of the
 /// file comes first.

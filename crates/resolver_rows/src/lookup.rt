@@ -1,14 +1,12 @@
 //! What lookups found.
 
-use crate::lookup_text::{lookup_text, push_addresses};
-use crate::question::{moment_of, question_of};
-use crate::records::{data_of, records_of};
-use crate::reply::message_of;
+use crate::addresses_text::push_addresses;
 use dns_messages::Message;
+use record_text::{data_of, lookup_text, message_of, moment_of, question_of, records_of};
 use rows::{Answer, RowFault, split, two_words};
 use std::alloc::{AllocError, Global};
 use std::fmt::Write;
-use stub_cache::{Lookup, LookupIp, Moment};
+use stub_lookup::{Lookup, LookupIp, Moment};
 
 /// The lookup of a text `MOMENT RESPONSE`, which is valid until the moment.
 pub(crate) fn lookup_of(alloc: Global, text: &str) -> Result<Lookup, RowFault> {

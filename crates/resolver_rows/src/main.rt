@@ -1,7 +1,7 @@
 //! `resolver_rows FILE..`: tries each row of the files, as the library `rows` describes, on the resolver.
 //!
 //! - `operation`: the operations by their words;
-//! - `question`, `records`, `reply`, `error_text`, `lookup_text`: the parts of a row and of an answer;
+//! - `parts`, `addresses_text`: the parts of a row and of an answer that the library `record_text` does not have;
 //! - `exchange`: a handle that returns the outcomes of a list and records what it is asked;
 //! - `attempted_names`, `special_names`, `request`: what a lookup asks; `outcome`: what a reply means;
 //! - `config`, `hosts`, `lookup`: what a resolver keeps;
@@ -10,20 +10,17 @@
 #![tactic(auto)]
 
 mod addresses;
+mod addresses_text;
 mod attempted_names;
 mod client;
 mod config;
-mod error_text;
 mod examples;
 mod exchange;
 mod hosts;
 mod lookup;
-mod lookup_text;
 mod operation;
 mod outcome;
-mod question;
-mod records;
-mod reply;
+mod parts;
 mod request;
 mod resolver;
 mod special_names;

@@ -1,11 +1,11 @@
 //! What a response means.
 
-use crate::reply::{outcome_of, response_of};
 use crate::request::outcome_text;
 use dns_messages::DnsResponse;
+use record_text::{outcome_of, response_of};
 use rows::{Answer, shown, text};
 use std::alloc::Global;
-use stub_cache::{DnsError, NetError};
+use stub_lookup::{DnsError, NetError};
 
 /// `outcome RESPONSE`: the code and the answers of a response that is no error, or the error that it means.
 pub(crate) fn outcome(alloc: Global, input: &str) -> Answer {

@@ -1,15 +1,14 @@
 //! Requests, and handles that are asked directly.
 
-use crate::error_text::error_text;
 use crate::exchange::{Exchange, Recorder};
-use crate::question::{NOW, question_of};
-use crate::records::push_records;
-use crate::reply::outcomes_of;
+use crate::parts::NOW;
 use dns_messages::{DnsResponse, Query, Record};
+use record_text::{error_text, outcomes_of, push_list, question_of};
 use rows::{Answer, RowFault, digits_of, parsed, split, text};
 use std::alloc::{AllocError, Global};
-use stub_cache::{DnsRequestOptions, NetError};
+use stub_config::DnsRequestOptions;
 use stub_core::{DnsHandle, DnsRequest, ListHandle};
+use stub_lookup::NetError;
 
 /// `request OPTIONS || QUESTION`: the encoding of the request that asks a question.
 pub(crate) fn request(alloc: Global, input: &str) -> Answer {
@@ -113,5 +112,5 @@ fn push_answers(text: &mut String, answers: &[Record]) -> Result<(), AllocError>
         return Ok(());
     }
     text.push(' ')?;
-    push_records(text, answers)
+    push_list(text, answers)
 }

@@ -1,20 +1,20 @@
 //! Lookups of a resolver.
 
 use crate::addresses::{address_of, strategy_of};
-use crate::error_text::error_text;
+use crate::addresses_text::addresses_text;
 use crate::exchange::{Exchange, Recorder};
 use crate::hosts::hosts_of;
-use crate::lookup_text::{addresses_text, reply_text};
-use crate::question::{NOW, names_of};
-use crate::reply::outcomes_of;
+use crate::parts::NOW;
 use dns_messages::Sequence;
 use dns_names::AddrPrefix;
-use record_text::{name_of, type_of};
+use record_text::{error_text, name_of, names_of, outcomes_of, reply_text, type_of};
 use rows::{Answer, RowFault, parsed, split, text, two_words};
 use std::alloc::Global;
 use std::net::{IpAddr, Ipv4Addr};
-use stub_cache::{Hosts, Lookup, NetError, ResolveHosts, ResolverConfig, ResolverOpts};
+use stub_cache::Hosts;
+use stub_config::{ResolveHosts, ResolverConfig, ResolverOpts};
 use stub_core::{DnsHandle, ListHandle, Resolver, ResolverBuilder};
+use stub_lookup::{Lookup, NetError};
 
 /// `resolver SETTINGS || LOOKUP || HOSTS || OUTCOMES`: a lookup of a resolver with hosts; behind bars the questions that were
 /// asked, and how many outcomes are left.

@@ -1,7 +1,6 @@
 //! The answers of special-use names.
 
-use crate::question::question_of;
-use record_text::push_record;
+use record_text::{push_record, question_of};
 use rows::{Answer, text};
 use std::alloc::Global;
 use stub_core::{SpecialAnswer, special_answer};

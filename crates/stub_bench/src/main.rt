@@ -2,6 +2,7 @@
 //! it can be timed from outside. `all` stands for every operation, one after another.
 #![tactic(auto)]
 
+mod cache;
 mod data;
 mod message;
 mod operation;
@@ -15,7 +16,7 @@ use std::env;
 use std::process::ExitCode;
 
 /// What may be repeated.
-const WHAT: [&str; 16] = [
+const WHAT: [&str; 20] = [
     "all",
     "name-read",
     "name-write",
@@ -32,6 +33,10 @@ const WHAT: [&str; 16] = [
     "serve-a",
     "serve-cname",
     "serve-nxdomain",
+    "cache-insert",
+    "cache-hit",
+    "cache-miss",
+    "cache-full",
 ];
 
 fn main(rt: HostRuntime) -> Result<ExitCode> {

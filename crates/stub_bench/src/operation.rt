@@ -2,6 +2,7 @@
 
 ghost use Rattle.std.specs.Prelude.{◌≡◌, []};
 
+use crate::cache::{get_nothing, get_responses, insert_responses, replace_responses};
 use crate::data::{parse_data, print_data, read_data, write_data};
 use crate::message::{read_messages, write_messages};
 use crate::zone::{read_zones, serve_addresses, serve_aliases, serve_missing};
@@ -43,6 +44,14 @@ pub(crate) enum Operation {
     ServeCname,
     /// Serves a question for a name that is not in that zone.
     ServeNxdomain,
+    /// Inserts a response into a cache, in place of an earlier one.
+    CacheInsert,
+    /// Gets a response from a cache of 1,024 entries.
+    CacheHit,
+    /// Gets nothing from a cache of 1,024 entries.
+    CacheMiss,
+    /// Inserts a response into a full cache of 8,192 entries.
+    CacheFull,
 }
 
 /// Two names of four labels, equal up to ASCII case.
@@ -67,7 +76,7 @@ const BYTES: &[u8; 29] = b"\x03com\x00\x07example\xC0\x00\x03www\xC0\x05\x01a\xC
 
 impl Operation {
     /// All of them.
-    pub(crate) const ALL: [Operation; 15] = [
+    pub(crate) const ALL: [Operation; 19] = [
         Operation::NameRead,
         Operation::NameWrite,
         Operation::NameParse,
@@ -83,6 +92,10 @@ impl Operation {
         Operation::ServeA,
         Operation::ServeCname,
         Operation::ServeNxdomain,
+        Operation::CacheInsert,
+        Operation::CacheHit,
+        Operation::CacheMiss,
+        Operation::CacheFull,
     ];
 
     /// The word that means it.
@@ -103,6 +116,10 @@ impl Operation {
             Operation::ServeA => "serve-a",
             Operation::ServeCname => "serve-cname",
             Operation::ServeNxdomain => "serve-nxdomain",
+            Operation::CacheInsert => "cache-insert",
+            Operation::CacheHit => "cache-hit",
+            Operation::CacheMiss => "cache-miss",
+            Operation::CacheFull => "cache-full",
         }
     }
 
@@ -124,6 +141,10 @@ impl Operation {
             Operation::ServeA => serve_addresses(alloc, count),
             Operation::ServeCname => serve_aliases(alloc, count),
             Operation::ServeNxdomain => serve_missing(alloc, count),
+            Operation::CacheInsert => insert_responses(alloc, count),
+            Operation::CacheHit => get_responses(alloc, count),
+            Operation::CacheMiss => get_nothing(alloc, count),
+            Operation::CacheFull => replace_responses(alloc, count),
         }
     }
 }

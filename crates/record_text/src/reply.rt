@@ -2,10 +2,11 @@
 
 use crate::question::question_of;
 use crate::records::record_of;
-use dns_messages::{DnsResponse, Message, OpCode, Query, Record, ResponseCode, Sequence};
+use dns_messages::{DnsResponse, Message, OpCode, Query, ResponseCode, Sequence};
+use dns_records::Record;
 use rows::{RowFault, parsed, word_and_rest};
 use std::alloc::Global;
-use stub_cache::{LinkFault, NetError};
+use stub_lookup::{LinkFault, NetError};
 
 /// A response to a question for the IPv4 addresses of the root.
 const IPV4_REPLY: &str = "0 | . A | . 86400 IN A 127.0.0.1";
@@ -14,7 +15,7 @@ const IPV4_REPLY: &str = "0 | . A | . 86400 IN A 127.0.0.1";
 const IPV6_REPLY: &str = "0 | . AAAA | . 86400 IN AAAA ::1";
 
 /// The outcomes that `; ` parts. `-` is no outcome.
-pub(crate) fn outcomes_of(
+pub fn outcomes_of(
     alloc: Global,
     text: &str,
 ) -> Result<Vec<Result<DnsResponse, NetError>>, RowFault> {
@@ -29,10 +30,7 @@ pub(crate) fn outcomes_of(
 
 /// The outcome of a text: `v4` and `v6` are responses with an address of the root, `empty` is one without questions and
 /// records, and `error`, `quiet`, `unsupported` and `memory` are errors. Any other text is a response.
-pub(crate) fn outcome_of(
-    alloc: Global,
-    text: &str,
-) -> Result<Result<DnsResponse, NetError>, RowFault> {
+pub fn outcome_of(alloc: Global, text: &str) -> Result<Result<DnsResponse, NetError>, RowFault> {
     match text {
         "error" => Ok(Err(NetError::Message("no route"))),
         "quiet" => Ok(Err(NetError::Link(LinkFault::Quiet))),
@@ -48,7 +46,7 @@ pub(crate) fn outcome_of(
 
 /// The response of a text `CODE FLAGS | QUESTIONS | ANSWERS | AUTHORITIES | ADDITIONALS`: the code is a number, the only
 /// flag is `tc`, `, ` parts the items of a section, and empty sections at the end may be left out.
-pub(crate) fn response_of(alloc: Global, text: &str) -> Result<DnsResponse, RowFault> {
+pub fn response_of(alloc: Global, text: &str) -> Result<DnsResponse, RowFault> {
     match DnsResponse::from_message(alloc, message_of(alloc, text)?) {
         Ok(response) => Ok(response),
         Err(_) => Err(RowFault::Lacks("a response")),
@@ -56,7 +54,7 @@ pub(crate) fn response_of(alloc: Global, text: &str) -> Result<DnsResponse, RowF
 }
 
 /// The message of a response.
-pub(crate) fn message_of(alloc: Global, text: &str) -> Result<Message, RowFault> {
+pub fn message_of(alloc: Global, text: &str) -> Result<Message, RowFault> {
     let mut message = Message::response(alloc, 0, OpCode::Query);
     fill_message(alloc, &mut message, text)?;
     Ok(message)
@@ -76,7 +74,7 @@ fn fill_message(alloc: Global, message: &mut Message, text: &str) -> Result<(), 
 }
 
 /// The text before the first bar, and the text after it.
-fn head_and_rest(text: &str) -> (&str, &str) {
+pub fn head_and_rest(text: &str) -> (&str, &str) {
     match text.split_once('|') {
         Some((head, rest)) => (head.trim_ascii(), rest.trim_ascii()),
         None => (text, ""),

@@ -1,16 +1,15 @@
-//! Records in a row: owner, TTL, class, type and fields.
+//! Records that a row writes: owner, TTL, class, type and fields.
 
-use crate::question::class_or_in;
-use dns_data::RData;
-use dns_messages::Record;
+use crate::question::{class_or_in, name_of, type_of};
+use dns_data::{OptionData, RData};
+use dns_records::Record;
 use dns_text::{Lexer, Token};
 use dns_wire::RecordType;
-use record_text::{name_of, push_record, type_of};
-use rows::{RowFault, parsed, two_words};
-use std::alloc::{AllocError, Global};
+use rows::{RowFault, bytes_of, parsed, two_words};
+use std::alloc::Global;
 
 /// The record of owner, TTL, class, type and fields as in a zone file, whose names are fully qualified.
-pub(crate) fn record_of(alloc: Global, text: &str) -> Result<Record, RowFault> {
+pub fn record_of(alloc: Global, text: &str) -> Result<Record, RowFault> {
     let (owner, rest) = two_words(text)?;
     let (ttl, rest) = two_words(rest)?;
     let (class, rest) = two_words(rest)?;
@@ -26,7 +25,7 @@ pub(crate) fn record_of(alloc: Global, text: &str) -> Result<Record, RowFault> {
 }
 
 /// The records that `, ` parts.
-pub(crate) fn records_of(alloc: Global, text: &str) -> Result<Vec<Record>, RowFault> {
+pub fn records_of(alloc: Global, text: &str) -> Result<Vec<Record>, RowFault> {
     let mut records = Vec::new(alloc);
     for entry in text.split(", ") {
         if !entry.is_empty() {
@@ -36,11 +35,27 @@ pub(crate) fn records_of(alloc: Global, text: &str) -> Result<Vec<Record>, RowFa
     Ok(records)
 }
 
-/// The data of fields as in a zone file.
-pub(crate) fn data_of(alloc: Global, kind: RecordType, fields: &str) -> Result<RData, RowFault> {
+/// The data of fields as in a zone file, or of `\#`, a length and hexadecimal digits (RFC 3597 section 5).
+pub fn data_of(alloc: Global, kind: RecordType, fields: &str) -> Result<RData, RowFault> {
+    if let Some(generic) = fields.strip_prefix("\\# ") {
+        return opaque_data_of(alloc, kind, generic);
+    }
     let tokens = tokens_of(alloc, fields)?;
     match RData::parse(alloc, kind, tokens.as_slice(), None) {
         Ok(rdata) => Ok(rdata),
+        Err(_) => Err(RowFault::Lacks("data")),
+    }
+}
+
+/// The opaque data of a length and hexadecimal digits.
+fn opaque_data_of(alloc: Global, kind: RecordType, generic: &str) -> Result<RData, RowFault> {
+    let (len, digits) = two_words(generic)?;
+    let bytes = bytes_of(alloc, digits)?;
+    if bytes.len() != parsed::<usize>(len)? {
+        return Err(RowFault::MalformedInput);
+    }
+    match OptionData::new(bytes) {
+        Ok(rdata) => Ok(RData::Unknown { code: kind, rdata }),
         Err(_) => Err(RowFault::Lacks("data")),
     }
 }
@@ -57,15 +72,4 @@ fn tokens_of(alloc: Global, text: &str) -> Result<Vec<Token<'_>>, RowFault> {
         }
     }
     Ok(tokens)
-}
-
-/// Adds records, parted by `, `.
-pub(crate) fn push_records(text: &mut String, records: &[Record]) -> Result<(), AllocError> {
-    for (index, found) in records.iter().enumerate() {
-        if index > 0 {
-            text.push_str(", ")?;
-        }
-        push_record(text, found)?;
-    }
-    Ok(())
 }

@@ -1,13 +1,13 @@
-//! Errors of a lookup, as text.
+//! Errors of lookups.
 
-use record_text::push_question;
+use crate::question::push_question;
 use rows::{Answer, named, text};
 use std::alloc::{AllocError, Global};
 use std::fmt::Write;
-use stub_cache::{DnsError, NetError, NoRecords};
+use stub_lookup::{DnsError, NetError, NoRecords};
 
 /// An error in a few words.
-pub(crate) fn error_text(alloc: Global, error: &NetError) -> Answer {
+pub fn error_text(alloc: Global, error: &NetError) -> Answer {
     match error {
         NetError::Dns(DnsError::NoRecordsFound(answer)) => no_records_text(alloc, answer),
         NetError::Dns(DnsError::ResponseCode(code)) => Ok(format!(in alloc; "code {code}")?),

@@ -1,0 +1,55 @@
+//! A handle that answers from a zone.
+
+ghost use Rattle.std.specs.Prelude.{◌≡◌};
+
+use dns_messages::{DnsResponse, Message, OpCode, Query};
+use dns_zone::{Answer as ZoneAnswer, Zone};
+use rows::RowFault;
+use std::alloc::{AllocError, Global};
+use stub_core::{DnsHandle, DnsRequest};
+use stub_lookup::{Moment, NetError};
+
+/// A handle that answers from a zone.
+#[derive(Drop)]
+pub(crate) struct ZoneHandle {
+    zone: Zone,
+    alloc: Global,
+}
+
+impl ZoneHandle {
+    /// A handle that answers from the zone of a zone file.
+    pub(crate) fn of_text(alloc: Global, text: &str) -> Result<ZoneHandle, RowFault> {
+        match Zone::from_text(alloc, text, &[], None) {
+            Ok(zone) => Ok(ZoneHandle { zone, alloc }),
+            Err(_) => Err(RowFault::Lacks("a zone")),
+        }
+    }
+}
+
+impl DnsHandle for ZoneHandle {
+    ghost use Rattle.std.specs.Prelude.{◌≡◌};
+
+    // The zone stays as it is.
+    ghost gives = { λ old request now outcome new. new ≡ old };
+
+    fn send(&mut self, request: DnsRequest, _now: Moment) -> Result<DnsResponse, NetError> {
+        let Some(query) = request.message().queries.as_slice().first() else {
+            return Err(NetError::Unsupported);
+        };
+        let message = response_to(self.alloc, query, self.zone.answer(query)?)?;
+        match DnsResponse::from_message(self.alloc, message) {
+            Ok(response) => Ok(response),
+            Err(_) => Err(NetError::Unsupported),
+        }
+    }
+}
+
+/// The response to a question with the answer of a zone.
+fn response_to(alloc: Global, query: &Query, answer: ZoneAnswer) -> Result<Message, AllocError> {
+    let mut message = Message::response(alloc, 0, OpCode::Query);
+    message.metadata.response_code = answer.code;
+    message.answers = answer.answers;
+    message.authorities = answer.authorities;
+    message.add_query(query.clone()?)?;
+    Ok(message)
+}
