@@ -38,7 +38,18 @@ pub(crate) fn over_list(alloc: Global, input: &str) -> Answer {
 pub(crate) fn over_zone(alloc: Global, input: &str) -> Answer {
     let (settings, rest) = split(input, " || ", "settings")?;
     let (zone, steps) = split(rest, " || ", "a zone and steps")?;
-    let mut session = session_of(alloc, settings, ZoneHandle::of_text(alloc, zone)?)?;
+    let zone = ZoneHandle::of_text(alloc, zone)?;
+    steps_over(alloc, settings, zone, steps)
+}
+
+/// The steps of the client of settings over a handle.
+fn steps_over<H: DnsHandle + Drop>(
+    alloc: Global,
+    settings: &str,
+    handle: H,
+    steps: &str,
+) -> Answer {
+    let mut session = session_of(alloc, settings, handle)?;
     take_steps(alloc, &mut session, steps)
 }
 

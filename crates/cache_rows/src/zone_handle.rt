@@ -33,23 +33,41 @@ impl DnsHandle for ZoneHandle {
     ghost gives = { λ old request now outcome new. new ≡ old };
 
     fn send(&mut self, request: DnsRequest, _now: Moment) -> Result<DnsResponse, NetError> {
-        let Some(query) = request.message().queries.as_slice().first() else {
-            return Err(NetError::Unsupported);
-        };
-        let message = response_to(self.alloc, query, self.zone.answer(query)?)?;
+        match request.message().queries.as_slice().first() {
+            Some(query) => self.respond(query),
+            None => Err(NetError::Unsupported),
+        }
+    }
+}
+
+impl ZoneHandle {
+    /// The response of the zone to a question.
+    fn respond(&self, query: &Query) -> Result<DnsResponse, NetError> {
+        let message = self.reply(query)?;
         match DnsResponse::from_message(self.alloc, message) {
             Ok(response) => Ok(response),
             Err(_) => Err(NetError::Unsupported),
         }
     }
+
+    /// The message of the response.
+    fn reply(&self, query: &Query) -> Result<Message, AllocError> {
+        let mut message = response_to(self.alloc, query)?;
+        set_answer(&mut message, self.zone.answer(query)?);
+        Ok(message)
+    }
 }
 
-/// The response to a question with the answer of a zone.
-fn response_to(alloc: Global, query: &Query, answer: ZoneAnswer) -> Result<Message, AllocError> {
+/// A response to a question, without records.
+fn response_to(alloc: Global, query: &Query) -> Result<Message, AllocError> {
     let mut message = Message::response(alloc, 0, OpCode::Query);
+    message.add_query(query.clone()?)?;
+    Ok(message)
+}
+
+/// Sets the response code and the records of a response to those of an answer.
+fn set_answer(message: &mut Message, answer: ZoneAnswer) {
     message.metadata.response_code = answer.code;
     message.answers = answer.answers;
     message.authorities = answer.authorities;
-    message.add_query(query.clone()?)?;
-    Ok(message)
 }
