@@ -56,6 +56,13 @@ impl DnsRequest {
     {
         &self.options
     }
+
+    /// Returns the message and the options.
+    pub fn into_parts(self) -> (Message, DnsRequestOptions)
+        ensures { result ≡ (self.message, self.options) }
+    {
+        (self.message, self.options)
+    }
 }
 
 ghost use Rattle.stub_core.specs.Request.{request_edns};
