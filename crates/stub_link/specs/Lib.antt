@@ -1,0 +1,4 @@
+pub mod Link
+pub mod ScriptedLink
+pub mod WireHandle
+pub mod Asks

@@ -1,0 +1,49 @@
+//! Which requests can be sent, and their datagrams.
+
+ghost use Rattle.std.specs.Prelude.{◌≡◌, IfOk, IfSome, None};
+ghost use Rattle.std.specs.Option.{option_copied};
+ghost use Rattle.dns_messages.specs.Cut.{cut_form};
+ghost use Rattle.dns_messages.specs.Grammar.{ReadsMessage};
+ghost use Rattle.dns_messages.specs.declared.query.Query.{Query};
+ghost use Rattle.stub_link.specs.WireHandle.{AsksFor};
+
+use dns_messages::laws::messages_within_the_limit_are_not_cut;
+use dns_messages::{Message, MessageType, OpCode, Query};
+use dns_soundness::{fits_uncompressed, is_sound};
+use dns_wire::EncodeError;
+use std::alloc::{AllocError, Global};
+
+/// The maximum size of a message, in bytes (RFC 1035 section 4.2.2).
+const MAX_MESSAGE_LEN: u16 = 65_535;
+
+/// Returns the question of a request that can be sent: a sound query with one question, which is not cut.
+pub(crate) fn question_of(request: &Message) -> Option<&Query>
+    ensures some { IfSome (option_copied result) (λ q. AsksFor request.now q) }
+    ensures none { result ≡ None → (q : Query) → ¬ AsksFor request.now q }
+{
+    let is_query = request.metadata.message_type == MessageType::Query
+        && request.metadata.op_code == OpCode::Query;
+    let [query] = request.queries.as_slice() else {
+        return None;
+    };
+    if is_query && is_sound(request) && fits_uncompressed(request, MAX_MESSAGE_LEN) {
+        Some(query)
+    } else {
+        None
+    }
+}
+
+/// Returns the datagram of a request, which has all of it.
+pub(crate) fn request_bytes(alloc: Global, request: &Message) -> Result<Vec<u8>, AllocError>
+    requires { (q : Query) × AsksFor request.now q }
+    ensures form { IfOk result (λ bytes. bytes.items ≡ cut_form 65535 request.now) }
+    ensures decodes { IfOk result (λ bytes. ReadsMessage bytes.items request.now) }
+{
+    messages_within_the_limit_are_not_cut();
+    match request.to_vec(alloc) {
+        Ok(bytes) => Ok(bytes),
+        // The encoder ran out of memory.
+        Err(EncodeError::Memory) => Err(AllocError),
+        Err(EncodeError::MaxBufferSizeExceeded) => unreachable!(),
+    }
+}
