@@ -89,6 +89,7 @@ fn step_on_meaning(error: NetError) -> Result<Step, AllocError>
     ensures err { IsErr result → error ≡ Memory }
 {
     match error {
+        // There was no memory for the response.
         NetError::Memory => Err(AllocError),
         error => Ok(step_on_error(error)),
     }
