@@ -1,11 +1,4 @@
-pub mod Asking
-pub mod OrderLaws
-pub mod PlayLaws
-pub mod ReportLaws
-pub mod Replies
-pub mod Requests
+pub mod Alike
+pub mod Beginning
+pub mod Happening
 pub mod Running
-pub mod ScriptLaws
-pub mod Waiting
-pub mod WordsLaws
-pub mod ReplyHeaders

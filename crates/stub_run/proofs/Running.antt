@@ -1,19 +1,124 @@
--- A run goes on.
-use Rattle.std.proofs.Common.{◌≡◌, ℕ, List, [], ◌∷◌, ◌++◌, refl, sym, subst}
+-- A run goes on, event by event, and is reported.
+use Rattle.std.proofs.Common.{◌≡◌, ◌≤◌, ◌<◌, ◌+◌, ◌^◌, ◌++◌, false, ℕ, zero, suc, List, [], ◌∷◌, length, take, get_or, refl, sym, ap, subst, ◌∙◌, arith, inr}
+use Rattle.std.specs.Prelude.{OnOk}
+use Rattle.std.proofs.lemmas.List.{take_more, take_all}
+use Rattle.std.proofs.lemmas.Option.{slice_get_read}
 use Rattle.dns_messages.specs.declared.query.Query.{Query}
+use Rattle.stub_link.specs.Asks.{AskState, IsIn}
+use Rattle.stub_run.specs.Alike.{AreAlike}
+use Rattle.stub_run.specs.Event.{moment_of}
+use Rattle.stub_run.specs.Run.{InOrder, IsReportBefore, IsReportOf, RunState, Runs, RunsOut, Step, StopsAt, asks_of}
+use Rattle.stub_run.specs.World.{BeginsWith}
 use Rattle.stub_run.specs.declared.event.Event.{Event}
-use Rattle.stub_run.specs.declared.world.EventReport.{EventReport}
-use Rattle.stub_run.specs.World.{WorldContent}
-use Rattle.stub_run.specs.Run.{Step, Runs}
+use Rattle.stub_run.specs.declared.report.EventReport.{EventReport}
+use Rattle.stub_run.specs.declared.report.Report.{Report}
+use Rattle.stub_run.specs.declared.runs.Progress.{Progress}
+use Rattle.stub_run.specs.declared.world.World.{World}
+use Rattle.stub_run.proofs.Happening.{IsInState, WireResolver}
 
-pub Runs-push : (world : WorldContent) (events : List Event) (reports : List EventReport) (sent middle after : List (ℕ × Query)) (e : Event) (report : EventReport)
-    → Runs world sent events reports middle → Step world middle e report after → Runs world sent (events ++ e ∷ []) (reports ++ report ∷ []) after
-Runs-push world [] [] sent middle after e report h k = (after, subst (λ (ds : List (ℕ × Query)). Step world ds e report after) h k, refl)
-Runs-push world [] (r ∷ reports) sent middle after e report h k = absurd h
-Runs-push world (x ∷ events) [] sent middle after e report h k = absurd h
-Runs-push world (x ∷ events) (r ∷ reports) sent middle after e report h k = (h.0, h.1, Runs-push world events reports h.0 middle after e report h.2 k)
+-- ---- moments
 
--- the same of the reports and ids that a report has
-pub Runs-as : (world : WorldContent) (events : List Event) (reports reported : List EventReport) (sent told : List (ℕ × Query)) → Runs world [] events reports sent → reported ≡ reports → told ≡ sent → Runs world [] events reported told
-Runs-as world events reports reported sent told h r t =
-    subst (λ (rs : List EventReport). Runs world [] events rs told) (sym r) (subst (Runs world [] events reports) (sym t) h)
+-- the moment of each event is at most 2 ^ 62
+pub moment-in-order : (last : ℕ) (events : List Event) (i : ℕ) (d : Event) → InOrder last events → i < length events
+    → moment_of (get_or events i d) ≤ 2 ^ 62
+moment-in-order last [] i d h within = absurd (omega arith)
+moment-in-order last (e ∷ events) zero d h within = h.1
+moment-in-order last (e ∷ events) (suc i) d h within = moment-in-order (moment_of e) events i d h.2 (omega arith)
+
+-- ---- runs
+
+Runs-push : (first : RunState) (events : List Event) (reports : List EventReport) (mid : RunState) (e : Event) (report : EventReport)
+    (after : RunState) → Runs first events reports mid → Step mid e report after
+    → Runs first (events ++ e ∷ []) (reports ++ report ∷ []) after
+Runs-push first [] [] mid e report after h step = (after, subst (λ (state : RunState). Step state e report after) h step, refl)
+Runs-push first [] (r ∷ reports) mid e report after h step = absurd h
+Runs-push first (x ∷ events) [] mid e report after h step = absurd h
+Runs-push first (x ∷ events) (r ∷ reports) mid e report after h step =
+    (h.0, h.1, Runs-push h.0 events reports mid e report after h.2 step)
+
+-- Events with these reports led a resolver to a state that is not out of memory.
+pub record HasRun (first : RunState) (events : List Event) (reports : List EventReport) (resolver : WireResolver) : Type 0 where
+  pub state : RunState
+  pub alike : AreAlike IsInState resolver state
+  pub memory : (asks_of state).out_of_memory ≡ false
+  pub runs : Runs first events reports state
+
+pub has-begun : (world : World) (first : RunState) → BeginsWith world first → HasRun first [] [] world.resolver
+has-begun world first begins = record { state = first; alike = begins.alike; memory = begins.memory; runs = refl }
+
+-- a resolver that is in the same states
+abbrev pub IsInSame : WireResolver → WireResolver → Type 0
+IsInSame old new = (state : RunState) → AreAlike IsInState old state → AreAlike IsInState new state
+
+pub has-run-same : (first : RunState) (events : List Event) (reports : List EventReport) (old new : WireResolver) → IsInSame old new
+    → HasRun first events reports old → HasRun first events reports new
+has-run-same first events reports old new same run =
+    record { state = run.state; alike = same run.state run.alike; memory = run.memory; runs = run.runs }
+
+-- what an event leads to, from each state that a resolver is in
+abbrev pub Leads : WireResolver → Event → EventReport → WireResolver → Type 0
+Leads old e report new =
+    (state : RunState) → AreAlike IsInState old state → (asks_of state).out_of_memory ≡ false
+    → (after : RunState) × AreAlike IsInState new after × Step state e report after
+
+pub has-run-more : (first : RunState) (events : List Event) (reports : List EventReport) (old : WireResolver) (e : Event)
+    (report : EventReport) (new : WireResolver) → Leads old e report new → HasRun first events reports old
+    → HasRun first (events ++ e ∷ []) (reports ++ report ∷ []) new
+has-run-more first events reports old e report new leads run =
+    let led = leads run.state run.alike run.memory in
+    record {
+      state = led.0;
+      alike = led.1;
+      memory = led.2.memory;
+      runs = Runs-push first events reports run.state e report led.0 run.runs led.2;
+    }
+
+-- ---- reports
+
+-- what a report says of a resolver: its events, and the ids and datagrams so far
+pub record Tells (reports : List EventReport) (resolver : WireResolver) (report : Report) : Type 0 where
+  pub events : report.events.items ≡ reports
+  pub sent : report.sent.items ≡ resolver.client.handle.sent.items
+  pub dropped : report.dropped ≡ resolver.client.handle.dropped
+
+abbrev pub is-report-of : (first : RunState) (events : List Event) (reports : List EventReport) (resolver : WireResolver) (report : Report)
+    → HasRun first events reports resolver → Tells reports resolver report → IsReportOf first events report
+is-report-of first events reports resolver report run tells =
+    let handle = run.alike.client.handle in
+    let shown = handle.shows (handle.memory ∙ run.memory) in
+    record {
+      last = run.state;
+      runs = subst (λ (rs : List EventReport). Runs first events rs run.state) (sym tells.events) run.runs;
+      sent = tells.sent ∙ shown.sent;
+      dropped = tells.dropped ∙ shown.dropped;
+    }
+
+pub is-report-before : (first : RunState) (events : List Event) (count : ℕ) (reports : List EventReport) (resolver : WireResolver)
+    (report : Report) (run : HasRun first (take count events) reports resolver) → StopsAt count events run.state
+    → Tells reports resolver report → IsReportBefore first events report
+is-report-before first events count reports resolver report run stop tells = record {
+  count = count;
+  reported = is-report-of first (take count events) reports resolver report run tells;
+  stopped = stop;
+}
+
+-- a run stops at an event during which memory runs out
+pub stops-at : (events : List Event) (i : ℕ) (e : Event) (state : RunState) → i < length events → e ≡ get_or events i e → RunsOut state e
+    → StopsAt i events state
+stops-at events i e state within is out = inr (e, slice_get_read events (length events) i e refl within is, out)
+
+-- The report of a run when it had reached an earlier point: a resolver was looked at, and then an event happened to it.
+pub tells-before : (reports : List EventReport) (old looked new : WireResolver) (progress : Progress) (report : Report)
+    → looked ≡ old
+    → progress ≡ record { drawn = length old.client.handle.sent.items; dropped = old.client.handle.dropped }
+    → take (length looked.client.handle.sent.items) new.client.handle.sent.items ≡ looked.client.handle.sent.items
+    → report.events.items ≡ reports → report.sent.items ≡ take progress.drawn new.client.handle.sent.items
+    → report.dropped ≡ progress.dropped → Tells reports old report
+tells-before reports old looked new progress report same reached front events sent dropped =
+    let first : take (length old.client.handle.sent.items) new.client.handle.sent.items ≡ old.client.handle.sent.items =
+    subst (λ (r : WireResolver). take (length r.client.handle.sent.items) new.client.handle.sent.items ≡ r.client.handle.sent.items) same front in
+    record {
+      events = events;
+      sent = sent ∙ ap (λ (p : Progress). take p.drawn new.client.handle.sent.items) reached ∙ first;
+      dropped = dropped ∙ ap (λ (p : Progress). p.dropped) reached;
+    }

@@ -1,12 +1,4 @@
-pub mod Lookup
-pub mod Link
-pub mod Wire
-pub mod ScriptedLink
-pub mod World
+pub mod Alike
+pub mod Event
 pub mod Run
-pub mod ScriptText
-pub mod ScriptWords
-pub mod Playing
-pub mod ReportText
-pub mod Program
-pub mod Words
+pub mod World

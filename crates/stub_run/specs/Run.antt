@@ -1,99 +1,111 @@
--- What happens in a world, event by event.
-use Rattle.std.specs.Prelude.{◌≡◌, ◌≤◌, ◌+◌, ◌^◌, true, false, List, [], ◌∷◌, ◌++◌, ℕ, length, slice_get, Option, Some, None, Result, Ok, Err, if◌then◌else◌}
-use Rattle.dns_codes.specs.RecordType.{type_number, type_of}
-use Rattle.dns_codes.specs.declared.dns_class.DNSClass.TheVariants.{IN}
-use Rattle.dns_wire.specs.Name.{name_len}
+-- Runs: what events lead to, one after another, by the definitions of the zone's server, of a question over the link, and of a
+-- resolver.
+use Rattle.std.specs.Prelude.{◌≡◌, ◌≤◌, ◌⊎◌, ◌^◌, true, false, string_bytes, List, [], ◌∷◌, ℕ, length, slice_get, take, Option, Some, None, Result, Ok, Err}
+use Rattle.dns_codes.specs.declared.record_type.RecordType.{RecordType}
 use Rattle.dns_names.specs.Name.{DomainName}
-use Rattle.dns_messages.specs.declared.query.Query.{Query}
-use Rattle.dns_messages.specs.declared.message.Message.{Message}
-use Rattle.dns_zone.specs.declared.road.Road.TheVariants.{Datagram}
-use Rattle.dns_zone.specs.Serving.{sent_reply}
+use Rattle.dns_names.specs.Parse.{name_of_text}
+use Rattle.dns_text.specs.Address.{IsTextOf}
+use Rattle.stub_lookup.specs.declared.error.NetError.{NetError}
+use Rattle.stub_lookup.specs.declared.error.NetError.TheVariants as net
+use Rattle.stub_core.specs.Handle.{Outcome}
+use Rattle.stub_core.specs.Resolver.{ResolvesHost, ResolvesName, cleared_lookup, with_entries, with_handle}
+use Rattle.stub_core.specs.declared.request.DnsRequest.{DnsRequest}
+use Rattle.stub_core.specs.declared.resolver.Resolver.{Resolver}
+use Rattle.stub_link.specs.Asks.{AskState, AsksZone, begin}
+use Rattle.stub_link.specs.declared.link.scripted.Script.{Script}
+use Rattle.stub_run.specs.Event.{moment_of, script_of}
 use Rattle.stub_run.specs.declared.event.Event.{Event}
 use Rattle.stub_run.specs.declared.event.Event.TheVariants as event
-use Rattle.stub_run.specs.declared.lookup.Lookup.{Lookup}
-use Rattle.stub_run.specs.declared.lookup.LinkFault.TheVariants as fault
-use Rattle.stub_run.specs.declared.lookup.NetError.{NetError}
-use Rattle.stub_run.specs.declared.lookup.NetError.TheVariants as net
-use Rattle.stub_run.specs.declared.world.EventReply.TheVariants as replies
-use Rattle.stub_run.specs.declared.world.EventReport.{EventReport}
-use Rattle.stub_run.specs.declared.world.Report.{Report}
-use Rattle.stub_run.specs.declared.world.Stopped.{Stopped}
-use Rattle.stub_run.specs.declared.world.Stopped.TheVariants as stops
-use Rattle.stub_run.specs.Lookup.{lookup_of}
-use Rattle.stub_run.specs.Wire.{request}
-use Rattle.stub_run.specs.World.{WorldContent}
+use Rattle.stub_run.specs.declared.report.EventReply.{EventReply}
+use Rattle.stub_run.specs.declared.report.EventReply.TheVariants as replies
+use Rattle.stub_run.specs.declared.report.EventReport.{EventReport}
+use Rattle.stub_run.specs.declared.report.Report.{Report}
+use Rattle.stub_run.specs.declared.report.Stopped.{Stopped}
+use Rattle.stub_run.specs.declared.report.Stopped.TheVariants as stops
 
-abbrev pub moment_of : Event → ℕ
-moment_of (event.Lookup at name rtype script) = at
+-- ---- moments
 
--- moments don't go back, and none passes 2 ^ 62
+-- moments do not go back, and none is after 2 ^ 62
 abbrev pub InOrder : ℕ → List Event → Type 0
 InOrder last [] = Unit {0}
 InOrder last (e ∷ events) = (last ≤ moment_of e) × (moment_of e ≤ 2 ^ 62) × InOrder (moment_of e) events
 
--- what a lookup asks: its type is taken by its number
-abbrev pub question_of : Event → Query
-question_of (event.Lookup at name rtype script) = record { name = name; query_type = type_of (type_number rtype); query_class = IN }
+-- ---- states
 
--- a name that is copied without memory: up to 24 labels, with up to 32 bytes together
-abbrev pub IsInline : DomainName → Type 0
-IsInline name = (length name.labels ≤ 24) × (name_len name.labels ≤ length name.labels + 33)
+-- the state of a run: a resolver, and what its questions to the zone's server have led to
+abbrev pub RunState : Type 0
+RunState = Resolver AskState
 
--- what is left, under the datagram's limit, of the zone's answer to the question
-abbrev pub reply_to : WorldContent → ℕ → Query → Message
-reply_to world id q = sent_reply world.zone (Datagram world.limit) (request id q)
+abbrev pub asks_of : RunState → AskState
+asks_of state = state.client.handle
 
--- a reply that was cut is a fault; a whole one is the zone's answer
-abbrev pub looked_up : WorldContent → ℕ → Query → Result Lookup NetError
-looked_up world id q = if (reply_to world id q).metadata.truncation then Err (net.Link fault.Truncated) else lookup_of q (reply_to world id q)
+-- an event begins
+abbrev pub begin_event : Script → RunState → RunState
+begin_event script state = with_handle state (begin script (asks_of state))
 
--- what an ask gives to a lookup
-abbrev pub found_by : Query → Result Message NetError → Result Lookup NetError
-found_by q (Ok reply) = lookup_of q reply
-found_by q (Err error) = Err error
+-- ---- one event
 
-abbrev pub faults_of : Result Lookup NetError → ℕ
-faults_of (Err (net.Link error)) = 1
-faults_of outcome = 0
+-- The entries for a lookup are removed from the cache. There may be no memory for the names.
+abbrev pub Clears : {H : Type 0} → DomainName → RecordType → Resolver H → Result (Unit {0}) NetError → Resolver H → Type 0
+Clears name kind old (Ok done) new =
+    new ≡ record old { client = with_entries old.client (cleared_lookup old.settings (Ok name) kind old.client.cache.entries) }
+Clears name kind old (Err net.Memory) new = new ≡ old
+Clears name kind old (Err error) new = ⊥
 
--- the report of a lookup, of which so many questions were sent
-abbrev pub told : Result Lookup NetError → ℕ → EventReport
-told outcome questions = record { reply = replies.Lookup outcome; faults = faults_of outcome; questions = questions }
+-- what a resolver replies to an event, over a handle of which `gives` is the behavior
+abbrev pub Replies : {H : Type 0} → (H → DnsRequest → ℕ → Outcome → H → Type 0) → Resolver H → Event → EventReply → Resolver H
+    → Type 0
+Replies gives old (event.Lookup at name kind script) (replies.Lookup found) new =
+    ResolvesName gives at (Ok name) kind old found new
+Replies gives old (event.LookupIp at host script) (replies.LookupIp found) new =
+    ResolvesHost gives at (IsTextOf (string_bytes host)) (name_of_text (string_bytes host)) old found new
+Replies gives old (event.Clear at name kind script) (replies.Cleared done) new = Clears name kind old done new
+Replies gives old (event.ClearAll at script) (replies.Cleared done) new =
+    (done ≡ Ok tt) × (new ≡ record old { client = with_entries old.client [] })
+Replies gives old e reply new = ⊥
 
--- why nothing is asked, whatever memory there is: the name is relative, or no id is left
-abbrev pub no_id_left : Option ℕ → Option NetError
-no_id_left (Some id) = None
-no_id_left None = Some (net.Link fault.NoId)
+-- An event, its report and the state afterwards. The link and the server have not run out of memory.
+pub record Step (old : RunState) (e : Event) (report : EventReport) (new : RunState) : Type 0 where
+  pub replies : Replies (λ asks request now outcome after. AsksZone asks request now outcome after) (begin_event (script_of e) old) e
+      report.reply new
+  pub faults : report.faults ≡ (asks_of new).faults
+  pub questions : report.questions ≡ (asks_of new).questions
+  pub memory : (asks_of new).out_of_memory ≡ false
 
-abbrev pub refusal_of : WorldContent → List (ℕ × Query) → Event → Option NetError
-refusal_of world sent e =
-    if (question_of e).name.is_fqdn then no_id_left (slice_get world.ids (length sent)) else Some net.Unsupported
-
--- Step world sent event report after: with these ids drawn before, the event may have this report, and then these
--- ids are drawn.
---
--- A relative name isn't asked. Without an id left nothing is asked. Else the next id is drawn, and the reply is the
--- zone's answer. Where there is something to ask, memory may be refused before an id is drawn, or after.
-pub data Step (world : WorldContent) : List (ℕ × Query) → Event → EventReport → List (ℕ × Query) → Type 0 where
-  at_relative_name : {sent : List (ℕ × Query)} {e : Event} → (question_of e).name.is_fqdn ≡ false
-      → Step world sent e (told (Err net.Unsupported) 0) sent
-  at_no_id : {sent : List (ℕ × Query)} {e : Event} → (question_of e).name.is_fqdn ≡ true → slice_get world.ids (length sent) ≡ None
-      → Step world sent e (told (Err (net.Link fault.NoId)) 0) sent
-  at_reply : {sent : List (ℕ × Query)} {e : Event} {id : ℕ} → (question_of e).name.is_fqdn ≡ true → slice_get world.ids (length sent) ≡ Some id
-      → Step world sent e (told (looked_up world id (question_of e)) 1) (sent ++ (id, question_of e) ∷ [])
-  at_memory_before : {sent : List (ℕ × Query)} {e : Event} → refusal_of world sent e ≡ None
-      → Step world sent e (told (Err net.Memory) 0) sent
-  at_memory_after : {sent : List (ℕ × Query)} {e : Event} {id questions : ℕ} → (question_of e).name.is_fqdn ≡ true
-      → slice_get world.ids (length sent) ≡ Some id → questions ≤ 1
-      → Step world sent e (told (Err net.Memory) questions) (sent ++ (id, question_of e) ∷ [])
+-- ---- runs
 
 -- event by event
-abbrev pub Runs : WorldContent → List (ℕ × Query) → List Event → List EventReport → List (ℕ × Query) → Type 0
-Runs world sent [] [] after = after ≡ sent
-Runs world sent (e ∷ events) (report ∷ reports) after = (middle : List (ℕ × Query)) × Step world sent e report middle × Runs world middle events reports after
-Runs world sent events reports after = ⊥
+abbrev pub Runs : RunState → List Event → List EventReport → RunState → Type 0
+Runs old [] [] new = new ≡ old
+Runs old (e ∷ events) (report ∷ reports) new = (mid : RunState) × Step old e report mid × Runs mid events reports new
+Runs old events reports new = ⊥
 
--- the report of a run that was stopped for memory
+-- a report of events from a state on, with the ids that were drawn and the datagrams that were dropped by then
+pub record IsReportOf (first : RunState) (events : List Event) (report : Report) : Type 0 where
+  pub last : RunState
+  pub runs : Runs first events report.events.items last
+  pub sent : report.sent.items ≡ (asks_of last).sent
+  pub dropped : report.dropped ≡ (asks_of last).dropped
+
+-- an event during which the link or its server runs out of memory
+pub record RunsOut (old : RunState) (e : Event) : Type 0 where
+  pub reply : EventReply
+  pub new : RunState
+  pub replies : Replies (λ asks request now outcome after. AsksZone asks request now outcome after) (begin_event (script_of e) old) e
+      reply new
+  pub memory : (asks_of new).out_of_memory ≡ true
+
+-- After so many events a run stops: before any event, or at the next one.
+abbrev pub StopsAt : ℕ → List Event → RunState → Type 0
+StopsAt count events state = (count ≡ 0) ⊎ ((e : Event) × (slice_get events count ≡ Some e) × RunsOut state e)
+
+-- a report of the events before the one at which a run stopped
+pub record IsReportBefore (first : RunState) (events : List Event) (report : Report) : Type 0 where
+  pub count : ℕ
+  pub reported : IsReportOf first (take count events) report
+  pub stopped : StopsAt count events reported.last
+
+-- the report of a run that ran out of memory
 abbrev pub memory_report : Result Report Stopped → Option Report
 memory_report (Err (stops.Memory report)) = Some report
 memory_report (Err stops.Moments) = None

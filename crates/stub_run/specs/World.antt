@@ -1,27 +1,24 @@
--- What contracts see of a `World`.
-use Rattle.std.specs.Prelude.{◌≡◌, List, [], ℕ, false}
+-- Worlds: the state in which a run begins.
+use Rattle.std.specs.Prelude.{◌≡◌, false, List, ℕ}
 use Rattle.dns_zone.specs.Rows.{ZoneContent}
-use Rattle.stub_run.specs.declared.scripted_link.ScriptedLink.{ScriptedLink}
-use Rattle.stub_run.specs.declared.wire_handle.WireHandle.{WireHandle}
-use Rattle.stub_run.specs.ScriptedLink.{waiting_of}
+use Rattle.stub_config.specs.declared.config.ResolverConfig.{ResolverConfig}
+use Rattle.stub_config.specs.declared.options.ResolverOpts.{ResolverOpts}
+use Rattle.stub_cache.specs.Hosts.{HostsContent}
+use Rattle.stub_core.specs.ResolverBuilder.{empty_cache, with_used_hosts}
+use Rattle.stub_link.specs.Asks.{IsIn, first_asks}
+use Rattle.stub_run.specs.Alike.{AreAlike}
+use Rattle.stub_run.specs.Run.{RunState, asks_of}
+use Rattle.stub_run.specs.declared.world.World.{World}
 
--- a zone, the limit of its server's datagrams, and the ids that questions draw
-pub record WorldContent : Type 0 where
-  pub zone : ZoneContent
-  pub limit : ℕ
-  pub ids : List ℕ
+-- The first state of a run over a zone: nothing has happened, and the cache is empty.
+pub record IsFirst (zone : ZoneContent) (limit : ℕ) (ids : List ℕ) (config : ResolverConfig) (options : ResolverOpts)
+    (hosts : HostsContent) (state : RunState) : Type 0 where
+  pub asks : asks_of state ≡ first_asks zone limit ids
+  pub settings : state.settings ≡ with_used_hosts (record { config = config; options = options; hosts = hosts })
+  pub cache : state.client.cache ≡ empty_cache options
+  pub aliases : state.client.preserve_intermediates ≡ options.preserve_intermediates
 
-abbrev pub content : WireHandle ScriptedLink → WorldContent
-content h = record { zone = h.link.zone; limit = h.link.limit; ids = h.ids.items }
-
--- nothing happened yet
-pub record IsNew (h : WireHandle ScriptedLink) : Type 0 where
-  pub waiting : waiting_of h.link ≡ []
-  pub memory : h.link.out_of_memory ≡ false
-  pub sent : h.sent.items ≡ []
-  pub dropped : h.dropped ≡ 0
-
--- no datagram is under way, and memory wasn't refused
-pub record IsQuiet (link : ScriptedLink) : Type 0 where
-  pub waiting : waiting_of link ≡ []
-  pub memory : link.out_of_memory ≡ false
+-- a world in which a run begins with this state
+pub record BeginsWith (world : World) (state : RunState) : Type 0 where
+  pub alike : AreAlike (λ handle asks. IsIn handle asks) world.resolver state
+  pub memory : (asks_of state).out_of_memory ≡ false

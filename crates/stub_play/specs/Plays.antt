@@ -1,0 +1,166 @@
+-- What a run of the program's files comes to, and in which order its faults are looked for: the zone, the script's lines, the hosts, the
+-- script's moments.
+use Rattle.std.specs.Prelude.{◌≡◌, ◌≢◌, ◌<◌, ◌≤◌, ◌+◌, ◌⊎◌, false, List, [], ℕ, map, length, take, slice_get, slice_index, EachIndex, Option, Some, None, Result, Ok, Err, OnOk, IfErr, ⊤, string_bytes}
+use Rattle.std.specs.Io.KnownBytes.{Appends}
+use Rattle.dns_zone.specs.Rows.{ZoneContent}
+use Rattle.dns_zone.specs.Load.{ReadsZone}
+use Rattle.dns_zone.specs.declared.zone.ZoneFault.{ZoneFault}
+use Rattle.dns_zone.specs.declared.zone.ZoneFault.TheVariants as zones
+use Rattle.stub_config.specs.Options.{default_options}
+use Rattle.stub_config.specs.config.{config_of_servers}
+use Rattle.stub_config.specs.declared.options.ResolverOpts.{ResolverOpts}
+use Rattle.stub_cache.specs.Hosts.{HostsContent, with_hosts}
+use Rattle.stub_cache.specs.HostsFile.{Host, ReadsLines, lines_of as hosts_lines}
+use Rattle.stub_cache.specs.declared.hosts.file.HostsFault.{HostsFault}
+use Rattle.stub_core.specs.ResolverBuilder.{no_hosts}
+use Rattle.stub_run.specs.declared.event.Event.{Event}
+use Rattle.stub_run.specs.declared.report.Report.{Report}
+use Rattle.stub_run.specs.Run.{InOrder, IsReportOf, RunState}
+use Rattle.stub_run.specs.World.{IsFirst}
+use Rattle.stub_play.specs.declared.script_text.ScriptFault.TheVariants as scripts
+use Rattle.stub_play.specs.declared.script_text.ScriptText.{ScriptText}
+use Rattle.stub_play.specs.declared.plays.Loaded.{Loaded}
+use Rattle.stub_play.specs.declared.plays.fault.PlayFault.{PlayFault}
+use Rattle.stub_play.specs.declared.plays.fault.PlayFault.TheVariants.{Zone, Script, Hosts, Memory, Write}
+use Rattle.stub_play.specs.declared.plays.input.PlayInput.{PlayInput}
+use Rattle.stub_play.specs.ReportText.{report_text}
+use Rattle.stub_play.specs.ScriptText.{contents_of, script_of_text, side_by_side}
+
+-- ---- moments
+
+-- the events before this one are in order, and with it they are not
+pub record IsFirstOutOfOrder (events : List Event) (place : ℕ) : Type 0 where
+  pub is_event : place < length events
+  pub before : InOrder 0 (take place events)
+  pub late : ¬ InOrder 0 (take (place + 1) events)
+
+abbrev pub events_of : List (ℕ × Event) → List Event
+events_of = map (λ e. e.1)
+
+abbrev pub lines_of : List (ℕ × Event) → List ℕ
+lines_of = map (λ e. e.0)
+
+-- the line is that of the first event whose moment is out of order
+abbrev pub IsLineOutOfOrder : List (ℕ × Event) → ℕ → Type 0
+IsLineOutOfOrder script line =
+    (place : ℕ) × IsFirstOutOfOrder (events_of script) place × (slice_get (lines_of script) place ≡ Some line)
+
+-- ---- the files
+
+-- the zone of a run, or its first fault; the zone file includes no text
+abbrev pub ZoneIs : PlayInput → Result ZoneContent ZoneFault → Type 0
+ZoneIs input outcome = ReadsZone [] input.origin (string_bytes input.zone) outcome
+
+abbrev pub IsZone : PlayInput → Type 0
+IsZone input = (zone : ZoneContent) × ZoneIs input (Ok zone)
+
+-- the events of the script, each with its line
+abbrev pub ScriptIs : PlayInput → List (ℕ × Event) → Type 0
+ScriptIs input script = script_of_text (string_bytes input.script) ≡ Ok (contents_of script)
+
+abbrev pub IsScript : PlayInput → Type 0
+IsScript input = (script : List (ℕ × Event)) × ScriptIs input script
+
+-- the hosts of a hosts file, or its first fault
+abbrev pub HostsAre : List ℕ → Result HostsContent HostsFault → Type 0
+HostsAre src (Ok hosts) = (read : List Host) × ReadsLines (hosts_lines src) read (Ok tt) × (hosts ≡ with_hosts 0 no_hosts read)
+HostsAre src (Err fault) = (read : List Host) × ReadsLines (hosts_lines src) read (Err fault)
+
+-- the files can be read, and the moments of the script are in order
+pub record IsRead (input : PlayInput) : Type 0 where
+  pub zone : ZoneContent
+  pub script : List (ℕ × Event)
+  pub hosts : HostsContent
+  pub is_zone : ZoneIs input (Ok zone)
+  pub is_script : ScriptIs input script
+  pub are_hosts : HostsAre input.hosts.items (Ok hosts)
+  pub in_order : InOrder 0 (events_of script)
+
+-- what the files have
+abbrev pub numbered : ScriptText → List (ℕ × Event)
+numbered script = side_by_side script.lines.items script.events.items
+
+pub record IsLoaded (input : PlayInput) (loaded : Loaded) : Type 0 where
+  pub zone : ZoneIs input (Ok loaded.zone)
+  pub script : ScriptIs input (numbered loaded.script)
+  pub beside : length loaded.script.lines.items ≡ length loaded.script.events.items
+  pub hosts : HostsAre input.hosts.items (Ok loaded.hosts)
+
+-- ---- faults
+
+-- the script's first line at fault: one that cannot be read; or else, if the hosts can be read, one whose moment is out of order
+abbrev pub IsAtFault : PlayInput → ℕ → Type 0
+IsAtFault input line =
+    (script_of_text (string_bytes input.script) ≡ Err (scripts.Line line))
+    ⊎ ((script : List (ℕ × Event)) × (hosts : HostsContent) × ScriptIs input script
+    × HostsAre input.hosts.items (Ok hosts) × IsLineOutOfOrder script line)
+
+-- what a fault says of the files
+abbrev pub Faults : PlayInput → PlayFault → Type 0
+Faults input (Zone fault) = fault ≢ zones.Memory → ZoneIs input (Err fault)
+Faults input (Script line) = IsZone input × IsAtFault input line
+Faults input (Hosts fault) = IsZone input × IsScript input × HostsAre input.hosts.items (Err fault)
+Faults input Memory = IsZone input
+Faults input Write = IsRead input
+
+-- a fault that is found before anything is printed
+abbrev pub IsBeforeRun : PlayFault → Type 0
+IsBeforeRun (Zone fault) = ⊤
+IsBeforeRun (Script line) = ⊤
+IsBeforeRun (Hosts fault) = ⊤
+IsBeforeRun Memory = ⊥
+IsBeforeRun Write = ⊥
+
+-- a fault of the files, or want of memory
+abbrev pub IsUnwritten : PlayFault → Type 0
+IsUnwritten Write = ⊥
+IsUnwritten fault = ⊤
+
+-- ---- runs
+
+-- the options of the resolver: aliases are not preserved, and the rest is as the arguments say or by default
+abbrev pub play_options : PlayInput → ResolverOpts
+play_options input = record default_options {
+  preserve_intermediates = false;
+  cache_size = input.cache;
+  positive_max_ttl = Some input.max_ttl;
+  edns_payload_len = input.limit;
+}
+
+-- the state in which a run begins: without domain and search list, and with the ids from 1 to 65,535
+pub record IsStart (input : PlayInput) (zone : ZoneContent) (hosts : HostsContent) (state : RunState) : Type 0 where
+  pub ids : List ℕ
+  pub first : IsFirst zone input.limit ids (config_of_servers []) (play_options input) hosts state
+  pub counted : EachIndex ids (λ k. slice_index ids k ≡ k + 1)
+  pub all : length ids ≡ 65535
+
+-- the text of what events lead to
+pub record Tells (input : PlayInput) (events : List Event) (text : List ℕ) : Type 0 where
+  pub zone : ZoneContent
+  pub hosts : HostsContent
+  pub state : RunState
+  pub report : Report
+  pub is_zone : ZoneIs input (Ok zone)
+  pub are_hosts : HostsAre input.hosts.items (Ok hosts)
+  pub start : IsStart input zone hosts state
+  pub reported : IsReportOf state events report
+  pub is_text : text ≡ report_text events report.events.items
+
+-- of all events of the script
+abbrev pub TellsAll : PlayInput → List ℕ → Type 0
+TellsAll input text =
+    (script : List (ℕ × Event)) × ScriptIs input script × InOrder 0 (events_of script) × Tells input (events_of script) text
+
+-- of those before memory ran out
+abbrev pub TellsFirst : PlayInput → List ℕ → Type 0
+TellsFirst input text =
+    (script : List (ℕ × Event)) × (n : ℕ) × ScriptIs input script × InOrder 0 (events_of script)
+    × ((n ≡ 0) ⊎ (n < length script)) × Tells input (take n (events_of script)) text
+
+-- what a run of files that can be read comes to; `same` says that nothing was written
+pub record IsPlayed (input : PlayInput) (same : Type 0) (old new : Option (List ℕ)) (result : Result (Unit {0}) PlayFault) : Type 0 where
+  pub read : OnOk result (IsRead input)
+  pub fault : IfErr result (Faults input)
+  pub silent : IfErr result (λ fault. IsBeforeRun fault → same)
+  pub told : OnOk result ((text : List ℕ) × TellsAll input text × Appends old new text)
+  pub stopped : IfErr result (λ fault. fault ≡ Memory → same ⊎ ((text : List ℕ) × TellsFirst input text × Appends old new text))

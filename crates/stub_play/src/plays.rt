@@ -1,0 +1,190 @@
+//! A whole run: from the texts of the files to the text that is printed.
+
+ghost use Rattle.std.specs.Prelude.{◌≡◌, ◌≢◌, ◌↔◌, ◌≤◌, ◌⊎◌, ◌+◌, List, ℕ, EachIndex, IfOk, IfErr, IfSome, OnOk, None, Ok, Err, length, slice_index};
+ghost use Rattle.std.specs.Io.KnownBytes.{Appends};
+ghost use Rattle.stub_play.specs.ReportText.{report_text};
+ghost use Rattle.stub_play.specs.Plays.{Faults, HostsAre, IsBeforeRun, IsFirstOutOfOrder, IsLineOutOfOrder, IsLoaded, IsPlayed, IsRead, IsStart, IsUnwritten, TellsAll, TellsFirst, ZoneIs, numbered, play_options};
+ghost use Rattle.stub_run.specs.Run.{InOrder, RunState};
+ghost use Rattle.stub_run.specs.World.{BeginsWith};
+
+mod fault;
+mod input;
+
+use crate::report_text::write_report;
+use crate::script_text::{ScriptText, read_script};
+use dns_zone::{DatagramLimit, Zone, ZoneFault};
+pub use fault::PlayFault;
+pub use input::PlayInput;
+use std::alloc::{AllocError, Global};
+use std::io;
+use stub_cache::{Hosts, HostsFault};
+use stub_config::{ResolverConfig, ResolverOpts};
+use stub_run::{Event, Report, Stopped, World, run};
+
+/// Plays a script: lets its events happen in a world over the zone, and writes what each led to.
+///
+/// The zone, the script and the hosts are read in this order, before anything is written. If the run ends early for want of
+/// memory, what was reported before is written first.
+pub fn play<W: io::Write>(alloc: Global, input: &PlayInput, writer: &mut W) -> Result<(), PlayFault>
+    requires { 512 ≤ input.now.limit }
+    ensures read { OnOk result (IsRead input.now) }
+    ensures fault { IfErr result (Faults input.now) }
+    ensures silent { IfErr result (λ fault. IsBeforeRun fault → writer.new ≡ writer.old) }
+    ensures told { OnOk result ((text : List ℕ) × TellsAll input.now text
+        × Appends (W.contents writer.old) (W.contents writer.new) text) }
+    ensures stopped { IfErr result (λ fault. fault ≡ PlayFault.Memory → (writer.new ≡ writer.old)
+        ⊎ ((text : List ℕ) × TellsFirst input.now text
+        × Appends (W.contents writer.old) (W.contents writer.new) text)) }
+{
+    let loaded = load(alloc, input)?;
+    play_loaded(alloc, input, loaded, writer)
+}
+
+/// What the files have.
+struct Loaded {
+    zone: Zone,
+    script: ScriptText,
+    hosts: Hosts,
+}
+
+/// Reads the zone, the script and the hosts, up to the first fault.
+fn load(alloc: Global, input: &PlayInput) -> Result<Loaded, PlayFault>
+    ensures ok { IfOk result (λ loaded. IsLoaded input.now loaded) }
+    ensures fault { IfErr result (λ fault. IsUnwritten fault × Faults input.now fault) }
+{
+    let zone = read_zone(alloc, input)?;
+    let script = read_script(alloc, input.script.as_str(), zone.origin())?;
+    let hosts = read_hosts(alloc, input.hosts.as_slice())?;
+    Ok(Loaded {
+        zone,
+        script,
+        hosts,
+    })
+}
+
+/// Reads the zone.
+fn read_zone(alloc: Global, input: &PlayInput) -> Result<Zone, ZoneFault>
+    ensures ok { IfOk result (λ zone. ZoneIs input.now (Ok zone)) }
+    ensures refused { IfErr result (λ fault. fault ≢ ZoneFault.Memory
+        → ZoneIs input.now (Err fault)) }
+{
+    Zone::from_text(alloc, input.zone.as_str(), &[], input.origin.as_ref())
+}
+
+/// Reads the hosts of a hosts file.
+fn read_hosts(alloc: Global, src: &[u8]) -> Result<Hosts, HostsFault>
+    ensures ok { IfOk result (λ hosts. HostsAre src.now (Ok hosts)) }
+    ensures fault { IfErr result (λ fault. HostsAre src.now (Err fault)) }
+{
+    let mut hosts = Hosts::default(alloc);
+    hosts.read_hosts_conf(alloc, src, 0)?;
+    Ok(hosts)
+}
+
+/// Lets the events of a script happen in a world over a zone, and writes what each led to.
+fn play_loaded<W: io::Write>(
+    alloc: Global,
+    input: &PlayInput,
+    loaded: Loaded,
+    writer: &mut W,
+) -> Result<(), PlayFault>
+    requires limit { 512 ≤ input.now.limit }
+    requires loaded { IsLoaded input.now loaded }
+    ensures { IsPlayed input.now (writer.new ≡ writer.old)
+        (W.contents writer.old) (W.contents writer.new) result }
+{
+    let Loaded {
+        zone,
+        script,
+        hosts,
+    } = loaded;
+    let world = new_world(alloc, input, zone, hosts)?;
+    match run(world, script.events.as_slice()) {
+        Ok(report) => {
+            print(&script, &report, writer)?;
+            Ok(())
+        }
+        Err(Stopped::Memory(report)) => {
+            print(&script, &report, writer)?;
+            // The run ended for want of memory.
+            Err(PlayFault::Memory)
+        }
+        Err(Stopped::Moments) => Err(PlayFault::Script(line_out_of_order(&script))),
+    }
+}
+
+/// Writes the report of a script's events, and flushes the writer.
+fn print<W: io::Write>(script: &ScriptText, report: &Report, writer: &mut W) -> io::Result<()>
+    ensures { OnOk result (Appends (W.contents writer.old) (W.contents writer.new)
+        (report_text script.now.events.items report.now.events.items)) }
+{
+    write_report(script.events.as_slice(), report, writer)?;
+    writer.flush()
+}
+
+/// Returns the ids of a run: 1 to 65,535, in order.
+fn new_ids(alloc: Global) -> Result<Vec<u16>, AllocError>
+    ensures counted { IfOk result (λ ids.
+        EachIndex ids.items (λ k. slice_index ids.items k ≡ k + 1)) }
+    ensures all { IfOk result (λ ids. length ids.items ≡ 65535) }
+{
+    (1..=u16::MAX).collect(alloc)
+}
+
+/// Creates the world of a run.
+fn new_world(
+    alloc: Global,
+    input: &PlayInput,
+    zone: Zone,
+    hosts: Hosts,
+) -> Result<World, AllocError>
+    requires { 512 ≤ input.now.limit }
+    ensures { IfOk result (λ world. (state : RunState) × IsStart input.now zone hosts state
+        × BeginsWith world state) }
+{
+    let limit = DatagramLimit::new(input.limit).unwrap();
+    let ids = new_ids(alloc)?;
+    let config = ResolverConfig::default(alloc);
+    let options = play_options(alloc, input);
+    match World::new(alloc, zone, limit, ids, config, options, hosts) {
+        Ok(world) => Ok(world),
+        Err(_) => unreachable!(),
+    }
+}
+
+/// Returns the options of the resolver of a run.
+fn play_options(alloc: Global, input: &PlayInput) -> ResolverOpts
+    ensures { result ≡ play_options input.now }
+{
+    let mut options = ResolverOpts::default(alloc);
+    options.preserve_intermediates = false;
+    options.cache_size = u64::from(input.cache);
+    options.positive_max_ttl = Some(input.max_ttl);
+    options.edns_payload_len = input.limit;
+    options
+}
+
+/// Returns the line of the first event whose moment is out of order.
+fn line_out_of_order(script: &ScriptText) -> usize
+    requires beside { length script.now.lines.items ≡ length script.now.events.items }
+    requires late { ¬ InOrder 0 script.now.events.items }
+    ensures { IsLineOutOfOrder (numbered script.now) result }
+{
+    script.lines[first_out_of_order(script.events.as_slice()).unwrap()]
+}
+
+/// Returns the index of the first event whose moment is before an earlier one, or after 2^62.
+fn first_out_of_order(events: &[Event]) -> Option<usize>
+    ensures none { (result ≡ None) ↔ InOrder 0 events.now }
+    ensures first { IfSome result (IsFirstOutOfOrder events.now) }
+{
+    let mut last = 0;
+    for (i, event) in events.iter().enumerate() {
+        let now = event.at();
+        if now < last || now > 1 << 62 {
+            return Some(i);
+        }
+        last = now;
+    }
+    None
+}

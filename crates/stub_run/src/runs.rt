@@ -1,0 +1,221 @@
+//! Runs: events in a world, one after another.
+
+ghost use Rattle.std.specs.Prelude.{◌≡◌, ◌≤◌, ◌<◌, ◌+◌, ◌++◌, ◌∷◌, ◌↔◌, ◌^◌, ◌*◌, ◌-◌, min, IfOk, OnOk, IfSome, IsTrue, true, false, [], ℕ, length, take, vec_len, vec_capacity, Err, None};
+ghost use Rattle.stub_link.specs.Asks.{IsIn};
+ghost use Rattle.stub_link.specs.ScriptedLink.{Receives, Sends};
+ghost use Rattle.stub_link.specs.WireHandle.{Asks};
+ghost use Rattle.stub_run.specs.Alike.{AreAlike};
+ghost use Rattle.stub_run.specs.Event.{moment_of};
+ghost use Rattle.stub_run.specs.Run.{InOrder, IsReportBefore, IsReportOf, Replies, RunState, Runs, RunsOut, Step, asks_of, memory_report};
+ghost use Rattle.stub_run.specs.World.{BeginsWith};
+
+use crate::event::Event;
+use crate::report::{EventReply, EventReport, Report, Stopped};
+use crate::world::World;
+use std::alloc::AllocError;
+use stub_core::Resolver;
+use stub_link::laws::handles_over_the_scripted_link_ask_the_zone;
+use stub_link::{ScriptedLink, WireHandle};
+
+/// A resolver that asks over a link to a zone's server.
+type WireResolver = Resolver<WireHandle<ScriptedLink>>;
+
+/// The last moment at which an event may happen.
+const MAX_MOMENT: u64 = 1 << 62;
+
+/// The maximum number of questions that a lookup asks for one name: eight for each of two types of addresses.
+const MAX_QUESTIONS_OF_NAME: usize = 16;
+
+/// Runs the events in a world, in order.
+///
+/// Memory for all reports, and for the ids that the events draw, is taken before the first event. The error is
+/// [`Stopped::Moments`] if a moment is before an earlier one or after 2^62; then nothing happens. It is
+/// [`Stopped::Memory`] if there is no memory for the reports and the ids, or if the link or its server runs out of memory;
+/// it has the report of the events before. If memory runs out elsewhere, the reply to the event is
+/// [`NetError::Memory`](stub_lookup::NetError::Memory), and the run goes on.
+pub fn run(world: World, events: &[Event]) -> Result<Report, Stopped>
+    ensures moments { (result ≡ Err Stopped.Moments) ↔ ¬ InOrder 0 events.now }
+    ensures run { IfOk result (λ report. (state : RunState) → BeginsWith world state
+        → IsReportOf state events.now report) }
+    ensures stopped { IfSome (memory_report result) (λ report. (state : RunState)
+        → BeginsWith world state → IsReportBefore state events.now report) }
+{
+    if !is_in_order(events) {
+        return Err(Stopped::Moments);
+    }
+    let World {
+        alloc,
+        mut resolver,
+        max_names,
+    } = world;
+    let mut reports = Vec::new(alloc);
+    if reports.reserve(events.len()).is_err()
+        || reserve_ids(&mut resolver, max_names, events.len()).is_err()
+    {
+        // There was no memory for the reports or the ids.
+        return Err(Stopped::Memory(report_of(&mut resolver, reports)));
+    }
+    for event in events {
+        let progress = progress_of(&mut resolver);
+        match happen(&mut resolver, event) {
+            // The link or its server ran out of memory.
+            None => return Err(Stopped::Memory(report_at(progress, &mut resolver, reports))),
+            Some(report) => push_report(&mut reports, report),
+        }
+    }
+    Ok(report_of(&mut resolver, reports))
+}
+
+/// Returns `true` if the moments do not go back, and none is after 2^62.
+fn is_in_order(events: &[Event]) -> bool
+    ensures { IsTrue result ↔ InOrder 0 events.now }
+{
+    let mut last = 0;
+    for event in events {
+        let now = event.at();
+        if now < last || now > MAX_MOMENT {
+            return false;
+        }
+        last = now;
+    }
+    true
+}
+
+/// Reserves capacity for the ids that events draw, as far as ids are left.
+fn reserve_ids(
+    resolver: &mut WireResolver,
+    max_names: usize,
+    event_count: usize,
+) -> Result<(), AllocError>
+    ensures alike { (state : RunState)
+        → AreAlike (λ handle asks. IsIn handle asks) resolver.old state
+        → AreAlike (λ handle asks. IsIn handle asks) resolver.new state }
+    ensures room { OnOk result (vec_len resolver.new.client.handle.sent
+        + min (event_count * max_names * 16) (length resolver.old.client.handle.ids.items
+        - length resolver.old.client.handle.sent.items)
+        ≤ vec_capacity resolver.new.client.handle.sent) }
+{
+    let questions = event_count
+        .saturating_mul(max_names)
+        .saturating_mul(MAX_QUESTIONS_OF_NAME);
+    let handle = resolver.handle_mut();
+    let left = handle.ids_left();
+    handle.reserve(questions.min(left))
+}
+
+/// What a run has reached: the number of ids that were drawn, and of datagrams that were dropped.
+#[derive(Clone, Copy)]
+struct Progress {
+    drawn: usize,
+    dropped: u64,
+}
+
+/// Returns what a run has reached.
+fn progress_of(resolver: &mut WireResolver) -> Progress
+    ensures result { result ≡ record {
+      drawn = length resolver.old.client.handle.sent.items;
+      dropped = resolver.old.client.handle.dropped;
+    } }
+    ensures same { resolver.new ≡ resolver.old }
+{
+    let handle = resolver.handle_mut();
+    Progress {
+        drawn: handle.sent().len(),
+        dropped: handle.dropped(),
+    }
+}
+
+/// Lets an event happen. Returns `None` if the link or its server runs out of memory.
+fn happen(resolver: &mut WireResolver, event: &Event) -> Option<EventReport>
+    requires { moment_of event.now ≤ 2 ^ 62 }
+    ensures step { IfSome result (λ report. (state : RunState)
+        → AreAlike (λ handle asks. IsIn handle asks) resolver.old state
+        → (asks_of state).out_of_memory ≡ false
+        → (after : RunState) × AreAlike (λ handle asks. IsIn handle asks) resolver.new after
+        × Step state event.now report after) }
+    ensures stop { result ≡ None → (state : RunState)
+        → AreAlike (λ handle asks. IsIn handle asks) resolver.old state
+        → RunsOut state event.now }
+    ensures front { take (length resolver.old.client.handle.sent.items)
+        resolver.new.client.handle.sent.items ≡ resolver.old.client.handle.sent.items }
+{
+    handles_over_the_scripted_link_ask_the_zone();
+    resolver.handle_mut().reset_counts();
+    let reply = reply_to(resolver, event);
+    let handle = resolver.handle_mut();
+    let is_complete = !handle.link().is_out_of_memory();
+    let counts = handle.counts();
+    let report = EventReport {
+        reply,
+        faults: counts.faults,
+        questions: counts.questions,
+    };
+    is_complete.then_some(report)
+}
+
+/// Returns the reply of a resolver to an event.
+fn reply_to(resolver: &mut WireResolver, event: &Event) -> EventReply
+    requires { moment_of event.now ≤ 2 ^ 62 }
+    ensures { Replies (Asks Sends Receives (λ _. 0)) resolver.old event.now result resolver.new }
+{
+    match event {
+        Event::Lookup {
+            at,
+            name,
+            rtype,
+            ..
+        } => EventReply::Lookup(resolver.lookup(name, *rtype, *at)),
+        Event::LookupIp { at, host, .. } => {
+            EventReply::LookupIp(resolver.lookup_ip(host.as_str(), *at))
+        }
+        Event::Clear { name, rtype, .. } => {
+            EventReply::Cleared(resolver.clear_lookup_cache(name, *rtype))
+        }
+        Event::ClearAll { .. } => {
+            resolver.clear_cache();
+            EventReply::Cleared(Ok(()))
+        }
+    }
+}
+
+/// Returns the report of a run so far.
+fn report_of(resolver: &mut WireResolver, events: Vec<EventReport>) -> Report
+    ensures events { result.events ≡ events }
+    ensures sent { result.sent ≡ resolver.old.client.handle.sent }
+    ensures dropped { result.dropped ≡ resolver.old.client.handle.dropped }
+{
+    let handle = resolver.handle_mut();
+    Report {
+        events,
+        dropped: handle.dropped(),
+        sent: handle.take_sent(),
+    }
+}
+
+/// Returns the report of a run when it had reached an earlier point.
+fn report_at(progress: Progress, resolver: &mut WireResolver, events: Vec<EventReport>) -> Report
+    ensures events { result.events ≡ events }
+    ensures sent { result.sent.items ≡ take progress.drawn resolver.old.client.handle.sent.items }
+    ensures dropped { result.dropped ≡ progress.dropped }
+{
+    let mut sent = resolver.handle_mut().take_sent();
+    sent.truncate(progress.drawn);
+    Report {
+        events,
+        sent,
+        dropped: progress.dropped,
+    }
+}
+
+/// Appends a report, for which there is capacity.
+fn push_report(reports: &mut Vec<EventReport>, report: EventReport)
+    requires { vec_len reports.old < vec_capacity reports.old }
+    ensures items { reports.new.items ≡ reports.old.items ++ report ∷ [] }
+    ensures len { vec_len reports.new ≡ vec_len reports.old + 1 }
+    ensures capacity { vec_capacity reports.old ≤ vec_capacity reports.new }
+{
+    match reports.push(report) {
+        Ok(()) => {}
+        Err(_) => unreachable!(),
+    }
+}
