@@ -3,13 +3,10 @@
 
 use crate::settings::config_of;
 use dns_wire::RecordType;
-use record_text::type_of;
-use rows::{Answer, RowFault, parsed, shown, split, text};
+use record_text::{both_limits_of, type_of};
+use rows::{Answer, RowFault, shown, split, text};
 use std::alloc::Global;
 use stub_cache::{TtlBounds, TtlBoundsError, TtlConfig};
-
-/// A least and a greatest TTL that may be set.
-type Limits = (Option<u32>, Option<u32>);
 
 /// `bounds BOUNDS`: `accepted`, or why bounds are refused.
 pub(crate) fn bounds(alloc: Global, input: &str) -> Answer {
@@ -31,26 +28,6 @@ pub(crate) fn bounds_of(text: &str) -> Result<TtlBounds, RowFault> {
 fn checked_bounds(text: &str) -> Result<Result<TtlBounds, TtlBoundsError>, RowFault> {
     let ((positive_min, positive_max), (negative_min, negative_max)) = both_limits_of(text)?;
     Ok(TtlBounds::new(positive_min, negative_min, positive_max, negative_max))
-}
-
-/// The limits of answers and of negative answers.
-pub(crate) fn both_limits_of(text: &str) -> Result<(Limits, Limits), RowFault> {
-    let (positive, negative) = split(text, "/", "limits of negative answers")?;
-    Ok((limits_of(positive)?, limits_of(negative)?))
-}
-
-/// The limits of a text, as `2..=120`.
-fn limits_of(text: &str) -> Result<Limits, RowFault> {
-    let (least, greatest) = split(text, "..=", "limits")?;
-    Ok((limit_of(least)?, limit_of(greatest)?))
-}
-
-/// The limit that a number is, or `None` for an empty text.
-fn limit_of(text: &str) -> Result<Option<u32>, RowFault> {
-    match text {
-        "" => Ok(None),
-        text => Ok(Some(parsed::<u32>(text)?)),
-    }
 }
 
 /// `ranges SETTINGS || TYPE`: the ranges of a type, written as bounds.

@@ -1,12 +1,11 @@
-//! The settings of caches, of clients and of resolvers: words, of which `-` sets nothing.
+//! The settings of caches and of clients: words, of which `-` sets nothing.
 
-use crate::bounds::{both_limits_of, bounds_of};
-use dns_messages::Sequence;
-use record_text::{names_of, type_of};
+use crate::bounds::bounds_of;
+use record_text::{set_bounds, type_of};
 use rows::{RowFault, parsed};
 use std::alloc::Global;
 use stub_cache::{ResponseCache, TtlConfig};
-use stub_config::{DnsRequestOptions, ResolverConfig, ResolverOpts};
+use stub_config::{DnsRequestOptions, ResolverOpts};
 
 /// The capacity of a cache whose settings have none.
 const CAPACITY: u64 = 32;
@@ -50,14 +49,6 @@ fn config_of_opts(alloc: Global, bounds: &str) -> Result<TtlConfig, RowFault> {
     }
 }
 
-/// Sets the bounds of TTLs in the options of a resolver.
-fn set_bounds(options: &mut ResolverOpts, bounds: &str) -> Result<(), RowFault> {
-    let (positive, negative) = both_limits_of(bounds)?;
-    (options.positive_min_ttl, options.positive_max_ttl) = positive;
-    (options.negative_min_ttl, options.negative_max_ttl) = negative;
-    Ok(())
-}
-
 /// The settings of a client besides those of its cache.
 #[derive(Clone, Copy)]
 pub(crate) struct ClientSettings {
@@ -81,44 +72,4 @@ pub(crate) fn client_settings_of(settings: &str) -> Result<ClientSettings, RowFa
         preserve_intermediates,
         options,
     })
-}
-
-/// The configuration of a resolver: `search:NAMES`, the search list, which commas part.
-pub(crate) fn resolver_config_of(
-    alloc: Global,
-    settings: &str,
-) -> Result<ResolverConfig, RowFault> {
-    let mut config = ResolverConfig::default(alloc);
-    for word in settings.split(' ') {
-        if let Some(("search", names)) = word.split_once(':') {
-            config.search = Sequence::from_vec(names_of(alloc, names)?);
-        }
-    }
-    Ok(config)
-}
-
-/// The options of a resolver: `capacity:NUMBER`, `bounds:BOUNDS`, and `no-preserve`. Those that no word sets are the
-/// defaults.
-pub(crate) fn resolver_options_of(alloc: Global, settings: &str) -> Result<ResolverOpts, RowFault> {
-    let mut options = ResolverOpts::default(alloc);
-    for word in settings.split(' ') {
-        match word.split_once(':') {
-            Some(("search", _)) => {}
-            Some(("capacity", number)) => options.cache_size = parsed::<u64>(number)?,
-            Some(("bounds", bounds)) => set_bounds(&mut options, bounds)?,
-            Some(_) => return Err(RowFault::Lacks("a setting")),
-            None => set_flag(&mut options, word)?,
-        }
-    }
-    Ok(options)
-}
-
-/// Sets the option of a word without a value.
-fn set_flag(options: &mut ResolverOpts, word: &str) -> Result<(), RowFault> {
-    match word {
-        "-" => {}
-        "no-preserve" => options.preserve_intermediates = false,
-        _ => return Err(RowFault::Lacks("a setting")),
-    }
-    Ok(())
 }

@@ -4,6 +4,7 @@
 //! - `question`: names, types, classes and questions; `moment`: moments
 //! - `records`: records that a row writes; `section`: records, and lists of them, that a program prints
 //! - `reply`: responses and other outcomes; `lookup`: what lookups found; `error`: their errors
+//! - `settings`: the settings of resolvers
 #![tactic(auto)]
 
 mod error;
@@ -13,6 +14,7 @@ mod question;
 mod records;
 mod reply;
 mod section;
+mod settings;
 
 pub use error::error_text;
 pub use lookup::{lookup_text, push_sections, reply_text};
@@ -23,3 +25,6 @@ pub use question::{
 pub use records::{data_of, record_of, records_of};
 pub use reply::{head_and_rest, message_of, outcome_of, outcomes_of, response_of};
 pub use section::{push_list, push_record, push_records, push_section};
+pub use settings::{
+    both_limits_of, resolver_config_of, resolver_options_of, set_bounds, strategy_of,
+};

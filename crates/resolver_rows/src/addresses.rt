@@ -7,7 +7,7 @@ use crate::parts::NOW;
 use dns_data::{A, AAAA, RData};
 use dns_names::Name;
 use dns_text::parse_ip;
-use record_text::{error_text, names_of};
+use record_text::{error_text, names_of, strategy_of};
 use rows::{Answer, RowFault, split, two_words};
 use std::alloc::Global;
 use std::net::IpAddr;
@@ -56,19 +56,6 @@ fn short_text(alloc: Global, reply: &Result<LookupIp, NetError>) -> Answer {
             Ok(text)
         }
         Err(error) => error_text(alloc, error),
-    }
-}
-
-/// The strategy of a word.
-pub(crate) fn strategy_of(word: &str) -> Result<LookupIpStrategy, RowFault> {
-    match word {
-        "Ipv4Only" => Ok(LookupIpStrategy::Ipv4Only),
-        "Ipv6Only" => Ok(LookupIpStrategy::Ipv6Only),
-        "Ipv4AndIpv6" => Ok(LookupIpStrategy::Ipv4AndIpv6),
-        "Ipv6AndIpv4" => Ok(LookupIpStrategy::Ipv6AndIpv4),
-        "Ipv6thenIpv4" => Ok(LookupIpStrategy::Ipv6thenIpv4),
-        "Ipv4thenIpv6" => Ok(LookupIpStrategy::Ipv4thenIpv6),
-        _ => Err(RowFault::Lacks("a strategy")),
     }
 }
 

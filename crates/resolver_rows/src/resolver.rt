@@ -1,18 +1,16 @@
 //! Lookups of a resolver.
 
-use crate::addresses::{address_of, strategy_of};
+use crate::addresses::address_of;
 use crate::addresses_text::addresses_text;
 use crate::exchange::{Exchange, Recorder};
 use crate::hosts::hosts_of;
 use crate::parts::NOW;
-use dns_messages::Sequence;
-use dns_names::AddrPrefix;
-use record_text::{error_text, name_of, names_of, outcomes_of, reply_text, type_of};
-use rows::{Answer, RowFault, parsed, split, text, two_words};
+use record_text::{
+    error_text, name_of, outcomes_of, reply_text, resolver_config_of, resolver_options_of, type_of,
+};
+use rows::{Answer, RowFault, split, text, two_words};
 use std::alloc::Global;
-use std::net::{IpAddr, Ipv4Addr};
 use stub_cache::Hosts;
-use stub_config::{ResolveHosts, ResolverConfig, ResolverOpts};
 use stub_core::{DnsHandle, ListHandle, Resolver, ResolverBuilder};
 use stub_lookup::{Lookup, NetError};
 
@@ -136,77 +134,9 @@ fn builder_of<H: DnsHandle + Drop>(
     settings: &str,
     handle: H,
 ) -> Result<ResolverBuilder<H>, RowFault> {
-    let options = options_of(alloc, settings)?;
-    let config = config_of(alloc, settings)?;
+    let options = resolver_options_of(alloc, settings)?;
+    let config = resolver_config_of(alloc, settings)?;
     Ok(Resolver::builder_with_config(alloc, config, handle).with_options(options))
-}
-
-/// The configuration of settings: `domain:NAME` and `search:NAMES`, which commas part.
-fn config_of(alloc: Global, settings: &str) -> Result<ResolverConfig, RowFault> {
-    let mut config = ResolverConfig::default(alloc);
-    for word in settings.split(' ') {
-        match word.split_once(':') {
-            Some(("domain", name)) => config.domain = Some(name_of(alloc, name)?),
-            Some(("search", names)) => {
-                config.search = Sequence::from_vec(names_of(alloc, names)?);
-            }
-            _ => {}
-        }
-    }
-    Ok(config)
-}
-
-/// The options of settings. Those that no word sets are the defaults.
-fn options_of(alloc: Global, settings: &str) -> Result<ResolverOpts, RowFault> {
-    let mut options = ResolverOpts::default(alloc);
-    for word in settings.split(' ') {
-        match word.split_once(':') {
-            Some((word, value)) => set_value(&mut options, word, value)?,
-            None => set_flag(alloc, &mut options, word)?,
-        }
-    }
-    Ok(options)
-}
-
-/// Sets the option of a word that has a value: `ndots`, `payload`, `strategy` or `hosts`.
-fn set_value(options: &mut ResolverOpts, word: &str, value: &str) -> Result<(), RowFault> {
-    match word {
-        "domain" | "search" => {}
-        "ndots" => options.ndots = parsed::<usize>(value)?,
-        "payload" => options.edns_payload_len = parsed::<u16>(value)?,
-        "strategy" => options.ip_strategy = strategy_of(value)?,
-        "hosts" => options.use_hosts_file = hosts_choice_of(value)?,
-        _ => return Err(RowFault::Lacks("a setting")),
-    }
-    Ok(())
-}
-
-/// Sets the option of a word: `no-edns`, `no-rd`, `random-case`, `trust-anchor` or `deny`. `-` sets none.
-fn set_flag(alloc: Global, options: &mut ResolverOpts, word: &str) -> Result<(), RowFault> {
-    match word {
-        "-" => {}
-        "no-edns" => options.edns0 = false,
-        "no-rd" => options.recursion_desired = false,
-        "random-case" => options.case_randomization = true,
-        "trust-anchor" => options.trust_anchor = Some(String::from_str(alloc, "anchors")?),
-        "deny" => {
-            if let Some(prefix) = AddrPrefix::new(IpAddr::V4(Ipv4Addr::LOCALHOST), 8) {
-                options.deny_answers.push(prefix)?;
-            }
-        }
-        _ => return Err(RowFault::Lacks("a setting")),
-    }
-    Ok(())
-}
-
-/// Whether hosts are looked up.
-fn hosts_choice_of(word: &str) -> Result<ResolveHosts, RowFault> {
-    match word {
-        "Always" => Ok(ResolveHosts::Always),
-        "Never" => Ok(ResolveHosts::Never),
-        "Auto" => Ok(ResolveHosts::Auto),
-        _ => Err(RowFault::Lacks("a choice of hosts")),
-    }
 }
 
 /// What a resolver looks up: `lookup NAME TYPE`, `ip HOST`, `ip-of-name NAME`, `reverse ADDRESS`, or a type's own lookup.
