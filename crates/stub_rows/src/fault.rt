@@ -3,7 +3,9 @@
 use dns_zone::ZoneFault;
 use rows::{Answer, RowFault, parsed, shown, two_words};
 use std::alloc::Global;
-use stub_run::{LinkFault, PlayFault, ScriptFault};
+use stub_cache::HostsFault;
+use stub_lookup::LinkFault;
+use stub_play::{Ending, PlayFault, ScriptFault};
 
 /// `link-fault NAME`: the text of a link's fault, and its number in a report.
 pub(crate) fn link_fault(alloc: Global, name: &str) -> Answer {
@@ -12,7 +14,10 @@ pub(crate) fn link_fault(alloc: Global, name: &str) -> Answer {
         "NotReceived" => LinkFault::NotReceived,
         "Quiet" => LinkFault::Quiet,
         "NoMatch" => LinkFault::NoMatch,
+        "StreamFailed" => LinkFault::StreamFailed,
         "Truncated" => LinkFault::Truncated,
+        "StreamUnreadable" => LinkFault::StreamUnreadable,
+        "StreamMismatch" => LinkFault::StreamMismatch,
         "NoId" => LinkFault::NoId,
         _ => return Err(RowFault::Lacks("a fault")),
     };
@@ -39,17 +44,47 @@ fn line_of(name: &str) -> Result<usize, RowFault> {
 
 /// `play-fault NAME`: the line that a run ends with, where this is its fault.
 pub(crate) fn play_fault(alloc: Global, name: &str) -> Answer {
+    shown(alloc, play_fault_of(name)?)
+}
+
+/// The fault of a run.
+fn play_fault_of(name: &str) -> Result<PlayFault, RowFault> {
     match name {
         // A row may ask for the text of want of memory.
-        "Memory" => shown(alloc, PlayFault::Memory),
-        "Write" => shown(alloc, PlayFault::Write),
-        "Zone NotInternet" => shown(alloc, PlayFault::Zone(ZoneFault::NotInternet)),
-        "Zone OutsideOrigin" => shown(alloc, PlayFault::Zone(ZoneFault::OutsideOrigin)),
-        "Zone NoSoa" => shown(alloc, PlayFault::Zone(ZoneFault::NoSoa)),
-        "Zone SoaElsewhere" => shown(alloc, PlayFault::Zone(ZoneFault::SoaElsewhere)),
-        "Zone DataTooLong" => shown(alloc, PlayFault::Zone(ZoneFault::DataTooLong)),
+        "Memory" => Ok(PlayFault::Memory),
+        "Write" => Ok(PlayFault::Write),
+        "Hosts Utf8" => Ok(PlayFault::Hosts(HostsFault::Utf8)),
+        // A row may ask for the text of want of memory for hosts.
+        "Hosts Memory" => Ok(PlayFault::Hosts(HostsFault::Memory)),
+        "Zone NotInternet" => Ok(PlayFault::Zone(ZoneFault::NotInternet)),
+        "Zone OutsideOrigin" => Ok(PlayFault::Zone(ZoneFault::OutsideOrigin)),
+        "Zone NoSoa" => Ok(PlayFault::Zone(ZoneFault::NoSoa)),
+        "Zone SoaElsewhere" => Ok(PlayFault::Zone(ZoneFault::SoaElsewhere)),
+        "Zone DataTooLong" => Ok(PlayFault::Zone(ZoneFault::DataTooLong)),
         // A row may ask for the text of want of memory in a zone.
-        "Zone Memory" => shown(alloc, PlayFault::Zone(ZoneFault::Memory)),
-        _ => shown(alloc, PlayFault::Script(line_of(name)?)),
+        "Zone Memory" => Ok(PlayFault::Zone(ZoneFault::Memory)),
+        _ => Ok(PlayFault::Script(line_of(name)?)),
     }
+}
+
+/// `ending NAME`: the status of the program, and what it writes to standard error. `CannotRead:PATH` names a file, and a name of
+/// [`play_fault`] the fault of a run.
+pub(crate) fn ending(alloc: Global, name: &str) -> Answer {
+    let ending = match name {
+        "BadWords" => Ending::BadWords,
+        "NotUtf8" => Ending::NotUtf8,
+        // A row may ask for the text of want of memory.
+        "NoMemory" => Ending::Memory,
+        _ => match name.split_once(':') {
+            Some(("CannotRead", path)) => Ending::CannotRead(String::from_str(alloc, path)?),
+            _ => Ending::Fault(play_fault_of(name)?),
+        },
+    };
+    ending_text(alloc, &ending)
+}
+
+/// The status of the program, and what it writes to standard error.
+fn ending_text(alloc: Global, ending: &Ending) -> Answer {
+    let status = ending.status();
+    Ok(format!(in alloc; "{status} {ending}")?)
 }

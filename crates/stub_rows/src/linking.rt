@@ -4,7 +4,7 @@ use dns_zone::{DatagramLimit, Zone};
 use rows::{Answer, RowFault, bytes_of, digits_of, split, text, two_words};
 use std::alloc::{AllocError, Global};
 use std::fmt::Write;
-use stub_run::{Link, ScriptedLink};
+use stub_link::{Link, ScriptedLink};
 
 /// `link LIMIT DATAGRAMS || TEXT`: what the scripted link to a server of the zone that the text spells brings, one
 /// receive for each datagram that is sent and one more, where the server's datagrams have a limit.

@@ -1,8 +1,11 @@
 //! A link that brings what a row lists.
 
+ghost use Rattle.std.specs.Prelude.{◌≤◌};
+ghost use Rattle.stub_link.specs.Link.{Rises};
+
 use rows::{RowFault, bytes_of};
-use std::alloc::Global;
-use stub_run::{Link, LinkError};
+use std::alloc::{AllocError, Global};
+use stub_link::{Link, LinkError};
 
 /// What a receive meets.
 #[derive(Drop)]
@@ -15,40 +18,64 @@ enum Item {
     NoMemory,
 }
 
-/// A link that brings what it has, whatever is asked.
+/// What sending does.
+#[derive(Clone, Copy)]
+enum Sending {
+    Works,
+    Fails,
+    /// It is refused memory.
+    HasNoMemory,
+}
+
+/// A link that brings what it has, whatever is asked, and records what is sent.
 #[derive(Drop)]
 pub(crate) struct ListLink {
+    alloc: Global,
     /// What comes, in order.
     items: Vec<Item>,
-    can_send: bool,
+    sending: Sending,
     /// The only datagram that can be sent, if only one can.
     request: Option<Vec<u8>>,
+    /// What was sent, in order.
+    sent: Vec<Vec<u8>>,
     failures: u64,
 }
 
 impl ListLink {
     /// The link of a row's words: the digits of a datagram that comes, `empty`, `fail` or `no-memory`; `sent:` and the
-    /// digits of the only datagram that can be sent; `unsendable`, if none can.
+    /// digits of the only datagram that can be sent; `unsendable`, if none can; `unsendable-memory`, if sending is refused
+    /// memory; `sendable`, if it works again.
     pub(crate) fn of_words(alloc: Global, words: &str) -> Result<ListLink, RowFault> {
         let mut link = ListLink {
+            alloc,
             items: Vec::new(alloc),
-            can_send: true,
+            sending: Sending::Works,
             request: None,
+            sent: Vec::new(alloc),
             failures: 0,
         };
-        for word in words.split(' ') {
-            link.take_word(alloc, word)?;
-        }
+        link.take_words(words)?;
         Ok(link)
     }
 
+    /// Takes the words of a row, behind those that it has.
+    pub(crate) fn take_words(&mut self, words: &str) -> Result<(), RowFault> {
+        for word in words.split(' ') {
+            self.take_word(word)?;
+        }
+        Ok(())
+    }
+
     /// Takes a word. An empty one means nothing.
-    fn take_word(&mut self, alloc: Global, word: &str) -> Result<(), RowFault> {
+    fn take_word(&mut self, word: &str) -> Result<(), RowFault> {
+        let alloc = self.alloc;
         match word.split_once(':') {
             Some(("sent", digits)) => self.request = Some(bytes_of(alloc, digits)?),
             _ => match word {
                 "" => {}
-                "unsendable" => self.can_send = false,
+                "sendable" => self.sending = Sending::Works,
+                "unsendable" => self.sending = Sending::Fails,
+                "unsendable-memory" => self.sending = Sending::HasNoMemory,
                 "fail" => self.items.push(Item::Failure)?,
                 "no-memory" => self.items.push(Item::NoMemory)?,
                 "empty" => self.items.push(Item::Datagram(Vec::new(alloc)))?,
@@ -56,6 +83,11 @@ impl ListLink {
             },
         }
         Ok(())
+    }
+
+    /// What was sent, in order.
+    pub(crate) fn sent(&self) -> &[Vec<u8>] {
+        self.sent.as_slice()
     }
 }
 
@@ -65,6 +97,22 @@ fn may_send(request: &Option<Vec<u8>>, bytes: &[u8]) -> bool {
         Some(request) => request.as_slice() == bytes,
         None => true,
     }
+}
+
+/// Adds a copy of a datagram.
+fn push_copy(alloc: Global, datagrams: &mut Vec<Vec<u8>>, bytes: &[u8]) -> Result<(), AllocError> {
+    let copy = Vec::from_slice(alloc, bytes)?;
+    datagrams.push(copy)?;
+    Ok(())
+}
+
+/// Counts a failure, and returns its error.
+fn fail(failures: &mut u64) -> LinkError
+    ensures kept { failures.old ≤ failures.new }
+    ensures rises { Rises failures.old failures.new }
+{
+    *failures = failures.saturating_add(1);
+    LinkError::Failed
 }
 
 impl Link for ListLink {
@@ -77,11 +125,15 @@ impl Link for ListLink {
     ghost failure_count = { λ link. link.failures };
 
     fn send_datagram(&mut self, bytes: &[u8]) -> Result<(), LinkError> {
-        if self.can_send && may_send(&self.request, bytes) {
-            return Ok(());
+        if !may_send(&self.request, bytes) {
+            return Err(fail(&mut self.failures));
         }
-        self.failures = self.failures.saturating_add(1);
-        Err(LinkError::Failed)
+        match self.sending {
+            Sending::Works => Ok(push_copy(self.alloc, &mut self.sent, bytes)?),
+            Sending::Fails => Err(fail(&mut self.failures)),
+            // The row refuses memory here.
+            Sending::HasNoMemory => Err(LinkError::Memory),
+        }
     }
 
     fn next_datagram(&mut self) -> Result<Option<Vec<u8>>, LinkError> {
@@ -92,10 +144,7 @@ impl Link for ListLink {
             Item::Datagram(bytes) => Ok(Some(bytes)),
             // The row refuses memory here.
             Item::NoMemory => Err(LinkError::Memory),
-            Item::Failure => {
-                self.failures = self.failures.saturating_add(1);
-                Err(LinkError::Failed)
-            }
+            Item::Failure => Err(fail(&mut self.failures)),
         }
     }
 

@@ -1,19 +1,26 @@
 //! `stub_rows FILE..`: tries each row of the files, as the library `rows` describes, on the client, its link and whole
 //! runs.
 //!
-//! - `operation`: the operations by their words; `list_link`: a link that brings what a row lists; `question`: the parts
-//!   of a row; `asking`, `linking`: asking over a link; `running`, `playing`: whole runs; `fault`, `words`: texts, and
-//!   the program's words.
+//! - `operation`: the operations by their words
+//! - `request`: requests, and whether messages are sound; `list_link`: a link that brings what a row lists; `asking`,
+//!   `resolving`, `linking`: asking over a link
+//! - `event`, `hosts`, `ids`: the parts of a run; `running`, `playing`: whole runs
+//! - `script`, `words`, `fault`: scripts, the program's arguments, and the texts of faults
 #![tactic(auto)]
 
 mod asking;
+mod event;
 mod fault;
+mod hosts;
+mod ids;
 mod linking;
 mod list_link;
 mod operation;
 mod playing;
-mod question;
+mod request;
+mod resolving;
 mod running;
+mod script;
 mod words;
 
 use rows::{Answer, Notation, Operations};

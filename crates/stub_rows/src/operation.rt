@@ -1,10 +1,13 @@
 //! The operations, by their words.
 
-use crate::asking::{asked, looked_up};
-use crate::fault::{link_fault, play_fault, script_fault};
+use crate::asking::{ask, handle};
+use crate::fault::{ending, link_fault, play_fault, script_fault};
 use crate::linking::linked;
-use crate::playing::{play_size, played, played_at, script};
+use crate::playing::{play_size, played, played_with};
+use crate::request::{fits, sound, sound_data, sound_record};
+use crate::resolving::resolve;
 use crate::running::ran;
+use crate::script::script;
 use crate::words::words;
 use rows::{Answer, RowFault};
 use std::alloc::Global;
@@ -12,18 +15,24 @@ use std::alloc::Global;
 /// The answer of the operation with this word.
 pub(crate) fn answer(alloc: Global, word: &str, input: &str) -> Answer {
     match word {
-        "ask" => asked(alloc, input),
-        "from-reply" => looked_up(alloc, input),
+        "sound" => sound(alloc, input),
+        "sound-record" => sound_record(alloc, input),
+        "sound-data" => sound_data(alloc, input),
+        "fits" => fits(alloc, input),
+        "ask" => ask(alloc, input),
+        "handle" => handle(alloc, input),
+        "resolve" => resolve(alloc, input),
         "link" => linked(alloc, input),
         "run" => ran(alloc, input),
         "play" => played(alloc, input),
-        "play-at" => played_at(alloc, input),
+        "play-with" => played_with(alloc, input),
         "play-size" => play_size(alloc, input),
         "script" => script(alloc, input),
         "words" => words(alloc, input),
         "link-fault" => link_fault(alloc, input),
         "script-fault" => script_fault(alloc, input),
         "play-fault" => play_fault(alloc, input),
+        "ending" => ending(alloc, input),
         _ => Err(RowFault::UnknownOperation),
     }
 }
