@@ -1,7 +1,7 @@
 use dns_zone::{DatagramLimit, Zone};
 use std::alloc::Global;
 use std::test::Fail;
-use stub_run::{Link, ScriptedLink, WireHandle};
+use stub_link::{Link, ScriptedLink, WireHandle};
 
 /// A handle over a link to a zone without addresses, and without ids.
 fn handle(alloc: Global) -> Result<WireHandle<ScriptedLink>, Fail> {

@@ -2,7 +2,7 @@
 //! and `stub_rows` have the rest.
 //!
 //! - `calls`: the link of a handle, which a program may use by itself;
-//! - `plays`: a writer that fails in the middle of a report;
+//! - `plays`: a writer that fails in the middle of a report, or at its end;
 //! - `zones`: a zone that is printed as a zone file;
 //! - `examples`: the examples of the README.
 #![tactic(auto)]

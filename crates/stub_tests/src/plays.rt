@@ -1,8 +1,10 @@
-use std::alloc::AllocError;
-use std::io;
-use stub_run::{PlayFault, PlayInput, play};
+ghost use Rattle.std.specs.Prelude.{◌≤◌, IfOk};
 
-/// A writer that takes so many writes, and fails from then on.
+use std::alloc::{AllocError, Global};
+use std::io;
+use stub_play::{PlayFault, PlayInput, play};
+
+/// A writer that takes so many writes, and fails from then on. It cannot be flushed.
 #[derive(Drop)]
 struct Failing {
     left: usize,
@@ -18,23 +20,33 @@ impl io::Write for Failing {
     }
 
     fn flush(&mut self) -> io::Result<()> {
-        Ok(())
+        Err(io::Error::from(io::ErrorKind::BrokenPipe))
     }
 }
 
-/// The first write fails, or a later one.
+/// The input of a run that finds an address.
+fn input(alloc: Global) -> Result<PlayInput, AllocError>
+    ensures { IfOk result (λ input. 512 ≤ input.limit) }
+{
+    let zone = "t. 60 IN SOA ns.t. h.t. 1 3600 600 86400 30\na.t. 60 IN A 10.0.0.1\n";
+    Ok(PlayInput {
+        zone: String::from_str(alloc, zone)?,
+        script: String::from_str(alloc, "0 lookup a.t. A\n")?,
+        hosts: Vec::new(alloc),
+        origin: None,
+        limit: 1232,
+        cache: 8192,
+        max_ttl: 86_400,
+    })
+}
+
+/// The first write fails, or a later one, or only the flush.
 #[test]
 fn a_writer_that_fails(rt: HostRuntime) -> Result<(), AllocError> {
-    let zone = "t. 60 IN SOA ns.t. h.t. 1 3600 600 86400 30\na.t. 60 IN A 10.0.0.1\n";
-    for left in 0..4 {
-        let alloc = rt.alloc();
-        let input = PlayInput {
-            zone: String::from_str(alloc, zone)?,
-            script: String::from_str(alloc, "0 lookup a.t. A\n")?,
-            origin: None,
-        };
+    for left in [0, 1, 2, 3, 100] {
+        let input = input(rt.alloc())?;
         let mut writer = Failing { left };
-        let played = play(alloc, &input, &mut writer);
+        let played = play(rt.alloc(), &input, &mut writer);
         assert!(rt; matches!(&played, Err(PlayFault::Write)), "after {left}");
     }
     Ok(())
