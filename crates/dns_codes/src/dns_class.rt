@@ -90,6 +90,26 @@ impl From<DNSClass> for u16 {
     }
 }
 
+impl DNSClass {
+    ghost use Rattle.std.specs.Prelude.{◌≡◌, ◌==◌};
+    ghost use Rattle.dns_codes.specs.DNSClass.{class_number, class_of};
+
+    /// Returns the variant that the class's number decodes to: `Unknown(1)` becomes `IN` (RFC 3597 section 3).
+    pub fn canonical(self) -> DNSClass
+        ensures { result ≡ class_of (class_number self) }
+    {
+        DNSClass::from(u16::from(self))
+    }
+
+    /// Returns `true` if the classes have the same number. `==` compares variants, and distinguishes `IN` from
+    /// `Unknown(1)`.
+    pub fn is_same(self, other: DNSClass) -> bool
+        ensures { result ≡ (class_number self == class_number other) }
+    {
+        u16::from(self) == u16::from(other)
+    }
+}
+
 /// The classes that have a name.
 const NAMED: [DNSClass; 5] = [
     DNSClass::IN,

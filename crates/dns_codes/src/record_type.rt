@@ -247,6 +247,26 @@ impl From<RecordType> for u16 {
     }
 }
 
+impl RecordType {
+    ghost use Rattle.std.specs.Prelude.{◌==◌};
+    ghost use Rattle.dns_codes.specs.RecordType.{type_number, type_of};
+
+    /// Returns the variant that the type's number decodes to: `Unknown(1)` becomes `A` (RFC 3597 section 3).
+    pub fn canonical(self) -> RecordType
+        ensures { result ≡ type_of (type_number self) }
+    {
+        RecordType::from(u16::from(self))
+    }
+
+    /// Returns `true` if the types have the same number. `==` compares variants, and distinguishes `A` from
+    /// `Unknown(1)`.
+    pub fn is_same(self, other: RecordType) -> bool
+        ensures { result ≡ (type_number self == type_number other) }
+    {
+        u16::from(self) == u16::from(other)
+    }
+}
+
 /// The types that have a name.
 const NAMED: [RecordType; 38] = [
     RecordType::A,
