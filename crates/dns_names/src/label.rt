@@ -16,9 +16,15 @@ use std::alloc::{AllocError, Global};
 use std::marker::Model;
 
 /// A label of 1 to 63 bytes (RFC 1035 section 2.3.4, RFC 2181 section 11). Up to 24 bytes are stored inline.
-#[derive(Drop)]
 pub struct Label {
     bytes: SmallVec<u8, 24>,
+}
+
+impl Drop for Label {
+    fn drop(self) {
+        let Label { bytes } = self;
+        drop(bytes);
+    }
 }
 
 impl Model for Label {

@@ -18,11 +18,22 @@ use std::alloc::{AllocError, Global};
 use std::marker::Model;
 
 /// A domain name (RFC 1035 section 3.1), fully qualified or relative.
-#[derive(Drop)]
 pub struct Name {
     is_fqdn: bool,
     label_data: SmallVec<u8, 32>,
     label_ends: SmallVec<u8, 24>,
+}
+
+impl Drop for Name {
+    fn drop(self) {
+        let Name {
+            is_fqdn: _is_fqdn,
+            label_data,
+            label_ends,
+        } = self;
+        drop(label_data);
+        drop(label_ends);
+    }
 }
 
 impl Model for Name {
