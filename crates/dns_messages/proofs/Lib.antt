@@ -10,5 +10,3 @@ pub mod PlacementLaws
 pub mod RefusalLaws
 pub mod SectionLaws
 pub mod StrippingLaws
-pub mod UpdateLaws
-mod UpdateRows

@@ -14,4 +14,3 @@ pub mod Section
 pub mod Sections
 pub mod Sound
 pub mod internal
-pub mod update

@@ -3,7 +3,6 @@
 mod decoding;
 mod editing;
 mod encoding;
-mod updates;
 
 pub use crate::header::{headers_decode_as_encoded, metadata_round_trips};
 pub use crate::response_code::{
@@ -15,7 +14,3 @@ pub use editing::{
     truncating_is_idempotent,
 };
 pub use encoding::{messages_within_the_limit_are_not_cut, sound_messages_keep_their_edns};
-pub use updates::{
-    appended_records_are_added, created_sets_are_added, names_are_deleted,
-    records_are_deleted_by_data, sets_are_deleted, swapped_sets_are_replaced,
-};

@@ -1,11 +1,10 @@
-//! Messages of DNS (RFC 1035 section 4.1, RFC 6891): decoded, and encoded under a limit; dynamic updates (RFC 2136).
+//! Messages of DNS (RFC 1035 section 4.1, RFC 6891): decoded, and encoded under a limit.
 //!
 //! - `header`, with `message_type`, `op_code` and `response_code`, `query`, `edns`: the parts of a message; records are
 //!   those of `dns_records`;
 //! - `message`: messages, edited and encoded under a limit; `section`: sections of records;
 //! - `read`: decoding messages; `emit`, with `emit_and_count` and `emit_edns`: encoding the parts of one;
 //! - `response`: responses, and what they say;
-//! - `update_message`: messages as dynamic updates (RFC 2136); `update`: builders of updates;
 //! - `laws`: theorems about the definitions.
 #![tactic(auto)]
 
@@ -24,8 +23,6 @@ mod response;
 mod response_code;
 mod response_error;
 mod section;
-mod update;
-mod update_message;
 
 pub use dns_records::{Record, Sequence};
 pub use edns::{DEFAULT_MAX_PAYLOAD_LEN, Edns, EdnsFlags};
@@ -40,5 +37,3 @@ pub use response::DnsResponse;
 pub use response_code::ResponseCode;
 pub use response_error::ResponseError;
 pub use section::SectionRecords;
-pub use update::{append, compare_and_swap, create, delete_all, delete_by_rdata, delete_rrset};
-pub use update_message::UpdateMessage;

@@ -1,5 +1,5 @@
 -- The rows of a zone: a finite map from an owner, up to ASCII case, and a type to data with TTLs, in order.
-use Rattle.std.specs.Prelude.{Bool, List, [], ℕ, unwrap_or}
+use Rattle.std.specs.Prelude.{◌≢◌, Bool, List, [], ◌∷◌, ℕ, Some, map, unwrap_or}
 use Rattle.std.specs.List.{list_any}
 use Rattle.std.specs.declared.cmp.Ordering.{Ordering}
 use Rattle.std.specs.Ordering.{nat_cmp, ordering_then}
@@ -8,7 +8,10 @@ use Rattle.std.specs.FinMap as rows_map
 use Rattle.dns_codes.specs.declared.record_type.RecordType.{RecordType}
 use Rattle.dns_codes.specs.RecordType.{type_number}
 use Rattle.dns_names.specs.Compare.{lower, at_or_below}
+use Rattle.dns_data.specs.rdata.{data_type}
 use Rattle.dns_records.specs.declared.row.Row.{Row}
+use Rattle.dns_records.specs.Record.{Record}
+use Rattle.dns_records.specs.RecordSet.{RecordSetValue}
 
 -- where rows of a set are found: by the labels of the owner in lower case, and the number of the type
 abbrev pub Key : Type 0
@@ -30,3 +33,34 @@ rows_at rows owner record_type = unwrap_or (rows_map.get rows (key owner record_
 -- whether the owner of some row is the name or below it
 abbrev pub some_row_below : Rows → List (List ℕ) → Bool
 some_row_below rows name = list_any (λ k. at_or_below name k.0) (rows_map.keys rows)
+
+-- ---- rows of records
+
+abbrev pub type_of_record : Record → RecordType
+type_of_record r = data_type r.rdata
+
+abbrev pub row_of : Record → Row
+row_of r = record { ttl = r.ttl; rdata = r.rdata }
+
+abbrev pub rows_of : List Record → List Row
+rows_of records = map row_of records
+
+-- the key of a record's rows, and that of a set's
+abbrev pub key_of : Record → Key
+key_of r = key r.name.labels (type_of_record r)
+
+abbrev pub set_key : RecordSetValue → Key
+set_key s = key s.name.labels s.record_type
+
+-- the rows of a record's owner and type
+abbrev pub set_of : Rows → Record → List Row
+set_of rows r = rows_at rows r.name.labels (type_of_record r)
+
+-- the rows with a set at a key; an empty set is removed
+abbrev pub with_set : Rows → Key → List Row → Rows
+with_set rows k [] = rows_map.remove rows k
+with_set rows k (row ∷ more) = rows_map.insert rows k (row ∷ more)
+
+-- no key has an empty set
+abbrev pub HasNoEmptySet : Rows → Type 0
+HasNoEmptySet rows = (k : Key) → rows_map.get rows k ≢ Some []

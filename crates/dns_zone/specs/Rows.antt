@@ -12,9 +12,7 @@ use Rattle.dns_records.specs.declared.row.Row.{Row}
 use Rattle.dns_records.specs.RecordSet.{RecordSetValue, AreDistinct, record_data}
 use Rattle.dns_zone_file.specs.Parsed.{is_singleton_type}
 use Rattle.dns_messages.specs.Section.{is_opt_type, is_tsig_type}
-pub use Rattle.dns_records.specs.Rows.{Key, key_cmp, Rows, key, rows_at, some_row_below}
-pub use Rattle.dns_messages.specs.update.Change.{row_of}
-pub use Rattle.dns_messages.specs.update.Builders.{set_key, rows_of, HasNoEmptySet}
+pub use Rattle.dns_records.specs.Rows.{Key, key_cmp, Rows, key, rows_at, some_row_below, HasNoEmptySet, row_of, rows_of, set_key}
 
 -- what contracts see of a zone: its origin, and its rows
 pub record ZoneContent : Type 0 where

@@ -8,9 +8,9 @@ use Rattle.stub_config.specs.declared.request_options.DnsRequestOptions.{DnsRequ
 use Rattle.stub_lookup.specs.Lookup.{LookupContent}
 use Rattle.stub_cache.specs.Hosts.{question}
 use Rattle.stub_core.specs.Attempts.{Attempts, Continues, Lookups, Unless, is_final}
-use Rattle.stub_core.specs.Handle.{Behavior}
-use Rattle.stub_core.specs.Looks.{Answers, Reply, out_of_memory}
-use Rattle.stub_core.specs.declared.caching_client.CachingClient.{CachingClient}
+use Rattle.stub_client.specs.Handle.{Behavior}
+use Rattle.stub_client.specs.Looks.{Answers, Reply, out_of_memory}
+use Rattle.stub_client.specs.declared.caching_client.CachingClient.{CachingClient}
 
 -- ---- the last reply ends the lookup, or the rest follows
 

@@ -8,10 +8,10 @@ use Rattle.stub_lookup.specs.declared.error.NetError.{NetError}
 use Rattle.stub_lookup.specs.declared.error.NetError.TheVariants as errors
 use Rattle.stub_cache.specs.Hosts.{HostsContent, question}
 use Rattle.stub_core.specs.Attempts.{Lookups, WithHosts, is_final}
-use Rattle.stub_core.specs.Handle.{Behavior}
-use Rattle.stub_core.specs.Looks.{Answers, Reply}
+use Rattle.stub_client.specs.Handle.{Behavior}
+use Rattle.stub_client.specs.Looks.{Answers, Reply}
 use Rattle.stub_core.specs.Strategies.{Both, Joins, LooksUpAddresses, Then, is_out_of_memory}
-use Rattle.stub_core.specs.declared.caching_client.CachingClient.{CachingClient}
+use Rattle.stub_client.specs.declared.caching_client.CachingClient.{CachingClient}
 use Rattle.stub_core.proofs.AttemptsLaws.{stops, goes-on}
 
 -- ---- the relations of the contracts

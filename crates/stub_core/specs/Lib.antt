@@ -1,13 +1,5 @@
 pub mod AttemptedNames
 pub mod Attempts
-pub mod Handle
-pub mod Laws
-pub mod Looks
-pub mod Request
 pub mod Resolver
 pub mod ResolverBuilder
-pub mod Roads
-pub mod SpecialNames
-pub mod Step
 pub mod Strategies
-pub mod internal

@@ -16,10 +16,10 @@ use Rattle.stub_cache.specs.Hosts.{address_data, address_type, question}
 use Rattle.stub_cache.specs.declared.cache.entry.Entry.{Entry}
 use Rattle.stub_core.specs.AttemptedNames.{attempted_names}
 use Rattle.stub_core.specs.Attempts.{AttemptsWithHosts, Lookups}
-use Rattle.stub_core.specs.Handle.{Behavior}
-use Rattle.stub_core.specs.Looks.{Answers, Reply, out_of_memory}
+use Rattle.stub_client.specs.Handle.{Behavior}
+use Rattle.stub_client.specs.Looks.{Answers, Reply, out_of_memory}
 use Rattle.stub_core.specs.Strategies.{LooksUpIp}
-use Rattle.stub_core.specs.declared.caching_client.CachingClient.{CachingClient}
+use Rattle.stub_client.specs.declared.caching_client.CachingClient.{CachingClient}
 use Rattle.stub_core.specs.declared.resolver.Resolver.{Resolver}
 use Rattle.stub_core.specs.declared.resolver.settings.Settings.{Settings}
 

@@ -13,7 +13,7 @@ use Rattle.stub_lookup.specs.Lookup.{LookupContent, joined, lookup_of, max_ttl}
 use Rattle.stub_lookup.specs.declared.error.NetError.TheVariants as errors
 use Rattle.stub_cache.specs.Hosts.{HostsContent, question}
 use Rattle.stub_core.specs.Attempts.{AttemptsAll, Continues, Lookups, WithHosts, is_final}
-use Rattle.stub_core.specs.Looks.{Reply, out_of_memory}
+use Rattle.stub_client.specs.Looks.{Reply, out_of_memory}
 
 -- ---- one name
 

@@ -3,18 +3,17 @@
 ghost use Rattle.std.specs.Prelude.{◌≡◌, ◌≤◌, ◌^◌};
 ghost use Rattle.std.specs.Vec.Iter.{into_iter_items};
 ghost use Rattle.stub_core.specs.Attempts.{Attempts, AttemptsAll, AttemptsWithHosts, WithHosts, is_final, no_names};
-ghost use Rattle.stub_core.specs.Handle.{IsMessage};
-ghost use Rattle.stub_core.specs.Looks.{Answers};
+ghost use Rattle.stub_client.specs.Handle.{IsMessage};
+ghost use Rattle.stub_client.specs.Looks.{Answers};
 ghost use Rattle.stub_cache.specs.Hosts.{question};
 
-use crate::caching_client::CachingClient;
-use crate::handle::DnsHandle;
 use dns_messages::Query;
 use dns_names::Name;
 use dns_wire::RecordType;
 use std::alloc::Global;
 use std::vec;
 use stub_cache::Hosts;
+use stub_client::{CachingClient, DnsHandle};
 use stub_config::DnsRequestOptions;
 use stub_lookup::{Lookup, Moment, NetError};
 

@@ -10,8 +10,6 @@ mod settings;
 mod typed;
 
 use crate::attempts::lookup_names_with_hosts;
-use crate::caching_client::CachingClient;
-use crate::handle::DnsHandle;
 pub use builder::ResolverBuilder;
 use dns_names::Name;
 use dns_text::IntoName;
@@ -19,6 +17,7 @@ use dns_wire::RecordType;
 use settings::Settings;
 use std::alloc::Global;
 use stub_cache::Hosts;
+use stub_client::{CachingClient, DnsHandle};
 use stub_config::{ResolverConfig, ResolverOpts};
 use stub_lookup::{Lookup, Moment, NetError};
 

@@ -3,15 +3,13 @@
 ghost use Rattle.std.specs.Prelude.{◌≡◌, ◌≤◌, ◌^◌, IfOk, Some};
 ghost use Rattle.std.specs.Vec.Iter.{into_iter_items};
 ghost use Rattle.stub_core.specs.Attempts.{Attempts};
-ghost use Rattle.stub_core.specs.Handle.{IsMessage};
-ghost use Rattle.stub_core.specs.Looks.{Answers};
+ghost use Rattle.stub_client.specs.Handle.{IsMessage};
+ghost use Rattle.stub_client.specs.Looks.{Answers};
 ghost use Rattle.stub_core.specs.Strategies.{EndsWith, LooksUpAddresses, LooksUpIp, fallback, no_addresses};
 
 mod one_name;
 
 use crate::attempts::is_final;
-use crate::caching_client::CachingClient;
-use crate::handle::DnsHandle;
 use dns_data::RData;
 use dns_messages::{Query, Record};
 use dns_names::Name;
@@ -19,6 +17,7 @@ use one_name::look_up_addresses;
 use std::alloc::{AllocError, Global};
 use std::vec;
 use stub_cache::Hosts;
+use stub_client::{CachingClient, DnsHandle};
 use stub_config::{DnsRequestOptions, LookupIpStrategy};
 use stub_lookup::{Lookup, LookupIp, MAX_TTL, Moment, NetError};
 

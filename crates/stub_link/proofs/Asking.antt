@@ -7,8 +7,8 @@ use Rattle.dns_messages.specs.declared.message.Message.{Message}
 use Rattle.dns_messages.specs.declared.query.Query.{Query}
 use Rattle.stub_lookup.specs.declared.error.LinkFault.TheVariants as fault
 use Rattle.stub_lookup.specs.declared.error.NetError.TheVariants as net
-use Rattle.stub_core.specs.Handle.{Outcome}
-use Rattle.stub_core.specs.declared.request.DnsRequest.{DnsRequest}
+use Rattle.stub_client.specs.Handle.{Outcome}
+use Rattle.stub_client.specs.declared.request.DnsRequest.{DnsRequest}
 use Rattle.stub_link.specs.declared.wire_handle.WireHandle.{WireHandle}
 use Rattle.stub_link.specs.WireHandle.{Asks, AsksBy, AsksFor, DrawsNone, FailsByLink, IsAsked, IsNotSent, IsRefused, IsSent, faults_after, line_of, with_id}
 use Rattle.stub_link.proofs.Sending.{Sends-of}

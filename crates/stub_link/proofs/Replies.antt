@@ -19,7 +19,7 @@ use Rattle.dns_zone.specs.declared.road.Road.TheVariants.{Datagram}
 use Rattle.dns_zone.specs.Rows.{ZoneContent}
 use Rattle.dns_zone.specs.Serving.{Serves, query_reply, reply, reply_by_code, reply_limit, reply_to_queries, sent_reply}
 use Rattle.stub_lookup.specs.declared.error.NetError.TheVariants as net
-use Rattle.stub_core.specs.Handle.{Outcome}
+use Rattle.stub_client.specs.Handle.{Outcome}
 use Rattle.stub_link.specs.declared.link.LinkError.{LinkError}
 use Rattle.stub_link.specs.declared.link.LinkError.TheVariants.{Failed, Memory}
 use Rattle.stub_link.specs.declared.link.scripted.ScriptedLink.{ScriptedLink}

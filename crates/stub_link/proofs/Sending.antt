@@ -4,7 +4,7 @@ use Rattle.dns_messages.specs.declared.message.Message.{Message}
 use Rattle.dns_messages.specs.declared.query.Query.{Query}
 use Rattle.dns_messages.specs.Cut.{cut_form}
 use Rattle.dns_messages.specs.Grammar.{ReadsMessage}
-use Rattle.stub_core.specs.Handle.{Outcome}
+use Rattle.stub_client.specs.Handle.{Outcome}
 use Rattle.stub_link.specs.declared.link.LinkError.{LinkError}
 use Rattle.stub_link.specs.WireHandle.{AfterSending, IsSent, Line}
 use Rattle.stub_link.proofs.Waiting.{Receives-of}

@@ -9,8 +9,8 @@ use Rattle.dns_zone.specs.declared.road.Road.TheVariants.{Datagram}
 use Rattle.dns_zone.specs.Serving.{sent_reply}
 use Rattle.stub_lookup.specs.declared.error.LinkFault.TheVariants as fault
 use Rattle.stub_lookup.specs.declared.error.NetError.TheVariants as net
-use Rattle.stub_core.specs.Handle.{Outcome}
-use Rattle.stub_core.specs.declared.request.DnsRequest.{DnsRequest}
+use Rattle.stub_client.specs.Handle.{Outcome}
+use Rattle.stub_client.specs.declared.request.DnsRequest.{DnsRequest}
 use Rattle.stub_link.specs.declared.link.scripted.ScriptedLink.{ScriptedLink}
 use Rattle.stub_link.specs.declared.wire_handle.WireHandle.{WireHandle}
 use Rattle.stub_link.specs.Asks.{AskState, AsksUnder, AsksZone, Deliveries, Hears, Honest, IsAccepted, IsAskedRequest, IsIn, IsRefusedRequest, Shows, Takes, WaitsFor, count_fault, draw, receive_by, reply_to, send, with_datagram}

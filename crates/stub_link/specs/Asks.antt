@@ -8,8 +8,8 @@ use Rattle.dns_zone.specs.Rows.{Rows, ZoneContent}
 use Rattle.dns_zone.specs.Serving.{sent_reply}
 use Rattle.stub_lookup.specs.declared.error.LinkFault.TheVariants as fault
 use Rattle.stub_lookup.specs.declared.error.NetError.TheVariants as net
-use Rattle.stub_core.specs.Handle.{Outcome}
-use Rattle.stub_core.specs.declared.request.DnsRequest.{DnsRequest}
+use Rattle.stub_client.specs.Handle.{Outcome}
+use Rattle.stub_client.specs.declared.request.DnsRequest.{DnsRequest}
 use Rattle.stub_link.specs.declared.link.scripted.Script.{Script}
 use Rattle.stub_link.specs.declared.link.scripted.Script.TheVariants as script
 use Rattle.stub_link.specs.declared.link.scripted.ScriptedLink.{ScriptedLink}

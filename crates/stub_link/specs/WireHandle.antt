@@ -15,8 +15,8 @@ use Rattle.dns_messages.specs.Sound.{IsSound}
 use Rattle.dns_messages.specs.Grammar.{ReadsMessage}
 use Rattle.stub_lookup.specs.declared.error.LinkFault.TheVariants as fault
 use Rattle.stub_lookup.specs.declared.error.NetError.TheVariants as net
-use Rattle.stub_core.specs.Handle.{Outcome}
-use Rattle.stub_core.specs.declared.request.DnsRequest.{DnsRequest}
+use Rattle.stub_client.specs.Handle.{Outcome}
+use Rattle.stub_client.specs.declared.request.DnsRequest.{DnsRequest}
 use Rattle.stub_link.specs.declared.link.LinkError.{LinkError}
 use Rattle.stub_link.specs.declared.link.LinkError.TheVariants.{Failed, Memory}
 use Rattle.stub_link.specs.declared.wire_handle.WireHandle.{WireHandle}

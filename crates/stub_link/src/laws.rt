@@ -1,8 +1,8 @@
 //! Theorems about questions over the scripted link.
 
 ghost use Rattle.std.specs.Prelude.{ℕ};
-ghost use Rattle.stub_core.specs.Handle.{Outcome};
-ghost use Rattle.stub_core.specs.declared.request.DnsRequest.{DnsRequest};
+ghost use Rattle.stub_client.specs.Handle.{Outcome};
+ghost use Rattle.stub_client.specs.declared.request.DnsRequest.{DnsRequest};
 ghost use Rattle.stub_link.specs.Asks.{AskState, AsksZone, IsIn};
 ghost use Rattle.stub_link.specs.ScriptedLink.{Receives, Sends};
 ghost use Rattle.stub_link.specs.WireHandle.{Asks};

@@ -19,12 +19,12 @@ use Rattle.stub_lookup.specs.declared.error.NetError.TheVariants as errors
 use Rattle.stub_cache.specs.Cache.{CacheContent}
 use Rattle.stub_cache.specs.Hosts.{HostsContent, address_data, question, static_lookup}
 use Rattle.stub_core.specs.Attempts.{Attempts, AttemptsAll, AttemptsWithHosts, Continues, Lookups, Unless, WithHosts, is_final}
-use Rattle.stub_core.specs.Handle.{Ask, Behavior, Led, Outcome, request_for}
-use Rattle.stub_core.specs.Looks.{Answers, Looks, Reply, lookup_settings}
+use Rattle.stub_client.specs.Handle.{Ask, Behavior, Led, Outcome, request_for}
+use Rattle.stub_client.specs.Looks.{Answers, Looks, Reply, lookup_settings}
 use Rattle.stub_core.specs.Resolver.{AnswersHost, AnswersName, LooksUp, LooksUpHost, LooksUpName, ResolvesHost, ResolvesName, UnlessMemory, cleared_lookup, is_tried_as_name, known_type, names_for, request_options, with_entries}
 use Rattle.stub_core.specs.Strategies.{Both, ByStrategy, Joins, LooksUpAddresses, LooksUpIp, Then, is_out_of_memory, no_addresses}
-use Rattle.stub_core.specs.declared.caching_client.CachingClient.{CachingClient}
-use Rattle.stub_core.specs.declared.request.DnsRequest.{DnsRequest}
+use Rattle.stub_client.specs.declared.caching_client.CachingClient.{CachingClient}
+use Rattle.stub_client.specs.declared.request.DnsRequest.{DnsRequest}
 use Rattle.stub_core.specs.declared.resolver.Resolver.{Resolver}
 use Rattle.stub_core.specs.declared.resolver.settings.Settings.{Settings}
 use Rattle.stub_run.specs.Alike.{AreAlike, AreAlikeClients}

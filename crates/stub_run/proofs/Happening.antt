@@ -3,9 +3,9 @@ use Rattle.std.proofs.Common.{◌≡◌, ◌≤◌, ◌++◌, inl, inr, true, fa
 use Rattle.std.proofs.lemmas.List.{take-append-le, take_all}
 use Rattle.dns_messages.specs.declared.message.Message.{Message}
 use Rattle.dns_messages.specs.declared.query.Query.{Query}
-use Rattle.stub_core.specs.Handle.{Outcome}
+use Rattle.stub_client.specs.Handle.{Outcome}
 use Rattle.stub_core.specs.Resolver.{with_handle}
-use Rattle.stub_core.specs.declared.request.DnsRequest.{DnsRequest}
+use Rattle.stub_client.specs.declared.request.DnsRequest.{DnsRequest}
 use Rattle.stub_core.specs.declared.resolver.Resolver.{Resolver}
 use Rattle.stub_link.specs.Asks.{AskState, AsksZone, Deliveries, Honest, IsIn, begin, deliveries_of}
 use Rattle.stub_link.specs.ScriptedLink.{Receives, Sends}

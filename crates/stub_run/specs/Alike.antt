@@ -1,6 +1,6 @@
 -- Resolvers that are alike: over a handle, and over the states that the handle is in.
 use Rattle.std.specs.Prelude.{◌≡◌}
-use Rattle.stub_core.specs.declared.caching_client.CachingClient.{CachingClient}
+use Rattle.stub_client.specs.declared.caching_client.CachingClient.{CachingClient}
 use Rattle.stub_core.specs.declared.resolver.Resolver.{Resolver}
 
 -- the handles are alike, and nothing else differs

@@ -7,9 +7,9 @@ use Rattle.dns_names.specs.Parse.{name_of_text}
 use Rattle.dns_text.specs.Address.{IsTextOf}
 use Rattle.stub_lookup.specs.declared.error.NetError.{NetError}
 use Rattle.stub_lookup.specs.declared.error.NetError.TheVariants as net
-use Rattle.stub_core.specs.Handle.{Outcome}
+use Rattle.stub_client.specs.Handle.{Outcome}
 use Rattle.stub_core.specs.Resolver.{ResolvesHost, ResolvesName, cleared_lookup, with_entries, with_handle}
-use Rattle.stub_core.specs.declared.request.DnsRequest.{DnsRequest}
+use Rattle.stub_client.specs.declared.request.DnsRequest.{DnsRequest}
 use Rattle.stub_core.specs.declared.resolver.Resolver.{Resolver}
 use Rattle.stub_link.specs.Asks.{AskState, AsksZone, begin}
 use Rattle.stub_link.specs.declared.link.scripted.Script.{Script}

@@ -4,10 +4,9 @@ ghost use Rattle.std.specs.Prelude.{◌≡◌, true, false, IsErrOf, IsOkAnd};
 
 use super::Resolver;
 use super::settings::Settings;
-use crate::caching_client::CachingClient;
-use crate::handle::DnsHandle;
 use std::alloc::Global;
 use stub_cache::{Hosts, ResponseCache};
+use stub_client::{CachingClient, DnsHandle};
 use stub_config::{ResolverConfig, ResolverOpts};
 use stub_lookup::NetError;
 

@@ -4,13 +4,12 @@ ghost use Rattle.std.specs.Prelude.{◌≡◌, [], IsOkUnless, OnErr, OnOk};
 ghost use Rattle.stub_core.specs.Resolver.{cleared_names, with_entries};
 
 use super::Resolver;
-use crate::caching_client::CachingClient;
-use crate::handle::DnsHandle;
 use dns_messages::Query;
 use dns_names::{Name, ParseError};
 use dns_text::IntoName;
 use dns_wire::RecordType;
 use std::alloc::AllocError;
+use stub_client::{CachingClient, DnsHandle};
 use stub_lookup::NetError;
 
 impl<H: DnsHandle> Resolver<H> {

@@ -4,12 +4,12 @@ ghost use Rattle.std.specs.Prelude.{◌≡◌, ◌≤◌, ◌^◌};
 
 use super::Resolver;
 use super::literal::{address_data, literal_lookup, lookup_without_name};
-use crate::handle::DnsHandle;
 use crate::strategies::lookup_ip_names;
 use dns_data::RData;
 use dns_names::Name;
 use dns_text::IntoName;
 use std::net::IpAddr;
+use stub_client::DnsHandle;
 use stub_lookup::{LookupIp, Moment, NetError};
 
 impl<H: DnsHandle> Resolver<H> {

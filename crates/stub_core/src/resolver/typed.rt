@@ -3,11 +3,11 @@
 ghost use Rattle.std.specs.Prelude.{◌≡◌, ◌≤◌, ◌^◌};
 
 use super::Resolver;
-use crate::handle::DnsHandle;
 use dns_names::Name;
 use dns_text::IntoName;
 use dns_wire::RecordType;
 use std::net::IpAddr;
+use stub_client::DnsHandle;
 use stub_lookup::{Lookup, Moment, NetError};
 
 /// Each is [`Resolver::lookup`] with its type.

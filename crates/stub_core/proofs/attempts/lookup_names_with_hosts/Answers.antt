@@ -2,7 +2,7 @@ use Rattle.std.proofs.Common.{◌≡◌, ◌∷◌, List, sym, subst, ◌∙◌}
 use Rattle.std.specs.Vec.Iter.{into_iter_items}
 use Rattle.dns_names.specs.Name.{DomainName}
 use Rattle.stub_core.specs.Attempts.{AttemptsWithHosts}
-use Rattle.stub_core.specs.Looks.{Answers}
+use Rattle.stub_client.specs.Looks.{Answers}
 use Rattle.stub_core.proofs.attempts.lookup_names_with_hosts.Goals as goal
 
 pub returns : goal.returns

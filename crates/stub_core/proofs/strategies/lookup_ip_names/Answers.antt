@@ -1,7 +1,7 @@
 use Rattle.std.proofs.Common.{List, sym, subst}
 use Rattle.dns_names.specs.Name.{DomainName}
 use Rattle.stub_core.specs.Attempts.{Attempts}
-use Rattle.stub_core.specs.Looks.{Reply}
+use Rattle.stub_client.specs.Looks.{Reply}
 use Rattle.stub_core.specs.Strategies.{EndsWith}
 use Rattle.stub_core.proofs.StrategiesLaws.{OfAddresses}
 use Rattle.stub_core.proofs.strategies.lookup_ip_names.Goals as goal

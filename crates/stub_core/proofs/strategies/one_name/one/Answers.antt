@@ -4,7 +4,7 @@ use Rattle.dns_names.specs.Name.{DomainName}
 use Rattle.dns_messages.specs.declared.query.Query.{Query}
 use Rattle.stub_cache.specs.Hosts.{question, static_lookup}
 use Rattle.stub_core.specs.Attempts.{WithHosts}
-use Rattle.stub_core.specs.Looks.{Answers}
+use Rattle.stub_client.specs.Looks.{Answers}
 use Rattle.stub_core.proofs.AttemptsLaws.{asked-without-memory, host-without-memory}
 use Rattle.stub_core.proofs.strategies.one_name.one.Goals as goal
 

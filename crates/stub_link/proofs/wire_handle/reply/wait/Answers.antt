@@ -1,5 +1,5 @@
 use Rattle.std.proofs.Common.{◌≡◌, ℕ, ◌-◌, ◌+◌, ◌<◌, Ok, Err, Some, None, refl, sym, subst, arith}
-use Rattle.stub_core.specs.Handle.{Outcome}
+use Rattle.stub_client.specs.Handle.{Outcome}
 use Rattle.stub_link.specs.declared.link.LinkError.TheVariants.{Failed, Memory}
 use Rattle.stub_lookup.specs.declared.error.LinkFault.TheVariants as fault
 use Rattle.stub_lookup.specs.declared.error.NetError.{NetError}

@@ -1,0 +1,2 @@
+pub mod UpdateLaws
+mod UpdateRows

@@ -1,0 +1,4 @@
+pub mod Builders
+pub mod Change
+pub mod Code
+pub mod Records

@@ -1,0 +1,103 @@
+//! Caches of responses.
+
+use crate::negative::{negative_of, negative_text};
+use crate::session::{Session, take_steps};
+use crate::settings::cache_of;
+use dns_messages::{DnsResponse, Message};
+use rows_text::{error_text, moment_of, outcome_of, push_sections, question_of, response_of};
+use rows::{Answer, RowFault, split, text, two_words, word_and_rest};
+use std::alloc::Global;
+use stub_cache::ResponseCache;
+use stub_lookup::{DnsError, Moment, NetError};
+
+/// `cache SETTINGS || STEP || ..`: the steps of a cache. A step is `insert MOMENT QUESTION = REPLY`, `get MOMENT QUESTION`, which
+/// prints what is stored, `clear`, or `clear QUESTION`.
+pub(crate) fn cache(alloc: Global, input: &str) -> Answer {
+    let (settings, steps) = split(input, " || ", "settings and steps")?;
+    let mut cache = cache_of(alloc, settings)?;
+    take_steps(alloc, &mut cache, steps)
+}
+
+impl Session for ResponseCache {
+    fn take(&mut self, alloc: Global, word: &str, rest: &str) -> Answer {
+        match word {
+            "insert" => insert(alloc, self, rest)?,
+            "get" => return get(alloc, self, rest),
+            "clear" if rest.is_empty() => self.clear(),
+            "clear" => self.clear_query(&question_of(alloc, rest)?),
+            _ => return Err(RowFault::Lacks("a step")),
+        }
+        Ok(String::new(alloc))
+    }
+}
+
+/// Inserts the reply of a text `MOMENT QUESTION = REPLY`.
+fn insert(alloc: Global, cache: &mut ResponseCache, step: &str) -> Result<(), RowFault> {
+    let (key, reply) = split(step, " = ", "a reply")?;
+    let (moment, question) = two_words(key)?;
+    let now = moment_of(moment)?;
+    let reply = reply_of(alloc, reply)?;
+    Ok(cache.insert(question_of(alloc, question)?, reply, now)?)
+}
+
+/// The reply of a text: `means RESPONSE` is the error that a response means, `negative` begins a negative answer, and any other
+/// text is an outcome, whose message is the reply as it is.
+fn reply_of(alloc: Global, text: &str) -> Result<Result<Message, NetError>, RowFault> {
+    match word_and_rest(text) {
+        ("means", response) => Ok(message_in(DnsError::from_response(
+            alloc,
+            response_of(alloc, response)?,
+        ))),
+        ("negative", answer) => Ok(Err(NetError::Dns(DnsError::NoRecordsFound(negative_of(
+            alloc, answer,
+        )?)))),
+        _ => Ok(message_in(outcome_of(alloc, text)?)),
+    }
+}
+
+/// The message of an outcome, or its error.
+fn message_in(outcome: Result<DnsResponse, NetError>) -> Result<Message, NetError> {
+    match outcome {
+        Ok(response) => Ok(response.into_message()),
+        Err(error) => Err(error),
+    }
+}
+
+/// What is stored for the question of a text `MOMENT QUESTION`.
+fn get(alloc: Global, cache: &ResponseCache, step: &str) -> Answer {
+    let (moment, question) = two_words(step)?;
+    let now = moment_of(moment)?;
+    get_at(alloc, cache, question, now)
+}
+
+/// What is stored for a question at a moment, or `none`.
+fn get_at(alloc: Global, cache: &ResponseCache, question: &str, now: Moment) -> Answer {
+    match cache.get(&question_of(alloc, question)?, now)? {
+        Some(stored) => stored_text(alloc, stored),
+        None => text(alloc, "none"),
+    }
+}
+
+/// What is stored: a message, or a negative answer.
+fn stored_text(alloc: Global, stored: Result<Message, NetError>) -> Answer {
+    let text = message_or_error(alloc, &stored);
+    drop(stored);
+    text
+}
+
+/// A message, a negative answer, or another error.
+fn message_or_error(alloc: Global, stored: &Result<Message, NetError>) -> Answer {
+    match stored {
+        Ok(message) => message_text(alloc, message),
+        Err(NetError::Dns(DnsError::NoRecordsFound(answer))) => negative_text(alloc, answer),
+        Err(error) => error_text(alloc, error),
+    }
+}
+
+/// A message: its code, and the records of each section that has some.
+fn message_text(alloc: Global, message: &Message) -> Answer {
+    let code = message.metadata.response_code;
+    let mut text = format!(in alloc; "{code}")?;
+    push_sections(&mut text, message)?;
+    Ok(text)
+}

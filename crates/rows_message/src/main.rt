@@ -1,0 +1,39 @@
+//! `rows_message FILE..`: tries each row of the files, as the library `rows` describes, on messages.
+//!
+//! - `operation`: the operations by their words; `header`, `question`, `message`: messages and their parts;
+//! - `rebuilt`: messages that are made from others, and responses;
+//! - `damaged`: messages of which bytes are missing or changed;
+//! - `record_set`, `answer_sets`, `update`: sets of records, and updates.
+#![tactic(auto)]
+
+mod answer_sets;
+mod damaged;
+mod header;
+mod message;
+mod operation;
+mod question;
+mod rebuilt;
+mod record_set;
+mod update;
+
+use rows::{Answer, Notation, Operations};
+use std::alloc::Global;
+use std::io;
+use std::process::ExitCode;
+
+/// The operations on messages.
+struct MessageOperations;
+
+impl Operations for MessageOperations {
+    fn notation(&self) -> Notation {
+        Notation::Escaped
+    }
+
+    fn answer(&self, alloc: Global, word: &str, input: &str) -> Answer {
+        operation::answer(alloc, word, input)
+    }
+}
+
+fn main(rt: HostRuntime) -> io::Result<ExitCode> {
+    rows::run(&rt, &MessageOperations)
+}

@@ -1,0 +1,48 @@
+//! `rows_resolver FILE..`: tries each row of the files, as the library `rows` describes, on the resolver.
+//!
+//! - `operation`: the operations by their words;
+//! - `parts`, `addresses_text`: the parts of a row and of an answer that the library `rows_text` does not have;
+//! - `exchange`: a handle that returns the outcomes of a list and records what it is asked;
+//! - `attempted_names`, `special_names`, `request`: what a lookup asks; `outcome`: what a reply means;
+//! - `config`, `hosts`, `lookup`: what a resolver keeps;
+//! - `client`, `addresses`, `resolver`: lookups over a handle;
+//! - `examples`: the example of the README.
+#![tactic(auto)]
+
+mod addresses;
+mod addresses_text;
+mod attempted_names;
+mod client;
+mod config;
+mod examples;
+mod exchange;
+mod hosts;
+mod lookup;
+mod operation;
+mod outcome;
+mod parts;
+mod request;
+mod resolver;
+mod special_names;
+
+use rows::{Answer, Notation, Operations};
+use std::alloc::Global;
+use std::io;
+use std::process::ExitCode;
+
+/// The operations on the resolver.
+struct ResolverOperations;
+
+impl Operations for ResolverOperations {
+    fn notation(&self) -> Notation {
+        Notation::Escaped
+    }
+
+    fn answer(&self, alloc: Global, word: &str, input: &str) -> Answer {
+        operation::answer(alloc, word, input)
+    }
+}
+
+fn main(rt: HostRuntime) -> io::Result<ExitCode> {
+    rows::run(&rt, &ResolverOperations)
+}

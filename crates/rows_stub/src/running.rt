@@ -1,0 +1,115 @@
+//! Runs of events in a world.
+
+use crate::event::events_of;
+use crate::hosts::hosts_of;
+use crate::ids::ids_of;
+use crate::linking::{limit_of, zone_of};
+use dns_messages::Query;
+use dns_zone::Zone;
+use rows_text::{error_text, push_question, resolver_config_of, resolver_options_of};
+use rows::{Answer, RowFault, split, text, two_words};
+use std::alloc::{AllocError, Global};
+use std::fmt::Write;
+use stub_cache::Hosts;
+use stub_config::{ResolverConfig, ResolverOpts};
+use stub_lookup::NetError;
+use stub_play::write_report;
+use stub_run::{Event, EventReport, Report, Stopped, World, run};
+
+/// `run LIMIT IDS SETTINGS || EVENTS || HOSTS || ZONE`: the report of events in a world over a zone, whose resolver has these
+/// settings and hosts: the written report, then behind bars each event's faults and questions, the ids that were drawn with
+/// their questions, and how many datagrams were dropped.
+pub(crate) fn ran(alloc: Global, input: &str) -> Answer {
+    let (setting, rest) = split(input, " || ", "settings")?;
+    let (events, rest) = split(rest, " || ", "events")?;
+    let (hosts, zone) = split(rest, " || ", "hosts and a zone")?;
+    let events = events_of(alloc, events)?;
+    let world = world_of(alloc, setting, hosts, zone)?;
+    ran_or_refused(alloc, world, events.as_slice())
+}
+
+/// The world of a text `LIMIT IDS SETTINGS`, of hosts and of a zone, or why it is refused.
+fn world_of(
+    alloc: Global,
+    setting: &str,
+    hosts: &str,
+    zone: &str,
+) -> Result<Result<World, NetError>, RowFault> {
+    let (limit, rest) = two_words(setting)?;
+    let (ids, settings) = two_words(rest)?;
+    let Some(limit) = limit_of(limit) else {
+        return Err(RowFault::Lacks("a limit"));
+    };
+    let ids = ids_of(alloc, ids)?;
+    let (config, options) = settings_of(alloc, settings)?;
+    let (hosts, zone) = contents_of(alloc, hosts, zone)?;
+    Ok(World::new(alloc, zone, limit, ids, config, options, hosts))
+}
+
+/// The configuration and the options of settings.
+fn settings_of(alloc: Global, settings: &str) -> Result<(ResolverConfig, ResolverOpts), RowFault> {
+    let config = resolver_config_of(alloc, settings)?;
+    let options = resolver_options_of(alloc, settings)?;
+    Ok((config, options))
+}
+
+/// The hosts of a hosts file, and the zone of a zone file.
+fn contents_of(alloc: Global, hosts: &str, zone: &str) -> Result<(Hosts, Zone), RowFault> {
+    let hosts = hosts_of(alloc, hosts)?;
+    let zone = zone_of(alloc, zone)?;
+    Ok((hosts, zone))
+}
+
+/// What a run in a world reports, or why there is no world.
+fn ran_or_refused(alloc: Global, world: Result<World, NetError>, events: &[Event]) -> Answer {
+    match world {
+        Ok(world) => reported(alloc, world, events),
+        Err(error) => error_text(alloc, &error),
+    }
+}
+
+/// What a run reports, in text.
+fn reported(alloc: Global, world: World, events: &[Event]) -> Answer {
+    match run(world, events) {
+        Ok(report) => report_text(alloc, events, &report),
+        Err(Stopped::Moments) => text(alloc, "Moments"),
+        Err(Stopped::Memory(report)) => {
+            let text = report_text(alloc, events, &report)?;
+            Ok(format!(in alloc; "Memory {text}")?)
+        }
+    }
+}
+
+/// A report in text.
+fn report_text(alloc: Global, events: &[Event], report: &Report) -> Answer {
+    let mut bytes: Vec<u8> = Vec::new(alloc);
+    if write_report(events, report, &mut bytes).is_err() {
+        return text(alloc, "not written");
+    }
+    let mut text = String::from_utf8_lossy(alloc, bytes.as_slice())?;
+    push_counts(&mut text, report.events.as_slice())?;
+    push_sent(&mut text, report.sent.as_slice())?;
+    let dropped = report.dropped;
+    write!(text, " | {dropped}")?;
+    Ok(text)
+}
+
+/// Adds a bar and, each behind a blank, the faults and questions of events.
+fn push_counts(text: &mut String, events: &[EventReport]) -> Result<(), AllocError> {
+    text.push_str("|")?;
+    for event in events {
+        let (faults, questions) = (event.faults, event.questions);
+        write!(text, " {faults}/{questions}")?;
+    }
+    Ok(())
+}
+
+/// Adds a bar and, each behind a blank, ids with their questions.
+fn push_sent(text: &mut String, sent: &[(u16, Query)]) -> Result<(), AllocError> {
+    text.push_str(" |")?;
+    for (id, query) in sent {
+        write!(text, " {id} ")?;
+        push_question(text, query)?;
+    }
+    Ok(())
+}

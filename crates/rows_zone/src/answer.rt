@@ -1,0 +1,30 @@
+//! Answers of a zone.
+
+use dns_messages::Query;
+use dns_zone::{Answer as ZoneAnswer, Zone};
+use rows_text::{push_section, question_of};
+use rows::{Answer, named, split};
+use std::alloc::Global;
+
+/// `answer QUESTION || TEXT`: the answer of the zone that the text spells.
+pub(crate) fn answered(alloc: Global, input: &str) -> Answer {
+    let (question, text) = split(input, " || ", "a question and a zone")?;
+    answered_by(alloc, &question_of(alloc, question)?, text)
+}
+
+/// The answer of the zone that a text spells to a question.
+fn answered_by(alloc: Global, query: &Query, text: &str) -> Answer {
+    match Zone::from_text(alloc, text, &[], None) {
+        Ok(zone) => answer_text(alloc, &zone.answer(query)?),
+        Err(fault) => named(alloc, fault),
+    }
+}
+
+/// An answer in one line: its code and, each behind a bar, its answers and its authorities.
+fn answer_text(alloc: Global, answer: &ZoneAnswer) -> Answer {
+    let code = answer.code;
+    let mut text = format!(in alloc; "{code}")?;
+    push_section(&mut text, answer.answers.as_slice())?;
+    push_section(&mut text, answer.authorities.as_slice())?;
+    Ok(text)
+}

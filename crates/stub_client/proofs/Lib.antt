@@ -1,0 +1,13 @@
+pub mod AsksLaws
+pub mod ClaimLaws
+pub mod ClaimSteps
+pub mod EntriesLaws
+pub mod LookUpLaws
+pub mod Needed
+pub mod PassingLaws
+pub mod RecordsLaws
+pub mod RequestRows
+pub mod RoadLaws
+pub mod SpecialNamesRows
+pub mod StepCases
+pub mod StepLaws

@@ -1,0 +1,11 @@
+use Rattle.std.proofs.Common.{◌≡◌, ◌++◌, map}
+use Rattle.std.specs.List.{filter}
+use Rattle.dns_messages.specs.Message.{all_records}
+use Rattle.stub_client.specs.Step.{is_kept_alias, lowered}
+use Rattle.stub_client.proofs.caching_client.answers.kept_aliases.Given as goal
+
+-- the records so far, and those that are left
+abbrev pub invariant-loop-entry : goal.invariant-loop-entry
+invariant-loop-entry l =
+    l.aliases ++ map (lowered l.chain.ttl) (filter (is_kept_alias l.settings l.query) l.entry-iterator)
+    ≡ l.fn.kept ++ map (lowered l.chain.ttl) (filter (is_kept_alias l.settings l.query) (all_records l.message))

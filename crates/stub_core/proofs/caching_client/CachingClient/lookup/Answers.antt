@@ -1,7 +1,0 @@
-use Rattle.stub_core.proofs.LookUpLaws.{from-the-start}
-use Rattle.stub_core.proofs.caching_client.CachingClient.lookup.Goals as goal
-
-pub returns : goal.returns
-returns g c =
-    from-the-start g.C.DnsHandle.gives c.args.options c.args.now c.new-none.result c.args.self.now c.args.query
-    c.look_up.result c.look_up.new.self c.new-none.ensures c.look_up.ensures

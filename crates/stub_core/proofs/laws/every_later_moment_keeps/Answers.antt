@@ -1,5 +1,0 @@
-use Rattle.stub_core.proofs.ClaimLaws.{holds-later}
-use Rattle.stub_core.proofs.laws.every_later_moment_keeps.Goals as goal
-
-pub returns : goal.returns
-returns g c = λ now later cache after holds. holds-later g.C.Claim.holds now later cache after holds

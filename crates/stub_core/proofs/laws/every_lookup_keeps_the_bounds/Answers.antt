@@ -1,5 +1,0 @@
-use Rattle.stub_core.proofs.PassingLaws.{settings-stay}
-use Rattle.stub_core.proofs.laws.every_lookup_keeps_the_bounds.Goals as goal
-
-pub returns : goal.returns
-returns c = λ settings now old q asks reply new looks. settings-stay settings now 0 _ old q asks reply new looks
