@@ -32,12 +32,12 @@ pub returns-in_ok-to_lowercase-in-UncompressedLowercase-clause-emits : goal.retu
 returns-in_ok-to_lowercase-in-UncompressedLowercase-clause-emits c =
     let old = state_of c.args.encoder.now in
     let encoding = sym c.name_encoding.ensures ∙ c.in-UncompressedLowercase.is in
-    emits_spelled old old (state_of c.emit_whole-in-UncompressedLowercase-2.new.encoder) c.args.self.now.labels _ c.emit_whole-in-UncompressedLowercase-2.result refl
+    emits_spelled old old (state_of c.emit_whole-in-UncompressedLowercase.new.encoder) c.args.self.now.labels _ c.emit_whole-in-UncompressedLowercase.result refl
     (ap (λ (n : DomainName). n.labels) c.in_ok-to_lowercase-in-UncompressedLowercase.ensures.ok ∙ ap (λ (e : NameEncoding). spelling e c.args.self.now.labels) (sym encoding))
     (ap (λ (e : NameEncoding). compresses e && ltb old.attempts 120) encoding)
-    c.emit_whole-in-UncompressedLowercase-2.ensures.emits
+    c.emit_whole-in-UncompressedLowercase.ensures.emits
 
 pub returns-in_ok-to_lowercase-in-UncompressedLowercase-clause-writable : goal.returns-in_ok-to_lowercase-in-UncompressedLowercase-clause-writable
 returns-in_ok-to_lowercase-in-UncompressedLowercase-clause-writable c =
     let are = ap (λ (n : DomainName). n.labels) c.in_ok-to_lowercase-in-UncompressedLowercase.ensures.ok in
-    λ _. (lower-are_labels c.args.self.now.labels (subst AreLabels are c.emit_whole-in-UncompressedLowercase-2.ensures.labels), tt)
+    λ _. (lower-are_labels c.args.self.now.labels (subst AreLabels are c.emit_whole-in-UncompressedLowercase.ensures.labels), tt)
