@@ -5,7 +5,7 @@ ghost use Rattle.dns_messages.specs.declared.edns.Edns.{Edns};
 
 use dns_data::{EdnsOption, OPT, RData};
 use dns_names::Name;
-use dns_records::{Record, emit_behind_owner};
+use dns_records::{Record, RecordParts, emit_behind_owner};
 use dns_wire::{BinEncodable, BinEncoder, DNSClass, EncodeError, NameEncoding, RecordType};
 use std::alloc::{AllocError, Global};
 
@@ -67,12 +67,12 @@ impl Edns {
     pub fn from_record(opt: Record) -> Option<Edns>
         ensures { result ≡ if is_opt_data opt.rdata then Some (edns_of opt) else None }
     {
-        let Record {
+        let RecordParts {
             name: _,
             dns_class,
             ttl,
             rdata,
-        } = opt;
+        } = opt.into_parts();
         let max_payload = u16::from(dns_class);
         match rdata {
             RData::OPT(options) => Some(Edns {

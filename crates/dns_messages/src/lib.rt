@@ -29,7 +29,7 @@ pub use edns::{DEFAULT_MAX_PAYLOAD_LEN, Edns, EdnsFlags};
 pub use emit::emit_message_parts;
 pub use emit_and_count::EmitAndCount;
 pub use header::{Flags, Header, HeaderCounts, Metadata};
-pub use message::{IntoSections, Message, Sections};
+pub use message::{IntoSections, Message, MessageParts, Sections};
 pub use message_type::MessageType;
 pub use op_code::OpCode;
 pub use query::Query;

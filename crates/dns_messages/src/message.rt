@@ -5,6 +5,7 @@ ghost use Rattle.std.specs.Prelude.{◌≡◌, [], None};
 mod dnssec;
 mod encoding;
 mod extensions;
+mod parts;
 mod section_iter;
 mod sections;
 
@@ -15,11 +16,11 @@ use crate::op_code::OpCode;
 use crate::query::Query;
 use crate::response_code::ResponseCode;
 use dns_records::{Record, Sequence};
+pub use parts::MessageParts;
 pub use section_iter::{IntoSections, Sections};
 use std::alloc::{AllocError, Global};
 
 /// A message (RFC 1035 section 4.1).
-#[derive(Drop)]
 pub struct Message {
     /// The header, without its counts.
     pub metadata: Metadata,
@@ -35,6 +36,26 @@ pub struct Message {
     pub edns: Option<Edns>,
     /// The TSIG record (RFC 8945 section 4.2), as opaque data.
     pub(crate) signature: Option<Record>,
+}
+
+impl Drop for Message {
+    fn drop(self) {
+        let Message {
+            metadata: _metadata,
+            queries,
+            answers,
+            authorities,
+            additionals,
+            edns,
+            signature,
+        } = self;
+        drop(queries);
+        drop(answers);
+        drop(authorities);
+        drop(additionals);
+        drop(edns);
+        drop(signature);
+    }
 }
 
 impl Message {
@@ -85,6 +106,38 @@ impl Message {
         let mut message = Message::response(alloc, id, op_code);
         message.metadata.response_code = response_code;
         message
+    }
+
+    /// Converts to the parts of the message. No memory is taken.
+    pub fn into_parts(self) -> MessageParts
+        ensures { result ≡ record {
+          metadata = self.metadata;
+          queries = self.queries;
+          answers = self.answers;
+          authorities = self.authorities;
+          additionals = self.additionals;
+          edns = self.edns;
+          signature = self.signature;
+        } }
+    {
+        let Message {
+            metadata,
+            queries,
+            answers,
+            authorities,
+            additionals,
+            edns,
+            signature,
+        } = self;
+        MessageParts {
+            metadata,
+            queries,
+            answers,
+            authorities,
+            additionals,
+            edns,
+            signature,
+        }
     }
 
     /// Converts to a response.

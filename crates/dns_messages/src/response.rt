@@ -16,10 +16,17 @@ use std::alloc::Global;
 /// A response and the bytes that it was decoded from, or that it is encoded as.
 ///
 /// Changing the message leaves the bytes as they are.
-#[derive(Drop)]
 pub struct DnsResponse {
     message: Message,
     buffer: Vec<u8>,
+}
+
+impl Drop for DnsResponse {
+    fn drop(self) {
+        let DnsResponse { message, buffer } = self;
+        drop(message);
+        drop(buffer);
+    }
 }
 
 impl DnsResponse {
@@ -139,21 +146,30 @@ impl DnsResponse {
     pub fn into_buffer(self) -> Vec<u8>
         ensures { result ≡ self.buffer }
     {
-        self.buffer
+        let DnsResponse {
+            message: _message,
+            buffer,
+        } = self;
+        buffer
     }
 
     /// Converts to the message.
     pub fn into_message(self) -> Message
         ensures { result ≡ self.message }
     {
-        self.message
+        let DnsResponse {
+            message,
+            buffer: _buffer,
+        } = self;
+        message
     }
 
     /// Returns the message and the bytes.
     pub fn into_parts(self) -> (Message, Vec<u8>)
         ensures { result ≡ (self.message, self.buffer) }
     {
-        (self.message, self.buffer)
+        let DnsResponse { message, buffer } = self;
+        (message, buffer)
     }
 }
 

@@ -1,6 +1,6 @@
 //! Resource records (RFC 1035 section 4.1.3), and sets of them (RFC 2181 section 5).
 //!
-//! - `record`, `record_head`: records, on the wire and as values; `record_ref`: borrowed records;
+//! - `record`, `record_head`, `record_parts`: records, on the wire and as values; `record_ref`: borrowed records;
 //! - `record_set`, `record_set_parts`: sets of records, and how updates change them (RFC 2136 section 3.4.2);
 //! - `rrset_records`: iterators over the records of a set;
 //! - `row`: the rows of a zone, which contracts of updates and zones refer to;
@@ -12,6 +12,7 @@ mod emit;
 pub mod laws;
 mod record;
 mod record_head;
+mod record_parts;
 mod record_ref;
 mod record_set;
 mod record_set_parts;
@@ -22,6 +23,7 @@ mod sequence;
 pub use emit::emit_behind_owner;
 pub use record::Record;
 pub use record_head::RecordHead;
+pub use record_parts::RecordParts;
 pub use record_ref::RecordRef;
 pub use record_set::RecordSet;
 pub use record_set_parts::RecordSetParts;

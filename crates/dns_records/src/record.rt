@@ -9,6 +9,7 @@ ghost use Rattle.dns_records.specs.declared.record.Record.{Record};
 
 use crate::emit::emit_behind_owner;
 use crate::record_head::RecordHead;
+use crate::record_parts::RecordParts;
 use crate::record_ref::RecordRef;
 use dns_data::{RData, RecordData};
 use dns_names::Name;
@@ -20,7 +21,6 @@ use std::alloc::{AllocError, Global};
 use std::cmp::Ordering;
 
 /// A record, with data of one type or of any.
-#[derive(Drop)]
 pub struct Record<R: RecordData = RData> {
     /// The owner.
     pub name: Name,
@@ -28,6 +28,19 @@ pub struct Record<R: RecordData = RData> {
     /// How long the record may be cached, in seconds.
     pub ttl: u32,
     pub rdata: R,
+}
+
+impl<R: RecordData + Drop> Drop for Record<R> {
+    fn drop(self) {
+        let Record {
+            name,
+            dns_class: _dns_class,
+            ttl: _ttl,
+            rdata,
+        } = self;
+        drop(name);
+        drop(rdata);
+    }
 }
 
 impl<R: RecordData> Record<R> {
@@ -41,6 +54,29 @@ impl<R: RecordData> Record<R> {
         Record {
             name,
             dns_class: DNSClass::IN,
+            ttl,
+            rdata,
+        }
+    }
+
+    /// Converts to the parts of the record. No memory is taken.
+    pub fn into_parts(self) -> RecordParts<R>
+        ensures { result ≡ record {
+          name = self.name;
+          dns_class = self.dns_class;
+          ttl = self.ttl;
+          rdata = self.rdata;
+        } }
+    {
+        let Record {
+            name,
+            dns_class,
+            ttl,
+            rdata,
+        } = self;
+        RecordParts {
+            name,
+            dns_class,
             ttl,
             rdata,
         }
@@ -64,11 +100,17 @@ impl<R: RecordData> Record<R> {
     pub fn into_record_of_rdata(self) -> Record
         ensures { result ≡ record_of_rdata R.rdata self }
     {
+        let Record {
+            name,
+            dns_class,
+            ttl,
+            rdata,
+        } = self;
         Record {
-            name: self.name,
-            dns_class: self.dns_class,
-            ttl: self.ttl,
-            rdata: self.rdata.into_rdata(),
+            name,
+            dns_class,
+            ttl,
+            rdata: rdata.into_rdata(),
         }
     }
 
@@ -80,11 +122,17 @@ impl<R: RecordData> Record<R> {
         ensures dns_class { IfSome result (λ converted. converted.dns_class ≡ self.dns_class) }
         ensures ttl { IfSome result (λ converted. converted.ttl ≡ self.ttl) }
     {
-        let rdata = f(self.rdata)?;
+        let Record {
+            name,
+            dns_class,
+            ttl,
+            rdata,
+        } = self;
+        let rdata = f(rdata)?;
         Some(Record {
-            name: self.name,
-            dns_class: self.dns_class,
-            ttl: self.ttl,
+            name,
+            dns_class,
+            ttl,
             rdata,
         })
     }

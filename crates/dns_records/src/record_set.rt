@@ -21,7 +21,6 @@ use std::vec::IntoIter;
 ///
 /// Updates add records to a set and delete records from it (RFC 2136 section 3.4.2), which never makes two of its data equal
 /// (RFC 2181 section 5).
-#[derive(Drop)]
 pub struct RecordSet {
     name: Name,
     record_type: RecordType,
@@ -29,6 +28,21 @@ pub struct RecordSet {
     ttl: u32,
     serial: u32,
     records: Vec<Record>,
+}
+
+impl Drop for RecordSet {
+    fn drop(self) {
+        let RecordSet {
+            name,
+            record_type: _record_type,
+            dns_class: _dns_class,
+            ttl: _ttl,
+            serial: _serial,
+            records,
+        } = self;
+        drop(name);
+        drop(records);
+    }
 }
 
 impl Model for RecordSet {
@@ -221,13 +235,21 @@ impl RecordSet {
         } }
         ensures records { result.records.items ≡ self.records }
     {
+        let RecordSet {
+            name,
+            record_type,
+            dns_class,
+            ttl,
+            serial,
+            records,
+        } = self;
         RecordSetParts {
-            name: self.name,
-            record_type: self.record_type,
-            dns_class: self.dns_class,
-            ttl: self.ttl,
-            records: self.records,
-            serial: self.serial,
+            name,
+            record_type,
+            dns_class,
+            ttl,
+            records,
+            serial,
         }
     }
 }
@@ -367,6 +389,14 @@ impl IntoIterator for RecordSet {
 
     /// Iterates over the records by value, in their order.
     fn into_iter(self) -> IntoIter<Record> {
-        self.records.into_iter()
+        let RecordSet {
+            name: _name,
+            record_type: _record_type,
+            dns_class: _dns_class,
+            ttl: _ttl,
+            serial: _serial,
+            records,
+        } = self;
+        records.into_iter()
     }
 }

@@ -8,7 +8,5 @@ mod builders;
 pub mod laws;
 mod update_message;
 
-pub use builders::{
-    append, compare_and_swap, create, delete_all, delete_by_rdata, delete_rrset,
-};
+pub use builders::{append, compare_and_swap, create, delete_all, delete_by_rdata, delete_rrset};
 pub use update_message::UpdateMessage;

@@ -3,8 +3,8 @@
 
 use crate::settings::config_of;
 use dns_wire::RecordType;
-use rows_text::{both_limits_of, type_of};
 use rows::{Answer, RowFault, shown, split, text};
+use rows_text::{both_limits_of, type_of};
 use std::alloc::Global;
 use stub_cache::{TtlBounds, TtlBoundsError, TtlConfig};
 

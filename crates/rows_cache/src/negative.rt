@@ -3,11 +3,11 @@
 
 use dns_data::{RData, SOA};
 use dns_messages::{ResponseCode, Sequence};
-use dns_records::Record;
+use dns_records::{Record, RecordParts};
+use rows::{Answer, RowFault, parsed, split, two_words};
 use rows_text::{
     head_and_rest, push_list, push_question, push_record, question_of, record_of, records_of,
 };
-use rows::{Answer, RowFault, parsed, split, two_words};
 use std::alloc::{AllocError, Global};
 use std::fmt::Write;
 use stub_lookup::{ForwardNSData, NoRecords};
@@ -52,12 +52,12 @@ fn optional_soa_of(alloc: Global, text: &str) -> Result<Option<Record<SOA>>, Row
 
 /// A record as one with data of the type SOA.
 fn soa_in(entry: Record) -> Result<Option<Record<SOA>>, RowFault> {
-    let Record {
+    let RecordParts {
         name,
         dns_class,
         ttl,
         rdata,
-    } = entry;
+    } = entry.into_parts();
     match rdata {
         RData::SOA(rdata) => Ok(Some(Record {
             name,

@@ -3,8 +3,8 @@
 ghost use Rattle.std.specs.Prelude.{◌≡◌};
 
 use dns_messages::DnsResponse;
-use rows_text::push_asked;
 use rows::Answer;
+use rows_text::push_asked;
 use std::alloc::{AllocError, Global};
 use stub_core::{DnsHandle, DnsRequest};
 use stub_lookup::{Moment, NetError};

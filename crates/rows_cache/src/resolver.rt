@@ -3,10 +3,10 @@
 use crate::recorder::Recorder;
 use crate::session::{Session, take_steps};
 use crate::zone_handle::ZoneHandle;
+use rows::{Answer, RowFault, split, two_words};
 use rows_text::{
     error_text, moment_of, reply_text, resolver_config_of, resolver_options_of, type_of,
 };
-use rows::{Answer, RowFault, split, two_words};
 use std::alloc::Global;
 use stub_core::{DnsHandle, Resolver, ResolverBuilder};
 use stub_lookup::NetError;

@@ -1,8 +1,8 @@
 //! The settings of caches and of clients: words, of which `-` sets nothing.
 
 use crate::bounds::bounds_of;
-use rows_text::{set_bounds, type_of};
 use rows::{RowFault, parsed};
+use rows_text::{set_bounds, type_of};
 use std::alloc::Global;
 use stub_cache::{ResponseCache, TtlConfig};
 use stub_config::{DnsRequestOptions, ResolverOpts};

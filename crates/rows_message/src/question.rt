@@ -1,8 +1,8 @@
 //! Questions.
 
 use dns_messages::Query;
-use rows_text::{push_question, question_of};
 use rows::{Answer, RowFault, shown, split};
+use rows_text::{push_question, question_of};
 use std::alloc::Global;
 use std::fmt::Write;
 

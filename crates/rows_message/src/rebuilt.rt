@@ -3,8 +3,8 @@
 use crate::message::encoded_within;
 use dns_messages::{DnsResponse, Edns, Message};
 use dns_updates::UpdateMessage;
-use rows_text::push_record;
 use rows::{Answer, RowFault, bytes_of, digits_of, named};
+use rows_text::push_record;
 use std::alloc::{AllocError, Global};
 use std::fmt::Write;
 

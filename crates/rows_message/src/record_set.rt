@@ -6,8 +6,8 @@ use dns_data::RData;
 use dns_records::{Record, RecordSet};
 use dns_text::{Lexer, Token};
 use dns_wire::RecordType;
-use rows_text::{name_of, push_record};
 use rows::{Answer, RowFault, parsed, two_words};
+use rows_text::{name_of, push_record};
 use std::alloc::{AllocError, Global};
 use std::fmt::Write;
 

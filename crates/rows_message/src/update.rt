@@ -7,12 +7,10 @@ use crate::message::encoded_within;
 use crate::record_set::set_of;
 use dns_messages::Message;
 use dns_records::{Record, RecordSet};
-use dns_updates::{
-    append, compare_and_swap, create, delete_all, delete_by_rdata, delete_rrset,
-};
+use dns_updates::{append, compare_and_swap, create, delete_all, delete_by_rdata, delete_rrset};
 use dns_wire::{DNSClass, RecordType};
-use rows_text::name_of;
 use rows::{Answer, RowFault, parsed, split, two_words};
+use rows_text::name_of;
 use std::alloc::{AllocError, Global};
 
 /// What each builder takes: the ID, the origin of the zone, and whether the message has an OPT record.

@@ -1,7 +1,7 @@
 //! What lookups of addresses found, as text.
 
-use rows_text::{error_text, lookup_text};
 use rows::Answer;
+use rows_text::{error_text, lookup_text};
 use std::alloc::{AllocError, Global};
 use std::fmt::Write;
 use stub_lookup::{LookupIp, NetError};

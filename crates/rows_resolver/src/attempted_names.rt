@@ -2,8 +2,8 @@
 
 use crate::parts::optional_name_of;
 use dns_names::Name;
-use rows_text::{name_of, names_of};
 use rows::{Answer, parsed, two_words};
+use rows_text::{name_of, names_of};
 use std::alloc::Global;
 use std::fmt::Write;
 use stub_core::names_to_attempt;

@@ -3,8 +3,8 @@
 use crate::addresses::address_of;
 use crate::parts::optional_name_of;
 use dns_names::Name;
-use rows_text::{name_of, names_of};
 use rows::{Answer, RowFault, two_words};
+use rows_text::{name_of, names_of};
 use std::alloc::{AllocError, Global};
 use std::fmt::Write;
 use stub_config::{

@@ -95,7 +95,7 @@ pub(crate) fn example(alloc: Global, host: &str) -> Answer {
     match printed(alloc, host) {
         Ok(lines) => Ok(lines),
         // The example had no memory.
-        Err(NetError::Memory) => Err(RowFault::Memory),
+        Err(error) if matches!(&error, NetError::Memory) => Err(RowFault::Memory),
         Err(error) => Ok(format!(in alloc; "{error}")?),
     }
 }

@@ -1,8 +1,8 @@
 //! A handle that records what it is asked.
 
 use dns_messages::DnsResponse;
-use rows_text::{outcomes_of, push_asked};
 use rows::{Answer, RowFault, digits_of};
+use rows_text::{outcomes_of, push_asked};
 use std::alloc::{AllocError, Global};
 use stub_core::{CachingClient, DnsHandle, DnsRequest, ListHandle};
 use stub_lookup::{Moment, NetError};

@@ -2,8 +2,8 @@
 
 use crate::addresses_text::push_addresses;
 use dns_messages::Message;
-use rows_text::{data_of, lookup_text, message_of, moment_of, question_of, records_of};
 use rows::{Answer, RowFault, split, two_words};
+use rows_text::{data_of, lookup_text, message_of, moment_of, question_of, records_of};
 use std::alloc::{AllocError, Global};
 use std::fmt::Write;
 use stub_lookup::{Lookup, LookupIp, Moment};

@@ -2,8 +2,8 @@
 
 use crate::request::outcome_text;
 use dns_messages::DnsResponse;
-use rows_text::{outcome_of, response_of};
 use rows::{Answer, shown, text};
+use rows_text::{outcome_of, response_of};
 use std::alloc::Global;
 use stub_lookup::{DnsError, NetError};
 

@@ -1,8 +1,8 @@
 //! The moment of rows that name none, and names that may be left out.
 
 use dns_names::Name;
-use rows_text::name_of;
 use rows::RowFault;
+use rows_text::name_of;
 use std::alloc::Global;
 use stub_lookup::Moment;
 

@@ -3,8 +3,8 @@
 use crate::exchange::{Exchange, Recorder};
 use crate::parts::NOW;
 use dns_messages::{DnsResponse, Query, Record};
-use rows_text::{error_text, outcomes_of, push_list, question_of};
 use rows::{Answer, RowFault, digits_of, parsed, split, text};
+use rows_text::{error_text, outcomes_of, push_list, question_of};
 use std::alloc::{AllocError, Global};
 use stub_config::DnsRequestOptions;
 use stub_core::{DnsHandle, DnsRequest, ListHandle};

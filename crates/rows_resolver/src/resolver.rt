@@ -5,10 +5,10 @@ use crate::addresses_text::addresses_text;
 use crate::exchange::{Exchange, Recorder};
 use crate::hosts::hosts_of;
 use crate::parts::NOW;
+use rows::{Answer, RowFault, split, text, two_words};
 use rows_text::{
     error_text, name_of, outcomes_of, reply_text, resolver_config_of, resolver_options_of, type_of,
 };
-use rows::{Answer, RowFault, split, text, two_words};
 use std::alloc::Global;
 use stub_cache::Hosts;
 use stub_core::{DnsHandle, ListHandle, Resolver, ResolverBuilder};

@@ -1,7 +1,7 @@
 //! The answers of special-use names.
 
-use rows_text::{push_record, question_of};
 use rows::{Answer, text};
+use rows_text::{push_record, question_of};
 use std::alloc::Global;
 use stub_client::{SpecialAnswer, special_answer};
 

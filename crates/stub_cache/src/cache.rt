@@ -16,7 +16,7 @@ use entry::Entry;
 use eviction::{make_room, remove_entries};
 use std::alloc::{AllocError, Global};
 use std::marker::Model;
-use stub_lookup::{DnsError, Moment, NetError};
+use stub_lookup::{Moment, NetError, NoRecords};
 
 /// A cache of responses and of negative answers (RFC 1034 section 5.3.3, RFC 2308 section 5).
 ///
@@ -73,16 +73,42 @@ impl ResponseCache {
         ensures memory { OnErr result (self.new ≡ self.old) }
     {
         match reply {
-            Ok(message) => {
-                let entry = Entry::positive(&self.config, query, message, now);
-                self.store(entry)
-            }
-            Err(NetError::Dns(DnsError::NoRecordsFound(answer))) => {
-                let entry = Entry::negative(&self.config, query, answer, now);
-                self.store(entry)
-            }
-            Err(_) => Ok(()),
+            Ok(message) => self.insert_message(query, message, now),
+            Err(error) => match error.into_no_records() {
+                Ok(answer) => self.insert_answer(query, answer, now),
+                Err(_) => Ok(()),
+            },
         }
+    }
+
+    /// Stores the response to a question at a moment, as [`insert`](ResponseCache::insert) does.
+    pub fn insert_message(
+        &mut self,
+        query: Query,
+        message: Message,
+        now: Moment,
+    ) -> Result<(), AllocError>
+        requires { now ≤ 2 ^ 62 }
+        ensures stored { OnOk result (self.new ≡ storing self.old query (Ok message) now) }
+        ensures memory { OnErr result (self.new ≡ self.old) }
+    {
+        let entry = Entry::positive(&self.config, query, message, now);
+        self.store(entry)
+    }
+
+    /// Stores a negative answer to a question at a moment, as [`insert`](ResponseCache::insert) does (RFC 2308 section 5).
+    pub fn insert_answer(
+        &mut self,
+        query: Query,
+        answer: NoRecords,
+        now: Moment,
+    ) -> Result<(), AllocError>
+        requires { now ≤ 2 ^ 62 }
+        ensures stored { OnOk result (self.new ≡ storing self.old query (Err answer) now) }
+        ensures memory { OnErr result (self.new ≡ self.old) }
+    {
+        let entry = Entry::negative(&self.config, query, answer, now);
+        self.store(entry)
     }
 
     /// Stores an entry in place of those for the same question, or of the one that is due first if the cache is full.

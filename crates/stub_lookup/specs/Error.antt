@@ -1,13 +1,14 @@
 -- Why a lookup found nothing.
-use Rattle.std.specs.Prelude.{ℕ, None}
+use Rattle.std.specs.Prelude.{ℕ, None, Result, Ok, Err}
 use Rattle.dns_names.specs.declared.error.ParseError.{ParseError}
 use Rattle.dns_names.specs.declared.error.ParseError.TheVariants as names
 use Rattle.dns_messages.specs.declared.query.Query.{Query}
 use Rattle.dns_messages.specs.declared.response_code.ResponseCode.{ResponseCode}
 use Rattle.stub_lookup.specs.declared.error.LinkFault.{LinkFault}
 use Rattle.stub_lookup.specs.declared.error.LinkFault.TheVariants.{NotSent, NotReceived, Quiet, NoMatch, StreamFailed, Truncated, StreamUnreadable, StreamMismatch, NoId}
+use Rattle.stub_lookup.specs.declared.error.DnsError.TheVariants.{NoRecordsFound}
 use Rattle.stub_lookup.specs.declared.error.NetError.{NetError}
-use Rattle.stub_lookup.specs.declared.error.NetError.TheVariants.{Proto, Memory}
+use Rattle.stub_lookup.specs.declared.error.NetError.TheVariants.{Dns, Proto, Memory}
 use Rattle.stub_lookup.specs.declared.error.NoRecords.{NoRecords}
 
 -- how reports number the faults
@@ -41,3 +42,8 @@ without_soa answer = record answer { soa = None }
 abbrev pub error_of_name : ParseError → NetError
 error_of_name names.Memory = Memory
 error_of_name error = Proto error
+
+-- an error as the negative answer that it is, or as another error
+abbrev pub negative_answer : NetError → Result NoRecords NetError
+negative_answer (Dns (NoRecordsFound answer)) = Ok answer
+negative_answer error = Err error

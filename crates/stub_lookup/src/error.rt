@@ -63,7 +63,6 @@ impl LinkFault {
 }
 
 /// A name server of a zone below the server's own, with its addresses (RFC 1034 section 4.2.1).
-#[derive(Drop)]
 pub struct ForwardNSData {
     /// The NS record.
     pub ns: Record,
@@ -71,8 +70,15 @@ pub struct ForwardNSData {
     pub glue: Sequence<Record>,
 }
 
+impl Drop for ForwardNSData {
+    fn drop(self) {
+        let ForwardNSData { ns, glue } = self;
+        drop(ns);
+        drop(glue);
+    }
+}
+
 /// A negative answer: there is no record of the type at the name (RFC 2308 section 2).
-#[derive(Drop)]
 pub struct NoRecords {
     /// The question.
     pub query: Query,
@@ -86,6 +92,23 @@ pub struct NoRecords {
     pub response_code: ResponseCode,
     /// The records of the authority section.
     pub authorities: Option<Sequence<Record>>,
+}
+
+impl Drop for NoRecords {
+    fn drop(self) {
+        let NoRecords {
+            query,
+            soa,
+            ns,
+            negative_ttl: _negative_ttl,
+            response_code: _response_code,
+            authorities,
+        } = self;
+        drop(query);
+        drop(soa);
+        drop(ns);
+        drop(authorities);
+    }
 }
 
 impl NoRecords {
@@ -121,7 +144,7 @@ impl fmt::Debug for NoRecords {
 }
 
 /// What a server replied in place of records.
-#[derive(Debug, Drop, Error)]
+#[derive(Debug, Error)]
 pub enum DnsError {
     /// There are no records of the type at the name.
     #[error("{0}")]
@@ -131,8 +154,17 @@ pub enum DnsError {
     ResponseCode(ResponseCode),
 }
 
+impl Drop for DnsError {
+    fn drop(self) {
+        match self {
+            DnsError::NoRecordsFound(answer) => drop(answer),
+            DnsError::ResponseCode(_) => {}
+        }
+    }
+}
+
 /// Why a lookup found no records.
-#[derive(Debug, Drop, Error)]
+#[derive(Debug, Error)]
 pub enum NetError {
     /// The server replied that there are none, or with an error.
     #[error("{0}")]
@@ -152,6 +184,50 @@ pub enum NetError {
     /// Memory could not be allocated.
     #[error("out of memory")]
     Memory,
+}
+
+impl Drop for NetError {
+    fn drop(self) {
+        match self {
+            NetError::Dns(error) => drop(error),
+            NetError::Proto(error) => drop(error),
+            NetError::Message(_) => {}
+            NetError::Link(_) => {}
+            NetError::Unsupported => {}
+            NetError::Memory => {}
+        }
+    }
+}
+
+impl DnsError {
+    ghost use Rattle.std.specs.Prelude.{◌≡◌};
+    ghost use Rattle.stub_lookup.specs.Error.{negative_answer};
+    ghost use Rattle.stub_lookup.specs.declared.error.NetError.TheVariants.{Dns};
+
+    /// Returns the negative answer, or the error if it is another one.
+    pub fn into_no_records(self) -> Result<NoRecords, NetError>
+        ensures { result ≡ negative_answer (Dns self) }
+    {
+        match self {
+            DnsError::NoRecordsFound(answer) => Ok(answer),
+            error => Err(NetError::Dns(error)),
+        }
+    }
+}
+
+impl NetError {
+    ghost use Rattle.std.specs.Prelude.{◌≡◌};
+    ghost use Rattle.stub_lookup.specs.Error.{negative_answer};
+
+    /// Returns the negative answer, or the error if it is another one.
+    pub fn into_no_records(self) -> Result<NoRecords, NetError>
+        ensures { result ≡ negative_answer self }
+    {
+        match self {
+            NetError::Dns(error) => error.into_no_records(),
+            error => Err(error),
+        }
+    }
 }
 
 impl From<AllocError> for NetError {

@@ -89,7 +89,11 @@ impl IntoIterator for LookupIp {
 
     fn into_iter(self) -> LookupIpIntoIter {
         LookupIpIntoIter {
-            records: Message::from(self.lookup).answers.into_vec().into_iter(),
+            records: Message::from(self.lookup)
+                .into_parts()
+                .answers
+                .into_vec()
+                .into_iter(),
         }
     }
 }

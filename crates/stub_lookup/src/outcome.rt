@@ -7,7 +7,7 @@ ghost use Rattle.stub_lookup.specs.declared.error.NetError.TheVariants.{Memory};
 
 use crate::error::{DnsError, NetError, NoRecords};
 use dns_data::{RData, SOA};
-use dns_messages::{DnsResponse, Message, Query, Record, ResponseCode, Sequence};
+use dns_messages::{DnsResponse, Query, Record, ResponseCode, Sequence};
 use std::alloc::{AllocError, Global};
 
 impl DnsError {
@@ -41,19 +41,14 @@ fn no_records(alloc: Global, response: DnsResponse) -> Result<NoRecords, AllocEr
 {
     let soa = copy_soa(response.soa())?;
     let negative_ttl = response.negative_ttl();
-    let Message {
-        metadata,
-        queries,
-        authorities,
-        ..
-    } = response.into_message();
+    let parts = response.into_message().into_parts();
     Ok(NoRecords {
-        query: first_question(alloc, queries),
+        query: first_question(alloc, parts.queries),
         soa,
         ns: None,
         negative_ttl,
-        response_code: metadata.response_code,
-        authorities: any_records(authorities),
+        response_code: parts.metadata.response_code,
+        authorities: any_records(parts.authorities),
     })
 }
 

@@ -12,7 +12,6 @@ use std::alloc::{AllocError, Global};
 use stub_lookup::{DnsError, Moment, NetError, NoRecords, copy_message};
 
 /// What is kept for a question since a moment.
-#[derive(Drop)]
 pub struct Entry {
     /// The question.
     pub question: Query,
@@ -22,6 +21,19 @@ pub struct Entry {
     pub moment: Moment,
     /// The last moment at which it is current.
     pub deadline: Moment,
+}
+
+impl Drop for Entry {
+    fn drop(self) {
+        let Entry {
+            question,
+            kept,
+            moment: _moment,
+            deadline: _deadline,
+        } = self;
+        drop(question);
+        drop(kept);
+    }
 }
 
 impl Entry {

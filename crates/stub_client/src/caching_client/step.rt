@@ -88,11 +88,11 @@ fn step_on_meaning(error: NetError) -> Result<Step, AllocError>
     ensures ok { IsOk result → error ≢ Memory }
     ensures err { IsErr result → error ≡ Memory }
 {
-    match error {
+    if matches!(&error, NetError::Memory) {
         // There was no memory for the response.
-        NetError::Memory => Err(AllocError),
-        error => Ok(step_on_error(error)),
+        return Err(AllocError);
     }
+    Ok(step_on_error(error))
 }
 
 /// Returns what an error leads to: a negative answer is stored, any other error is not.
@@ -100,20 +100,9 @@ fn step_on_error(error: NetError) -> Step
     ensures { (settings : LookupSettings) (q : Query) (kept : _) (depth : ℕ)
         → result ≡ step_on settings q kept depth (Err error) }
 {
-    match error {
-        NetError::Dns(error) => step_on_dns_error(error),
-        error => Step::Stops(error),
-    }
-}
-
-/// Returns what an error of a server leads to.
-fn step_on_dns_error(error: DnsError) -> Step
-    ensures { (settings : LookupSettings) (q : Query) (kept : _) (depth : ℕ)
-        → result ≡ step_on settings q kept depth (Err (Dns error)) }
-{
-    match error {
-        DnsError::NoRecordsFound(answer) => Step::Misses(answer),
-        error => Step::Stops(NetError::Dns(error)),
+    match error.into_no_records() {
+        Ok(answer) => Step::Misses(answer),
+        Err(error) => Step::Stops(error),
     }
 }
 

@@ -27,7 +27,7 @@ pub(super) fn store_message(
         (given_reply cache.old.config now query message) result cache.new }
 {
     let lookup = given_lookup(alloc, cache, &query, &message, now);
-    let stored = cache.insert(query, Ok(message), now);
+    let stored = cache.insert_message(query, message, now);
     lookup_if_stored(stored, lookup)
 }
 
@@ -73,7 +73,7 @@ pub(super) fn store_answer(
     ensures { Stores now cache.old query (Some (Err answer)) (negative answer) result cache.new }
 {
     let copy = answer.clone(alloc);
-    let stored = cache.insert(query, Err(no_records_found(answer)), now);
+    let stored = cache.insert_answer(query, answer, now);
     answer_if_stored(stored, copy)
 }
 
@@ -133,7 +133,7 @@ fn insert_response(
         cache.new ≡ storing cache.old query (Ok message) now)) }
     ensures memory { OnErr result (cache.new ≡ cache.old) }
 {
-    cache.insert(query, Ok(response?), now)
+    cache.insert_message(query, response?, now)
 }
 
 /// Stores an error to which the alias of a question led, if it is a negative answer, and returns it.
@@ -147,27 +147,9 @@ fn store_failure(
     requires { now ≤ 2 ^ 62 }
     ensures { Stores now cache.old query (kept_of query (Err error)) (Err error) result cache.new }
 {
-    match error {
-        NetError::Dns(error) => store_error(alloc, cache, query, error, now),
-        error => Err(error),
-    }
-}
-
-/// Stores an error of a server to which the alias of a question led, if it is a negative answer, and returns it.
-fn store_error(
-    alloc: Global,
-    cache: &mut ResponseCache,
-    query: Query,
-    error: DnsError,
-    now: Moment,
-) -> Result<Lookup, NetError>
-    requires { now ≤ 2 ^ 62 }
-    ensures { Stores now cache.old query (kept_of query (Err (Dns error))) (Err (Dns error))
-        result cache.new }
-{
-    match error {
-        DnsError::NoRecordsFound(answer) => store_answer(alloc, cache, query, answer, now),
-        error => Err(NetError::Dns(error)),
+    match error.into_no_records() {
+        Ok(answer) => store_answer(alloc, cache, query, answer, now),
+        Err(error) => Err(error),
     }
 }
 
