@@ -1,5 +1,5 @@
 -- Types without fields.
-use Rattle.std.proofs.Common.{◌≡◌, ◌≢◌, [], ◌∷◌, refl}
+use Rattle.std.proofs.Common.{◌≡◌, ◌≢◌, [], ◌∷◌, refl, rules}
 use Rattle.dns_codes.specs.declared.record_type.RecordType.{RecordType}
 use Rattle.dns_codes.specs.declared.record_type.RecordType.TheVariants.{A, AAAA, CNAME, NS, PTR, MX, SOA, SRV, TXT, OPT}
 use Rattle.dns_data.specs.Field.{Opaque}
@@ -8,13 +8,4 @@ use Rattle.dns_data.specs.rdata.{kinds_of_type}
 -- a type that is none of those with fields has opaque data
 pub opaque_kinds : (t : RecordType) → t ≢ A → t ≢ AAAA → t ≢ CNAME → t ≢ NS → t ≢ PTR → t ≢ MX → t ≢ SOA → t ≢ SRV → t ≢ TXT → t ≢ OPT → kinds_of_type t ≡ Opaque ∷ []
 opaque_kinds A a aaaa cname ns ptr mx soa srv txt opt = absurd (a refl)
-opaque_kinds AAAA a aaaa cname ns ptr mx soa srv txt opt = absurd (aaaa refl)
-opaque_kinds CNAME a aaaa cname ns ptr mx soa srv txt opt = absurd (cname refl)
-opaque_kinds NS a aaaa cname ns ptr mx soa srv txt opt = absurd (ns refl)
-opaque_kinds PTR a aaaa cname ns ptr mx soa srv txt opt = absurd (ptr refl)
-opaque_kinds MX a aaaa cname ns ptr mx soa srv txt opt = absurd (mx refl)
-opaque_kinds SOA a aaaa cname ns ptr mx soa srv txt opt = absurd (soa refl)
-opaque_kinds SRV a aaaa cname ns ptr mx soa srv txt opt = absurd (srv refl)
-opaque_kinds TXT a aaaa cname ns ptr mx soa srv txt opt = absurd (txt refl)
-opaque_kinds OPT a aaaa cname ns ptr mx soa srv txt opt = absurd (opt refl)
-opaque_kinds t a aaaa cname ns ptr mx soa srv txt opt = refl
+opaque_kinds t a aaaa cname ns ptr mx soa srv txt opt = search rules

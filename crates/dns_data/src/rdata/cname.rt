@@ -1,20 +1,25 @@
 //! Canonical names of aliases (RFC 1035 section 3.3.1).
 
-ghost use Rattle.std.specs.Prelude.{◌≡◌, ◌≢◌, ℕ, IfOk, IfErr, option_map};
-ghost use Rattle.dns_data.specs.Wire.{ValuesAt, RefusesFields};
+ghost use Rattle.std.specs.Prelude.{◌≡◌, IfOk};
 ghost use Rattle.dns_data.specs.rdata.CNAME.{cname_kinds, cname_values};
-ghost use Rattle.dns_data.specs.Text.{AreParsed, RefusesTokens};
 
-use crate::error::RDataParseError;
-use crate::text::DataTokens;
+use crate::fields::FixedData;
 use dns_names::Name;
-use dns_wire::{BinDecoder, BinEncodable, BinEncoder, DecodeError, EncodeError, RDataEncoding};
-use std::alloc::{AllocError, Global};
+use dns_wire::{BinEncodable, BinEncoder, EncodeError, RDataEncoding};
+use std::alloc::AllocError;
 use std::fmt;
 
 /// The canonical name of an alias (RFC 1035 section 3.3.1).
 #[derive(Debug, Drop, PartialEq, Eq, PartialOrd, Ord)]
 pub struct CNAME(pub Name);
+
+impl FixedData<(Name, ())> for CNAME {
+    ghost fields = { cname_values };
+
+    fn from_fields(given: (Name, ())) -> CNAME {
+        CNAME(given.0)
+    }
+}
 
 impl CNAME {
     ghost use Rattle.dns_data.specs.declared.rdata.cname.CNAME.{CNAME};
@@ -24,17 +29,6 @@ impl CNAME {
         ensures { IfOk result (λ copy. copy ≡ self.now) }
     {
         Ok(CNAME(self.0.clone()?))
-    }
-
-    /// Reads the data.
-    pub(crate) fn read(alloc: Global, decoder: &mut BinDecoder<'_>) -> Result<CNAME, DecodeError>
-        ensures read { IfOk result (λ c. (data_end : ℕ) → ValuesAt decoder.old.bytes data_end
-            cname_kinds decoder.old.index (cname_values c) decoder.new.index) }
-        ensures refused { IfErr result (λ error. error ≢ DecodeError.Memory → (data_end : ℕ)
-            → RefusesFields decoder.old.bytes data_end cname_kinds decoder.old.index error) }
-        ensures bytes { decoder.new.bytes ≡ decoder.old.bytes }
-    {
-        Ok(CNAME(Name::read(alloc, decoder)?))
     }
 }
 
@@ -65,21 +59,6 @@ impl CNAME {
         ensures { result ≡ values_len cname_kinds (cname_values self.now) }
     {
         self.0.encoded_len() as u128
-    }
-
-    /// Parses the data from its tokens.
-    pub(crate) fn parse(
-        alloc: Global,
-        tokens: &mut DataTokens<'_, '_>,
-        origin: Option<&Name>,
-    ) -> Result<CNAME, RDataParseError>
-        ensures parsed { IfOk result (λ c. AreParsed (option_map (λ o. o.now) origin.entry)
-            cname_kinds tokens.old (cname_values c)) }
-        ensures refused { IfErr result (λ error. error ≢ RDataParseError.Memory
-            → RefusesTokens (option_map (λ o. o.now) origin.entry)
-            cname_kinds tokens.old error) }
-    {
-        Ok(CNAME(tokens.only_name(alloc, origin)?))
     }
 }
 

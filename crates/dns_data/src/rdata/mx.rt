@@ -1,17 +1,12 @@
 //! Mail exchanges (RFC 1035 section 3.3.9).
 
-ghost use Rattle.std.specs.Prelude.{◌≡◌, ◌≢◌, ℕ, IfOk, IfErr, option_map};
-ghost use Rattle.dns_data.specs.Wire.{ValuesAt, RefusesFields};
+ghost use Rattle.std.specs.Prelude.{◌≡◌, IfOk};
 ghost use Rattle.dns_data.specs.rdata.MX.{mx_kinds, mx_values};
-ghost use Rattle.dns_data.specs.Text.{AreParsed, RefusesTokens};
 
-use crate::error::RDataParseError;
-use crate::text::DataTokens;
+use crate::fields::FixedData;
 use dns_names::Name;
-use dns_wire::{
-    BinDecodable, BinDecoder, BinEncodable, BinEncoder, DecodeError, EncodeError, RDataEncoding,
-};
-use std::alloc::{AllocError, Global};
+use dns_wire::{BinEncodable, BinEncoder, EncodeError, RDataEncoding};
+use std::alloc::AllocError;
 use std::fmt;
 
 /// A mail exchange (RFC 1035 section 3.3.9).
@@ -21,6 +16,18 @@ pub struct MX {
     pub preference: u16,
     /// The host that receives mail.
     pub exchange: Name,
+}
+
+impl FixedData<(u16, (Name, ()))> for MX {
+    ghost fields = { mx_values };
+
+    fn from_fields(given: (u16, (Name, ()))) -> MX {
+        let (preference, (exchange, _)) = given;
+        MX {
+            preference,
+            exchange,
+        }
+    }
 }
 
 impl MX {
@@ -33,22 +40,6 @@ impl MX {
         Ok(MX {
             preference: self.preference,
             exchange: self.exchange.clone()?,
-        })
-    }
-
-    /// Reads the data.
-    pub(crate) fn read(alloc: Global, decoder: &mut BinDecoder<'_>) -> Result<MX, DecodeError>
-        ensures read { IfOk result (λ mx. (data_end : ℕ) → ValuesAt decoder.old.bytes data_end
-            mx_kinds decoder.old.index (mx_values mx) decoder.new.index) }
-        ensures refused { IfErr result (λ error. error ≢ DecodeError.Memory → (data_end : ℕ)
-            → RefusesFields decoder.old.bytes data_end mx_kinds decoder.old.index error) }
-        ensures bytes { decoder.new.bytes ≡ decoder.old.bytes }
-    {
-        let preference = u16::read(alloc, decoder)?;
-        let exchange = Name::read(alloc, decoder)?;
-        Ok(MX {
-            preference,
-            exchange,
         })
     }
 }
@@ -81,26 +72,6 @@ impl MX {
         ensures { result ≡ values_len mx_kinds (mx_values self.now) }
     {
         2 + self.exchange.encoded_len() as u128
-    }
-
-    /// Parses the data from its tokens.
-    pub(crate) fn parse(
-        alloc: Global,
-        tokens: &mut DataTokens<'_, '_>,
-        origin: Option<&Name>,
-    ) -> Result<MX, RDataParseError>
-        ensures parsed { IfOk result (λ m. AreParsed (option_map (λ o. o.now) origin.entry)
-            mx_kinds tokens.old (mx_values m)) }
-        ensures refused { IfErr result (λ error. error ≢ RDataParseError.Memory
-            → RefusesTokens (option_map (λ o. o.now) origin.entry)
-            mx_kinds tokens.old error) }
-    {
-        let preference = tokens.number16()?;
-        let exchange = tokens.only_name(alloc, origin)?;
-        Ok(MX {
-            preference,
-            exchange,
-        })
     }
 }
 
