@@ -107,10 +107,7 @@ fn read_copy(
 }
 
 /// The length of the data of a record, and the record, whose data is read behind its head.
-fn record_behind_head(
-    alloc: Global,
-    decoder: &mut BinDecoder<'_>,
-) -> Result<String, DecodeError> {
+fn record_behind_head(alloc: Global, decoder: &mut BinDecoder<'_>) -> Result<String, DecodeError> {
     let head = RecordHead::read(alloc, decoder)?;
     let mut text = format!(in alloc; "{} ", head.len)?;
     push_record(&mut text, &head.read_data(alloc, decoder)?)?;

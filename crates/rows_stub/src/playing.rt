@@ -1,7 +1,7 @@
 //! Whole runs, from the contents of the files to what is printed.
 
-use rows_text::name_of;
 use rows::{Answer, RowFault, bytes_of, parsed, split};
+use rows_text::name_of;
 use std::alloc::Global;
 use std::fmt::Write;
 use stub_play::{PlayInput, play};

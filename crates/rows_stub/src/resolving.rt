@@ -2,8 +2,8 @@
 
 use crate::asking::{datagrams, handle_of};
 use crate::list_link::ListLink;
-use rows_text::{error_text, reply_text, resolver_config_of, resolver_options_of, type_of};
 use rows::{Answer, RowFault, split, two_words};
+use rows_text::{error_text, reply_text, resolver_config_of, resolver_options_of, type_of};
 use std::alloc::Global;
 use stub_core::{Resolver, ResolverBuilder};
 use stub_link::WireHandle;

@@ -12,10 +12,7 @@ use stub_config::{LookupIpStrategy, ResolveHosts, ResolverConfig, ResolverOpts};
 type Limits = (Option<u32>, Option<u32>);
 
 /// The configuration of settings: `domain:NAME`, and `search:NAMES`, which commas part.
-pub fn resolver_config_of(
-    alloc: Global,
-    settings: &str,
-) -> Result<Box<ResolverConfig>, RowFault> {
+pub fn resolver_config_of(alloc: Global, settings: &str) -> Result<Box<ResolverConfig>, RowFault> {
     let mut config = Box::new(alloc, ResolverConfig::default(alloc))?;
     for word in settings.split(' ') {
         set_name(alloc, &mut config, word)?;

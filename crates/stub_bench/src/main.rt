@@ -67,9 +67,12 @@ fn refuse(rt: &(impl Print + Eprint), error: Error) -> Result<ExitCode> {
 
 /// The program's command, for clap.
 fn bench_command<'a>(alloc: Global) -> Result<Command<'a>, AllocError> {
-    let command = Command::new(alloc, "stub_bench")
-        .about("Repeats an operation on fixed inputs, and prints a checksum of what it gave");
-    command.arg(operation_argument(alloc))?.arg(count_argument(alloc))
+    let command = Command::new(alloc, "stub_bench").about(
+        "Repeats an operation on fixed inputs, and prints a checksum of what it gave",
+    );
+    command
+        .arg(operation_argument(alloc))?
+        .arg(count_argument(alloc))
 }
 
 /// The argument that names the operation.
