@@ -4,10 +4,10 @@ use crate::ids::ids_of;
 use crate::list_link::ListLink;
 use crate::request::request_of;
 use dns_messages::{DnsResponse, Query};
-use rows_text::{error_text, push_question, push_records, question_of};
 use rows::{
     Answer, RowFault, digits_of, parsed, push_answer, split, text, two_words, word_and_rest,
 };
+use rows_text::{error_text, push_question, push_records, question_of};
 use std::alloc::{AllocError, Global};
 use std::fmt::Write;
 use stub_config::DnsRequestOptions;
