@@ -1,6 +1,6 @@
 use Rattle.std.proofs.Common.{◌<◌, ◌≤◌, arith, rules}
 use Rattle.dns_data.proofs.DecodingLaws.{within_number}
-use Rattle.dns_data.proofs.wire.read_option.Goals as goal
+use Rattle.dns_data.proofs.wire.EdnsOptionItem.read_item.Goals as goal
 
 pub read_octets-requires : goal.read_octets-requires
 read_octets-requires c =
