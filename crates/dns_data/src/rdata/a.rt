@@ -44,7 +44,6 @@ impl A {
 impl fmt::Display for A {
     ghost use Rattle.std.specs.Prelude.{Some};
     ghost use Rattle.dns_data.specs.Text.{values_text};
-    ghost use Rattle.dns_data.specs.rdata.A.{a_kinds, a_values};
 
     ghost output = { λ a. Some (values_text a_kinds (a_values a)) };
 

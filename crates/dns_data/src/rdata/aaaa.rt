@@ -44,7 +44,6 @@ impl AAAA {
 impl fmt::Display for AAAA {
     ghost use Rattle.std.specs.Prelude.{Some};
     ghost use Rattle.dns_data.specs.Text.{values_text};
-    ghost use Rattle.dns_data.specs.rdata.AAAA.{aaaa_kinds, aaaa_values};
 
     ghost output = { λ a. Some (values_text aaaa_kinds (aaaa_values a)) };
 

@@ -22,6 +22,7 @@ impl FixedData<(Name, ())> for CNAME {
 }
 
 impl CNAME {
+    ghost use Rattle.dns_data.specs.Field.{values_len};
     ghost use Rattle.dns_data.specs.declared.rdata.cname.CNAME.{CNAME};
 
     /// Clones the data.
@@ -29,6 +30,13 @@ impl CNAME {
         ensures { IfOk result (λ copy. copy ≡ self.now) }
     {
         Ok(CNAME(self.0.clone()?))
+    }
+
+    /// Returns the length of the data's uncompressed encoding.
+    pub fn encoded_len(&self) -> u128
+        ensures { result ≡ values_len cname_kinds (cname_values self.now) }
+    {
+        self.0.encoded_len() as u128
     }
 }
 
@@ -51,21 +59,9 @@ impl BinEncodable for CNAME {
     }
 }
 
-impl CNAME {
-    ghost use Rattle.dns_data.specs.Field.{values_len};
-
-    /// Returns the length of the data's uncompressed encoding.
-    pub fn encoded_len(&self) -> u128
-        ensures { result ≡ values_len cname_kinds (cname_values self.now) }
-    {
-        self.0.encoded_len() as u128
-    }
-}
-
 impl fmt::Display for CNAME {
     ghost use Rattle.std.specs.Prelude.{Some};
     ghost use Rattle.dns_data.specs.Text.{values_text};
-    ghost use Rattle.dns_data.specs.rdata.CNAME.{cname_kinds, cname_values};
 
     ghost output = { λ c. Some (values_text cname_kinds (cname_values c)) };
 

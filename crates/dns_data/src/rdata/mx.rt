@@ -31,6 +31,7 @@ impl FixedData<(u16, (Name, ()))> for MX {
 }
 
 impl MX {
+    ghost use Rattle.dns_data.specs.Field.{values_len};
     ghost use Rattle.dns_data.specs.declared.rdata.mx.MX.{MX};
 
     /// Clones the data.
@@ -41,6 +42,13 @@ impl MX {
             preference: self.preference,
             exchange: self.exchange.clone()?,
         })
+    }
+
+    /// Returns the length of the data's uncompressed encoding.
+    pub fn encoded_len(&self) -> u128
+        ensures { result ≡ values_len mx_kinds (mx_values self.now) }
+    {
+        2 + self.exchange.encoded_len() as u128
     }
 }
 
@@ -64,21 +72,9 @@ impl BinEncodable for MX {
     }
 }
 
-impl MX {
-    ghost use Rattle.dns_data.specs.Field.{values_len};
-
-    /// Returns the length of the data's uncompressed encoding.
-    pub fn encoded_len(&self) -> u128
-        ensures { result ≡ values_len mx_kinds (mx_values self.now) }
-    {
-        2 + self.exchange.encoded_len() as u128
-    }
-}
-
 impl fmt::Display for MX {
     ghost use Rattle.std.specs.Prelude.{Some};
     ghost use Rattle.dns_data.specs.Text.{values_text};
-    ghost use Rattle.dns_data.specs.rdata.MX.{mx_kinds, mx_values};
 
     ghost output = { λ m. Some (values_text mx_kinds (mx_values m)) };
 

@@ -22,6 +22,7 @@ impl FixedData<(Name, ())> for NS {
 }
 
 impl NS {
+    ghost use Rattle.dns_data.specs.Field.{values_len};
     ghost use Rattle.dns_data.specs.declared.rdata.ns.NS.{NS};
 
     /// Clones the data.
@@ -29,6 +30,13 @@ impl NS {
         ensures { IfOk result (λ copy. copy ≡ self.now) }
     {
         Ok(NS(self.0.clone()?))
+    }
+
+    /// Returns the length of the data's uncompressed encoding.
+    pub fn encoded_len(&self) -> u128
+        ensures { result ≡ values_len ns_kinds (ns_values self.now) }
+    {
+        self.0.encoded_len() as u128
     }
 }
 
@@ -51,21 +59,9 @@ impl BinEncodable for NS {
     }
 }
 
-impl NS {
-    ghost use Rattle.dns_data.specs.Field.{values_len};
-
-    /// Returns the length of the data's uncompressed encoding.
-    pub fn encoded_len(&self) -> u128
-        ensures { result ≡ values_len ns_kinds (ns_values self.now) }
-    {
-        self.0.encoded_len() as u128
-    }
-}
-
 impl fmt::Display for NS {
     ghost use Rattle.std.specs.Prelude.{Some};
     ghost use Rattle.dns_data.specs.Text.{values_text};
-    ghost use Rattle.dns_data.specs.rdata.NS.{ns_kinds, ns_values};
 
     ghost output = { λ n. Some (values_text ns_kinds (ns_values n)) };
 

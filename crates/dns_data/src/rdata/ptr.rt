@@ -22,6 +22,7 @@ impl FixedData<(Name, ())> for PTR {
 }
 
 impl PTR {
+    ghost use Rattle.dns_data.specs.Field.{values_len};
     ghost use Rattle.dns_data.specs.declared.rdata.ptr.PTR.{PTR};
 
     /// Clones the data.
@@ -29,6 +30,13 @@ impl PTR {
         ensures { IfOk result (λ copy. copy ≡ self.now) }
     {
         Ok(PTR(self.0.clone()?))
+    }
+
+    /// Returns the length of the data's uncompressed encoding.
+    pub fn encoded_len(&self) -> u128
+        ensures { result ≡ values_len ptr_kinds (ptr_values self.now) }
+    {
+        self.0.encoded_len() as u128
     }
 }
 
@@ -51,21 +59,9 @@ impl BinEncodable for PTR {
     }
 }
 
-impl PTR {
-    ghost use Rattle.dns_data.specs.Field.{values_len};
-
-    /// Returns the length of the data's uncompressed encoding.
-    pub fn encoded_len(&self) -> u128
-        ensures { result ≡ values_len ptr_kinds (ptr_values self.now) }
-    {
-        self.0.encoded_len() as u128
-    }
-}
-
 impl fmt::Display for PTR {
     ghost use Rattle.std.specs.Prelude.{Some};
     ghost use Rattle.dns_data.specs.Text.{values_text};
-    ghost use Rattle.dns_data.specs.rdata.PTR.{ptr_kinds, ptr_values};
 
     ghost output = { λ p. Some (values_text ptr_kinds (ptr_values p)) };
 

@@ -62,6 +62,7 @@ impl FixedData<(Name, (Name, (u32, (Time, (Time, (Time, (Time, ())))))))> for SO
 }
 
 impl SOA {
+    ghost use Rattle.dns_data.specs.Field.{values_len};
     ghost use Rattle.dns_data.specs.declared.rdata.soa.SOA.{SOA};
 
     /// Clones the data.
@@ -92,6 +93,13 @@ impl SOA {
         encoder.emit_u32(self.expire)?;
         encoder.emit_u32(self.minimum)
     }
+
+    /// Returns the length of the data's uncompressed encoding.
+    pub fn encoded_len(&self) -> u128
+        ensures { result ≡ values_len soa_kinds (soa_values self.now) }
+    {
+        self.mname.encoded_len() as u128 + self.rname.encoded_len() as u128 + 20
+    }
 }
 
 impl Clone for SOA {
@@ -114,21 +122,9 @@ impl BinEncodable for SOA {
     }
 }
 
-impl SOA {
-    ghost use Rattle.dns_data.specs.Field.{values_len};
-
-    /// Returns the length of the data's uncompressed encoding.
-    pub fn encoded_len(&self) -> u128
-        ensures { result ≡ values_len soa_kinds (soa_values self.now) }
-    {
-        self.mname.encoded_len() as u128 + self.rname.encoded_len() as u128 + 20
-    }
-}
-
 impl fmt::Display for SOA {
     ghost use Rattle.std.specs.Prelude.{Some};
     ghost use Rattle.dns_data.specs.Text.{values_text};
-    ghost use Rattle.dns_data.specs.rdata.SOA.{soa_kinds, soa_values};
 
     ghost output = { λ s. Some (values_text soa_kinds (soa_values s)) };
 

@@ -36,6 +36,7 @@ impl FixedData<(u16, (u16, (u16, (Whole, ()))))> for SRV {
 }
 
 impl SRV {
+    ghost use Rattle.dns_data.specs.Field.{values_len};
     ghost use Rattle.dns_data.specs.declared.rdata.srv.SRV.{SRV};
 
     /// Clones the data.
@@ -48,6 +49,13 @@ impl SRV {
             port: self.port,
             target: self.target.clone()?,
         })
+    }
+
+    /// Returns the length of the data's uncompressed encoding.
+    pub fn encoded_len(&self) -> u128
+        ensures { result ≡ values_len srv_kinds (srv_values self.now) }
+    {
+        6 + self.target.encoded_len() as u128
     }
 }
 
@@ -73,21 +81,9 @@ impl BinEncodable for SRV {
     }
 }
 
-impl SRV {
-    ghost use Rattle.dns_data.specs.Field.{values_len};
-
-    /// Returns the length of the data's uncompressed encoding.
-    pub fn encoded_len(&self) -> u128
-        ensures { result ≡ values_len srv_kinds (srv_values self.now) }
-    {
-        6 + self.target.encoded_len() as u128
-    }
-}
-
 impl fmt::Display for SRV {
     ghost use Rattle.std.specs.Prelude.{Some};
     ghost use Rattle.dns_data.specs.Text.{values_text};
-    ghost use Rattle.dns_data.specs.rdata.SRV.{srv_kinds, srv_values};
 
     ghost output = { λ s. Some (values_text srv_kinds (srv_values s)) };
 
