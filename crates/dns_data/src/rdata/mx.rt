@@ -3,9 +3,9 @@
 ghost use Rattle.std.specs.Prelude.{◌≡◌, IfOk};
 ghost use Rattle.dns_data.specs.rdata.MX.{mx_kinds, mx_values};
 
-use crate::fields::FixedData;
+use crate::fields::{FixedData, WriteFields};
 use dns_names::Name;
-use dns_wire::{BinEncodable, BinEncoder, EncodeError, RDataEncoding};
+use dns_wire::{BinEncodable, BinEncoder, EncodeError};
 use std::alloc::AllocError;
 use std::fmt;
 
@@ -48,7 +48,7 @@ impl MX {
     pub fn encoded_len(&self) -> u128
         ensures { result ≡ values_len mx_kinds (mx_values self.now) }
     {
-        2 + self.exchange.encoded_len() as u128
+        (self.preference, (&self.exchange, ())).fields_len()
     }
 }
 
@@ -66,9 +66,7 @@ impl BinEncodable for MX {
     ghost pieces = { λ mx s. values_pieces s.canonical mx_kinds (mx_values mx) };
 
     fn emit(&self, encoder: &mut BinEncoder<'_>) -> Result<(), EncodeError> {
-        encoder.emit_u16(self.preference)?;
-        self.exchange
-            .emit_with_behavior(RDataEncoding::StandardRecord, encoder)
+        (self.preference, (&self.exchange, ())).emit_fields(encoder)
     }
 }
 

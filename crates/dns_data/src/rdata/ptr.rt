@@ -3,9 +3,9 @@
 ghost use Rattle.std.specs.Prelude.{◌≡◌, IfOk};
 ghost use Rattle.dns_data.specs.rdata.PTR.{ptr_kinds, ptr_values};
 
-use crate::fields::FixedData;
+use crate::fields::{FixedData, WriteFields};
 use dns_names::Name;
-use dns_wire::{BinEncodable, BinEncoder, EncodeError, RDataEncoding};
+use dns_wire::{BinEncodable, BinEncoder, EncodeError};
 use std::alloc::AllocError;
 use std::fmt;
 
@@ -36,7 +36,7 @@ impl PTR {
     pub fn encoded_len(&self) -> u128
         ensures { result ≡ values_len ptr_kinds (ptr_values self.now) }
     {
-        self.0.encoded_len() as u128
+        (&self.0, ()).fields_len()
     }
 }
 
@@ -54,8 +54,7 @@ impl BinEncodable for PTR {
     ghost pieces = { λ p s. values_pieces s.canonical ptr_kinds (ptr_values p) };
 
     fn emit(&self, encoder: &mut BinEncoder<'_>) -> Result<(), EncodeError> {
-        self.0
-            .emit_with_behavior(RDataEncoding::StandardRecord, encoder)
+        (&self.0, ()).emit_fields(encoder)
     }
 }
 

@@ -3,9 +3,9 @@
 ghost use Rattle.std.specs.Prelude.{◌≡◌, IfOk};
 ghost use Rattle.dns_data.specs.rdata.SRV.{srv_kinds, srv_values};
 
-use crate::fields::{FixedData, Whole};
+use crate::fields::{FixedData, Whole, WholeRef, WriteFields};
 use dns_names::Name;
-use dns_wire::{BinEncodable, BinEncoder, EncodeError, RDataEncoding};
+use dns_wire::{BinEncodable, BinEncoder, EncodeError};
 use std::alloc::AllocError;
 use std::fmt;
 
@@ -55,7 +55,11 @@ impl SRV {
     pub fn encoded_len(&self) -> u128
         ensures { result ≡ values_len srv_kinds (srv_values self.now) }
     {
-        6 + self.target.encoded_len() as u128
+        (
+            self.priority,
+            (self.weight, (self.port, (WholeRef(&self.target), ()))),
+        )
+            .fields_len()
     }
 }
 
@@ -73,11 +77,11 @@ impl BinEncodable for SRV {
     ghost pieces = { λ srv s. values_pieces s.canonical srv_kinds (srv_values srv) };
 
     fn emit(&self, encoder: &mut BinEncoder<'_>) -> Result<(), EncodeError> {
-        encoder.emit_u16(self.priority)?;
-        encoder.emit_u16(self.weight)?;
-        encoder.emit_u16(self.port)?;
-        self.target
-            .emit_with_behavior(RDataEncoding::Canonical, encoder)
+        (
+            self.priority,
+            (self.weight, (self.port, (WholeRef(&self.target), ()))),
+        )
+            .emit_fields(encoder)
     }
 }
 
