@@ -23,7 +23,7 @@ use Rattle.dns_wire.specs.declared.name_encoding.NameEncoding.TheVariants.{Uncom
 use Rattle.dns_wire.specs.declared.error.DecodeError.{DecodeError}
 use Rattle.dns_names.specs.Name.{DomainName}
 use Rattle.dns_text.specs.Lexer.{Lexeme}
-use Rattle.dns_data.specs.Field.{Kind, Opaque, Values, option_form, values_pieces, values_len, AreSoundValues}
+use Rattle.dns_data.specs.Field.{Kind, Opaque, Values, OptionValue, option_form, values_pieces, values_len, AreSoundValues}
 use Rattle.dns_data.specs.Text.{AreParsed, RefusesTokens, values_text, has_text, generic_text}
 use Rattle.dns_data.specs.declared.error.RDataParseError.{RDataParseError}
 use Rattle.dns_data.specs.declared.error.RDataParseError.TheVariants.{UnsupportedRecordType}
@@ -31,6 +31,7 @@ use Rattle.dns_data.specs.Wire.{RefusesValues}
 use Rattle.dns_data.specs.contracts.rdata.RDataPartialEq.TheImpl.{eq-value}
 use Rattle.dns_data.specs.declared.rdata.RData.{RData}
 use Rattle.dns_data.specs.declared.rdata.RData.TheVariants as of
+use Rattle.dns_data.specs.declared.rdata.soa.SOA.{SOA as Authority}
 use Rattle.dns_data.specs.rdata.A.{a_kinds, a_values}
 use Rattle.dns_data.specs.rdata.AAAA.{aaaa_kinds, aaaa_values}
 use Rattle.dns_data.specs.rdata.CNAME.{cname_kinds, cname_values}
@@ -114,6 +115,16 @@ abbrev pub data_addr : RData → Option IpAddr
 data_addr (of.A a) = Some (V4 a.0)
 data_addr (of.AAAA a) = Some (V6 a.0)
 data_addr d = None
+
+-- the options of data that is an OPT record's
+abbrev pub data_options : RData → Option (List OptionValue)
+data_options (of.OPT options) = Some options
+data_options d = None
+
+-- the data of an SOA record
+abbrev pub data_soa : RData → Option Authority
+data_soa (of.SOA s) = Some s
+data_soa d = None
 
 -- whether data has no fields, as in an update (RFC 2136 section 2.4)
 abbrev pub is_update_data : RData → Bool

@@ -41,7 +41,7 @@ use std::net::{IpAddr, Ipv4Addr, Ipv6Addr};
 pub use txt::TXT;
 
 /// The data of a record.
-#[derive(Debug, Drop, PartialEq, Eq)]
+#[derive(Debug, PartialEq, Eq)]
 pub enum RData {
     A(A),
     AAAA(AAAA),
@@ -57,6 +57,25 @@ pub enum RData {
     Update0(RecordType),
     /// Opaque data of a type without fields (RFC 3597).
     Unknown { code: RecordType, rdata: OptionData },
+}
+
+impl Drop for RData {
+    fn drop(self) {
+        match self {
+            RData::A(_a) => {}
+            RData::AAAA(_aaaa) => {}
+            RData::CNAME(cname) => drop(cname),
+            RData::NS(ns) => drop(ns),
+            RData::PTR(ptr) => drop(ptr),
+            RData::MX(mx) => drop(mx),
+            RData::SOA(soa) => drop(soa),
+            RData::SRV(srv) => drop(srv),
+            RData::TXT(txt) => drop(txt),
+            RData::OPT(opt) => drop(opt),
+            RData::Update0(_record_type) => {}
+            RData::Unknown { code: _code, rdata } => drop(rdata),
+        }
+    }
 }
 
 impl RData {
@@ -166,7 +185,7 @@ impl BinEncodable for RData {
 }
 
 impl RData {
-    ghost use Rattle.dns_data.specs.rdata.{data_type, data_addr, whole_len};
+    ghost use Rattle.dns_data.specs.rdata.{data_type, data_addr, data_options, data_soa, whole_len};
 
     /// Returns the type of a record with this data.
     pub fn record_type(&self) -> RecordType
@@ -216,6 +235,26 @@ impl RData {
         match self {
             RData::A(a) => Some(IpAddr::V4(a.0)),
             RData::AAAA(aaaa) => Some(IpAddr::V6(aaaa.0)),
+            _ => None,
+        }
+    }
+
+    /// Returns `OPT` data, without copying it, and `None` for data of another type.
+    pub fn into_opt(self) -> Option<OPT>
+        ensures { result ≡ data_options self }
+    {
+        match self {
+            RData::OPT(opt) => Some(opt),
+            _ => None,
+        }
+    }
+
+    /// Returns `SOA` data, without copying it, and `None` for data of another type.
+    pub fn into_soa(self) -> Option<SOA>
+        ensures { result ≡ data_soa self }
+    {
+        match self {
+            RData::SOA(soa) => Some(soa),
             _ => None,
         }
     }

@@ -1,7 +1,8 @@
 -- The header: what is encoded decodes to itself, and what is read.
-use Rattle.std.proofs.Common.{◌≡◌, ℕ, ◌+◌, ◌*◌, ◌/◌, ◌%◌, ◌^◌, ◌<◌, Bool, true, false, cond, eqb, List, [], ◌∷◌, ◌++◌, length, get_or, zero, suc, drop, take, refl, sym, ap, subst, ◌∙◌, arith, drop-cons}
-use Rattle.std.specs.Int.{w16, to_be_bytes}
-use Rattle.std.proofs.lemmas.Nat.{be_bytes_2}
+use Rattle.std.proofs.Common.{◌≡◌, ℕ, ◌+◌, ◌*◌, ◌/◌, ◌%◌, ◌^◌, ◌<◌, ◌≤◌, Some, Bool, true, false, cond, eqb, List, [], ◌∷◌, ◌++◌, length, get_or, zero, suc, drop, take, refl, sym, ap, subst, ◌∙◌, arith, drop-cons}
+use Rattle.std.specs.Int.{w16, to_be_bytes, from_be_bytes}
+use Rattle.std.proofs.lemmas.Bool.{le-leb}
+use Rattle.std.proofs.lemmas.Nat.{be_bytes_2, from_be_bytes-to_be_bytes_2}
 use Rattle.std.proofs.Math.Seq.{drop-length, take-length}
 use Rattle.dns_wire.specs.Decoder.{Decoder, rest, Advances}
 use Rattle.dns_wire.specs.Encodable.{BytesAt}
@@ -12,7 +13,7 @@ use Rattle.dns_messages.specs.declared.op_code.OpCode.{OpCode}
 use Rattle.dns_messages.specs.declared.response_code.ResponseCode.{ResponseCode}
 use Rattle.dns_messages.specs.declared.header.Metadata.{Metadata}
 use Rattle.dns_messages.specs.declared.header.Header.{Header}
-use Rattle.dns_messages.specs.Header.{bit, kind_bit, op_number, op_of, code_number, code_of, third_byte, fourth_byte, metadata_of, header_layout, encoded_header, DecodesHeader, FitsHeader, IsSoundHeader}
+use Rattle.dns_messages.specs.Header.{bit, kind_bit, op_number, op_of, code_number, code_of, third_byte, fourth_byte, metadata_of, peeked_metadata, header_layout, encoded_header, DecodesHeader, FitsHeader, IsSoundHeader}
 
 -- ---- the bits of two bytes
 
@@ -170,3 +171,20 @@ header_read old new bytes h len e moved d =
       id_fits = d.id_fits;
       counts_fit = d.counts_fit;
     }
+
+-- the metadata of bytes that begin with a header
+pub peeked : (bytes : List ℕ) (h : Header) → DecodesHeader bytes 0 h 12 → peeked_metadata bytes ≡ Some h.metadata
+peeked [] h r = absurd (omega (arith, r.there.within))
+peeked (a ∷ []) h r = absurd (omega (arith, r.there.within))
+peeked (a ∷ b ∷ []) h r = absurd (omega (arith, r.there.within))
+peeked (a ∷ b ∷ c ∷ []) h r = absurd (omega (arith, r.there.within))
+peeked (a ∷ b ∷ c ∷ d ∷ counts) h r =
+    let long : 8 ≤ length counts = omega (arith, r.there.within) in
+    let there : take 12 (a ∷ b ∷ c ∷ d ∷ counts) ≡ header_layout h.metadata.id r.third r.fourth h.counts.queries h.counts.answers h.counts.authorities h.counts.additionals = r.there.there in
+    let first : a ∷ b ∷ [] ≡ to_be_bytes w16 h.metadata.id = ap (λ (xs : List ℕ). take 2 xs) there in
+    let value : from_be_bytes w16 (a ∷ b ∷ []) ≡ h.metadata.id = ap (from_be_bytes w16) first ∙ from_be_bytes-to_be_bytes_2 h.metadata.id r.id_fits in
+    let number : 256 * a + b ≡ h.metadata.id = omega (arith, value) in
+    let third : c ≡ r.third = ap (λ (xs : List ℕ). get_or xs 2 0) there in
+    let fourth : d ≡ r.fourth = ap (λ (xs : List ℕ). get_or xs 3 0) there in
+    rw (le-leb 8 (length counts) long) (ap (λ (m : Metadata). Some m)
+    (ap (λ (n : ℕ). metadata_of n c d) number ∙ ap (λ (n : ℕ). metadata_of h.metadata.id n d) third ∙ ap (λ (n : ℕ). metadata_of h.metadata.id r.third n) fourth ∙ sym r.metadata))

@@ -9,4 +9,5 @@ pub mod MessageLaws
 pub mod PlacementLaws
 pub mod RefusalLaws
 pub mod SectionLaws
+pub mod SectionOrderLaws
 pub mod StrippingLaws

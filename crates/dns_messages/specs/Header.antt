@@ -1,5 +1,5 @@
 -- The header of a message (RFC 1035 section 4.1.1, with AD and CD of RFC 4035 section 3.2).
-use Rattle.std.specs.Prelude.{◌≡◌, ◌==◌, ◌+◌, ◌*◌, ◌/◌, ◌%◌, ◌^◌, ◌<◌, ◌++◌, if◌then◌else◌, Bool, false, List, ◌∷◌, ℕ, length, drop}
+use Rattle.std.specs.Prelude.{◌≡◌, ◌==◌, ◌+◌, ◌*◌, ◌/◌, ◌%◌, ◌^◌, ◌<◌, ◌++◌, if◌then◌else◌, Bool, false, nat_le, List, ◌∷◌, ℕ, length, drop, Option, Some, None}
 use Rattle.std.specs.Int.{w16, to_be_bytes}
 use Rattle.dns_wire.specs.Decodable.{BytesAt}
 use Rattle.dns_wire.specs.declared.error.DecodeError.{DecodeError}
@@ -105,6 +105,12 @@ metadata_of id third fourth = record {
   checking_disabled = has_bit 16 fourth;
   response_code = code_of (fourth % 16);
 }
+
+-- the metadata that bytes begin with, if they are twelve at least: an id, two bytes of flags, and eight of counts
+abbrev pub peeked_metadata : List ℕ → Option Metadata
+peeked_metadata (first ∷ second ∷ third ∷ fourth ∷ counts) =
+    if nat_le 8 (length counts) then Some (metadata_of (256 * first + second) third fourth) else None
+peeked_metadata bytes = None
 
 -- the counts have 16 bits each
 pub record DoCountsFit (counts : HeaderCounts) : Type 0 where

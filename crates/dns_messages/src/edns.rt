@@ -74,16 +74,14 @@ impl Edns {
             rdata,
         } = opt.into_parts();
         let max_payload = u16::from(dns_class);
-        match rdata {
-            RData::OPT(options) => Some(Edns {
-                rcode_high: (ttl / 16_777_216) as u8,
-                version: (ttl / 65_536 % 256) as u8,
-                flags: EdnsFlags::from((ttl % 65_536) as u16),
-                max_payload,
-                options,
-            }),
-            _ => None,
-        }
+        let options = rdata.into_opt()?;
+        Some(Edns {
+            rcode_high: (ttl / 16_777_216) as u8,
+            version: (ttl / 65_536 % 256) as u8,
+            flags: EdnsFlags::from((ttl % 65_536) as u16),
+            max_payload,
+            options,
+        })
     }
 
     /// Writes the OPT record with other upper eight bits of the response code. The options are not copied.

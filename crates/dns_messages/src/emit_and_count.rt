@@ -12,7 +12,7 @@ use std::slice::Iter;
 pub trait EmitAndCount {
     type Item: BinEncodable;
 
-    /// The items that are left to write.
+    /// The items to write.
     ghost items: { Self → List Self.Item };
 
     /// Returns the number of the items.
@@ -20,7 +20,7 @@ pub trait EmitAndCount {
         ensures { result ≡ length (items self.now) };
 
     /// Writes the items at the end, up to the first that does not fit, which is rolled back, and returns how many were
-    /// written.
+    /// written. No item is consumed, whether the call succeeds or not.
     fn emit(&mut self, encoder: &mut BinEncoder<'_>) -> Result<usize, EncodeError>
         requires at_end { IsAtEnd (state_of encoder.old) }
         requires behind { AllBehind (position_of (state_of encoder.old)) }
@@ -32,6 +32,7 @@ pub trait EmitAndCount {
             (fitting_pieces Self.Item.pieces (state_of encoder.old) (items self.old)) }
         ensures at_end { IsOk result → IsAtEnd (state_of encoder.new) }
         ensures behind { IsOk result → AllBehind (position_of (state_of encoder.new)) }
+        ensures same { self.new ≡ self.old }
         ensures memory { IfErr result (λ error. error ≡ EncodeError.Memory) }
         ensures back { OnErr result
             (CanRollBack (state_of encoder.old) (state_of encoder.new)) };

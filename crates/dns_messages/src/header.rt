@@ -1,10 +1,10 @@
 //! The header of a message (RFC 1035 section 4.1.1).
 
-ghost use Rattle.std.specs.Prelude.{◌≡◌, ◌≢◌, ◌<◌, ◌↔◌, List, [], ◌∷◌, ℕ, length, IfOk, IfErr, OnErr, refl};
+ghost use Rattle.std.specs.Prelude.{◌≡◌, ◌≢◌, ◌<◌, ◌↔◌, List, [], ◌∷◌, ℕ, length, Some, IfOk, IfErr, OnErr, refl};
 ghost use Rattle.std.proofs.Common.{rules};
 ghost use Rattle.dns_wire.specs.Decoder.{rest};
 ghost use Rattle.dns_wire.specs.Encodable.{Plain, BytesAt};
-ghost use Rattle.dns_messages.specs.Header.{has_bit, metadata_of, third_byte, fourth_byte, encoded_header, DecodesHeader, RefusesHeader, FitsHeader, IsSoundHeader};
+ghost use Rattle.dns_messages.specs.Header.{has_bit, metadata_of, peeked_metadata, third_byte, fourth_byte, encoded_header, DecodesHeader, RefusesHeader, FitsHeader, IsSoundHeader};
 ghost use Rattle.dns_messages.specs.declared.header.Metadata.{Metadata};
 ghost use Rattle.dns_messages.specs.declared.header.Header.{Header};
 
@@ -163,6 +163,20 @@ impl Metadata {
         }
     }
 
+    /// Decodes the metadata that bytes begin with. Returns `None` if there are fewer than twelve.
+    pub fn peek(bytes: &[u8]) -> Option<Metadata>
+        ensures { result ≡ peeked_metadata bytes.now }
+    {
+        let [first, second, third, fourth, counts @ ..] = bytes else {
+            return None;
+        };
+        if counts.len() < 8 {
+            return None;
+        }
+        let id = 256 * u16::from(*first) + u16::from(*second);
+        Some(Metadata::from_bytes(id, *third, *fourth))
+    }
+
     /// Encodes QR, the opcode, AA, TC and RD.
     fn third_byte(&self) -> u8
         ensures { result ≡ third_byte self.now }
@@ -298,6 +312,12 @@ impl BinDecodable for Header {
 
     ghost not_refused = { header_not_refused };
 }
+
+/// The metadata that bytes begin with is that of the header that they begin with.
+pub fn headers_are_peeked()
+    ensures { (bytes : List ℕ) (header : Header) → DecodesHeader bytes 0 header HEADER_LEN
+        → peeked_metadata bytes ≡ Some header.metadata }
+{}
 
 /// Metadata round-trips through its two bytes of flags, if its opcode and its response code are below 16 and are the
 /// variants that their numbers decode to.

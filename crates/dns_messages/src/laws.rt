@@ -3,8 +3,9 @@
 mod decoding;
 mod editing;
 mod encoding;
+mod sections;
 
-pub use crate::header::{headers_decode_as_encoded, metadata_round_trips};
+pub use crate::header::{headers_are_peeked, headers_decode_as_encoded, metadata_round_trips};
 pub use crate::response_code::{
     code_number_round_trips, code_parts_round_trip, decoded_codes_round_trip,
 };
@@ -14,3 +15,4 @@ pub use editing::{
     truncating_is_idempotent,
 };
 pub use encoding::{messages_within_the_limit_are_not_cut, sound_messages_keep_their_edns};
+pub use sections::sections_come_in_order;

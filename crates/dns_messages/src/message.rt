@@ -15,6 +15,7 @@ use crate::message_type::MessageType;
 use crate::op_code::OpCode;
 use crate::query::Query;
 use crate::response_code::ResponseCode;
+use dns_records::laws::copies_are_identical;
 use dns_records::{Record, Sequence};
 pub use parts::MessageParts;
 pub use section_iter::{IntoSections, Sections};
@@ -158,33 +159,72 @@ impl Message {
         let mut message = Message::query(alloc, 0);
         message.metadata = self.metadata;
         message.metadata.truncation = true;
-        message.queries = copy_queries(alloc, self.queries.as_slice())?;
+        message.queries = copy_queries(&self.queries)?;
         message.edns = copy_edns(&self.edns)?;
         Ok(message)
     }
 }
 
-ghost use Rattle.std.specs.Prelude.{IfOk};
-ghost use Rattle.dns_messages.specs.Message.{clear_metadata};
-ghost use Rattle.dns_messages.specs.declared.response_code.ResponseCode.TheVariants as codes;
+impl Message {
+    ghost use Rattle.std.specs.Prelude.{IfOk};
 
-/// Copies questions.
-fn copy_queries(alloc: Global, queries: &[Query]) -> Result<Sequence<Query>, AllocError>
-    ensures { IfOk result (λ copies. copies ≡ queries.now) }
-{
-    let mut copies = Sequence::new(alloc);
-    for query in queries {
-        copies.push(query.clone()?)?;
+    /// Copies the message, with its OPT record and its signature.
+    pub fn clone(&self) -> Result<Message, AllocError>
+        ensures { IfOk result (λ copy. copy ≡ self.now) }
+    {
+        Ok(Message {
+            metadata: self.metadata,
+            queries: copy_queries(&self.queries)?,
+            answers: copy_records(&self.answers)?,
+            authorities: copy_records(&self.authorities)?,
+            additionals: copy_records(&self.additionals)?,
+            edns: copy_edns(&self.edns)?,
+            signature: copy_signature(&self.signature)?,
+        })
     }
-    Ok(copies)
 }
 
-/// Copies an OPT record.
+impl Clone for Message {
+    ghost is_clone = { λ message copy. copy ≡ message };
+
+    fn clone(&self) -> Result<Message, AllocError> {
+        Message::clone(self)
+    }
+}
+
+ghost use Rattle.std.specs.Prelude.{IfOk};
+
+/// Copies questions.
+fn copy_queries(queries: &Sequence<Query>) -> Result<Sequence<Query>, AllocError>
+    ensures { IfOk result (λ copies. copies ≡ queries.now) }
+{
+    queries.clone()
+}
+
+/// Copies records.
+fn copy_records(records: &Sequence<Record>) -> Result<Sequence<Record>, AllocError>
+    ensures { IfOk result (λ copies. copies ≡ records.now) }
+{
+    copies_are_identical();
+    records.clone()
+}
+
+/// Copies an OPT record, if there is one.
 fn copy_edns(edns: &Option<Edns>) -> Result<Option<Edns>, AllocError>
     ensures { IfOk result (λ copy. copy ≡ edns.now) }
 {
     match edns {
         Some(edns) => Ok(Some(edns.clone()?)),
+        None => Ok(None),
+    }
+}
+
+/// Copies a signature, if there is one.
+fn copy_signature(signature: &Option<Record>) -> Result<Option<Record>, AllocError>
+    ensures { IfOk result (λ copy. copy ≡ signature.now) }
+{
+    match signature {
+        Some(signature) => Ok(Some(signature.clone()?)),
         None => Ok(None),
     }
 }

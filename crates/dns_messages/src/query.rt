@@ -145,8 +145,8 @@ impl Query {
         ensures { result ≡ same_question self.now other.now }
     {
         self.name.eq_ignore_root(&other.name)
-            && u16::from(self.query_type) == u16::from(other.query_type)
-            && u16::from(self.query_class) == u16::from(other.query_class)
+            && self.query_type.is_same(other.query_type)
+            && self.query_class.is_same(other.query_class)
     }
 }
 
@@ -170,7 +170,16 @@ fn is_named_class(class: DNSClass) -> bool
     ensures named { IsTrue result ↔ (class_of (class_number class) ≡ class) }
     ensures fits { class_number class < 2 ^ 16 }
 {
-    DNSClass::from(u16::from(class)) == class
+    let _number = u16::from(class);
+    class.canonical() == class
+}
+
+impl Clone for Query {
+    ghost is_clone = { λ query copy. copy ≡ query };
+
+    fn clone(&self) -> Result<Query, AllocError> {
+        Query::clone(self)
+    }
 }
 
 impl BinDecodable for Query {

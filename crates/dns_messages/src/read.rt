@@ -1,6 +1,6 @@
 //! Decoding messages (RFC 1035 section 4.1, RFC 6891 section 6.1).
 
-ghost use Rattle.std.specs.Prelude.{◌≡◌, ◌≢◌, ◌<◌, ◌+◌, false, true, length, Err, IfOk, IfErr};
+ghost use Rattle.std.specs.Prelude.{◌≡◌, ◌≢◌, ◌<◌, ◌+◌, false, true, length, Err, IfOk, IfErr, OnErr};
 ghost use Rattle.dns_messages.specs.Grammar.{extended, kind_of, ReadsMessage, RefusesMessage, ReadsQuestions, RefusesQuestions};
 ghost use Rattle.dns_messages.specs.Section.{ReadsSection, ReadsSectionRecords, RefusesSection};
 ghost use Rattle.dns_messages.specs.Header.{code_number, DecodesHeader};
@@ -41,7 +41,7 @@ impl Message {
         read_message(alloc, bytes)
     }
 
-    /// Decodes `count` questions. A failed read may advance the decoder.
+    /// Decodes `count` questions. A failed read leaves the decoder unchanged.
     pub fn read_queries(
         alloc: Global,
         decoder: &mut BinDecoder<'_>,
@@ -52,17 +52,16 @@ impl Message {
         ensures refused { IfErr result (λ error. error ≢ DecodeError.Memory
             → RefusesQuestions decoder.old.bytes decoder.old.index count error) }
         ensures bytes { decoder.new.bytes ≡ decoder.old.bytes }
+        ensures err { OnErr result (decoder.new ≡ decoder.old) }
     {
-        let mut queries = Sequence::new(alloc);
-        for _nth in 0..count {
-            let query = Query::read(alloc, decoder)?;
-            queries.push(query)?;
-        }
+        let mut reader = decoder.clone(decoder.index());
+        let queries = read_questions(alloc, &mut reader, count)?;
+        *decoder = reader;
         Ok(queries)
     }
 
     /// Decodes a section of `count` records of a message with this opcode. An OPT record and a signature are only in the
-    /// additional section (RFC 6891 section 6.1.1, RFC 8945 section 5.1). A failed read may advance the decoder.
+    /// additional section (RFC 6891 section 6.1.1, RFC 8945 section 5.1). A failed read leaves the decoder unchanged.
     pub fn read_records(
         alloc: Global,
         decoder: &mut BinDecoder<'_>,
@@ -76,11 +75,34 @@ impl Message {
             → RefusesSection decoder.old.bytes
             (kind_of op_code is_additional) decoder.old.index count error) }
         ensures bytes { decoder.new.bytes ≡ decoder.old.bytes }
+        ensures err { OnErr result (decoder.new ≡ decoder.old) }
     {
+        let mut reader = decoder.clone(decoder.index());
         let mut section = SectionRecords::new(alloc);
-        section.read(alloc, decoder, count, op_code, is_additional)?;
+        section.read(alloc, &mut reader, count, op_code, is_additional)?;
+        *decoder = reader;
         Ok(section)
     }
+}
+
+/// Decodes `count` questions. A failed read may advance the decoder.
+fn read_questions(
+    alloc: Global,
+    decoder: &mut BinDecoder<'_>,
+    count: u16,
+) -> Result<Sequence<Query>, DecodeError>
+    ensures read { IfOk result (λ queries. ReadsQuestions
+        decoder.old.bytes decoder.old.index count queries decoder.new.index) }
+    ensures refused { IfErr result (λ error. error ≢ DecodeError.Memory
+        → RefusesQuestions decoder.old.bytes decoder.old.index count error) }
+    ensures bytes { decoder.new.bytes ≡ decoder.old.bytes }
+{
+    let mut queries = Sequence::new(alloc);
+    for _nth in 0..count {
+        let query = Query::read(alloc, decoder)?;
+        queries.push(query)?;
+    }
+    Ok(queries)
 }
 
 /// Decodes a message.

@@ -257,5 +257,5 @@ fn is_any_of_type(records: &[Record], kind: RecordType, query: &Query) -> bool
 fn is_of_type(record: &Record, kind: RecordType) -> bool
     ensures { result ≡ has_type kind «record».now }
 {
-    u16::from(record.record_type()) == u16::from(kind)
+    record.record_type().is_same(kind)
 }

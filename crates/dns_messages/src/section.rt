@@ -87,7 +87,7 @@ impl SectionRecords {
         requires { IsSoundData next.rdata }
         ensures { OnOk result (self.new ≡ with_record self.old next) }
     {
-        match next.rdata {
+        match &next.rdata {
             RData::OPT(_) => self.edns = Edns::from_record(next),
             RData::Unknown {
                 code: RecordType::TSIG,

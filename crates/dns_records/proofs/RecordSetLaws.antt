@@ -137,6 +137,14 @@ pub insert_distinct : (old new xs : List Record) (r : Record) → xs ≡ old →
 insert_distinct old new xs r same e distinct =
     subst (AreDistinct record_data) (sym e) (inserted_distinct record_data xs r (subst (AreDistinct record_data) (sym same) distinct))
 
+with_distinct_by : (s : RecordSetValue) (r : Record) (serial : ℕ) (b : Bool) → AreDistinct record_data s.records → AreDistinct record_data (cond b (record s { ttl = r.ttl; serial = serial; records = inserted record_data s.records r }) s).records
+with_distinct_by s r serial true distinct = inserted_distinct record_data s.records r distinct
+with_distinct_by s r serial false distinct = distinct
+
+pub with_distinct : (old new : RecordSetValue) (r : Record) (serial : ℕ) → new ≡ with_record old r serial → AreDistinct record_data old.records → AreDistinct record_data new.records
+with_distinct old new r serial e distinct =
+    subst (λ (s : RecordSetValue). AreDistinct record_data s.records) (sym e) (with_distinct_by old r serial (accepts_record old r) distinct)
+
 -- a set from which no record is removed
 pub none_removed : (s : RecordSetValue) (d : RData) (serial : ℕ) (xs : List Record) → loses_record s d ≡ false → xs ≡ removed record_data s.record_type s.records d → record s { records = xs } ≡ without_record s d serial
 none_removed s d serial xs none e =

@@ -26,13 +26,17 @@ abbrev pub supersedes : RData → RData → Bool
 supersedes (of.SOA new) (of.SOA old) = nat_lt old.serial new.serial
 supersedes new old = false
 
--- Whether an item of a type is added: a CNAME always, an SOA if it supersedes the one that is present, and any other if none
--- has its data.
+-- Whether data of a type is added: a CNAME always, an SOA if it supersedes the one that is present, and any other if no item
+-- has it.
+abbrev pub accepts_data : {A : Type 0} → (A → RData) → RecordType → List A → RData → Bool
+accepts_data rdata types.CNAME present d = true
+accepts_data rdata types.SOA [] d = true
+accepts_data rdata types.SOA (old ∷ more) d = supersedes d (rdata old)
+accepts_data rdata other present d = not (has_data rdata present d)
+
+-- whether an item of a type is added: its data is
 abbrev pub is_addition : {A : Type 0} → (A → RData) → RecordType → List A → A → Bool
-is_addition rdata types.CNAME present x = true
-is_addition rdata types.SOA [] x = true
-is_addition rdata types.SOA (old ∷ more) x = supersedes (rdata x) (rdata old)
-is_addition rdata other present x = not (has_data rdata present (rdata x))
+is_addition rdata record_type present x = accepts_data rdata record_type present (rdata x)
 
 -- the items with one more of a type: a CNAME or an SOA replaces all, and any other is the last
 abbrev pub added : {A : Type 0} → RecordType → List A → A → List A

@@ -1,6 +1,6 @@
 //! What precedes the data of a record (RFC 1035 section 4.1.3).
 
-ghost use Rattle.std.specs.Prelude.{◌≡◌, ◌≢◌, IfOk, IfErr};
+ghost use Rattle.std.specs.Prelude.{◌≡◌, ◌≢◌, IfOk, IfErr, OnErr};
 ghost use Rattle.dns_records.specs.RecordHead.{class_for};
 
 use crate::record::Record;
@@ -28,10 +28,25 @@ impl RecordHead {
     ghost use Rattle.dns_records.specs.RecordHead.{ReadsHead, RefusesHead};
     ghost use Rattle.dns_records.specs.Record.{ReadsDataOf, RefusesDataOf};
 
-    /// Reads owner, type, class, TTL and the length of the data. A failed read may advance the decoder.
+    /// Reads owner, type, class, TTL and the length of the data. A failed read leaves the decoder unchanged.
     ///
     /// An OPT record has the class [`DNSClass::OPT`], whose payload size is at least 512 (RFC 6891 section 6.2.3).
     pub fn read(alloc: Global, decoder: &mut BinDecoder<'_>) -> Result<RecordHead, DecodeError>
+        ensures read { IfOk result (λ head.
+            ReadsHead decoder.old.bytes decoder.old.index head decoder.new.index) }
+        ensures refused { IfErr result (λ error. error ≢ DecodeError.Memory
+            → RefusesHead decoder.old.bytes decoder.old.index error) }
+        ensures bytes { decoder.new.bytes ≡ decoder.old.bytes }
+        ensures err { OnErr result (decoder.new ≡ decoder.old) }
+    {
+        let mut reader = decoder.clone(decoder.index());
+        let head = RecordHead::read_on(alloc, &mut reader)?;
+        *decoder = reader;
+        Ok(head)
+    }
+
+    /// Reads a head. A failed read may advance the decoder.
+    fn read_on(alloc: Global, decoder: &mut BinDecoder<'_>) -> Result<RecordHead, DecodeError>
         ensures read { IfOk result (λ head.
             ReadsHead decoder.old.bytes decoder.old.index head decoder.new.index) }
         ensures refused { IfErr result (λ error. error ≢ DecodeError.Memory
@@ -54,7 +69,7 @@ impl RecordHead {
         })
     }
 
-    /// Reads the data of the record, which takes exactly its length. On an error the decoder is unchanged.
+    /// Reads the data of the record, which takes exactly its length. A failed read leaves the decoder unchanged.
     pub fn read_data(
         self,
         alloc: Global,
@@ -65,6 +80,7 @@ impl RecordHead {
         ensures refused { IfErr result (λ error. error ≢ DecodeError.Memory
             → RefusesDataOf decoder.old.bytes decoder.old.index self error) }
         ensures bytes { decoder.new.bytes ≡ decoder.old.bytes }
+        ensures err { OnErr result (decoder.new ≡ decoder.old) }
     {
         let rdata = RData::read(alloc, decoder, self.record_type, self.len)?;
         Ok(Record {

@@ -12,7 +12,9 @@ use crate::rrset_records::RrsetRecords;
 use dns_data::RData;
 use dns_names::Name;
 use dns_wire::{DNSClass, RecordType};
-use edits::{insert_record, remove_record, set_each_class, set_each_ttl};
+use edits::{
+    accepts_data, insert_record, put_record, remove_record, set_each_class, set_each_ttl,
+};
 use std::alloc::{AllocError, Global};
 use std::marker::Model;
 use std::vec::IntoIter;
@@ -256,7 +258,6 @@ impl RecordSet {
 
 impl RecordSet {
     ghost use Rattle.dns_names.specs.Compare.{same_name};
-    ghost use Rattle.dns_codes.specs.declared.record_type.RecordType.TheVariants.{ANY};
     ghost use Rattle.dns_records.specs.RecordSet.{AreDistinct, loses_record, record_for, accepts_record, with_record, without_record};
 
     /// Inserts a record of the set's owner and type, and returns whether it was inserted (RFC 2136 section 3.4.2.2).
@@ -284,14 +285,11 @@ impl RecordSet {
         Ok(is_inserted)
     }
 
-    /// Removes the record with the data of a record of the set's owner, and of its type or `ANY`, and returns whether there
-    /// was one (RFC 2136 section 3.4.2.4). If so, the set has `serial`.
+    /// Removes the record whose data equals that of `resource_record`, and returns whether there was one (RFC 2136
+    /// section 3.4.2.4). If so, the set has `serial`. Owner, class and TTL are not compared.
     ///
     /// No `SOA` is removed, and not the last `NS`.
     pub fn remove(&mut self, resource_record: &Record, serial: u32) -> bool
-        requires owner { same_name resource_record.now.name self.old.name ≡ true }
-        requires of_type { (data_type resource_record.now.rdata ≡ self.old.record_type)
-            ⊎ (data_type resource_record.now.rdata ≡ ANY) }
         ensures removed { result ≡ loses_record self.old resource_record.now.rdata }
         ensures set { self.new ≡ without_record self.old resource_record.now.rdata serial }
         ensures distinct { AreDistinct record_data self.old.records
@@ -310,7 +308,8 @@ impl RecordSet {
 
     /// Inserts a record with the set's owner, class and TTL and with this data, whose type is the set's, as
     /// [`insert`](RecordSet::insert) with the set's serial number. Returns whether it was inserted.
-    #[tactic(auto, using(crate::proofs::RecordSetLaws::same_owner))]
+    ///
+    /// An error leaves the set unchanged, and is possible only where the record would be inserted.
     pub fn add_rdata(&mut self, rdata: RData) -> Result<bool, AllocError>
         requires { data_type rdata ≡ self.old.record_type }
         ensures inserted { IfOk result (λ taken.
@@ -318,8 +317,24 @@ impl RecordSet {
         ensures ok { OnOk result
             (self.new ≡ with_record self.old (record_for self.old rdata) self.old.serial) }
         ensures err { OnErr result (self.new ≡ self.old) }
+        ensures accepts { OnErr result
+            (accepts_record self.old (record_for self.old rdata) ≡ true) }
         ensures distinct { AreDistinct record_data self.old.records
             → AreDistinct record_data self.new.records }
+    {
+        if !accepts_data(self.records.as_slice(), &rdata) {
+            return Ok(false);
+        }
+        self.put_rdata(rdata)?;
+        Ok(true)
+    }
+
+    /// Inserts a record with the set's owner, class and TTL and with this data, which is accepted.
+    fn put_rdata(&mut self, rdata: RData) -> Result<(), AllocError>
+        requires accepted { accepts_record self.old (record_for self.old rdata) ≡ true }
+        ensures ok { OnOk result
+            (self.new ≡ with_record self.old (record_for self.old rdata) self.old.serial) }
+        ensures err { OnErr result (self.new ≡ self.old) }
     {
         let record = Record {
             name: self.name.clone()?,
@@ -327,8 +342,7 @@ impl RecordSet {
             ttl: self.ttl,
             rdata,
         };
-        let serial = self.serial;
-        self.insert(record, serial)
+        put_record(&mut self.records, record)
     }
 }
 
@@ -340,26 +354,33 @@ impl RecordSet {
 
     /// Inserts a record with the set's owner, class and TTL and with a copy of this data.
     fn add_copy(&mut self, rdata: &RData) -> Result<bool, AllocError>
-        requires { data_type rdata.now ≡ self.old.record_type }
         ensures inserted { IfOk result (λ taken.
             taken ≡ accepts_record self.old (record_for self.old rdata.now)) }
         ensures ok { OnOk result
             (self.new ≡ with_record self.old (record_for self.old rdata.now) self.old.serial) }
         ensures err { OnErr result (self.new ≡ self.old) }
+        ensures accepts { OnErr result
+            (accepts_record self.old (record_for self.old rdata.now) ≡ true) }
     {
+        if !accepts_data(self.records.as_slice(), rdata) {
+            return Ok(false);
+        }
         let rdata = rdata.clone()?;
-        self.add_rdata(rdata)
+        self.put_rdata(rdata)?;
+        Ok(true)
     }
 
     /// Inserts a record with the set's owner, class and TTL and with a copy of this data, whose type is the set's, as
     /// [`insert`](RecordSet::insert) with the set's serial number. Returns the record if it was inserted.
     ///
-    /// An error leaves the set unchanged.
+    /// An error leaves the set unchanged, and is possible only where the record would be inserted.
     pub fn new_record(&mut self, rdata: &RData) -> Result<Option<&Record>, AllocError>
         requires { data_type rdata.now ≡ self.old.record_type }
         ensures inserted { IfOk result (λ lent. option_copied lent
             ≡ (if accepts_record self.old (record_for self.old rdata.now)
             then Some (record_for self.old rdata.now) else None)) }
+        ensures accepts { OnErr result
+            (accepts_record self.old (record_for self.old rdata.now) ≡ true) }
         ensures* set { sem 𝓛 (Rests the_row self.entry (λ after. MatchResult result
             (λ _. after ≡ with_record self.old (record_for self.old rdata.now) self.old.serial)
             (λ _. after ≡ self.old))) }

@@ -1,6 +1,6 @@
 //! Lists, as contracts see them.
 
-ghost use Rattle.std.specs.Prelude.{◌≡◌, ◌<◌, ◌==◌, [], ◌∷◌, ◌++◌, OnOk, OnErr, length, option_copied, slice_get, slice_index_or, slice_set};
+ghost use Rattle.std.specs.Prelude.{◌≡◌, ◌<◌, ◌==◌, [], ◌∷◌, ◌++◌, IfOk, OnOk, OnErr, length, option_copied, slice_get, slice_index_or, slice_set};
 ghost use Rattle.std.specs.Fn.{CalledAt};
 ghost use Rattle.std.specs.Iterator.Runs.{EveryRun, ItemsMapTo};
 ghost use Rattle.std.specs.List.{remove};
@@ -152,6 +152,22 @@ impl<T: Drop> Sequence<T> {
         ensures { IsFiltered (CalledAt F.FnMut) f self.old self.new }
     {
         self.items.retain(f);
+    }
+}
+
+impl<T: Clone> Clone for Sequence<T> {
+    ghost use Rattle.std.specs.List.{AllZip};
+
+    ghost is_clone = { AllZip T.is_clone };
+
+    /// Copies each item, in order.
+    fn clone(&self) -> Result<Sequence<T>, AllocError>
+        ensures copies { IfOk result (AllZip T.is_clone self.now) }
+        ensures identical { IfOk result (λ copy.
+            ((x y : T) → T.is_clone x y → y ≡ x) → copy ≡ self.now) }
+    {
+        let items = Vec::from_clones(*self.items.allocator(), self.items.as_slice())?;
+        Ok(Sequence { items })
     }
 }
 

@@ -1,7 +1,7 @@
 //! Negative answers as text: `CODE QUESTION | TTL | SOA | AUTHORITIES | SERVERS`, where parts at the end may be left out, and ` and `
 //! parts the servers, each `NS with GLUE`.
 
-use dns_data::{RData, SOA};
+use dns_data::SOA;
 use dns_messages::{ResponseCode, Sequence};
 use dns_records::{Record, RecordParts};
 use rows::{Answer, RowFault, parsed, split, two_words};
@@ -58,14 +58,14 @@ fn soa_in(entry: Record) -> Result<Option<Record<SOA>>, RowFault> {
         ttl,
         rdata,
     } = entry.into_parts();
-    match rdata {
-        RData::SOA(rdata) => Ok(Some(Record {
+    match rdata.into_soa() {
+        Some(rdata) => Ok(Some(Record {
             name,
             dns_class,
             ttl,
             rdata,
         })),
-        _ => Err(RowFault::Lacks("an SOA record")),
+        None => Err(RowFault::Lacks("an SOA record")),
     }
 }
 

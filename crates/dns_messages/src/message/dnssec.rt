@@ -40,5 +40,5 @@ fn is_without_dnssec(record: &Record, asked: RecordType) -> bool
     ensures { result ≡ is_without_dnssec asked «record».now }
 {
     let kind = record.record_type();
-    u16::from(kind) == u16::from(asked) || !kind.is_dnssec()
+    kind.is_same(asked) || !kind.is_dnssec()
 }

@@ -1,9 +1,8 @@
 //! Insertions in lists of records, and removals (RFC 2136 section 3.4.2).
 
-ghost use Rattle.std.specs.Prelude.{◌≡◌, ◌<◌, ◌∷◌, ◌++◌, [], IfOk, OnOk, OnErr, length, not, true, false, if◌then◌else◌, position};
-ghost use Rattle.dns_data.specs.rdata.{same_data};
-ghost use Rattle.dns_records.specs.RecordSet.{AreDistinct, each_of_class, each_with_ttl, has_data, inserted, is_addition, is_inserted, is_protected, is_removed, record_data, removed, supersedes, without_data};
-ghost use Rattle.dns_codes.specs.declared.record_type.RecordType.TheVariants.{CNAME, SOA};
+ghost use Rattle.std.specs.Prelude.{◌≡◌, ◌<◌, ◌∷◌, [], IfOk, OnOk, OnErr, length, position};
+ghost use Rattle.dns_data.specs.rdata.{data_type, same_data};
+ghost use Rattle.dns_records.specs.RecordSet.{AreDistinct, accepts_data, added, each_of_class, each_with_ttl, has_data, inserted, is_inserted, is_protected, is_removed, record_data, removed, supersedes, without_data};
 
 use crate::record::Record;
 use dns_data::RData;
@@ -49,39 +48,32 @@ fn replace_records(records: &mut Vec<Record>, resource_record: Record) -> Result
     Ok(())
 }
 
-/// Inserts an SOA.
-fn insert_soa(records: &mut Vec<Record>, resource_record: Record) -> Result<bool, AllocError>
-    ensures inserted { IfOk result (λ taken.
-        taken ≡ is_addition record_data SOA records.old.items resource_record) }
-    ensures ok { OnOk result (records.new.items
-        ≡ (if is_addition record_data SOA records.old.items resource_record
-        then resource_record ∷ [] else records.old.items)) }
-    ensures err { OnErr result (records.new.items ≡ records.old.items) }
-    ensures grows { OnErr result (records.old.items ≡ []) }
+/// Returns whether a record with this data would be inserted.
+pub fn accepts_data(records: &[Record], rdata: &RData) -> bool
+    ensures { result ≡ accepts_data record_data (data_type rdata.now) records.now rdata.now }
 {
-    if !records.is_empty() && !is_superseded(&resource_record.rdata, &records[0].rdata) {
-        return Ok(false);
+    match rdata.record_type() {
+        RecordType::CNAME => true,
+        RecordType::SOA => records.is_empty() || is_superseded(rdata, &records[0].rdata),
+        _ => !contains_data(records, rdata),
     }
-    replace_records(records, resource_record)?;
-    Ok(true)
 }
 
-/// Inserts a record as the last, unless one has its data.
-fn insert_last(records: &mut Vec<Record>, resource_record: Record) -> Result<bool, AllocError>
-    ensures inserted { IfOk result (λ taken.
-        taken ≡ not (has_data record_data records.old.items resource_record.rdata)) }
+/// Inserts a record that is accepted. An error is possible only where the list would grow.
+pub fn put_record(records: &mut Vec<Record>, resource_record: Record) -> Result<(), AllocError>
     ensures ok { OnOk result (records.new.items
-        ≡ (if has_data record_data records.old.items resource_record.rdata
-        then records.old.items else records.old.items ++ resource_record ∷ [])) }
+        ≡ added (data_type resource_record.rdata) records.old.items resource_record) }
     ensures err { OnErr result (records.new.items ≡ records.old.items) }
-    ensures grows { OnErr result
-        (has_data record_data records.old.items resource_record.rdata ≡ false) }
+    ensures grows { OnErr result (length records.old.items
+        < length (added (data_type resource_record.rdata) records.old.items resource_record)) }
 {
-    if contains_data(records.as_slice(), &resource_record.rdata) {
-        return Ok(false);
+    match resource_record.record_type() {
+        RecordType::CNAME | RecordType::SOA => replace_records(records, resource_record),
+        _ => {
+            records.push(resource_record)?;
+            Ok(())
+        }
     }
-    records.push(resource_record)?;
-    Ok(true)
 }
 
 /// Sets the class of each record.
@@ -112,14 +104,11 @@ pub fn insert_record(records: &mut Vec<Record>, resource_record: Record) -> Resu
     ensures grows { OnErr result (length records.old.items
         < length (inserted record_data records.old.items resource_record)) }
 {
-    match resource_record.record_type() {
-        RecordType::CNAME => {
-            replace_records(records, resource_record)?;
-            Ok(true)
-        }
-        RecordType::SOA => insert_soa(records, resource_record),
-        _ => insert_last(records, resource_record),
+    if !accepts_data(records.as_slice(), &resource_record.rdata) {
+        return Ok(false);
     }
+    put_record(records, resource_record)?;
+    Ok(true)
 }
 
 /// Returns whether all records of a set of a type stay: an SOA, and the last NS.

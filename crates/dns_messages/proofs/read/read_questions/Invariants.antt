@@ -1,7 +1,7 @@
 use Rattle.std.proofs.Common.{◌≡◌, length}
 use Rattle.dns_messages.specs.Grammar.{ReadsQuestion}
 use Rattle.dns_wire.specs.Decodable.{Follow}
-use Rattle.dns_messages.proofs.message.Message.read_queries.Given as goal
+use Rattle.dns_messages.proofs.read.read_questions.Given as goal
 
 abbrev pub invariant-loop-nth : goal.invariant-loop-nth
 invariant-loop-nth l = record {

@@ -9,7 +9,7 @@ use Rattle.dns_names.specs.Name.{DomainName}
 use Rattle.dns_records.specs.RecordHead.{ReadsHead, class_for}
 use Rattle.std.proofs.lemmas.Result.{err_from_is_err_and}
 use Rattle.dns_records.specs.RecordHead.{bad_owner, short_head}
-use Rattle.dns_records.proofs.record_head.RecordHead.read.Goals as goal
+use Rattle.dns_records.proofs.record_head.RecordHead.read_on.Goals as goal
 
 -- behind what was read, too few bytes are left
 short : (bytes here : List ℕ) (place behind taken few : ℕ) → here ≡ bytes → place + taken ≡ behind → length (drop behind here) < few → taken + few ≤ 10 → length (drop place bytes) < 10

@@ -4,7 +4,7 @@ use Rattle.dns_wire.specs.Decodable.{Follow}
 use Rattle.dns_messages.specs.declared.query.Query.{Query}
 use Rattle.dns_messages.specs.Grammar.{ReadsQuestion, RefusesQuestion}
 use Rattle.dns_messages.proofs.FollowLaws.{follow_push}
-use Rattle.dns_messages.proofs.message.Message.read_queries.Goals as goal
+use Rattle.dns_messages.proofs.read.read_questions.Goals as goal
 
 pub returns-in_err-query-clause-refused : goal.returns-in_err-query-clause-refused
 returns-in_err-query-clause-refused c =
