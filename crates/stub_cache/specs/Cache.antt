@@ -103,8 +103,3 @@ kept_of_result (Err error) = None
 abbrev pub storing_any : CacheContent → Query → Option Kept → ℕ → CacheContent
 storing_any cache q None now = cache
 storing_any cache q (Some kept) now = storing cache q kept now
-
--- what is kept, as it is returned
-abbrev pub result_of_kept : Kept → Result Message NetError
-result_of_kept (Ok m) = Ok m
-result_of_kept (Err answer) = Err (Dns (dns.NoRecordsFound answer))

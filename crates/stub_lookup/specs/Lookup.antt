@@ -1,5 +1,5 @@
 -- What a lookup found: a response, and how long it is valid.
-use Rattle.std.specs.Prelude.{◌++◌, List, [], ◌∷◌, ℕ, None, min}
+use Rattle.std.specs.Prelude.{◌++◌, List, [], ◌∷◌, ℕ, min}
 use Rattle.dns_codes.specs.declared.dns_class.DNSClass.TheVariants.{IN}
 use Rattle.dns_data.specs.declared.rdata.RData.{RData}
 use Rattle.dns_records.specs.Record.{Record}
@@ -49,15 +49,3 @@ joined first second = record {
   message = joined_messages first.message second.message;
   valid_until = min first.valid_until second.valid_until;
 }
-
--- a message without the records of its sections
-abbrev pub without_records : Message → Message
-without_records m = record m { answers = []; authorities = []; additionals = [] }
-
--- a message without a signature
-abbrev pub unsigned : Message → Message
-unsigned m = record m { signature = None }
-
--- a message without an OPT record and a signature
-abbrev pub without_extensions : Message → Message
-without_extensions m = record (unsigned m) { edns = None }

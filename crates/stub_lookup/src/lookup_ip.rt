@@ -88,12 +88,9 @@ impl IntoIterator for LookupIp {
     ghost into_iter_gives = { λ lookup it. it ≡ addresses_in lookup.message.answers };
 
     fn into_iter(self) -> LookupIpIntoIter {
+        let answers = Message::from(self.lookup).into_parts().answers;
         LookupIpIntoIter {
-            records: Message::from(self.lookup)
-                .into_parts()
-                .answers
-                .into_vec()
-                .into_iter(),
+            records: answers.into_vec().into_iter(),
         }
     }
 }
