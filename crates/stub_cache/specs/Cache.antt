@@ -15,7 +15,7 @@ use Rattle.stub_cache.specs.declared.cache.entry.Entry.{Entry}
 
 -- ---- entries
 
--- what is kept for a question: a response, or a negative answer
+-- what is stored for a question: a response, or a negative answer
 abbrev pub Kept : Type 0
 Kept = Result Message NoRecords
 
@@ -58,7 +58,7 @@ abbrev pub aged : ℕ → Kept → Kept
 aged seconds (Ok m) = Ok (aged_message seconds m)
 aged seconds (Err answer) = Err (aged_answer seconds answer)
 
--- what is kept for a question, with TTLs reduced by the seconds since it was stored
+-- what is stored for a question, with TTLs reduced by the seconds since it was stored
 abbrev pub current : List Entry → Query → ℕ → Option Kept
 current entries q now = option_map (λ e. aged (now - e.moment) e.kept) (find (is_current q now) entries)
 
@@ -88,13 +88,13 @@ staying capacity q entries =
 abbrev pub inserted : ℕ → List Entry → Entry → List Entry
 inserted capacity entries e = if capacity == 0 then entries else staying capacity e.question entries ++ e ∷ []
 
--- a cache with what is kept for a question at a moment
+-- a cache that stores a response or a negative answer at a moment
 abbrev pub storing : CacheContent → Query → Kept → ℕ → CacheContent
 storing cache q kept now = record cache {
   entries = inserted cache.capacity cache.entries (entry_of cache.config q kept now);
 }
 
--- of what was asked, a response or a negative answer is kept, and no other error
+-- of the replies to a question, responses and negative answers are stored, and no other error
 abbrev pub kept_of_result : Result Message NetError → Option Kept
 kept_of_result (Ok m) = Some (Ok m)
 kept_of_result (Err (Dns (dns.NoRecordsFound answer))) = Some (Err answer)

@@ -1,4 +1,4 @@
--- Hosts: lookups that are kept for names, addresses of IPv4 apart from those of IPv6, and what is answered from them.
+-- Hosts: the lookups of names, those of IPv4 addresses apart from those of IPv6, and what they answer to questions.
 use Rattle.std.specs.Prelude.{ℕ, ◌+◌, ◌==◌, Bool, true, false, List, [], ◌∷◌, map, length, if◌then◌else◌, Option, Some, None, option_map, option_and_then}
 use Rattle.std.specs.List.{filter, find, list_any}
 use Rattle.std.specs.Str.{bytes_eq}
@@ -125,7 +125,7 @@ pointer owner e = record { name = owner; dns_class = IN; ttl = max_ttl; rdata = 
 abbrev pub pointers : DomainName → IpAddr → List HostEntry → List Record
 pointers owner address entries = map (pointer owner) (filter (has_address address) entries)
 
--- what a reverse name points to; its prefix stands for the address alone
+-- what a reverse name points to: the names of the address in its prefix
 abbrev pub pointer_lookup : Option AddrPrefix → HostsContent → Query → ℕ → Option LookupContent
 pointer_lookup None hosts query now = None
 pointer_lookup (Some prefix) hosts query now =

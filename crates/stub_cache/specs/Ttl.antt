@@ -1,4 +1,4 @@
--- Bounds of TTLs, and how long answers are kept (RFC 2181 sections 5.2 and 8, RFC 2308 section 5).
+-- Bounds of TTLs, and how long answers are stored (RFC 2181 sections 5.2 and 8, RFC 2308 section 5).
 use Rattle.std.specs.Prelude.{ℕ, Bool, false, ◌==◌, ◌||◌, ◌-◌, ◌++◌, nat_lt, min, max, List, [], ◌∷◌, map, Option, Some, None, option_map, Result, Ok, Err, if◌then◌else◌}
 use Rattle.std.specs.BTreeMap.{insert_entry, is_at}
 use Rattle.std.specs.List.{filter}
@@ -122,7 +122,7 @@ abbrev pub least_ttl : List Record → Option ℕ
 least_ttl [] = None
 least_ttl (r ∷ rs) = Some (lesser r.ttl (least_ttl rs))
 
--- Which records decide how long a response is kept: the answers of the type that was asked for, and the aliases that lead to
+-- Which records decide how long a response is stored: the answers of the type that was asked for, and the aliases that lead to
 -- them; for NS, the NS records of the answer and authority sections (RFC 1034 section 4.2.1).
 abbrev pub deciding_records : RecordType → Message → List Record
 deciding_records kind m =
@@ -133,12 +133,12 @@ deciding_records kind m =
 abbrev pub lifetime_within : TtlRange → Option ℕ → ℕ
 lifetime_within range ttl = unwrap_or (option_map (clamp range) ttl) range.least
 
--- How long a response is kept, in seconds. The TTLs of its records are within their bounds already.
+-- How long a response is stored, in seconds. The TTLs of its records are within their bounds already.
 abbrev pub positive_lifetime : TtlConfigContent → RecordType → Message → ℕ
 positive_lifetime config kind m =
     lifetime_within (positive_range (bounds_of config kind)) (least_ttl (deciding_records kind m))
 
--- how long a negative answer is kept, in seconds (RFC 2308 section 5)
+-- how long a negative answer is stored, in seconds (RFC 2308 section 5)
 abbrev pub negative_lifetime : TtlConfigContent → RecordType → NoRecords → ℕ
 negative_lifetime config kind answer = lifetime_within (negative_range (bounds_of config kind)) answer.negative_ttl
 

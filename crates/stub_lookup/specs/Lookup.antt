@@ -35,7 +35,7 @@ lookup_of query answers valid_until = record
 abbrev pub record_for : Query → RData → Record
 record_for query rdata = record { name = query.name; dns_class = IN; ttl = max_ttl; rdata = rdata }
 
--- the records of both, section by section, behind the header and the questions of the first
+-- the header and the questions of the first, and the records of both, section by section
 abbrev pub joined_messages : Message → Message → Message
 joined_messages first second = record first {
   answers = first.answers ++ second.answers;

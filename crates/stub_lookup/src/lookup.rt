@@ -264,7 +264,7 @@ fn join_messages(first: &Message, second: Message) -> Result<Message, AllocError
     copy_with_sections(first, &mut second)
 }
 
-/// Copies a message, and moves the records of another one behind its own, section by section.
+/// Copies a message, and moves the records of another one to the ends of its sections.
 fn copy_with_sections(first: &Message, second: &mut Message) -> Result<Message, AllocError>
     ensures { IfOk result (λ message. message ≡ joined_messages first.now second.old) }
 {
@@ -273,7 +273,7 @@ fn copy_with_sections(first: &Message, second: &mut Message) -> Result<Message, 
     Ok(message)
 }
 
-/// Moves the records of another message behind those of a message, section by section.
+/// Moves the records of another message to the ends of the sections of a message.
 fn add_sections(message: &mut Message, other: &mut Message) -> Result<(), AllocError>
     ensures { OnOk result (message.new ≡ joined_messages message.old other.old) }
 {

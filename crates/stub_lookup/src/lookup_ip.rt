@@ -127,7 +127,7 @@ impl<'a> Iterator for LookupIpIter<'a> {
 
 ghost use Rattle.std.specs.Prelude.{◌∷◌, [], IfSome, IfNone};
 
-/// Returns the first address, and the records behind its own.
+/// Returns the first address, and the records after its own.
 fn first_address<'a>(records: &'a [Record]) -> Option<(IpAddr, &'a [Record])>
     ensures some { IfSome result (λ found.
         addresses_in records.now ≡ found.0 ∷ addresses_in found.1.now) }

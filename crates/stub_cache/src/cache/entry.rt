@@ -11,7 +11,7 @@ use dns_messages::{Message, Query};
 use std::alloc::AllocError;
 use stub_lookup::{Moment, NoRecords};
 
-/// What is kept for a question since a moment.
+/// The response to a question, or a negative answer, since the moment at which it was stored.
 pub struct Entry {
     /// The question.
     pub question: Query,
@@ -84,7 +84,7 @@ impl Entry {
         self.is_about(query) && now <= self.deadline
     }
 
-    /// Returns a copy of what is kept, with the TTLs that are left at a moment.
+    /// Returns a copy of the response or the negative answer, with the TTLs that are left at a moment.
     pub fn reply_at(&self, now: Moment) -> Result<Result<Message, NoRecords>, AllocError>
         ensures { IfOk result (λ reply. reply ≡ aged (now - self.now.moment) self.now.kept) }
     {
