@@ -19,6 +19,7 @@ use Rattle.stub_cache.specs.declared.cache.entry.Entry.{Entry}
 abbrev pub Kept : Type 0
 Kept = Result Message NoRecords
 
+-- the entries of a cache, the newest last, with its capacity and its bounds of TTLs
 pub record CacheContent : Type 0 where
   pub entries : List Entry
   -- how many entries there may be
@@ -31,6 +32,7 @@ same_key p q =
     same_name p.name q.name
     && ((type_number p.query_type == type_number q.query_type) && (class_number p.query_class == class_number q.query_class))
 
+-- whether an entry is for a question
 abbrev pub is_about : Query → Entry → Bool
 is_about q e = same_key e.question q
 
@@ -51,9 +53,11 @@ entry_of config q (Err answer) now = record {
 
 -- ---- what is found
 
+-- whether an entry is for a question and not past its deadline at a moment
 abbrev pub is_current : Query → ℕ → Entry → Bool
 is_current q now e = is_about q e && nat_le now e.deadline
 
+-- a response or a negative answer with its TTLs reduced by some seconds
 abbrev pub aged : ℕ → Kept → Kept
 aged seconds (Ok m) = Ok (aged_message seconds m)
 aged seconds (Err answer) = Err (aged_answer seconds answer)
@@ -64,6 +68,7 @@ current entries q now = option_map (λ e. aged (now - e.moment) e.kept) (find (i
 
 -- ---- what is stored
 
+-- whether no other entry has an earlier deadline
 abbrev pub is_first_due : Entry → List Entry → Bool
 is_first_due e [] = true
 is_first_due e (other ∷ others) = nat_le e.deadline other.deadline && is_first_due e others
@@ -100,6 +105,7 @@ kept_of_result (Ok m) = Some (Ok m)
 kept_of_result (Err (Dns (dns.NoRecordsFound answer))) = Some (Err answer)
 kept_of_result (Err error) = None
 
+-- a cache that stores a response or a negative answer, if there is one
 abbrev pub storing_any : CacheContent → Query → Option Kept → ℕ → CacheContent
 storing_any cache q None now = cache
 storing_any cache q (Some kept) now = storing cache q kept now

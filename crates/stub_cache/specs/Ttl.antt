@@ -33,12 +33,15 @@ pub record TtlRange : Type 0 where
 abbrev pub range_of : Option ℕ → Option ℕ → TtlRange
 range_of minimum maximum = record { least = unwrap_or minimum 0; greatest = unwrap_or maximum max_ttl }
 
+-- the range of the TTLs of records
 abbrev pub positive_range : TtlBounds → TtlRange
 positive_range bounds = range_of bounds.positive_min bounds.positive_max
 
+-- the range of the times for which negative answers are stored
 abbrev pub negative_range : TtlBounds → TtlRange
 negative_range bounds = range_of bounds.negative_min bounds.negative_max
 
+-- whether the minimum is above the maximum
 abbrev pub is_reversed : TtlRange → Bool
 is_reversed range = nat_lt range.greatest range.least
 
@@ -46,6 +49,7 @@ is_reversed range = nat_lt range.greatest range.least
 abbrev pub are_reversed : TtlBounds → Bool
 are_reversed bounds = is_reversed (positive_range bounds) || is_reversed (negative_range bounds)
 
+-- the bounds, or the error that a minimum is above its maximum
 abbrev pub checked_bounds : TtlBounds → Result TtlBounds TtlBoundsError
 checked_bounds bounds = if are_reversed bounds then Err MinimumAboveMaximum else Ok bounds
 
@@ -85,6 +89,7 @@ bounds_of_options options = record {
   negative_max = options.negative_max_ttl;
 }
 
+-- the configuration that the options of a resolver set, or the error that a minimum is above its maximum
 abbrev pub checked_config : ResolverOpts → Result TtlConfigContent TtlBoundsError
 checked_config options = result_map_both plain_config (λ error. error) (checked_bounds (bounds_of_options options))
 
@@ -108,6 +113,7 @@ map_records f m = record m {
 abbrev pub clamped_record : TtlConfigContent → Record → Record
 clamped_record config r = record r { ttl = clamp (positive_range (bounds_of config (data_type r.rdata))) r.ttl }
 
+-- a message with the TTL of each record within the positive bounds of its type
 abbrev pub clamped : TtlConfigContent → Message → Message
 clamped config m = map_records (clamped_record config) m
 
@@ -118,6 +124,7 @@ abbrev pub lesser : ℕ → Option ℕ → ℕ
 lesser ttl None = ttl
 lesser ttl (Some other) = min ttl other
 
+-- the least TTL of some records
 abbrev pub least_ttl : List Record → Option ℕ
 least_ttl [] = None
 least_ttl (r ∷ rs) = Some (lesser r.ttl (least_ttl rs))
@@ -144,12 +151,15 @@ negative_lifetime config kind answer = lifetime_within (negative_range (bounds_o
 
 -- ---- ageing: TTLs are reduced by the seconds that have passed, to 0 at the least (RFC 1034 section 5.3.3)
 
+-- a name server with the TTLs that are left
 abbrev pub aged_referral : ℕ → ForwardNSData → ForwardNSData
 aged_referral seconds r = record { ns = after_seconds seconds r.ns; glue = map (after_seconds seconds) r.glue }
 
+-- a message with the TTLs that are left
 abbrev pub aged_message : ℕ → Message → Message
 aged_message seconds m = map_records (after_seconds seconds) m
 
+-- a negative answer with the TTLs that are left: its own, and those of all its records
 abbrev pub aged_answer : ℕ → NoRecords → NoRecords
 aged_answer seconds answer = record answer {
   soa = option_map (after_seconds seconds) answer.soa;

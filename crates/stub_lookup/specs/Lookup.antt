@@ -27,6 +27,7 @@ response_to query answers =
       answers = answers;
     }
 
+-- a response to one question that is valid until a moment
 abbrev pub lookup_of : Query → List Record → ℕ → LookupContent
 lookup_of query answers valid_until = record
     { message = response_to query answers; valid_until = valid_until }

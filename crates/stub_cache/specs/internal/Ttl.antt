@@ -12,6 +12,7 @@ use Rattle.stub_cache.specs.Ttl.{TtlRange, lesser}
 abbrev pub range_between : RangeInclusive ℕ → TtlRange
 range_between range = record { least = range.start; greatest = range.end }
 
+-- whether two types have the same number
 abbrev pub is_same_type : RecordType → RecordType → Bool
 is_same_type kind other = type_number kind == type_number other
 
@@ -20,6 +21,7 @@ is_same_type kind other = type_number kind == type_number other
 abbrev pub is_deciding : RecordType → RecordType → Bool
 is_deciding asked kind = is_same_type kind asked || (is_same_type kind types.CNAME && not (is_same_type asked types.NS))
 
+-- whether a record decides how long a response to a question of a type is stored
 abbrev pub is_deciding_record : RecordType → Record → Bool
 is_deciding_record asked r = is_deciding asked (data_type r.rdata)
 
