@@ -12,9 +12,7 @@ use crate::rrset_records::RrsetRecords;
 use dns_data::RData;
 use dns_names::Name;
 use dns_wire::{DNSClass, RecordType};
-use edits::{
-    accepts_data, insert_record, put_record, remove_record, set_each_class, set_each_ttl,
-};
+use edits::{accepts_data, insert_record, put_record, remove_record, set_each_class, set_each_ttl};
 use std::alloc::{AllocError, Global};
 use std::marker::Model;
 use std::vec::IntoIter;
