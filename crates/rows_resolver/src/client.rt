@@ -55,7 +55,7 @@ fn names_looked_up(
 ) -> Answer {
     let mut client = new_client(alloc, exchange);
     let options = DnsRequestOptions::default();
-    let reply = lookup_names(alloc, names, kind, options, &mut client, NOW);
+    let reply = lookup_names(names, kind, options, &mut client, NOW);
     reply_text(alloc, reply)
 }
 
@@ -85,6 +85,6 @@ fn names_looked_up_with_hosts(
 ) -> Answer {
     let mut client = new_client(alloc, exchange);
     let options = DnsRequestOptions::default();
-    let reply = lookup_names_with_hosts(alloc, names, kind, options, &mut client, hosts, NOW);
+    let reply = lookup_names_with_hosts(names, kind, options, &mut client, hosts, NOW);
     reply_text(alloc, reply)
 }
