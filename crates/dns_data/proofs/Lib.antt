@@ -4,6 +4,7 @@ pub mod DecodingLaws
 pub mod EmissionLaws
 pub mod LengthLaws
 pub mod BoundedLaws
+pub mod LayoutLaws
 pub mod DataLaws
 pub mod UnambiguousLaws
 pub mod WritingLaws

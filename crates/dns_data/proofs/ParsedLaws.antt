@@ -12,16 +12,7 @@ use Rattle.dns_data.specs.declared.error.RDataParseError.{RDataParseError}
 use Rattle.dns_data.specs.declared.rdata.RData.{RData}
 use Rattle.dns_data.specs.declared.rdata.RData.TheVariants as of
 use Rattle.dns_data.specs.rdata.{data_type, data_kinds, data_values, kinds_of_type, IsParsedData, RefusesText, no_text, bad_tokens}
-use Rattle.dns_data.proofs.UnambiguousLaws.{data_of}
-use Rattle.dns_data.specs.rdata.A.{a_values}
-use Rattle.dns_data.specs.rdata.AAAA.{aaaa_values}
-use Rattle.dns_data.specs.rdata.CNAME.{cname_values}
-use Rattle.dns_data.specs.rdata.MX.{mx_values}
-use Rattle.dns_data.specs.rdata.NS.{ns_values}
-use Rattle.dns_data.specs.rdata.PTR.{ptr_values}
-use Rattle.dns_data.specs.rdata.SOA.{soa_values}
-use Rattle.dns_data.specs.rdata.SRV.{srv_values}
-use Rattle.dns_data.specs.rdata.TXT.{txt_values}
+use Rattle.dns_data.proofs.TypeLaws.{data_of}
 
 -- ---- one value of each kind
 
@@ -123,15 +114,6 @@ module _ (origin : Option DomainName) where
 
 pub some_kind : (t : RecordType) → [] ≡ kinds_of_type t → ⊥
 some_kind types.A e = absurd (cc)
-some_kind types.AAAA e = absurd (cc)
-some_kind types.CNAME e = absurd (cc)
-some_kind types.NS e = absurd (cc)
-some_kind types.PTR e = absurd (cc)
-some_kind types.MX e = absurd (cc)
-some_kind types.SOA e = absurd (cc)
-some_kind types.SRV e = absurd (cc)
-some_kind types.TXT e = absurd (cc)
-some_kind types.OPT e = absurd (cc)
 some_kind other e = absurd (cc)
 
 module _ (origin : Option DomainName) (tokens : List Lexeme) where
@@ -140,18 +122,10 @@ module _ (origin : Option DomainName) (tokens : List Lexeme) where
   HasParsed t d = (v : Values (kinds_of_type t)) × (d ≡ data_of t v) × AreParsed origin (kinds_of_type t) tokens v
 
   has_parsed : (d : RData) → data_kinds d ≡ kinds_of_type (data_type d) → has_text (data_kinds d) ≡ true → AreParsed origin (data_kinds d) tokens (data_values d) → HasParsed (data_type d) d
-  has_parsed (of.A a) fields text h = (a_values a, refl, h)
-  has_parsed (of.AAAA a) fields text h = (aaaa_values a, refl, h)
-  has_parsed (of.CNAME c) fields text h = (cname_values c, refl, h)
-  has_parsed (of.NS n) fields text h = (ns_values n, refl, h)
-  has_parsed (of.PTR p) fields text h = (ptr_values p, refl, h)
-  has_parsed (of.MX m) fields text h = (mx_values m, refl, h)
-  has_parsed (of.SOA s) fields text h = (soa_values s, refl, h)
-  has_parsed (of.SRV s) fields text h = (srv_values s, refl, h)
-  has_parsed (of.TXT t) fields text h = (txt_values t, refl, h)
   has_parsed (of.OPT o) fields text h = absurd (cc)
   has_parsed (of.Update0 t) fields text h = absurd (some_kind t fields)
   has_parsed (of.Unknown code bytes) fields text h = absurd (cc)
+  has_parsed d fields text h = (data_values d, refl, h)
 
   data_parsed : (t : RecordType) (d : RData) → IsParsedData origin t tokens d → HasParsed (type_of (type_number t)) d
   data_parsed t d p =

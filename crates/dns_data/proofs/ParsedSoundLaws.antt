@@ -1,6 +1,8 @@
 -- Data that is parsed from text is sound, unless it is too long for a record.
-use Rattle.std.proofs.Common.{◌≡◌, ◌≢◌, ℕ, ◌-◌, ◌<◌, ◌≤◌, ◌^◌, Bool, true, false, cond, List, [], ◌∷◌, ◌++◌, length, replicate, Option, Some, None, Result, Ok, Err, inl, inr, refl, sym, ap, ◌∙◌, arith, length-append}
-use Rattle.std.specs.Prelude.{nat_le, nat_lt}
+use Rattle.std.proofs.Common.{◌≡◌, ◌≢◌, ℕ, ◌-◌, ◌<◌, ◌≤◌, ◌^◌, Bool, true, false, cond, List, [], ◌∷◌, ◌++◌, length, replicate, Option, Some, None, Result, Ok, Err, inl, inr, refl, sym, ap, subst, ◌∙◌, arith, length-append}
+use Rattle.std.specs.Prelude.{nat_le, nat_lt, if◌then◌else◌, ◌&&◌, not}
+use Rattle.std.proofs.lemmas.Bool.{and_parts}
+use Rattle.dns_data.specs.rdata.Order.{is_number}
 use Rattle.std.specs.List.{AllByRecursion}
 use Rattle.std.specs.Net.Addr.{ipv6_segments}
 use Rattle.std.specs.Net.Grammar.{IsColonHex}
@@ -146,18 +148,28 @@ pub record IsTextType (t : RecordType) : Type 0 where
   pub not_opt : t ≢ types.OPT
   pub not_tsig : t ≢ types.TSIG
 
+-- a type with a text form has a name, and its number fits 16 bits
+text_type_facts : (t : RecordType) → (if has_text (kinds_of_type t) then nat_lt (type_number t) 65536 && not (is_number t) else true) ≡ true
+text_type_facts types.A = refl
+text_type_facts t = refl
+
+named_type : (t : RecordType) → not (is_number t) ≡ true → type_of (type_number t) ≡ t
+named_type (types.Unknown number) is = absurd (cc)
+named_type t is = refl
+
+then_true : (a b : Bool) → (if a then b else true) ≡ true → a ≡ true → b ≡ true
+then_true true b is has = is
+then_true false b is has = absurd (cc)
+
 text_type : (t : RecordType) → has_text (kinds_of_type t) ≡ true → IsTextType t
-text_type types.A has = record { fits = omega arith; named = refl; not_opt = λ e. absurd (cc); not_tsig = λ e. absurd (cc) }
-text_type types.AAAA has = record { fits = omega arith; named = refl; not_opt = λ e. absurd (cc); not_tsig = λ e. absurd (cc) }
-text_type types.CNAME has = record { fits = omega arith; named = refl; not_opt = λ e. absurd (cc); not_tsig = λ e. absurd (cc) }
-text_type types.NS has = record { fits = omega arith; named = refl; not_opt = λ e. absurd (cc); not_tsig = λ e. absurd (cc) }
-text_type types.PTR has = record { fits = omega arith; named = refl; not_opt = λ e. absurd (cc); not_tsig = λ e. absurd (cc) }
-text_type types.MX has = record { fits = omega arith; named = refl; not_opt = λ e. absurd (cc); not_tsig = λ e. absurd (cc) }
-text_type types.SOA has = record { fits = omega arith; named = refl; not_opt = λ e. absurd (cc); not_tsig = λ e. absurd (cc) }
-text_type types.SRV has = record { fits = omega arith; named = refl; not_opt = λ e. absurd (cc); not_tsig = λ e. absurd (cc) }
-text_type types.TXT has = record { fits = omega arith; named = refl; not_opt = λ e. absurd (cc); not_tsig = λ e. absurd (cc) }
-text_type types.OPT has = absurd (cc)
-text_type t has = absurd (cc)
+text_type t has =
+    let both = and_parts (nat_lt (type_number t) 65536) (not (is_number t)) (then_true (has_text (kinds_of_type t)) (nat_lt (type_number t) 65536 && not (is_number t)) (text_type_facts t) has) in
+    record {
+      fits = grind (arith, nat_tests, both.0);
+      named = named_type t both.1;
+      not_opt = λ e. let none : has_text (kinds_of_type types.OPT) ≡ true = subst (λ (u : RecordType). has_text (kinds_of_type u) ≡ true) e has in absurd (cc);
+      not_tsig = λ e. let none : has_text (kinds_of_type types.TSIG) ≡ true = subst (λ (u : RecordType). has_text (kinds_of_type u) ≡ true) e has in absurd (cc);
+    }
 
 pub parsed_type : (origin : Option DomainName) (t : RecordType) (tokens : List Lexeme) (d : RData) → IsParsedData origin t tokens d → IsTextType (data_type d)
 parsed_type origin t tokens d p = text_type (data_type d) (ap (λ (u : RecordType). has_text (kinds_of_type u)) p.of_type ∙ p.has_text)
@@ -165,18 +177,8 @@ parsed_type origin t tokens d p = text_type (data_type d) (ap (λ (u : RecordTyp
 -- ---- data
 
 has_fields : (d : RData) → data_kinds d ≡ kinds_of_type (data_type d) → HasFieldsOfType d
-has_fields (of.A a) e = e
-has_fields (of.AAAA a) e = e
-has_fields (of.CNAME c) e = e
-has_fields (of.NS n) e = e
-has_fields (of.PTR p) e = e
-has_fields (of.MX m) e = e
-has_fields (of.SOA s) e = e
-has_fields (of.SRV s) e = e
-has_fields (of.TXT t) e = e
-has_fields (of.OPT o) e = e
 has_fields (of.Update0 t) e = absurd (some_kind t e)
-has_fields (of.Unknown code bytes) e = e
+has_fields d e = e
 
 has_data : (d : RData) → data_kinds d ≡ kinds_of_type (data_type d) → is_update_data d ≡ false
 has_data (of.Update0 t) e = absurd (some_kind t e)

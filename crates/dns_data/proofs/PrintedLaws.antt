@@ -30,6 +30,9 @@ use Rattle.dns_data.specs.declared.error.RDataParseError.{RDataParseError}
 use Rattle.dns_data.specs.declared.error.RDataParseError.TheVariants.{InvalidToken, CharacterDataTooLong}
 use Rattle.dns_data.specs.declared.rdata.RData.{RData}
 use Rattle.dns_data.specs.declared.rdata.RData.TheVariants as of
+use Rattle.dns_data.proofs.BoundedLaws.{is_bounded, IsBounded}
+use Rattle.dns_data.proofs.LayoutLaws.{IsLayout, one_kind, bounded_kinds}
+use Rattle.dns_data.proofs.DataLaws.{data_layout}
 use Rattle.dns_data.proofs.ParsedLaws.{some_kind}
 use Rattle.dns_data.specs.rdata.{data_type, data_kinds, data_values, data_text, kinds_of_type, IsSoundData, IsParsedData}
 
@@ -129,13 +132,7 @@ fqdn_some false labels is = absurd (cc)
 
 -- ---- one token for each value but character strings
 
-abbrev is_one_token : Kind → Bool
-is_one_token Strings = false
-is_one_token Options = false
-is_one_token Opaque = false
-is_one_token kind = true
-
-value_datum : (kind : Kind) (value : ValueOf kind) → is_one_token kind ≡ true → IsSoundValue kind value → IsValidValue kind value → IsDatum (CharData (value_text kind value))
+value_datum : (kind : Kind) (value : ValueOf kind) → is_bounded kind ≡ true → IsSoundValue kind value → IsValidValue kind value → IsDatum (CharData (value_text kind value))
 value_datum Number16 n one sound valid = decimal_datum n (omega arith)
 value_datum Number32 n one sound valid = decimal_datum n (omega arith)
 value_datum Seconds n one sound valid = decimal_datum n (omega arith)
@@ -147,7 +144,7 @@ value_datum Strings value one sound valid = absurd (cc)
 value_datum Options value one sound valid = absurd (cc)
 value_datum Opaque value one sound valid = absurd (cc)
 
-value_parses : (origin : Option DomainName) (kind : Kind) (value : ValueOf kind) → is_one_token kind ≡ true → IsSoundValue kind value → IsValidValue kind value
+value_parses : (origin : Option DomainName) (kind : Kind) (value : ValueOf kind) → is_bounded kind ≡ true → IsSoundValue kind value → IsValidValue kind value
     → IsTokenOf origin kind value (CharData (value_text kind value))
 value_parses origin Number16 n one sound valid = decimal_parses 65535 n (omega arith) (omega arith)
 value_parses origin Number32 n one sound valid = decimal_parses 4294967295 n (omega arith) (omega arith)
@@ -177,17 +174,17 @@ words_text [] values = refl
 words_text (kind ∷ []) values = refl
 words_text (kind ∷ next ∷ kinds) values = ap (λ (text : List ℕ). value_text kind values.0 ++ 32 ∷ text) (words_text (next ∷ kinds) values.1)
 
-words_datum : (kinds : List Kind) (values : Values kinds) → AllByRecursion (λ kind. is_one_token kind ≡ true) kinds → AreSoundValues kinds values → AreValidValues kinds values
+words_datum : (kinds : List Kind) (values : Values kinds) → AllByRecursion IsBounded kinds → AreSoundValues kinds values → AreValidValues kinds values
     → AllByRecursion IsDatum (words kinds values)
 words_datum [] values ones sound valid = tt
 words_datum (kind ∷ kinds) values ones sound valid = (value_datum kind values.0 ones.0 sound.0 valid.0, words_datum kinds values.1 ones.1 sound.1 valid.1)
 
-taken : (origin : Option DomainName) (kind : Kind) (token : Lexeme) (tokens : List Lexeme) (value : ValueOf kind) → is_one_token kind ≡ true → IsTokenOf origin kind value token
+taken : (origin : Option DomainName) (kind : Kind) (token : Lexeme) (tokens : List Lexeme) (value : ValueOf kind) → is_bounded kind ≡ true → IsTokenOf origin kind value token
     → Takes origin kind (token ∷ tokens) value tokens
 taken origin Strings token tokens value one is = absurd (cc)
 taken origin kind token tokens value one is = (is, refl)
 
-words_parse : (origin : Option DomainName) (kinds : List Kind) (values : Values kinds) → AllByRecursion (λ kind. is_one_token kind ≡ true) kinds → AreSoundValues kinds values → AreValidValues kinds values
+words_parse : (origin : Option DomainName) (kinds : List Kind) (values : Values kinds) → AllByRecursion IsBounded kinds → AreSoundValues kinds values → AreValidValues kinds values
     → AreParsed origin kinds (words kinds values) values
 words_parse origin [] values ones sound valid = refl
 words_parse origin (kind ∷ kinds) values ones sound valid = (
@@ -196,7 +193,7 @@ words_parse origin (kind ∷ kinds) values ones sound valid = (
   words_parse origin kinds values.1 ones.1 sound.1 valid.1,
 )
 
-are_words : (kinds : List Kind) (values : Values kinds) → AllByRecursion (λ kind. is_one_token kind ≡ true) kinds → AreSoundValues kinds values → AreValidValues kinds values
+are_words : (kinds : List Kind) (values : Values kinds) → AllByRecursion IsBounded kinds → AreSoundValues kinds values → AreValidValues kinds values
     → AreTokens kinds values (words kinds values)
 are_words kinds values ones sound valid =
     record { each = words_datum kinds values ones sound valid; text = words_text kinds values; parsed = λ origin. words_parse origin kinds values ones sound valid }
@@ -242,27 +239,40 @@ are_quoted strings sound are = record {
 
 -- ---- data
 
+-- the values have a token, and their tokens parse to them
+abbrev ValuesTokens : (kinds : List Kind) → Values kinds → Type 0
+ValuesTokens kinds values = (token : Lexeme) × (tokens : List Lexeme) × AreTokens kinds values (token ∷ tokens)
+
 -- the data has a token, and its tokens parse to it
 abbrev HasTokens : RData → Type 0
 HasTokens d = (token : Lexeme) × (tokens : List Lexeme) × AreTokens (data_kinds d) (data_values d) (token ∷ tokens) × (data_text d ≡ values_text (data_kinds d) (data_values d))
 
-text_tokens : (t : List (List ℕ)) → IsSoundValue Strings t → AllByRecursion AreOctets t → HasTokens (of.TXT t)
-text_tokens [] sound are = absurd (sound.0 refl)
-text_tokens (string ∷ strings) sound are = (QuotedString (escaped_text string), quoted strings, are_quoted (string ∷ strings) sound are, refl)
+strings_tokens : (strings : List (List ℕ)) → IsSoundValue Strings strings → AllByRecursion AreOctets strings → ValuesTokens (Strings ∷ []) (strings, tt)
+strings_tokens [] sound are = absurd (sound.0 refl)
+strings_tokens (string ∷ strings) sound are = (QuotedString (escaped_text string), quoted strings, are_quoted (string ∷ strings) sound are)
+
+one_tokens : (kind : Kind) (values : Values (kind ∷ [])) → AreSoundValues (kind ∷ []) values → AreValidValues (kind ∷ []) values → has_text (kind ∷ []) ≡ true → ValuesTokens (kind ∷ []) values
+one_tokens Strings values sound valid text = strings_tokens values.0 sound.0 valid.0
+one_tokens Options values sound valid text = absurd (cc)
+one_tokens Opaque values sound valid text = absurd (cc)
+one_tokens kind values sound valid text = (_, _, are_words (kind ∷ []) values (refl, tt) sound valid)
+
+values_tokens : {kinds : List Kind} → IsLayout kinds → (values : Values kinds) → ([] ≡ kinds → ⊥) → AreSoundValues kinds values → AreValidValues kinds values → has_text kinds ≡ true → ValuesTokens kinds values
+values_tokens (one_kind {kind}) values some sound valid text = one_tokens kind values sound valid text
+values_tokens (bounded_kinds {kinds = []} are few) values some sound valid text = absurd (some refl)
+values_tokens (bounded_kinds {kinds = kind ∷ kinds} are few) values some sound valid text = (_, _, are_words (kind ∷ kinds) values are sound valid)
+
+text_is : (d : RData) → ([] ≡ data_kinds d → ⊥) → has_text (data_kinds d) ≡ true → data_text d ≡ values_text (data_kinds d) (data_values d)
+text_is (of.OPT o) some text = absurd (cc)
+text_is (of.Update0 t) some text = absurd (some refl)
+text_is (of.Unknown code bytes) some text = absurd (cc)
+text_is d some text = refl
 
 has_tokens : (d : RData) → AreSoundValues (data_kinds d) (data_values d) → AreValidValues (data_kinds d) (data_values d) → has_text (data_kinds d) ≡ true → data_kinds d ≡ kinds_of_type (data_type d) → HasTokens d
-has_tokens (of.A a) sound valid text fields = (_, _, are_words _ (data_values (of.A a)) (refl, tt) sound valid, refl)
-has_tokens (of.AAAA a) sound valid text fields = (_, _, are_words _ (data_values (of.AAAA a)) (refl, tt) sound valid, refl)
-has_tokens (of.CNAME c) sound valid text fields = (_, _, are_words _ (data_values (of.CNAME c)) (refl, tt) sound valid, refl)
-has_tokens (of.NS n) sound valid text fields = (_, _, are_words _ (data_values (of.NS n)) (refl, tt) sound valid, refl)
-has_tokens (of.PTR p) sound valid text fields = (_, _, are_words _ (data_values (of.PTR p)) (refl, tt) sound valid, refl)
-has_tokens (of.MX m) sound valid text fields = (_, _, are_words _ (data_values (of.MX m)) (refl, (refl, tt)) sound valid, refl)
-has_tokens (of.SOA s) sound valid text fields = (_, _, are_words _ (data_values (of.SOA s)) (refl, (refl, (refl, (refl, (refl, (refl, (refl, tt))))))) sound valid, refl)
-has_tokens (of.SRV s) sound valid text fields = (_, _, are_words _ (data_values (of.SRV s)) (refl, (refl, (refl, (refl, tt)))) sound valid, refl)
-has_tokens (of.TXT t) sound valid text fields = text_tokens t sound.0 valid.0
-has_tokens (of.OPT o) sound valid text fields = absurd (cc)
-has_tokens (of.Update0 t) sound valid text fields = absurd (some_kind t fields)
-has_tokens (of.Unknown code bytes) sound valid text fields = absurd (cc)
+has_tokens d sound valid text fields =
+    let some : [] ≡ data_kinds d → ⊥ = λ e. some_kind (data_type d) (e ∙ fields) in
+    let tokens = values_tokens (data_layout d) (data_values d) some sound valid text in
+    (tokens.0, tokens.1, tokens.2, text_is d some text)
 
 -- data of a type with a text form, parsed from tokens of its values
 of_tokens : (d : RData) (origin : Option DomainName) (tokens : List Lexeme) → IsSoundData d → has_text (data_kinds d) ≡ true → data_kinds d ≡ kinds_of_type (data_type d)

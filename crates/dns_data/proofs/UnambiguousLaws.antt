@@ -1,77 +1,32 @@
 -- Bytes decode to one value of record data, and are then not refused.
-use Rattle.std.proofs.Common.{◌≡◌, ◌≢◌, ℕ, ◌+◌, ◌<◌, zero, suc, List, [], ◌∷◌, length, refl, sym, ap, subst, ◌∙◌, arith}
+use Rattle.std.proofs.Common.{◌≡◌, ◌≢◌, ℕ, ◌+◌, ◌<◌, zero, suc, List, [], ◌∷◌, refl, sym, ap, subst, ◌∙◌, arith}
 use Rattle.dns_codes.specs.declared.record_type.RecordType.{RecordType}
 use Rattle.dns_codes.specs.declared.record_type.RecordType.TheVariants as types
 use Rattle.dns_codes.specs.RecordType.{type_number, type_of}
 use Rattle.dns_wire.specs.declared.error.DecodeError.{DecodeError}
-use Rattle.dns_data.specs.Field.{OptionValue, Number16, Address4, Address6, CompressibleName, WholeName, Opaque, Values, AreSoundValues}
-use Rattle.dns_data.specs.Wire.{StringAt, OptionAt, ValuesAt}
+use Rattle.dns_data.specs.Field.{Kind, OptionValue, Values, AreSoundValues}
+use Rattle.dns_data.specs.Wire.{OptionAt, ValuesAt}
 use Rattle.dns_data.specs.declared.rdata.RData.{RData}
 use Rattle.dns_data.specs.declared.rdata.RData.TheVariants as of
 use Rattle.dns_data.specs.rdata.{data_type, data_kinds, data_values, kinds_of_type, empty_data, HasFieldsOfType, ReadsData, RefusesData}
-use Rattle.dns_data.specs.rdata.A.{a_values}
-use Rattle.dns_data.specs.rdata.AAAA.{aaaa_values}
-use Rattle.dns_data.specs.rdata.CNAME.{cname_values}
-use Rattle.dns_data.specs.rdata.MX.{mx_values}
-use Rattle.dns_data.specs.rdata.NS.{ns_values}
-use Rattle.dns_data.specs.rdata.OPT.{opt_values}
-use Rattle.dns_data.specs.rdata.PTR.{ptr_values}
-use Rattle.dns_data.specs.rdata.SOA.{number_kinds, soa_values}
-use Rattle.dns_data.specs.rdata.SRV.{srv_values}
-use Rattle.dns_data.specs.rdata.TXT.{txt_values}
 use Rattle.dns_data.proofs.WireLaws.{values_same, data_not_refused, data_refusal_same}
-use Rattle.dns_data.proofs.BoundedLaws.{bounded-ahead}
-use Rattle.dns_data.proofs.DataLaws.{items-ahead, data_at}
-
--- the data of a type with some values
-abbrev pub data_of : (t : RecordType) → Values (kinds_of_type t) → RData
-data_of types.A v = of.A (record { 0 = v.0 })
-data_of types.AAAA v = of.AAAA (record { 0 = v.0 })
-data_of types.CNAME v = of.CNAME (record { 0 = v.0 })
-data_of types.NS v = of.NS (record { 0 = v.0 })
-data_of types.PTR v = of.PTR (record { 0 = v.0 })
-data_of types.MX v = of.MX (record { preference = v.0; exchange = v.1.0 })
-data_of types.SOA v = of.SOA (record { mname = v.0; rname = v.1.0; serial = v.1.1.0; refresh = v.1.1.1.0; retry = v.1.1.1.1.0; expire = v.1.1.1.1.1.0; minimum = v.1.1.1.1.1.1.0 })
-data_of types.SRV v = of.SRV (record { priority = v.0; weight = v.1.0; port = v.1.1.0; target = v.1.1.1.0 })
-data_of types.TXT v = of.TXT v.0
-data_of types.OPT v = of.OPT v.0
-data_of other v = of.Unknown other v.0
+use Rattle.dns_data.proofs.LayoutLaws.{layout_at, items-ahead, no_values}
+use Rattle.dns_data.proofs.DataLaws.{data_layout}
+use Rattle.dns_data.proofs.TypeLaws.{data_of, opaque_values}
 
 module _ (bytes : List ℕ) (place data_end : ℕ) where
   -- data is that of its type with its values
   abbrev pub HasValues : RecordType → RData → Type 0
   HasValues t d = (v : Values (kinds_of_type t)) × (d ≡ data_of t v) × ValuesAt bytes data_end (kinds_of_type t) place v data_end
 
-  opaque_values : (code : RecordType) (bs : List ℕ) → data_kinds (of.Unknown code bs) ≡ kinds_of_type code → ValuesAt bytes data_end (Opaque ∷ []) place (bs, tt) data_end → HasValues code (of.Unknown code bs)
-  opaque_values types.A bs e h = absurd (cc)
-  opaque_values types.AAAA bs e h = absurd (cc)
-  opaque_values types.CNAME bs e h = absurd (cc)
-  opaque_values types.NS bs e h = absurd (cc)
-  opaque_values types.PTR bs e h = absurd (cc)
-  opaque_values types.MX bs e h = absurd (cc)
-  opaque_values types.SOA bs e h = absurd (cc)
-  opaque_values types.SRV bs e h = absurd (cc)
-  opaque_values types.TXT bs e h = absurd (cc)
-  opaque_values types.OPT bs e h = absurd (cc)
-  opaque_values code bs e h = ((bs, tt), refl, h)
-
   has_values : (d : RData) → HasFieldsOfType d → place < data_end → ValuesAt bytes data_end (data_kinds d) place (data_values d) data_end → HasValues (data_type d) d
-  has_values (of.A a) fields some h = (a_values a, refl, h)
-  has_values (of.AAAA a) fields some h = (aaaa_values a, refl, h)
-  has_values (of.CNAME c) fields some h = (cname_values c, refl, h)
-  has_values (of.NS n) fields some h = (ns_values n, refl, h)
-  has_values (of.PTR p) fields some h = (ptr_values p, refl, h)
-  has_values (of.MX m) fields some h = (mx_values m, refl, h)
-  has_values (of.SOA s) fields some h = (soa_values s, refl, h)
-  has_values (of.SRV s) fields some h = (srv_values s, refl, h)
-  has_values (of.TXT t) fields some h = (txt_values t, refl, h)
-  has_values (of.OPT o) fields some h = (opt_values o, refl, h)
   has_values (of.Update0 t) fields some h = absurd (omega (arith, some, h))
-  has_values (of.Unknown code bs) fields some h = opaque_values code bs fields h
+  has_values (of.Unknown code bs) fields some h = opaque_values (λ (kinds : List Kind) (v : Values kinds). ValuesAt bytes data_end kinds place v data_end) code bs fields h
+  has_values d fields some h = (data_values d, refl, h)
 
 type_values : (bytes : List ℕ) (place len : ℕ) (t : RecordType) (d : RData) → 0 < len → ReadsData bytes place t len d → HasValues bytes place (place + len) (type_of (type_number t)) d
 type_values bytes place len t d some r =
-    subst (λ (u : RecordType). HasValues bytes place (place + len) u d) r.of_type (has_values bytes place (place + len) d r.sound.fields (omega (arith, some)) (data_at bytes place len d r.sound.values r.there))
+    subst (λ (u : RecordType). HasValues bytes place (place + len) u d) r.of_type (has_values bytes place (place + len) d r.sound.fields (omega (arith, some)) (layout_at bytes place (place + len) (data_layout d) (data_values d) r.sound.values r.there))
 
 -- ---- empty data
 
@@ -80,34 +35,17 @@ empty_is types.OPT other = absurd (other refl)
 empty_is t other = refl
 
 module _ (bytes : List ℕ) (place : ℕ) where
-  some_options : (o : List OptionValue) → ValuesAt bytes (place + 0) (data_kinds (of.OPT o)) place (opt_values o) (place + 0) → of.OPT o ≡ of.OPT []
+  some_options : (o : List OptionValue) → ValuesAt bytes (place + 0) (data_kinds (of.OPT o)) place (data_values (of.OPT o)) (place + 0) → of.OPT o ≡ of.OPT []
   some_options [] h = refl
   some_options (x ∷ xs) h = absurd (omega (arith, items-ahead (OptionAt bytes) h.1))
 
-  some_strings : (t : List (List ℕ)) → t ≢ [] → ValuesAt bytes (place + 0) (data_kinds (of.TXT t)) place (txt_values t) (place + 0) → ⊥
-  some_strings [] none h = none refl
-  some_strings (x ∷ xs) none h = omega (arith, items-ahead (StringAt bytes) h.1)
-
-  some_bytes : (bs : List ℕ) → bs ≢ [] → place + length bs ≡ place + 0 → ⊥
-  some_bytes [] none e = none refl
-  some_bytes (x ∷ xs) none e = omega (arith, e)
-
   empty_values : (d : RData) → HasFieldsOfType d → AreSoundValues (data_kinds d) (data_values d) → ValuesAt bytes (place + 0) (data_kinds d) place (data_values d) (place + 0) → d ≡ empty_data (data_type d)
-  empty_values (of.A a) fields sound h = absurd (omega (arith, bounded-ahead bytes (place + 0) Address4 [] place (a_values a) (place + 0) (tt, tt) h))
-  empty_values (of.AAAA a) fields sound h = absurd (omega (arith, bounded-ahead bytes (place + 0) Address6 [] place (aaaa_values a) (place + 0) (tt, tt) h))
-  empty_values (of.CNAME c) fields sound h = absurd (omega (arith, bounded-ahead bytes (place + 0) CompressibleName [] place (cname_values c) (place + 0) (tt, tt) h))
-  empty_values (of.NS n) fields sound h = absurd (omega (arith, bounded-ahead bytes (place + 0) CompressibleName [] place (ns_values n) (place + 0) (tt, tt) h))
-  empty_values (of.PTR p) fields sound h = absurd (omega (arith, bounded-ahead bytes (place + 0) CompressibleName [] place (ptr_values p) (place + 0) (tt, tt) h))
-  empty_values (of.MX m) fields sound h = absurd (omega (arith, bounded-ahead bytes (place + 0) Number16 (CompressibleName ∷ []) place (mx_values m) (place + 0) (tt, (tt, tt)) h))
-  empty_values (of.SOA s) fields sound h = absurd (omega (arith, bounded-ahead bytes (place + 0) CompressibleName (CompressibleName ∷ number_kinds) place (soa_values s) (place + 0) (tt, (tt, (tt, (tt, (tt, (tt, (tt, tt))))))) h))
-  empty_values (of.SRV s) fields sound h = absurd (omega (arith, bounded-ahead bytes (place + 0) Number16 (Number16 ∷ Number16 ∷ WholeName ∷ []) place (srv_values s) (place + 0) (tt, (tt, (tt, (tt, tt)))) h))
-  empty_values (of.TXT t) fields sound h = absurd (some_strings t sound.0.0 h)
   empty_values (of.OPT o) fields sound h = some_options o h
   empty_values (of.Update0 t) fields sound h = empty_is t fields
-  empty_values (of.Unknown code bs) fields sound h = absurd (some_bytes bs sound.0 (h.1.0.ends ∙ h.1.1))
+  empty_values d fields sound h = absurd (no_values bytes place (data_kinds d) (data_values d) refl sound h)
 
   empty_same : (t : RecordType) (d : RData) → ReadsData bytes place t 0 d → d ≡ empty_data (type_of (type_number t))
-  empty_same t d r = empty_values d r.sound.fields r.sound.values (data_at bytes place 0 d r.sound.values r.there) ∙ ap empty_data r.of_type
+  empty_same t d r = empty_values d r.sound.fields r.sound.values (layout_at bytes place (place + 0) (data_layout d) (data_values d) r.sound.values r.there) ∙ ap empty_data r.of_type
 
 -- ---- laws
 

@@ -2,6 +2,7 @@
 #![tactic(auto)]
 
 mod error;
+mod fields;
 mod generic;
 pub mod laws;
 mod octets;

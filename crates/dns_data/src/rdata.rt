@@ -18,6 +18,7 @@ mod srv;
 mod txt;
 
 use crate::error::RDataParseError;
+use crate::fields::FixedData;
 use crate::generic::write_generic;
 use crate::octets::OptionData;
 use crate::text::DataTokens;
@@ -143,14 +144,14 @@ impl RData {
         ensures bytes { decoder.new.bytes ≡ decoder.old.bytes }
     {
         match record_type {
-            RecordType::A => Ok(RData::A(A::read(decoder)?)),
-            RecordType::AAAA => Ok(RData::AAAA(AAAA::read(decoder)?)),
-            RecordType::CNAME => Ok(RData::CNAME(CNAME::read(alloc, decoder)?)),
-            RecordType::NS => Ok(RData::NS(NS::read(alloc, decoder)?)),
-            RecordType::PTR => Ok(RData::PTR(PTR::read(alloc, decoder)?)),
-            RecordType::MX => Ok(RData::MX(MX::read(alloc, decoder)?)),
-            RecordType::SOA => Ok(RData::SOA(SOA::read(alloc, decoder)?)),
-            RecordType::SRV => Ok(RData::SRV(SRV::read(alloc, decoder)?)),
+            RecordType::A => Ok(RData::A(A::read(alloc, decoder, len)?)),
+            RecordType::AAAA => Ok(RData::AAAA(AAAA::read(alloc, decoder, len)?)),
+            RecordType::CNAME => Ok(RData::CNAME(CNAME::read(alloc, decoder, len)?)),
+            RecordType::NS => Ok(RData::NS(NS::read(alloc, decoder, len)?)),
+            RecordType::PTR => Ok(RData::PTR(PTR::read(alloc, decoder, len)?)),
+            RecordType::MX => Ok(RData::MX(MX::read(alloc, decoder, len)?)),
+            RecordType::SOA => Ok(RData::SOA(SOA::read(alloc, decoder, len)?)),
+            RecordType::SRV => Ok(RData::SRV(SRV::read(alloc, decoder, len)?)),
             RecordType::TXT => Ok(RData::TXT(TXT::read(alloc, decoder, len)?)),
             RecordType::OPT => Ok(RData::OPT(OPT::read(alloc, decoder, len)?)),
             code => {
@@ -341,9 +342,9 @@ impl RData {
             record_type (map lexeme tokens.now) error) }
     {
         let mut tokens = DataTokens::new(tokens);
-        match RecordType::from(u16::from(record_type)) {
-            RecordType::A => Ok(RData::A(A::parse(&mut tokens)?)),
-            RecordType::AAAA => Ok(RData::AAAA(AAAA::parse(&mut tokens)?)),
+        match record_type.canonical() {
+            RecordType::A => Ok(RData::A(A::parse(alloc, &mut tokens, origin)?)),
+            RecordType::AAAA => Ok(RData::AAAA(AAAA::parse(alloc, &mut tokens, origin)?)),
             RecordType::CNAME => Ok(RData::CNAME(CNAME::parse(alloc, &mut tokens, origin)?)),
             RecordType::NS => Ok(RData::NS(NS::parse(alloc, &mut tokens, origin)?)),
             RecordType::PTR => Ok(RData::PTR(PTR::parse(alloc, &mut tokens, origin)?)),

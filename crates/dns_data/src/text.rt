@@ -1,12 +1,12 @@
 //! The tokens of record data in zone files (RFC 1035 section 5.1).
 
-ghost use Rattle.std.specs.Prelude.{◌≡◌, ◌≢◌, [], ◌∷◌, List, map, Option, option_map, IfOk, IfErr};
+ghost use Rattle.std.specs.Prelude.{◌≡◌, ◌≢◌, [], ◌∷◌, map, Option, option_map, IfOk, IfErr};
 ghost use Rattle.dns_names.specs.Name.{DomainName};
 ghost use Rattle.dns_wire.specs.Error.{IsUnless};
 ghost use Rattle.dns_text.specs.Lexer.{CharData, At};
 ghost use Rattle.dns_text.specs.Token.{lexeme};
 ghost use Rattle.dns_data.specs.Field.{Number16, Number32, Seconds, Address4, Address6, CompressibleName, Strings};
-ghost use Rattle.dns_data.specs.Text.{name_of_token, string_of_text, string_of_token, Takes, AreParsed, RefusesToken, RefusesTokens};
+ghost use Rattle.dns_data.specs.Text.{name_of_token, string_of_text, string_of_token, Takes, RefusesToken};
 ghost use Rattle.dns_data.specs.internal.Text.{HasNoWord};
 
 use crate::error::RDataParseError;
@@ -126,23 +126,6 @@ impl<'t, 'a> DataTokens<'t, 'a> {
     {
         let token = self.token()?;
         name_of_token(alloc, token, origin)
-    }
-
-    /// Parses a name, after which no token is left.
-    pub(crate) fn only_name(
-        &mut self,
-        alloc: Global,
-        origin: Option<&Name>,
-    ) -> Result<Name, RDataParseError>
-        ensures parsed { IfOk result (λ v. AreParsed (option_map (λ o. o.now) origin.entry)
-            (CompressibleName ∷ []) self.old (v, tt)) }
-        ensures refused { IfErr result (λ error. error ≢ RDataParseError.Memory
-            → RefusesTokens (option_map (λ o. o.now) origin.entry)
-            (CompressibleName ∷ []) self.old error) }
-    {
-        let name = self.name(alloc, origin)?;
-        self.finish()?;
-        Ok(name)
     }
 
     /// Parses all tokens that are left as character strings.

@@ -1,7 +1,8 @@
 -- Special-use names (RFC 6761).
-use Rattle.std.specs.Prelude.{true, List, ℕ, [], ◌∷◌, codes}
+use Rattle.std.specs.Prelude.{◌||◌, Bool, true, List, ℕ, [], ◌∷◌, codes}
 use Rattle.std.specs.declared.net.ip_addr.IpAddr.TheVariants.{V6}
 use Rattle.dns_names.specs.Name.{DomainName}
+use Rattle.dns_names.specs.Compare.{at_or_below}
 use Rattle.dns_names.specs.Reverse.{reverse_name}
 use Rattle.dns_text.specs.declared.usage.ZoneUsage.{ZoneUsage}
 use Rattle.dns_text.specs.declared.usage.ResolverUsage.{ResolverUsage}
@@ -38,3 +39,18 @@ onion_zone = zone_at (codes "onion" ∷ []) NxDomain
 
 abbrev pub root_zone : ZoneUsage
 root_zone = zone_at [] Normal
+
+-- ---- names of special use
+
+-- whether a name is at or below a zone
+abbrev pub is_within : ZoneUsage → DomainName → Bool
+is_within usage name = at_or_below (zone_name usage).labels name.labels
+
+-- names of the local host (RFC 6761 section 6.3), and reverse names of its addresses (RFC 6303 sections 4.2 and 4.3)
+abbrev pub is_loopback : DomainName → Bool
+is_loopback name =
+    is_within localhost_zone name || is_within in_addr_arpa_127_zone name || is_within ip6_arpa_1_zone name
+
+-- names that do not exist in the DNS (RFC 6761 section 6.4, RFC 7686 section 2)
+abbrev pub is_nonexistent : DomainName → Bool
+is_nonexistent name = is_within invalid_zone name || is_within onion_zone name

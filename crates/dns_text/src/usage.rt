@@ -3,7 +3,7 @@
 ghost use Rattle.std.specs.Prelude.{◌≡◌, ◌+◌, ◌≤◌, ◌++◌, ◌∷◌, [], IfOk};
 ghost use Rattle.dns_wire.specs.Name.{IsLabel, name_len, max_name_len};
 ghost use Rattle.dns_names.specs.Compare.{at_or_below};
-ghost use Rattle.dns_text.specs.Usage.{zone_name, resolver_usage, localhost_zone, in_addr_arpa_127_zone, ip6_arpa_1_zone, local_zone, invalid_zone, onion_zone, root_zone};
+ghost use Rattle.dns_text.specs.Usage.{is_loopback, is_nonexistent, zone_name, resolver_usage, localhost_zone, in_addr_arpa_127_zone, ip6_arpa_1_zone, local_zone, invalid_zone, onion_zone, root_zone};
 
 use dns_names::Name;
 use std::alloc::{AllocError, Global};
@@ -135,4 +135,29 @@ fn with_label(name: Name, label: &[u8]) -> Result<Name, AllocError>
         // The label is valid and fits, so the only error left is that of memory.
         Err(_) => Err(AllocError),
     }
+}
+
+/// The labels of the reverse name of `::1` (RFC 3596 section 2.5).
+const IP6_ARPA_1: [&[u8]; 34] = [
+    b"1", b"0", b"0", b"0", b"0", b"0", b"0", b"0", b"0", b"0", b"0", b"0", b"0", b"0", b"0", b"0",
+    b"0", b"0", b"0", b"0", b"0", b"0", b"0", b"0", b"0", b"0", b"0", b"0", b"0", b"0", b"0", b"0",
+    b"ip6", b"arpa",
+];
+
+/// Returns `true` for a name of the local host, at or below `localhost.`, and for the reverse name of a loopback address, at
+/// or below `127.in-addr.arpa.` or that of `::1` (RFC 6761 section 6.3, RFC 6303 sections 4.2 and 4.3). No memory is taken.
+pub fn is_loopback(name: &Name) -> bool
+    ensures { result ≡ is_loopback name.now }
+{
+    name.ends_with(&[b"localhost"])
+        || name.ends_with(&[b"127", b"in-addr", b"arpa"])
+        || name.ends_with(&IP6_ARPA_1)
+}
+
+/// Returns `true` for a name that does not exist in the DNS, at or below `invalid.` or `onion.` (RFC 6761 section 6.4, RFC
+/// 7686 section 2). No memory is taken.
+pub fn is_nonexistent(name: &Name) -> bool
+    ensures { result ≡ is_nonexistent name.now }
+{
+    name.ends_with(&[b"invalid"]) || name.ends_with(&[b"onion"])
 }

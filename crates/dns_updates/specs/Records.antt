@@ -9,9 +9,9 @@ use Rattle.dns_codes.specs.declared.dns_class.DNSClass.TheVariants as classes
 use Rattle.dns_names.specs.Name.{DomainName}
 use Rattle.dns_names.specs.Compare.{same_labels, at_or_below}
 use Rattle.dns_data.specs.declared.rdata.RData.{RData}
-use Rattle.dns_data.specs.rdata.{data_type, same_data, is_update_data}
+use Rattle.dns_data.specs.rdata.{same_data, is_update_data}
 use Rattle.dns_records.specs.Record.{Record}
-use Rattle.dns_records.specs.Rows.{Rows, key}
+use Rattle.dns_records.specs.Rows.{Rows, key, type_of_record}
 
 -- ---- records
 

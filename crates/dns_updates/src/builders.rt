@@ -93,7 +93,8 @@ pub fn delete_rrset(
 {
     let zones = zone_section(alloc, origin, resource_record.dns_class)?;
     let record_type = resource_record.record_type();
-    let updates = empty_record(alloc, DNSClass::ANY, resource_record.name, record_type)?;
+    let owner = resource_record.into_parts().name;
+    let updates = empty_record(alloc, DNSClass::ANY, owner, record_type)?;
     Ok(message_of(alloc, id, zones, use_edns, Sequence::new(alloc), updates))
 }
 

@@ -3,7 +3,7 @@
 ghost use Rattle.std.specs.Prelude.{◌≡◌, ◌≢◌, ◌<◌, map, length, IfOk, IfErr, IfSome, Ok, Err, None, option_map};
 ghost use Rattle.dns_text.specs.Lexer.{NextToken};
 ghost use Rattle.dns_text.specs.Token.{lexeme};
-ghost use Rattle.dns_zone_file.specs.Entry.{LexesEntry, entry_of, origin_of, ttl_of, text_name, inclusion_of};
+ghost use Rattle.dns_zone_file.specs.Entry.{LexesEntry, entry_of, origin_of, ttl_of, ascii_text, text_name, inclusion_of};
 ghost use Rattle.dns_zone_file.specs.internal.Entry.{entry_view, inclusion_view, IsTextFault};
 ghost use Rattle.dns_zone_file.specs.internal.Error.{IsFault};
 
@@ -61,11 +61,14 @@ pub(crate) fn next_entry<'a>(
 pub(crate) fn entry_of<'t, 'a>(tokens: &'t [Token<'a>]) -> Entry<'t, 'a>
     ensures { entry_view result ≡ entry_of (map lexeme tokens.now) }
 {
-    match tokens {
-        [] | [Token::Blank] => Entry::Nothing,
-        [Token::Origin, arguments @ ..] => Entry::Origin(arguments),
-        [Token::Ttl, arguments @ ..] => Entry::Ttl(arguments),
-        [Token::Include, arguments @ ..] => Entry::Include(arguments),
+    let [first, arguments @ ..] = tokens else {
+        return Entry::Nothing;
+    };
+    match first {
+        Token::Blank if arguments.is_empty() => Entry::Nothing,
+        Token::Origin => Entry::Origin(arguments),
+        Token::Ttl => Entry::Ttl(arguments),
+        Token::Include => Entry::Include(arguments),
         _ => Entry::Record,
     }
 }
@@ -102,12 +105,19 @@ pub(crate) fn parse_default_ttl(arguments: &[Token<'_>]) -> Result<u32, EntryFau
     }
 }
 
-/// Returns the name of a text to include, as it is written.
+/// Returns the text, if it is ASCII.
+fn ascii_text(text: &[u8]) -> Option<&[u8]>
+    ensures { option_map (λ t. t.now) result ≡ ascii_text text.now }
+{
+    if text.is_ascii() { Some(text) } else { None }
+}
+
+/// Returns the name of a text to include, as it is written, if it is ASCII.
 fn text_name<'a>(token: Token<'a>) -> Option<&'a [u8]>
     ensures { option_map (λ name. name.now) result ≡ text_name (lexeme token.entry) }
 {
     match token {
-        Token::CharData(text) | Token::Quoted(text) => Some(text),
+        Token::CharData(text) | Token::Quoted(text) => ascii_text(text),
         Token::At => Some(b"@".as_slice()),
         _ => None,
     }

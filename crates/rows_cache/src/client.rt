@@ -28,8 +28,8 @@ pub(crate) fn over_list(alloc: Global, input: &str) -> Answer {
     let (settings, rest) = split(input, " || ", "settings")?;
     let (outcomes, steps) = split(rest, " || ", "outcomes and steps")?;
     let outcomes = outcomes_of(alloc, outcomes)?;
-    let mut session = session_of(alloc, settings, ListHandle { outcomes })?;
-    let text = take_steps(alloc, &mut session, steps)?;
+    let mut session = Box::new(alloc, session_of(alloc, settings, ListHandle { outcomes })?)?;
+    let text = take_steps(alloc, &mut *session, steps)?;
     let left = session.client.handle_mut().handle.outcomes.len();
     Ok(format!(in alloc; "{text} / {left} left")?)
 }

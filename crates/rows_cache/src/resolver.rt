@@ -40,9 +40,9 @@ fn builder_of<H: Drop>(
     handle: H,
 ) -> Result<ResolverBuilder<Recorder<H>>, RowFault> {
     let options = resolver_options_of(alloc, settings)?;
-    let config = resolver_config_of(alloc, settings)?;
-    let handle = Recorder::new(alloc, handle);
-    Ok(Resolver::builder_with_config(alloc, config, handle).with_options(options))
+    let config = Box::into_inner(resolver_config_of(alloc, settings)?);
+    let builder = Resolver::builder_with_config(alloc, config, Recorder::new(alloc, handle));
+    Ok(builder.with_options(Box::into_inner(options)))
 }
 
 /// The steps of a resolver, or why there is none.

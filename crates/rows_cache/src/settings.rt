@@ -27,21 +27,27 @@ pub(crate) fn cache_of(alloc: Global, settings: &str) -> Result<ResponseCache, R
 pub(crate) fn config_of(alloc: Global, settings: &str) -> Result<TtlConfig, RowFault> {
     let mut config = TtlConfig::default(alloc);
     for word in settings.split(' ') {
-        match word.split_once(':') {
-            None | Some(("capacity", _)) => {}
-            Some(("bounds", bounds)) => config = TtlConfig::from(alloc, bounds_of(bounds)?),
-            Some(("opts", bounds)) => config = config_of_opts(alloc, bounds)?,
-            Some((kind, bounds)) => {
-                config.with_query_type_ttl_bounds(type_of(kind)?, bounds_of(bounds)?)?;
-            }
-        }
+        set_config(alloc, &mut config, word)?;
     }
     Ok(config)
 }
 
+/// Sets the bounds of TTLs that a word names. Other words set none.
+fn set_config(alloc: Global, config: &mut TtlConfig, word: &str) -> Result<(), RowFault> {
+    match word.split_once(':') {
+        None | Some(("capacity", _)) => {}
+        Some(("bounds", bounds)) => *config = TtlConfig::from(alloc, bounds_of(bounds)?),
+        Some(("opts", bounds)) => *config = config_of_opts(alloc, bounds)?,
+        Some((kind, bounds)) => {
+            config.with_query_type_ttl_bounds(type_of(kind)?, bounds_of(bounds)?)?;
+        }
+    }
+    Ok(())
+}
+
 /// The bounds of TTLs that the options of a resolver set.
 fn config_of_opts(alloc: Global, bounds: &str) -> Result<TtlConfig, RowFault> {
-    let mut options = ResolverOpts::default(alloc);
+    let mut options = Box::new(alloc, ResolverOpts::default(alloc))?;
     set_bounds(&mut options, bounds)?;
     match TtlConfig::from_opts(alloc, &options) {
         Ok(config) => Ok(config),

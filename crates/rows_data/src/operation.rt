@@ -1,7 +1,7 @@
 //! The operations, by their words.
 //!
 //! - `items`: record data as rows write it; `reads`: data from bytes; `writes`: data to bytes;
-//! - `texts`: data from and to text; `values`: types, addresses, lengths and equality of data.
+//! - `texts`: data from and to text; `values`: types, addresses, lengths, copies and equality of data.
 
 mod items;
 mod reads;
@@ -23,6 +23,8 @@ pub(crate) fn answer(alloc: Global, word: &str, input: &str) -> Answer {
         "address" => values::address(alloc, input),
         "length" => values::length(alloc, input),
         "held" => values::held(alloc, input),
+        "copy" => values::copy(alloc, input),
+        "character-string" => values::character_string(alloc, input),
         _ => Err(RowFault::UnknownOperation),
     }
 }

@@ -1,7 +1,7 @@
 //! Headers and their codes.
 
 use dns_messages::{Flags, Header, Message, MessageType, Metadata, OpCode, ResponseCode};
-use dns_wire::{BinDecodable, BinEncodable, BinEncoder, EncodeError, Place};
+use dns_wire::{BinDecodable, BinDecoder, BinEncodable, BinEncoder, EncodeError, Place};
 use rows::{Answer, RowFault, bytes_of, digits_of, hex_of, named, parsed, shown, two_words};
 use std::alloc::Global;
 use std::fmt::Write;
@@ -76,13 +76,14 @@ pub(crate) fn op_code(alloc: Global, number: &str) -> Answer {
 /// `header HEX`: the header in front of the bytes and its counts, or the fault.
 pub(crate) fn header(alloc: Global, digits: &str) -> Answer {
     let bytes = bytes_of(alloc, digits)?;
-    match Header::from_bytes(alloc, bytes.as_slice()) {
+    match Header::read(alloc, &mut BinDecoder::new(bytes.as_slice())) {
         Ok(header) => header_and_counts(alloc, header),
         Err(fault) => named(alloc, fault),
     }
 }
 
-fn header_and_counts(alloc: Global, header: Header) -> Answer {
+/// A header and its counts.
+pub(crate) fn header_and_counts(alloc: Global, header: Header) -> Answer {
     let mut text = header_text(alloc, header.metadata)?;
     let (queries, answers) = (header.counts.queries, header.counts.answers);
     let (authorities, additionals) = (header.counts.authorities, header.counts.additionals);

@@ -1,7 +1,7 @@
 //! `rows_message FILE..`: tries each row of the files, as the library `rows` describes, on messages.
 //!
 //! - `operation`: the operations by their words; `header`, `question`, `message`: messages and their parts;
-//! - `rebuilt`: messages that are made from others, and responses;
+//! - `pieces`: parts of messages by themselves; `rebuilt`: messages that are made from others, and responses;
 //! - `damaged`: messages of which bytes are missing or changed;
 //! - `record_set`, `answer_sets`, `update`: sets of records, and updates.
 #![tactic(auto)]
@@ -11,6 +11,7 @@ mod damaged;
 mod header;
 mod message;
 mod operation;
+mod pieces;
 mod question;
 mod rebuilt;
 mod record_set;

@@ -3,7 +3,7 @@
 use crate::header::header_text;
 use dns_data::A;
 use dns_messages::{Edns, Message, Query};
-use dns_records::{Record, Sequence};
+use dns_records::{Record, RecordHead, Sequence};
 use dns_wire::{BinDecodable, BinDecoder, DecodeError};
 use rows::{Answer, RowFault, bytes_of, digits_of, named, parsed, shown, split, two_words};
 use rows_text::{push_question, push_questions, push_record, push_section};
@@ -74,8 +74,8 @@ pub(crate) fn encoded_within(alloc: Global, message: &Message, limit: u16) -> An
     }
 }
 
-/// `question|record OFFSET HEX`: the copy of the question or the record at an offset and the offset behind it, or its
-/// fault.
+/// `question|record|head OFFSET HEX`: the copy of the question or the record at an offset, or the length of the data of the record
+/// and the record as it is read behind its head, and the offset behind it; or its fault.
 pub(crate) fn copied(alloc: Global, word: &str, input: &str) -> Answer {
     let (offset, digits) = two_words(input)?;
     let offset = parsed::<usize>(offset)?;
@@ -101,8 +101,17 @@ fn read_copy(
 ) -> Result<String, DecodeError> {
     match word {
         "question" => Ok(question_copy(alloc, &Query::read(alloc, decoder)?)?),
+        "head" => Ok(record_behind_head(alloc, decoder)?),
         _ => Ok(record_copy(alloc, &Record::read(alloc, decoder)?)?),
     }
+}
+
+/// The length of the data of a record, and the record, whose data is read behind its head.
+fn record_behind_head(alloc: Global, decoder: &mut BinDecoder<'_>) -> Result<String, DecodeError> {
+    let head = RecordHead::read(alloc, decoder)?;
+    let mut text = format!(in alloc; "{} ", head.len)?;
+    push_record(&mut text, &head.read_data(alloc, decoder)?)?;
+    Ok(text)
 }
 
 /// The copy of a question.
@@ -141,11 +150,21 @@ fn record_of(alloc: Global, digits: &str) -> Result<Record, RowFault> {
     }
 }
 
-/// `section COUNT`: how many items a section has that so many were pushed to, once it was a vector in between.
-pub(crate) fn section(alloc: Global, count: &str) -> Answer {
+/// `section COUNT MORE`: how many items a section has that so many were pushed to, that was a vector in between, and that was
+/// extended by so many more.
+pub(crate) fn section(alloc: Global, counts: &str) -> Answer {
+    let (count, more) = two_words(counts)?;
+    let (count, more) = (parsed::<u32>(count)?, parsed::<u32>(more)?);
+    let mut items = Sequence::from_vec(addresses(alloc, count)?.into_vec());
+    items.extend(addresses(alloc, more)?.into_vec())?;
+    shown(alloc, items.as_slice().len())
+}
+
+/// The first addresses, so many of them.
+fn addresses(alloc: Global, count: u32) -> Result<Sequence<A>, AllocError> {
     let mut items = Sequence::new(alloc);
-    for bits in 0..parsed::<u32>(count)? {
+    for bits in 0..count {
         items.push(A(Ipv4Addr::from_bits(bits)))?;
     }
-    shown(alloc, Sequence::from_vec(items.into_vec()).as_slice().len())
+    Ok(items)
 }

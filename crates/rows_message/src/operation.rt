@@ -7,8 +7,9 @@ use crate::header::{
     new_header, op_code, place_header, response_code, response_header,
 };
 use crate::message::{copied, encoded, message, same_data, section};
+use crate::pieces::{behind_owner, emitted_parts, questions, section_records};
 use crate::question::{equal_questions, new_question, same_question, sound};
-use crate::rebuilt::{all_records, rebuilt, response, response_of};
+use crate::rebuilt::{all_records, parts, rebuilt, response, response_error, response_of};
 use crate::record_set::edited_set;
 use crate::update::{name_deletion, set_deletion, set_update, swap};
 use rows::{Answer, RowFault};
@@ -31,13 +32,24 @@ pub(crate) fn answer(alloc: Global, word: &str, input: &str) -> Answer {
         "merge-code" => merge_code(alloc, input),
         "message" => message(alloc, input),
         "encode" => encoded(alloc, input),
-        "rebuild" | "rebuild-update" | "truncate" | "strip" => rebuilt(alloc, word, input),
+        "rebuild"
+        | "rebuild-singly"
+        | "rebuild-update"
+        | "rebuild-update-singly"
+        | "truncate"
+        | "strip" => rebuilt(alloc, word, input),
+        "parts" => parts(alloc, input),
         "records" => all_records(alloc, input),
         "response" => response(alloc, input),
+        "response-error" => response_error(alloc, input),
         "response-of" => response_of(alloc, input),
         "fronts" => fronts(alloc, input),
         "octets" => octets(alloc, input),
-        "question" | "record" => copied(alloc, word, input),
+        "question" | "record" | "head" => copied(alloc, word, input),
+        "questions" => questions(alloc, input),
+        "section-records" => section_records(alloc, input),
+        "emit-parts" => emitted_parts(alloc, input),
+        "behind-owner" => behind_owner(alloc, input),
         "same-question" => same_question(alloc, input),
         "equal-questions" => equal_questions(alloc, input),
         "new-question" => new_question(alloc, input),

@@ -1,9 +1,10 @@
 //! Messages that are made from others.
 
 use crate::message::encoded_within;
-use dns_messages::{DnsResponse, Edns, Message};
+use dns_messages::{DnsResponse, Edns, Message, MessageParts, ResponseError};
 use dns_updates::UpdateMessage;
-use rows::{Answer, RowFault, bytes_of, digits_of, named};
+use dns_wire::{DecodeError, EncodeError};
+use rows::{Answer, RowFault, bytes_of, digits_of, named, shown};
 use rows_text::push_record;
 use std::alloc::{AllocError, Global};
 use std::fmt::Write;
@@ -13,19 +14,26 @@ use std::fmt::Write;
 enum Change {
     /// A message to which the parts are added, section by section.
     Rebuilt,
+    /// A message to which the parts are added one by one.
+    Joined,
     /// A message to which the parts are added as those of an update.
     Updated,
+    /// A message to which the parts are added one by one, as those of an update.
+    UpdateJoined,
     /// Without records, and with TC.
     Truncated,
     /// Without the records of DNSSEC.
     Stripped,
 }
 
-/// `rebuild|rebuild-update|truncate|strip HEX`: the encoding of the message that is made from the decoded one.
+/// `rebuild|rebuild-singly|rebuild-update|rebuild-update-singly|truncate|strip HEX`: the encoding of the message that is made
+/// from the decoded one.
 pub(crate) fn rebuilt(alloc: Global, word: &str, digits: &str) -> Answer {
     let change = match word {
         "rebuild" => Change::Rebuilt,
+        "rebuild-singly" => Change::Joined,
         "rebuild-update" => Change::Updated,
+        "rebuild-update-singly" => Change::UpdateJoined,
         "truncate" => Change::Truncated,
         _ => Change::Stripped,
     };
@@ -44,17 +52,16 @@ fn changed(alloc: Global, change: Change, message: &mut Message) -> Answer {
             message.maybe_strip_dnssec_records(false);
             encoded_within(alloc, message, u16::MAX)
         }
-        Change::Rebuilt => encoded_copy(alloc, false, message),
-        Change::Updated => encoded_copy(alloc, true, message),
+        change => encoded_copy(alloc, change, message),
     }
 }
 
 /// The encoding of a message to which the parts of another are moved.
-fn encoded_copy(alloc: Global, is_update: bool, message: &mut Message) -> Answer {
+fn encoded_copy(alloc: Global, change: Change, message: &mut Message) -> Answer {
     let metadata = message.metadata;
     let mut built = Message::new(alloc, metadata.id, metadata.message_type, metadata.op_code);
     built.metadata = metadata;
-    match move_parts(is_update, message, &mut built) {
+    match move_parts(change, message, &mut built) {
         Ok(()) => encoded_within(alloc, &built, u16::MAX),
         Err(error) => Err(RowFault::from(error)),
     }
@@ -62,14 +69,15 @@ fn encoded_copy(alloc: Global, is_update: bool, message: &mut Message) -> Answer
 
 /// Moves the parts of a message to another.
 fn move_parts(
-    is_update: bool,
+    change: Change,
     message: &mut Message,
     built: &mut Message,
 ) -> Result<(), AllocError> {
-    if is_update {
-        move_update(message, built)?;
-    } else {
-        move_sections(message, built)?;
+    match change {
+        Change::Updated => move_update(message, built)?,
+        Change::UpdateJoined => move_update_singly(message, built)?,
+        Change::Joined => move_singly(message, built)?,
+        _ => move_sections(message, built)?,
     }
     move_extensions(message, built)
 }
@@ -82,13 +90,55 @@ fn move_sections(message: &mut Message, built: &mut Message) -> Result<(), Alloc
     built.add_additionals(message.additionals.take().into_vec())
 }
 
+/// Moves the sections of a message to another, item by item.
+fn move_singly(message: &mut Message, built: &mut Message) -> Result<(), AllocError> {
+    for query in message.queries.take().into_vec() {
+        built.add_query(query)?;
+    }
+    for found in message.answers.take().into_vec() {
+        built.add_answer(found)?;
+    }
+    move_last_sections_singly(message, built)
+}
+
+/// Moves the authorities and the additionals of a message to another, record by record.
+fn move_last_sections_singly(message: &mut Message, built: &mut Message) -> Result<(), AllocError> {
+    for found in message.authorities.take().into_vec() {
+        built.add_authority(found)?;
+    }
+    for found in message.additionals.take().into_vec() {
+        Message::add_additional(built, found)?;
+    }
+    Ok(())
+}
+
 /// Moves the sections of an update to another.
 fn move_update(message: &mut Message, built: &mut Message) -> Result<(), AllocError> {
+    built.add_queries(message.queries.take().into_vec())?;
+    built.add_pre_requisites(message.answers.take().into_vec())?;
+    built.add_updates(message.authorities.take().into_vec())?;
+    built.add_additionals(message.additionals.take().into_vec())
+}
+
+/// Moves the sections of an update to another, item by item.
+fn move_update_singly(message: &mut Message, built: &mut Message) -> Result<(), AllocError> {
     for zone in message.queries.take().into_vec() {
         built.add_zone(zone)?;
     }
-    built.add_pre_requisites(message.answers.take().into_vec())?;
-    built.add_updates(message.authorities.take().into_vec())?;
+    for found in message.answers.take().into_vec() {
+        built.add_pre_requisite(found)?;
+    }
+    move_last_update_sections_singly(message, built)
+}
+
+/// Moves the updates and the additionals of an update to another, record by record.
+fn move_last_update_sections_singly(
+    message: &mut Message,
+    built: &mut Message,
+) -> Result<(), AllocError> {
+    for found in message.authorities.take().into_vec() {
+        built.add_update(found)?;
+    }
     for found in message.additionals.take().into_vec() {
         UpdateMessage::add_additional(built, found)?;
     }
@@ -138,6 +188,29 @@ fn records_text(alloc: Global, message: &Message) -> Answer {
     Ok(text)
 }
 
+/// `parts HEX`: how many items the sections of a message have, once it was taken apart, and `opt` and `tsig` if it has an OPT
+/// record and a signature.
+pub(crate) fn parts(alloc: Global, digits: &str) -> Answer {
+    let bytes = bytes_of(alloc, digits)?;
+    match Message::from_vec(alloc, bytes.as_slice()) {
+        Ok(message) => parts_text(alloc, &message.into_parts()),
+        Err(fault) => named(alloc, fault),
+    }
+}
+
+/// How many items the sections of a message have, and what else it has.
+fn parts_text(alloc: Global, parts: &MessageParts) -> Answer {
+    let (queries, answers) = (parts.queries.len(), parts.answers.len());
+    let (authorities, additionals) = (parts.authorities.len(), parts.additionals.len());
+    let edns = if parts.edns.is_some() { " opt" } else { "" };
+    let signature = if parts.signature.is_some() {
+        " tsig"
+    } else {
+        ""
+    };
+    Ok(format!(in alloc; "{queries} {answers} {authorities} {additionals}{edns}{signature}")?)
+}
+
 /// `response HEX`: the TTL of a negative answer that the response has, or `-`, and whether it contains an answer.
 pub(crate) fn response(alloc: Global, digits: &str) -> Answer {
     match DnsResponse::from_buffer(alloc, bytes_of(alloc, digits)?) {
@@ -168,4 +241,15 @@ pub(crate) fn response_of(alloc: Global, digits: &str) -> Answer {
         Ok(response) => Ok(digits_of(alloc, response.as_buffer())?),
         Err(fault) => named(alloc, fault),
     }
+}
+
+/// `response-error NAME`: the text of an error of making a response.
+pub(crate) fn response_error(alloc: Global, name: &str) -> Answer {
+    let error = match name {
+        "NotAResponse" => ResponseError::NotAResponse,
+        "Decode" => ResponseError::Decode(DecodeError::InsufficientBytes),
+        "Encode" => ResponseError::Encode(EncodeError::MaxBufferSizeExceeded),
+        _ => return Err(RowFault::Lacks("an error")),
+    };
+    shown(alloc, error)
 }

@@ -4,16 +4,16 @@ ghost use Rattle.std.specs.Prelude.{◌≡◌, true};
 
 use dns_data::RData;
 use dns_records::{Record, RecordSet};
-use dns_text::{Lexer, Token};
 use dns_wire::RecordType;
 use rows::{Answer, RowFault, parsed, two_words};
-use rows_text::{name_of, push_record};
+use rows_text::{data_of, name_of, push_record};
 use std::alloc::{AllocError, Global};
 use std::fmt::Write;
 
 /// `set NAME TYPE; EDIT; ..`: what each edit of a set of this owner and type returns; behind bars the serial number and the TTL
-/// of the set, and its records. The edits are `+ SERIAL TTL FIELDS`, which inserts a record, and `- SERIAL FIELDS`, which
-/// removes one. The set is new: empty, of TTL 0 and serial number 0.
+/// of the set, and its records. The edits are `+ SERIAL TTL FIELDS`, which inserts a record, `* FIELDS`, which inserts data as a new
+/// record with the TTL and the serial number of the set, and `- SERIAL FIELDS`, which removes a record. The set is new: empty, of TTL
+/// 0 and serial number 0.
 pub(crate) fn edited_set(alloc: Global, input: &str) -> Answer {
     let mut answer = String::new(alloc);
     let set = set_of(alloc, input, &mut answer)?;
@@ -48,46 +48,34 @@ fn new_set(alloc: Global, text: &str) -> Result<RecordSet, RowFault> {
 /// Edits a set, and returns whether it changed.
 fn edit_set(alloc: Global, set: &mut RecordSet, edit: &str) -> Result<bool, RowFault> {
     let (sign, rest) = two_words(edit)?;
-    let (serial, rest) = two_words(rest)?;
-    let serial = parsed::<u32>(serial)?;
     match sign {
-        "+" => {
-            let (ttl, fields) = two_words(rest)?;
-            let ttl = parsed::<u32>(ttl)?;
-            insert(set, serial, record_for(alloc, set, ttl, fields)?)
-        }
-        "-" => remove(set, serial, &record_for(alloc, set, 0, rest)?),
+        "+" => insert_of(alloc, set, rest),
+        "-" => remove_of(alloc, set, rest),
+        "*" => insert_new(set, &data_of(alloc, set.record_type(), rest)?),
         _ => Err(RowFault::MalformedInput),
     }
 }
 
+/// Inserts the record of a text `SERIAL TTL FIELDS`.
+fn insert_of(alloc: Global, set: &mut RecordSet, text: &str) -> Result<bool, RowFault> {
+    let (serial, rest) = two_words(text)?;
+    let (ttl, fields) = two_words(rest)?;
+    let (serial, ttl) = (parsed::<u32>(serial)?, parsed::<u32>(ttl)?);
+    insert(set, serial, record_for(alloc, set, ttl, fields)?)
+}
+
+/// Removes the record of a text `SERIAL FIELDS`.
+fn remove_of(alloc: Global, set: &mut RecordSet, text: &str) -> Result<bool, RowFault> {
+    let (serial, fields) = two_words(text)?;
+    let serial = parsed::<u32>(serial)?;
+    remove(set, serial, &record_for(alloc, set, 0, fields)?)
+}
+
 /// A record of the set's owner and type.
 fn record_for(alloc: Global, set: &RecordSet, ttl: u32, fields: &str) -> Result<Record, RowFault> {
+    let name = set.name().clone()?;
     let rdata = data_of(alloc, set.record_type(), fields)?;
-    Ok(Record::from_rdata(set.name().clone()?, ttl, rdata))
-}
-
-/// The data of fields as in a zone file, whose names end at the root.
-fn data_of(alloc: Global, kind: RecordType, fields: &str) -> Result<RData, RowFault> {
-    let tokens = tokens_of(alloc, fields)?;
-    match RData::parse(alloc, kind, tokens.as_slice(), None) {
-        Ok(rdata) => Ok(rdata),
-        Err(_) => Err(RowFault::Lacks("data")),
-    }
-}
-
-/// The tokens of one entry of a zone file.
-fn tokens_of(alloc: Global, text: &str) -> Result<Vec<Token<'_>>, RowFault> {
-    let mut tokens = Vec::new(alloc);
-    let mut lexer = Lexer::new(text);
-    for _ in 0..text.len() {
-        match lexer.next_token() {
-            Ok(None | Some(Token::EOL)) => break,
-            Ok(Some(token)) => tokens.push(token)?,
-            Err(_) => return Err(RowFault::MalformedInput),
-        }
-    }
-    Ok(tokens)
+    Ok(Record::from_rdata(name, ttl, rdata))
 }
 
 /// Whether two types are the same type of data that parses.
@@ -114,6 +102,14 @@ fn insert(set: &mut RecordSet, serial: u32, record: Record) -> Result<bool, RowF
         return Ok(set.insert(record, serial)?);
     }
     Err(RowFault::Lacks("a record for the set"))
+}
+
+/// Inserts data as a new record, if it is of the set's type.
+fn insert_new(set: &mut RecordSet, rdata: &RData) -> Result<bool, RowFault> {
+    if are_same_type(rdata.record_type(), set.record_type()) {
+        return Ok(set.new_record(rdata)?.is_some());
+    }
+    Err(RowFault::Lacks("data for the set"))
 }
 
 /// Removes a record, if it is of the set's owner and type.

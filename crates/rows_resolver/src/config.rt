@@ -62,13 +62,19 @@ fn push_server(text: &mut String, server: &NameServerConfig) -> Result<(), Alloc
 /// `udp ADDRESS`, `tcp ADDRESS` and `udp-and-tcp ADDRESS`, which add a name server.
 pub(crate) fn config(alloc: Global, input: &str) -> Answer {
     let (first, edits) = input.split_once("; ").unwrap_or((input, ""));
-    let mut config = new_config(alloc, first)?;
+    let mut config = Box::new(alloc, new_config(alloc, first)?)?;
+    edit_all(alloc, &mut config, edits)?;
+    config_text(alloc, &config)
+}
+
+/// Edits a configuration by the edits of a text.
+fn edit_all(alloc: Global, config: &mut ResolverConfig, edits: &str) -> Result<(), RowFault> {
     for edit in edits.split("; ") {
         if !edit.is_empty() {
-            edit_config(alloc, &mut config, edit)?;
+            edit_config(alloc, config, edit)?;
         }
     }
-    config_text(alloc, &config)
+    Ok(())
 }
 
 /// The configuration that a first edit makes.

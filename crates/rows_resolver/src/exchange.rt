@@ -8,13 +8,25 @@ use stub_core::{CachingClient, DnsHandle, DnsRequest, ListHandle};
 use stub_lookup::{Moment, NetError};
 
 /// The outcomes that are left, and the requests that were sent.
-#[derive(Drop)]
 pub(crate) struct Exchange {
     handle: ListHandle,
     /// The questions of the requests.
     questions: String,
     /// The encodings of the requests, in hexadecimal digits.
     requests: String,
+}
+
+impl Drop for Exchange {
+    fn drop(self) {
+        let Exchange {
+            handle,
+            questions,
+            requests,
+        } = self;
+        drop(handle);
+        drop(questions);
+        drop(requests);
+    }
 }
 
 impl Exchange {
@@ -43,14 +55,18 @@ impl Exchange {
 
     /// A text and, behind bars, the questions that were asked, or `-`, and how many outcomes are left.
     pub(crate) fn with_questions(&self, alloc: Global, text: String) -> Answer {
-        let (questions, left) = (asked(&self.questions), self.handle.outcomes.len());
-        Ok(format!(in alloc; "{text} | {questions} | {left} left")?)
+        self.with_asked(alloc, text, asked(&self.questions))
     }
 
-    /// A text and, behind a bar, the encodings of the requests, or `-`.
+    /// A text and, behind bars, the encodings of the requests, or `-`, and how many outcomes are left.
     pub(crate) fn with_requests(&self, alloc: Global, text: String) -> Answer {
-        let requests = asked(&self.requests);
-        Ok(format!(in alloc; "{text} | {requests}")?)
+        self.with_asked(alloc, text, asked(&self.requests))
+    }
+
+    /// A text and, behind bars, what was asked, and how many outcomes are left.
+    fn with_asked(&self, alloc: Global, text: String, asked: &str) -> Answer {
+        let left = self.handle.outcomes.len();
+        Ok(format!(in alloc; "{text} | {asked} | {left} left")?)
     }
 }
 

@@ -4,7 +4,7 @@ use crate::lookup::lookup_of;
 use crate::parts::NOW;
 use dns_names::Name;
 use dns_wire::RecordType;
-use rows::{Answer, RowFault, bytes_of, split, text, two_words};
+use rows::{Answer, RowFault, bytes_of, shown, split, text, two_words};
 use rows_text::{lookup_text, name_of, question_of, type_of};
 use std::alloc::Global;
 use std::fmt::Write;
@@ -23,6 +23,16 @@ pub(crate) fn hosts_bytes(alloc: Global, input: &str) -> Answer {
     let (questions, digits) = split(input, " || ", "questions and bytes")?;
     let bytes = bytes_of(alloc, digits)?;
     looked_up(alloc, questions, bytes.as_slice())
+}
+
+/// `hosts-fault NAME`: the text of a fault of a hosts file.
+pub(crate) fn hosts_fault(alloc: Global, name: &str) -> Answer {
+    match name {
+        "Utf8" => shown(alloc, HostsFault::Utf8),
+        // A row may ask for the text of want of memory.
+        "Memory" => shown(alloc, HostsFault::Memory),
+        _ => Err(RowFault::Lacks("a fault")),
+    }
 }
 
 /// What the hosts of a file have.

@@ -5,19 +5,19 @@
 //! - `exchange`: a handle that returns the outcomes of a list and records what it is asked;
 //! - `attempted_names`, `special_names`, `request`: what a lookup asks; `outcome`: what a reply means;
 //! - `config`, `hosts`, `lookup`: what a resolver keeps;
-//! - `client`, `addresses`, `resolver`: lookups over a handle;
+//! - `names_lookup`, `addresses`, `resolver`: lookups over a handle;
 //! - `examples`: the example of the README.
 #![tactic(auto)]
 
 mod addresses;
 mod addresses_text;
 mod attempted_names;
-mod client;
 mod config;
 mod examples;
 mod exchange;
 mod hosts;
 mod lookup;
+mod names_lookup;
 mod operation;
 mod outcome;
 mod parts;

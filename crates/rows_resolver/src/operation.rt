@@ -1,15 +1,15 @@
 //! The operations, by their words.
 
-use crate::addresses::{addresses, strategy};
+use crate::addresses::addresses;
 use crate::attempted_names::names;
-use crate::client::{by_names, by_names_with_hosts, client};
 use crate::config::{config, group};
 use crate::examples::example;
-use crate::hosts::{hosts, hosts_bytes, inserted};
+use crate::hosts::{hosts, hosts_bytes, hosts_fault, inserted};
 use crate::lookup::{append, copy, extend, from_rdata, lookup_ip, message, with_answers};
-use crate::outcome::{error_message, outcome};
-use crate::request::{handle, list, request};
-use crate::resolver::{built, requests, resolver, set_hosts};
+use crate::names_lookup::{by_names, by_names_with_hosts};
+use crate::outcome::{error_message, negative, outcome};
+use crate::request::{handle, request};
+use crate::resolver::{built, requests, resolver};
 use crate::special_names::special;
 use rows::{Answer, RowFault};
 use std::alloc::Global;
@@ -21,13 +21,14 @@ pub(crate) fn answer(alloc: Global, word: &str, input: &str) -> Answer {
         "special" => special(alloc, input),
         "request" => request(alloc, input),
         "handle" => handle(alloc, input),
-        "list" => list(alloc, input),
         "outcome" => outcome(alloc, input),
         "error-text" => error_message(alloc, input),
+        "negative" => negative(alloc, input),
         "group" => group(alloc, input),
         "config" => config(alloc, input),
         "hosts" => hosts(alloc, input),
         "hosts-bytes" => hosts_bytes(alloc, input),
+        "hosts-fault" => hosts_fault(alloc, input),
         "insert" => inserted(alloc, input),
         "from-rdata" => from_rdata(alloc, input),
         "with-max-ttl" | "with-deadline" => with_answers(alloc, word, input),
@@ -36,14 +37,11 @@ pub(crate) fn answer(alloc: Global, word: &str, input: &str) -> Answer {
         "extend" => extend(alloc, input),
         "lookup-ip" => lookup_ip(alloc, input),
         "message-of" => message(alloc, input),
-        "client" => client(alloc, input),
         "lookup-names" => by_names(alloc, input),
         "lookup-names-with-hosts" => by_names_with_hosts(alloc, input),
-        "strategy" => strategy(alloc, input),
         "addresses" => addresses(alloc, input),
-        "resolver" => resolver(alloc, input),
+        "resolver" | "set-hosts" => resolver(alloc, word, input),
         "requests" => requests(alloc, input),
-        "set-hosts" => set_hosts(alloc, input),
         "build" => built(alloc, input),
         "example" => example(alloc, input),
         _ => Err(RowFault::UnknownOperation),

@@ -2,7 +2,7 @@
 
 use crate::request::outcome_text;
 use dns_messages::DnsResponse;
-use rows::{Answer, shown, text};
+use rows::{Answer, made, shown, text};
 use rows_text::{outcome_of, response_of};
 use std::alloc::Global;
 use stub_lookup::{DnsError, NetError};
@@ -21,6 +21,14 @@ pub(crate) fn error_message(alloc: Global, input: &str) -> Answer {
     match meaning_of(alloc, outcome_of(alloc, input)?) {
         Ok(_) => text(alloc, "no error"),
         Err(error) => shown(alloc, error),
+    }
+}
+
+/// `negative OUTCOME`: the text of the negative answer that an outcome is or means, or another error by its variants.
+pub(crate) fn negative(alloc: Global, input: &str) -> Answer {
+    match meaning_of(alloc, outcome_of(alloc, input)?) {
+        Ok(_) => text(alloc, "no error"),
+        Err(error) => made(alloc, error.into_no_records()),
     }
 }
 

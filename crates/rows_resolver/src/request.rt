@@ -2,12 +2,12 @@
 
 use crate::exchange::{Exchange, Recorder};
 use crate::parts::NOW;
-use dns_messages::{DnsResponse, Query, Record};
+use dns_messages::{DnsResponse, Record};
 use rows::{Answer, RowFault, digits_of, parsed, split, text};
-use rows_text::{error_text, outcomes_of, push_list, question_of};
+use rows_text::{error_text, push_list, question_of};
 use std::alloc::{AllocError, Global};
 use stub_config::DnsRequestOptions;
-use stub_core::{DnsHandle, DnsRequest, ListHandle};
+use stub_core::{DnsHandle, DnsRequest};
 use stub_lookup::NetError;
 
 /// `request OPTIONS || QUESTION`: the encoding of the request that asks a question.
@@ -52,44 +52,27 @@ fn set_option(options: &mut DnsRequestOptions, word: &str) -> Result<(), RowFaul
     Ok(())
 }
 
-/// `handle OPTIONS || QUESTION || OUTCOMES`: what a handle with these outcomes returns for a question, and what it was
-/// asked.
+/// `handle OPTIONS || QUESTION || OUTCOMES`: what a list handle with these outcomes returns for a question; behind bars the
+/// encoding of the request, and how many outcomes are left.
 pub(crate) fn handle(alloc: Global, input: &str) -> Answer {
     let (options, rest) = split(input, " || ", "options")?;
     let (question, outcomes) = split(rest, " || ", "a question and outcomes")?;
     let options = options_of(options)?;
     let mut exchange = Exchange::of_outcomes(alloc, outcomes)?;
-    let query = question_of(alloc, question)?;
-    let text = response_of(alloc, &mut exchange, query, options)?;
+    let text = response_of(alloc, &mut exchange, question, options)?;
     exchange.with_requests(alloc, text)
 }
 
-/// What a handle over an exchange returns.
+/// What a handle over an exchange returns for a question.
 fn response_of(
     alloc: Global,
     exchange: &mut Exchange,
-    query: Query,
+    question: &str,
     options: DnsRequestOptions,
 ) -> Answer {
+    let query = question_of(alloc, question)?;
     let mut handle = Recorder::new(alloc, exchange);
     let outcome = handle.lookup(alloc, query, options, NOW);
-    outcome_text(alloc, &outcome)
-}
-
-/// `list QUESTION || OUTCOMES`: what a `ListHandle` with these outcomes returns for a question, and how many are left.
-pub(crate) fn list(alloc: Global, input: &str) -> Answer {
-    let (question, outcomes) = split(input, " || ", "a question and outcomes")?;
-    let outcomes = outcomes_of(alloc, outcomes)?;
-    let mut handle = ListHandle { outcomes };
-    let text = listed(alloc, &mut handle, question)?;
-    let left = handle.outcomes.len();
-    Ok(format!(in alloc; "{text} | {left} left")?)
-}
-
-/// What a `ListHandle` returns for a question.
-fn listed(alloc: Global, handle: &mut ListHandle, question: &str) -> Answer {
-    let query = question_of(alloc, question)?;
-    let outcome = handle.lookup(alloc, query, DnsRequestOptions::default(), NOW);
     outcome_text(alloc, &outcome)
 }
 

@@ -7,26 +7,31 @@ use crate::hosts::hosts_of;
 use crate::parts::NOW;
 use rows::{Answer, RowFault, split, text, two_words};
 use rows_text::{
-    error_text, name_of, outcomes_of, reply_text, resolver_config_of, resolver_options_of, type_of,
+    error_text, name_of, reply_text, resolver_config_of, set_resolver_options, type_of,
 };
 use std::alloc::Global;
-use stub_cache::Hosts;
 use stub_core::{DnsHandle, ListHandle, Resolver, ResolverBuilder};
 use stub_lookup::{Lookup, NetError};
 
-/// `resolver SETTINGS || LOOKUP || HOSTS || OUTCOMES`: a lookup of a resolver with hosts; behind bars the questions that were
-/// asked, and how many outcomes are left.
-pub(crate) fn resolver(alloc: Global, input: &str) -> Answer {
+/// The resolver of a row over an exchange, or why it is refused.
+type Built<'a> = Result<Resolver<Recorder<'a>>, NetError>;
+
+/// `resolver|set-hosts SETTINGS || LOOKUP || HOSTS || OUTCOMES`: a lookup of a resolver with hosts, which are set before it is built
+/// or afterwards; behind bars the questions that were asked, and how many outcomes are left.
+pub(crate) fn resolver(alloc: Global, word: &str, input: &str) -> Answer {
     let (settings, rest) = split(input, " || ", "settings")?;
     let (asked, rest) = split(rest, " || ", "a lookup")?;
     let (hosts, outcomes) = split(rest, " || ", "hosts and outcomes")?;
     let mut exchange = Exchange::of_outcomes(alloc, outcomes)?;
-    let text = resolved(alloc, &mut exchange, settings, hosts, asked)?;
-    exchange.with_questions(alloc, text)
+    let text = match word {
+        "resolver" => resolved(alloc, &mut exchange, settings, hosts, asked),
+        _ => resolved_with_set_hosts(alloc, &mut exchange, settings, hosts, asked),
+    };
+    exchange.with_questions(alloc, text?)
 }
 
-/// `requests SETTINGS || LOOKUP || OUTCOMES`: a lookup of a resolver without hosts, and behind a bar the encodings of its
-/// requests.
+/// `requests SETTINGS || LOOKUP || OUTCOMES`: a lookup of a resolver without hosts; behind bars the encodings of its requests, and
+/// how many outcomes are left.
 pub(crate) fn requests(alloc: Global, input: &str) -> Answer {
     let (settings, rest) = split(input, " || ", "settings")?;
     let (asked, outcomes) = split(rest, " || ", "a lookup and outcomes")?;
@@ -43,67 +48,46 @@ fn resolved(
     hosts: &str,
     asked: &str,
 ) -> Answer {
-    let hosts = hosts_of(alloc, hosts)?;
-    let mut resolver = build(alloc, settings, hosts, Recorder::new(alloc, exchange))?;
-    let text = answer_or_refusal(alloc, &mut resolver, asked);
-    drop(resolver);
-    text
+    let builder = builder_of(alloc, settings, Recorder::new(alloc, exchange))?;
+    let mut resolver = built_with(alloc, builder, hosts)?;
+    answer_or_refusal(alloc, &mut resolver, asked)
+}
+
+/// A lookup of a resolver over an exchange, with hosts that are set once it is built.
+fn resolved_with_set_hosts(
+    alloc: Global,
+    exchange: &mut Exchange,
+    settings: &str,
+    hosts: &str,
+    asked: &str,
+) -> Answer {
+    let builder = builder_of(alloc, settings, Recorder::new(alloc, exchange))?;
+    let mut resolver = Box::new(alloc, Box::into_inner(builder).build())?;
+    set_hosts(alloc, &mut resolver, hosts)?;
+    answer_or_refusal(alloc, &mut resolver, asked)
+}
+
+/// Sets the hosts of a resolver, if there is one.
+fn set_hosts(alloc: Global, resolver: &mut Built<'_>, hosts: &str) -> Result<(), RowFault> {
+    if let Ok(resolver) = resolver {
+        resolver.set_hosts(hosts_of(alloc, hosts)?);
+    }
+    Ok(())
 }
 
 /// A lookup of a resolver, or why there is none.
-fn answer_or_refusal<H: DnsHandle>(
-    alloc: Global,
-    resolver: &mut Result<Resolver<H>, NetError>,
-    asked: &str,
-) -> Answer {
+fn answer_or_refusal(alloc: Global, resolver: &mut Built<'_>, asked: &str) -> Answer {
     match resolver {
         Ok(resolver) => answer_of(alloc, resolver, asked),
         Err(error) => error_text(alloc, error),
     }
 }
 
-/// `set-hosts SETTINGS || LOOKUP || HOSTS || OUTCOMES`: as `resolver`, over a `ListHandle`, with hosts that are set once the
-/// resolver is built; behind a bar, how many outcomes are left.
-pub(crate) fn set_hosts(alloc: Global, input: &str) -> Answer {
-    let (settings, rest) = split(input, " || ", "settings")?;
-    let (asked, rest) = split(rest, " || ", "a lookup")?;
-    let (hosts, outcomes) = split(rest, " || ", "hosts and outcomes")?;
-    let outcomes = outcomes_of(alloc, outcomes)?;
-    let handle = ListHandle { outcomes };
-    let mut resolver = build(alloc, settings, Hosts::default(alloc), handle)?;
-    let text = listed_or_refusal(alloc, &mut resolver, hosts, asked);
-    drop(resolver);
-    text
-}
-
-/// A lookup of a resolver over a list with hosts, or why there is none.
-fn listed_or_refusal(
-    alloc: Global,
-    resolver: &mut Result<Resolver<ListHandle>, NetError>,
-    hosts: &str,
-    asked: &str,
-) -> Answer {
-    match resolver {
-        Ok(resolver) => listed(alloc, resolver, hosts, asked),
-        Err(error) => error_text(alloc, error),
-    }
-}
-
-/// A lookup of a resolver over a list, once its hosts were set, and how many outcomes are left.
-fn listed(alloc: Global, resolver: &mut Resolver<ListHandle>, hosts: &str, asked: &str) -> Answer {
-    resolver.set_hosts(hosts_of(alloc, hosts)?);
-    let text = answer_of(alloc, resolver, asked)?;
-    let left = resolver.handle_mut().outcomes.len();
-    Ok(format!(in alloc; "{text} | {left} left")?)
-}
-
 /// `build SETTINGS`: some of the options of the resolver that is built, or the refusal.
 pub(crate) fn built(alloc: Global, input: &str) -> Answer {
     let outcomes = Vec::new(alloc);
-    let resolver = build(alloc, input, Hosts::default(alloc), ListHandle { outcomes })?;
-    let text = options_or_refusal(alloc, &resolver);
-    drop(resolver);
-    text
+    let builder = builder_of(alloc, input, ListHandle { outcomes })?;
+    options_or_refusal(alloc, &Box::into_inner(builder).build())
 }
 
 /// Some of the options of a resolver, or why there is none.
@@ -117,26 +101,27 @@ fn options_or_refusal(alloc: Global, resolver: &Result<Resolver<ListHandle>, Net
     }
 }
 
-/// The resolver with settings and hosts over a handle, or its refusal.
-fn build<H: DnsHandle + Drop>(
+/// What is built with the hosts of a file's text.
+fn built_with<'a>(
     alloc: Global,
-    settings: &str,
-    hosts: Hosts,
-    handle: H,
-) -> Result<Result<Resolver<H>, NetError>, RowFault> {
-    let builder = builder_of(alloc, settings, handle)?;
-    Ok(builder.with_hosts(hosts).build())
+    builder: Box<ResolverBuilder<Recorder<'a>>>,
+    hosts: &str,
+) -> Result<Box<Built<'a>>, RowFault> {
+    let hosts = hosts_of(alloc, hosts)?;
+    Ok(Box::new(alloc, Box::into_inner(builder).with_hosts(hosts).build())?)
 }
 
 /// The builder of a resolver with settings over a handle.
-fn builder_of<H: DnsHandle + Drop>(
+fn builder_of<H: Drop>(
     alloc: Global,
     settings: &str,
     handle: H,
-) -> Result<ResolverBuilder<H>, RowFault> {
-    let options = resolver_options_of(alloc, settings)?;
+) -> Result<Box<ResolverBuilder<H>>, RowFault> {
     let config = resolver_config_of(alloc, settings)?;
-    Ok(Resolver::builder_with_config(alloc, config, handle).with_options(options))
+    let builder = Resolver::builder_with_config(alloc, Box::into_inner(config), handle);
+    let mut builder = Box::new(alloc, builder)?;
+    set_resolver_options(alloc, builder.options_mut(), settings)?;
+    Ok(builder)
 }
 
 /// What a resolver looks up: `lookup NAME TYPE`, `ip HOST`, `ip-of-name NAME`, `reverse ADDRESS`, or a type's own lookup.

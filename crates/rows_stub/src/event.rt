@@ -1,7 +1,7 @@
 //! Events in a row.
 
-use rows_text::{name_of, type_of};
 use rows::{RowFault, parsed, two_words, word_and_rest};
+use rows_text::{name_of, type_of};
 use std::alloc::{AllocError, Global};
 use std::fmt::Write;
 use stub_lookup::Moment;

@@ -14,8 +14,8 @@ pub(crate) fn linked(alloc: Global, input: &str) -> Answer {
     let Some(limit) = limit_of(limit) else {
         return Err(RowFault::Lacks("a limit"));
     };
-    let zone = zone_of(alloc, text)?;
-    exchanged(alloc, ScriptedLink::new(alloc, zone, limit), datagrams)
+    let mut link = ScriptedLink::new(alloc, zone_of(alloc, text)?, limit);
+    exchanged(alloc, &mut link, datagrams)
 }
 
 /// The limit that a number is, or `None` if it is none.
@@ -38,7 +38,7 @@ pub(crate) fn zone_of(alloc: Global, text: &str) -> Result<Zone, RowFault> {
 }
 
 /// What a link brings for datagrams that blanks part, and what it says of itself afterwards.
-fn exchanged(alloc: Global, mut link: ScriptedLink, datagrams: &str) -> Answer {
+fn exchanged(alloc: Global, link: &mut ScriptedLink, datagrams: &str) -> Answer {
     let mut receives = 1_u32;
     for digits in datagrams.split(' ') {
         let bytes = bytes_of(alloc, digits)?;
@@ -49,7 +49,7 @@ fn exchanged(alloc: Global, mut link: ScriptedLink, datagrams: &str) -> Answer {
     }
     let mut text = String::new(alloc);
     for _receive in 0..receives {
-        push_received(alloc, &mut text, &mut link)?;
+        push_received(alloc, &mut text, link)?;
     }
     let (failures, is_out_of_memory) = (link.failures(), link.is_out_of_memory());
     Ok(format!(in alloc; "{text}{failures} {is_out_of_memory}")?)

@@ -28,7 +28,6 @@ enum Sending {
 }
 
 /// A link that brings what it has, whatever is asked, and records what is sent.
-#[derive(Drop)]
 pub(crate) struct ListLink {
     alloc: Global,
     /// What comes, in order.
@@ -39,6 +38,22 @@ pub(crate) struct ListLink {
     /// What was sent, in order.
     sent: Vec<Vec<u8>>,
     failures: u64,
+}
+
+impl Drop for ListLink {
+    fn drop(self) {
+        let ListLink {
+            alloc: _alloc,
+            items,
+            sending: _sending,
+            request,
+            sent,
+            failures: _failures,
+        } = self;
+        drop(items);
+        drop(request);
+        drop(sent);
+    }
 }
 
 impl ListLink {

@@ -1,7 +1,7 @@
 //! Whole runs, from the contents of the files to what is printed.
 
-use rows_text::name_of;
 use rows::{Answer, RowFault, bytes_of, parsed, split};
+use rows_text::name_of;
 use std::alloc::Global;
 use std::fmt::Write;
 use stub_play::{PlayInput, play};
@@ -16,12 +16,23 @@ pub(crate) fn played(alloc: Global, input: &str) -> Answer {
 pub(crate) fn played_with(alloc: Global, input: &str) -> Answer {
     let (options, rest) = split(input, " || ", "options")?;
     let (hosts, texts) = split(rest, " || ", "hosts")?;
-    let mut input = input_of(alloc, texts)?;
+    let mut input = Box::new(alloc, input_of(alloc, texts)?)?;
+    set_options(alloc, &mut input, hosts, options)?;
+    printed(alloc, &input)
+}
+
+/// Sets the hosts file, and the options that blanks part.
+fn set_options(
+    alloc: Global,
+    input: &mut PlayInput,
+    hosts: &str,
+    options: &str,
+) -> Result<(), RowFault> {
     input.hosts = Vec::from_slice(alloc, hosts.as_bytes())?;
     for option in options.split(' ') {
-        set_option(alloc, &mut input, option)?;
+        set_option(alloc, input, option)?;
     }
-    printed(alloc, &input)
+    Ok(())
 }
 
 /// The input of the texts of a zone and a script, without a hosts file and with the default options.

@@ -2,8 +2,8 @@
 
 use crate::asking::{datagrams, handle_of};
 use crate::list_link::ListLink;
-use rows_text::{error_text, reply_text, resolver_config_of, resolver_options_of, type_of};
 use rows::{Answer, RowFault, split, two_words};
+use rows_text::{error_text, reply_text, resolver_config_of, resolver_options_of, type_of};
 use std::alloc::Global;
 use stub_core::{Resolver, ResolverBuilder};
 use stub_link::WireHandle;
@@ -18,22 +18,21 @@ pub(crate) fn resolve(alloc: Global, input: &str) -> Answer {
     let (settings, rest) = split(input, " || ", "settings")?;
     let (ids, rest) = split(rest, " || ", "ids")?;
     let (items, asked) = split(rest, " || ", "what comes, and a lookup")?;
-    let handle = handle_of(alloc, ids, items)?;
+    let handle = Box::new(alloc, handle_of(alloc, ids, items)?)?;
     let mut resolver = builder_of(alloc, settings, handle)?.build();
-    let text = found_or_refusal(alloc, &mut resolver, asked);
-    drop(resolver);
-    text
+    found_or_refusal(alloc, &mut resolver, asked)
 }
 
 /// The builder of a resolver with settings over a handle.
 fn builder_of(
     alloc: Global,
     settings: &str,
-    handle: WireHandle<ListLink>,
+    handle: Box<WireHandle<ListLink>>,
 ) -> Result<ResolverBuilder<WireHandle<ListLink>>, RowFault> {
     let options = resolver_options_of(alloc, settings)?;
-    let config = resolver_config_of(alloc, settings)?;
-    Ok(Resolver::builder_with_config(alloc, config, handle).with_options(options))
+    let config = Box::into_inner(resolver_config_of(alloc, settings)?);
+    let builder = Resolver::builder_with_config(alloc, config, Box::into_inner(handle));
+    Ok(builder.with_options(Box::into_inner(options)))
 }
 
 /// What a resolver finds, or why there is none.

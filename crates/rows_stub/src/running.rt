@@ -5,13 +5,10 @@ use crate::hosts::hosts_of;
 use crate::ids::ids_of;
 use crate::linking::{limit_of, zone_of};
 use dns_messages::Query;
-use dns_zone::Zone;
-use rows_text::{error_text, push_question, resolver_config_of, resolver_options_of};
 use rows::{Answer, RowFault, split, text, two_words};
+use rows_text::{error_text, push_question, resolver_config_of, resolver_options_of};
 use std::alloc::{AllocError, Global};
 use std::fmt::Write;
-use stub_cache::Hosts;
-use stub_config::{ResolverConfig, ResolverOpts};
 use stub_lookup::NetError;
 use stub_play::write_report;
 use stub_run::{Event, EventReport, Report, Stopped, World, run};
@@ -41,23 +38,13 @@ fn world_of(
         return Err(RowFault::Lacks("a limit"));
     };
     let ids = ids_of(alloc, ids)?;
-    let (config, options) = settings_of(alloc, settings)?;
-    let (hosts, zone) = contents_of(alloc, hosts, zone)?;
-    Ok(World::new(alloc, zone, limit, ids, config, options, hosts))
-}
-
-/// The configuration and the options of settings.
-fn settings_of(alloc: Global, settings: &str) -> Result<(ResolverConfig, ResolverOpts), RowFault> {
     let config = resolver_config_of(alloc, settings)?;
     let options = resolver_options_of(alloc, settings)?;
-    Ok((config, options))
-}
-
-/// The hosts of a hosts file, and the zone of a zone file.
-fn contents_of(alloc: Global, hosts: &str, zone: &str) -> Result<(Hosts, Zone), RowFault> {
-    let hosts = hosts_of(alloc, hosts)?;
+    let hosts = Box::new(alloc, hosts_of(alloc, hosts)?)?;
     let zone = zone_of(alloc, zone)?;
-    Ok((hosts, zone))
+    let (config, options) = (Box::into_inner(config), Box::into_inner(options));
+    let hosts = Box::into_inner(hosts);
+    Ok(World::new(alloc, zone, limit, ids, config, options, hosts))
 }
 
 /// What a run in a world reports, or why there is no world.

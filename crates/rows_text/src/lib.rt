@@ -26,5 +26,6 @@ pub use records::{data_of, record_of, records_of};
 pub use reply::{head_and_rest, message_of, outcome_of, outcomes_of, response_of};
 pub use section::{push_list, push_record, push_records, push_section};
 pub use settings::{
-    both_limits_of, resolver_config_of, resolver_options_of, set_bounds, strategy_of,
+    both_limits_of, resolver_config_of, resolver_options_of, set_bounds, set_resolver_options,
+    strategy_of,
 };

@@ -15,12 +15,13 @@ pub fn record_of(alloc: Global, text: &str) -> Result<Record, RowFault> {
     let (class, rest) = two_words(rest)?;
     let (kind, fields) = two_words(rest)?;
     let (ttl, dns_class) = (parsed::<u32>(ttl)?, class_or_in(class)?);
-    let rdata = data_of(alloc, type_of(kind)?, fields)?;
+    let kind = type_of(kind)?;
+    let name = name_of(alloc, owner)?;
     Ok(Record {
-        name: name_of(alloc, owner)?,
+        name,
         dns_class,
         ttl,
-        rdata,
+        rdata: data_of(alloc, kind, fields)?,
     })
 }
 

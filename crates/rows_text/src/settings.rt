@@ -4,7 +4,7 @@ use crate::question::{name_of, names_of};
 use dns_messages::Sequence;
 use dns_names::AddrPrefix;
 use rows::{RowFault, parsed, split};
-use std::alloc::Global;
+use std::alloc::{AllocError, Global};
 use std::net::{IpAddr, Ipv4Addr};
 use stub_config::{LookupIpStrategy, ResolveHosts, ResolverConfig, ResolverOpts};
 
@@ -12,30 +12,44 @@ use stub_config::{LookupIpStrategy, ResolveHosts, ResolverConfig, ResolverOpts};
 type Limits = (Option<u32>, Option<u32>);
 
 /// The configuration of settings: `domain:NAME`, and `search:NAMES`, which commas part.
-pub fn resolver_config_of(alloc: Global, settings: &str) -> Result<ResolverConfig, RowFault> {
-    let mut config = ResolverConfig::default(alloc);
+pub fn resolver_config_of(alloc: Global, settings: &str) -> Result<Box<ResolverConfig>, RowFault> {
+    let mut config = Box::new(alloc, ResolverConfig::default(alloc))?;
     for word in settings.split(' ') {
-        match word.split_once(':') {
-            Some(("domain", name)) => config.domain = Some(name_of(alloc, name)?),
-            Some(("search", names)) => {
-                config.search = Sequence::from_vec(names_of(alloc, names)?);
-            }
-            _ => {}
-        }
+        set_name(alloc, &mut config, word)?;
     }
     Ok(config)
 }
 
+/// Sets the domain or the search list to what a word says. Other words set none.
+fn set_name(alloc: Global, config: &mut ResolverConfig, word: &str) -> Result<(), RowFault> {
+    match word.split_once(':') {
+        Some(("domain", name)) => config.domain = Some(name_of(alloc, name)?),
+        Some(("search", names)) => config.search = Sequence::from_vec(names_of(alloc, names)?),
+        _ => {}
+    }
+    Ok(())
+}
+
 /// The options of settings. Those that no word sets are the defaults.
-pub fn resolver_options_of(alloc: Global, settings: &str) -> Result<ResolverOpts, RowFault> {
-    let mut options = ResolverOpts::default(alloc);
+pub fn resolver_options_of(alloc: Global, settings: &str) -> Result<Box<ResolverOpts>, RowFault> {
+    let mut options = Box::new(alloc, ResolverOpts::default(alloc))?;
+    set_resolver_options(alloc, &mut options, settings)?;
+    Ok(options)
+}
+
+/// Sets the options that the words of settings name.
+pub fn set_resolver_options(
+    alloc: Global,
+    options: &mut ResolverOpts,
+    settings: &str,
+) -> Result<(), RowFault> {
     for word in settings.split(' ') {
         match word.split_once(':') {
-            Some((word, value)) => set_value(&mut options, word, value)?,
-            None => set_flag(alloc, &mut options, word)?,
+            Some((word, value)) => set_value(options, word, value)?,
+            None => set_flag(alloc, options, word)?,
         }
     }
-    Ok(options)
+    Ok(())
 }
 
 /// Sets the option of a word that has a value: `ndots`, `payload`, `strategy`, `hosts`, `capacity` or `bounds`.
@@ -62,14 +76,18 @@ fn set_flag(alloc: Global, options: &mut ResolverOpts, word: &str) -> Result<(),
         "no-preserve" => options.preserve_intermediates = false,
         "random-case" => options.case_randomization = true,
         "trust-anchor" => options.trust_anchor = Some(String::from_str(alloc, "anchors")?),
-        "deny" => {
-            if let Some(prefix) = AddrPrefix::new(IpAddr::V4(Ipv4Addr::LOCALHOST), 8) {
-                options.deny_answers.push(prefix)?;
-            }
-        }
+        "deny" => deny_loopback(options)?,
         _ => return Err(RowFault::Lacks("a setting")),
     }
     Ok(())
+}
+
+/// Denies answers with the addresses of the loopback interface.
+fn deny_loopback(options: &mut ResolverOpts) -> Result<(), AllocError> {
+    match AddrPrefix::new(IpAddr::V4(Ipv4Addr::LOCALHOST), 8) {
+        Some(prefix) => options.deny_answers.push(prefix),
+        None => Ok(()),
+    }
 }
 
 /// The strategy of a word.

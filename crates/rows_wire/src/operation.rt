@@ -31,6 +31,8 @@ pub(crate) fn answer(alloc: Global, word: &str, input: &str) -> Answer {
         "class" => codes::class_of_text(alloc, input),
         "class-code" => codes::class_of_code(alloc, input),
         "opt-class" => codes::class_of_payload(alloc, input),
+        "same-type" => codes::same_types(alloc, input),
+        "same-class" => codes::same_classes(alloc, input),
         "serial" => codes::serial_order(alloc, input),
         "decimal" => codes::decimal(alloc, input),
         "encode" => numbers::encode(alloc, input),
@@ -38,7 +40,7 @@ pub(crate) fn answer(alloc: Global, word: &str, input: &str) -> Answer {
         "read" => reads::read(alloc, input),
         "write" => writes::write(alloc, input),
         "write-over" => writes::write_over(alloc, input),
-        "all" | "all-refs" | "all-iter" | "fitting" => items::items(alloc, word, input),
+        "all" | "all-refs" | "all-iter" | "fitting" | "first" => items::items(alloc, word, input),
         "all-names" => items::names(alloc, input),
         _ => name_answer(alloc, word, input),
     }
@@ -48,6 +50,7 @@ pub(crate) fn answer(alloc: Global, word: &str, input: &str) -> Answer {
 fn name_answer(alloc: Global, word: &str, input: &str) -> Answer {
     match word {
         "name" => names::printed(alloc, input),
+        "name-hex" => names::of_bytes(alloc, input),
         "relaxed" => names::relaxed(alloc, input),
         "ascii" | "debug" | "lower" | "base" | "star" => names::of_name(alloc, word, input),
         "debug-lower" | "lower-name" | "lower-copy" | "lower-base" | "lower-star" => {
@@ -64,6 +67,7 @@ fn name_answer(alloc: Global, word: &str, input: &str) -> Answer {
         "join" => joins::join(alloc, input),
         "domain" => joins::domain(alloc, input),
         "origin" => joins::origin(alloc, input),
+        "origin-hex" => joins::origin_of_bytes(alloc, input),
         "from-labels" => joins::from_labels(alloc, input),
         "order"
         | "order-case"
@@ -89,11 +93,14 @@ fn text_answer(alloc: Global, word: &str, input: &str) -> Answer {
         "label-sizes" => labels::sizes(alloc, input),
         "label-order" => labels::order(alloc, input),
         "address" => addresses::address(alloc, input),
+        "write-address" => addresses::written(alloc, input),
         "prefix" => addresses::prefix(alloc, input),
         "prefix-name" => addresses::prefix_of_name(alloc, input),
         "reverse" => addresses::reverse(alloc, input),
         "usage" => addresses::usage_of(alloc, input),
         "ttl" => zone_text::ttl(alloc, input),
+        "ttl-hex" => zone_text::ttl_of_bytes(alloc, input),
+        "unescape" => zone_text::unescaped(alloc, input),
         "tokens" => zone_text::tokens(alloc, input),
         "lines" => zone_text::lines(alloc, input),
         "decode-error" => sentences::decode_error(alloc, input),

@@ -26,11 +26,22 @@ const TTL: u32 = 300;
 /// Inserts the responses to two questions by turns, so that each replaces an earlier one.
 pub(crate) fn insert_responses(alloc: Global, count: u64) -> Result<u64> {
     let mut cache = cache_of_hosts(alloc, 0)?;
+    insert_by_turns(alloc, &mut cache, count)?;
+    sum_of_two(alloc, &cache)
+}
+
+/// Inserts the responses to the questions for the first two hosts by turns.
+fn insert_by_turns(alloc: Global, cache: &mut ResponseCache, count: u64) -> Result<()> {
     for turn in 0..count {
-        insert(alloc, &mut cache, turn % 2, moment_of(turn))?;
+        insert(alloc, cache, turn % 2, moment_of(turn))?;
     }
-    let first = remaining_ttl(&cache, &question_for(alloc, 0)?, 0)?;
-    let second = remaining_ttl(&cache, &question_for(alloc, 1)?, 0)?;
+    Ok(())
+}
+
+/// The sum of the TTLs that a cache has for the first two hosts.
+fn sum_of_two(alloc: Global, cache: &ResponseCache) -> Result<u64> {
+    let first = ttl_of_host(alloc, cache, 0)?;
+    let second = ttl_of_host(alloc, cache, 1)?;
     Ok(first.wrapping_add(second))
 }
 
@@ -47,22 +58,33 @@ pub(crate) fn get_nothing(alloc: Global, count: u64) -> Result<u64> {
 /// Inserts the responses to new questions into a full cache.
 pub(crate) fn replace_responses(alloc: Global, count: u64) -> Result<u64> {
     let mut cache = cache_of_hosts(alloc, CAPACITY)?;
+    let last = insert_new(alloc, &mut cache, count)?;
+    ttl_of_host(alloc, &cache, last)
+}
+
+/// Inserts the responses to the questions for hosts that a full cache does not have, and returns the last of these.
+fn insert_new(alloc: Global, cache: &mut ResponseCache, count: u64) -> Result<u64> {
     let mut last = CAPACITY;
     for turn in 0..count {
         last = CAPACITY.wrapping_add(turn);
-        insert(alloc, &mut cache, last, moment_of(turn))?;
+        insert(alloc, cache, last, moment_of(turn))?;
     }
-    remaining_ttl(&cache, &question_for(alloc, last)?, 0)
+    Ok(last)
 }
 
 /// Gets what a cache of 1,024 entries has for two hosts by turns. The checksum counts the lookups and sums the TTLs.
 fn get_by_turns(alloc: Global, count: u64, hosts: (u64, u64)) -> Result<u64> {
     let cache = cache_of_hosts(alloc, ENTRIES)?;
     let questions = (question_for(alloc, hosts.0)?, question_for(alloc, hosts.1)?);
+    get_repeatedly(&cache, &questions, count)
+}
+
+/// Gets what a cache has for two questions by turns.
+fn get_repeatedly(cache: &ResponseCache, questions: &(Query, Query), count: u64) -> Result<u64> {
     let mut checksum = 0_u64;
     for turn in 0..count {
-        let question = question_of_turn(&questions, turn);
-        let ttl = remaining_ttl(&cache, question, moment_of(turn))?;
+        let question = question_of_turn(questions, turn);
+        let ttl = remaining_ttl(cache, question, moment_of(turn))?;
         checksum = checksum.wrapping_add(1).wrapping_add(ttl);
     }
     Ok(checksum)
@@ -84,6 +106,12 @@ fn moment_of(turn: u64) -> Moment
     turn % 256
 }
 
+/// The sum of the TTLs that the answers have that a cache has for a host at the moment 0.
+fn ttl_of_host(alloc: Global, cache: &ResponseCache, host: u64) -> Result<u64> {
+    let question = question_for(alloc, host)?;
+    remaining_ttl(cache, &question, 0)
+}
+
 /// The sum of the TTLs that the answers have that a cache has for a question, or 0 if it has none.
 fn remaining_ttl(cache: &ResponseCache, question: &Query, now: Moment) -> Result<u64> {
     match cache.get(question, now)? {
@@ -102,8 +130,9 @@ fn sum_of_ttls(records: &[Record]) -> u64 {
 }
 
 /// A cache with the responses to the questions for the first hosts, each from the moment 0.
-fn cache_of_hosts(alloc: Global, count: u64) -> Result<ResponseCache> {
-    let mut cache = ResponseCache::new(alloc, CAPACITY, TtlConfig::default(alloc));
+fn cache_of_hosts(alloc: Global, count: u64) -> Result<Box<ResponseCache>> {
+    let cache = ResponseCache::new(alloc, CAPACITY, TtlConfig::default(alloc));
+    let mut cache = Box::new(alloc, cache)?;
     for host in 0..count {
         insert(alloc, &mut cache, host, 0)?;
     }
@@ -114,17 +143,23 @@ fn cache_of_hosts(alloc: Global, count: u64) -> Result<ResponseCache> {
 fn insert(alloc: Global, cache: &mut ResponseCache, host: u64, now: Moment) -> Result<()>
     requires { now ≤ 2 ^ 62 }
 {
-    let response = response_for(alloc, host)?;
-    cache.insert(question_for(alloc, host)?, Ok(response), now)?;
+    let question = question_for(alloc, host)?;
+    cache.insert_message(question, response_for(alloc, host)?, now)?;
     Ok(())
 }
 
 /// The response to the question for the addresses of a host.
 fn response_for(alloc: Global, host: u64) -> Result<Message> {
     let mut message = Message::response(alloc, 0, OpCode::Query);
+    add_question_and_address(alloc, &mut message, host)?;
+    Ok(message)
+}
+
+/// Adds the question for the addresses of a host, and its address.
+fn add_question_and_address(alloc: Global, message: &mut Message, host: u64) -> Result<()> {
     message.add_query(question_for(alloc, host)?)?;
     message.add_answer(address_of(alloc, host)?)?;
-    Ok(message)
+    Ok(())
 }
 
 /// The question for the addresses of a host.

@@ -29,10 +29,17 @@ pub(crate) fn read_data(alloc: Global, count: u64) -> Result<u64> {
     let encodings = encodings(alloc)?;
     let mut checksum = 0_u64;
     for _ in 0..count {
-        for (encoding, record_type) in encodings.iter().zip(TYPES.iter()) {
-            let sum = read_one(alloc, *record_type, encoding.as_slice())?;
-            checksum = checksum.wrapping_add(sum);
-        }
+        checksum = checksum.wrapping_add(read_all(alloc, encodings.as_slice())?);
+    }
+    Ok(checksum)
+}
+
+/// Decodes the data of each encoding.
+fn read_all(alloc: Global, encodings: &[Vec<u8>]) -> Result<u64> {
+    let mut checksum = 0_u64;
+    for (encoding, record_type) in encodings.iter().zip(TYPES.iter()) {
+        let sum = read_one(alloc, *record_type, encoding.as_slice())?;
+        checksum = checksum.wrapping_add(sum);
     }
     Ok(checksum)
 }
@@ -48,12 +55,16 @@ fn read_one(alloc: Global, record_type: RecordType, bytes: &[u8]) -> Result<u64>
 
 /// Encodes the data into one buffer, with compressed names.
 pub(crate) fn write_data(alloc: Global, count: u64) -> Result<u64> {
-    let items = items(alloc)?;
+    write_repeatedly(alloc, items(alloc)?.as_slice(), count)
+}
+
+/// Encodes data so often, each time into an empty buffer.
+fn write_repeatedly(alloc: Global, items: &[RData], count: u64) -> Result<u64> {
     let mut checksum = 0_u64;
     let mut buffer = Vec::new(alloc);
     for _ in 0..count {
         buffer.clear();
-        write_all(alloc, items.as_slice(), &mut buffer)?;
+        write_all(alloc, items, &mut buffer)?;
         checksum = checksum.wrapping_add(buffer.len() as u64);
     }
     Ok(checksum)
@@ -74,11 +85,18 @@ pub(crate) fn parse_data(alloc: Global, count: u64) -> Result<u64> {
     let entries = entries(alloc)?;
     let mut checksum = 0_u64;
     for _ in 0..count {
-        for (tokens, record_type) in entries.iter().zip(TYPES.iter()) {
-            let rdata = RData::parse(alloc, *record_type, tokens.as_slice(), None)?;
-            let number = u16::from(rdata.record_type());
-            checksum = checksum.wrapping_add(u64::from(number));
-        }
+        checksum = checksum.wrapping_add(parse_all(alloc, entries.as_slice())?);
+    }
+    Ok(checksum)
+}
+
+/// Parses the data of each entry.
+fn parse_all(alloc: Global, entries: &[Vec<Token<'_>>]) -> Result<u64> {
+    let mut checksum = 0_u64;
+    for (tokens, record_type) in entries.iter().zip(TYPES.iter()) {
+        let rdata = RData::parse(alloc, *record_type, tokens.as_slice(), None)?;
+        let number = u16::from(rdata.record_type());
+        checksum = checksum.wrapping_add(u64::from(number));
     }
     Ok(checksum)
 }
@@ -88,10 +106,17 @@ pub(crate) fn print_data(alloc: Global, count: u64) -> Result<u64> {
     let items = items(alloc)?;
     let mut checksum = 0_u64;
     for _ in 0..count {
-        for rdata in items.iter() {
-            let text = format!(in alloc; "{rdata}")?;
-            checksum = checksum.wrapping_add(text.len() as u64);
-        }
+        checksum = checksum.wrapping_add(print_all(alloc, items.as_slice())?);
+    }
+    Ok(checksum)
+}
+
+/// Prints data.
+fn print_all(alloc: Global, items: &[RData]) -> Result<u64> {
+    let mut checksum = 0_u64;
+    for rdata in items {
+        let text = format!(in alloc; "{rdata}")?;
+        checksum = checksum.wrapping_add(text.len() as u64);
     }
     Ok(checksum)
 }

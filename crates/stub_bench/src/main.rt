@@ -10,7 +10,7 @@ mod operation;
 mod zone;
 
 use anyhow::{Result, bail};
-use clap::{Arg, Command, Error, value_parser};
+use clap::{Arg, ArgMatches, Command, Error, value_parser};
 use operation::Operation;
 use std::alloc::{AllocError, Global};
 use std::env;
@@ -43,15 +43,19 @@ const WHAT: [&str; 20] = [
 fn main(rt: HostRuntime) -> Result<ExitCode> {
     let words: Vec<String> = env::args(&rt)?.collect(rt.alloc())?;
     let command = bench_command(rt.alloc())?;
-    let matches = match command.try_get_matches_from(words.as_slice()) {
-        Ok(matches) => matches,
-        Err(error) => return refuse(&rt, error),
-    };
+    match command.try_get_matches_from(words.as_slice()) {
+        Ok(matches) => repeat_wanted(&rt, &matches),
+        Err(error) => refuse(&rt, error),
+    }
+}
+
+/// Repeats the operations that the program's arguments name.
+fn repeat_wanted<R: Print + AllocGlobal>(rt: &R, matches: &ArgMatches<'_>) -> Result<ExitCode> {
     let (Some(what), Some(count)) = (matches.get_str("WHAT"), matches.get_one::<u64>("COUNT"))
     else {
         bail!("WHAT and COUNT are needed");
     };
-    repeat_all(&rt, what, count)?;
+    repeat_all(rt, what, count)?;
     Ok(ExitCode::SUCCESS)
 }
 
@@ -63,18 +67,28 @@ fn refuse(rt: &(impl Print + Eprint), error: Error) -> Result<ExitCode> {
 
 /// The program's command, for clap.
 fn bench_command<'a>(alloc: Global) -> Result<Command<'a>, AllocError> {
-    let what = Arg::new(alloc, "WHAT")
+    let command = Command::new(alloc, "stub_bench").about(
+        "Repeats an operation on fixed inputs, and prints a checksum of what it gave",
+    );
+    command
+        .arg(operation_argument(alloc))?
+        .arg(count_argument(alloc))
+}
+
+/// The argument that names the operation.
+fn operation_argument<'a>(alloc: Global) -> Arg<'a> {
+    Arg::new(alloc, "WHAT")
         .required(true)
         .value_parser(WHAT.as_slice())
-        .help("The operation");
-    let count = Arg::new(alloc, "COUNT")
+        .help("The operation")
+}
+
+/// The argument that says how often it is repeated.
+fn count_argument<'a>(alloc: Global) -> Arg<'a> {
+    Arg::new(alloc, "COUNT")
         .required(true)
         .value_parser(value_parser!(u64))
-        .help("How often it is repeated");
-    Command::new(alloc, "stub_bench")
-        .about("Repeats an operation on fixed inputs, and prints a checksum of what it gave")
-        .arg(what)?
-        .arg(count)
+        .help("How often it is repeated")
 }
 
 /// Repeats the operations that are meant, and prints their checksums.

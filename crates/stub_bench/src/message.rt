@@ -29,7 +29,12 @@ pub(crate) fn read_messages(alloc: Global, count: u64) -> Result<u64> {
 
 /// Encodes the reply.
 pub(crate) fn write_messages(alloc: Global, count: u64) -> Result<u64> {
-    let message = Message::from_vec(alloc, reply(alloc)?.as_slice())?;
+    let bytes = reply(alloc)?;
+    write_repeatedly(alloc, &Message::from_vec(alloc, bytes.as_slice())?, count)
+}
+
+/// Encodes a message so often.
+fn write_repeatedly(alloc: Global, message: &Message, count: u64) -> Result<u64> {
     let mut checksum = 0_u64;
     for _ in 0..count {
         let bytes = message.to_vec(alloc)?;

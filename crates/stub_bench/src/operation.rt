@@ -166,11 +166,16 @@ fn write_names(alloc: Global, count: u64) -> Result<u64> {
     for text in MESSAGE {
         names.push(Name::from_ascii(alloc, text)?)?;
     }
+    write_repeatedly(alloc, names.as_slice(), count)
+}
+
+/// Writes names so often, each time into an empty buffer.
+fn write_repeatedly(alloc: Global, names: &[Name], count: u64) -> Result<u64> {
     let mut checksum = 0_u64;
     let mut buffer = Vec::new(alloc);
     for _ in 0..count {
         buffer.clear();
-        write_message(alloc, names.as_slice(), &mut buffer)?;
+        write_message(alloc, names, &mut buffer)?;
         checksum = checksum.wrapping_add(buffer.len() as u64);
     }
     Ok(checksum)
@@ -196,11 +201,15 @@ fn parse_names(alloc: Global, count: u64) -> Result<u64> {
 }
 
 fn print_names(alloc: Global, count: u64) -> Result<u64> {
-    let names = two_names(alloc)?;
+    print_by_turns(&two_names(alloc)?, count)
+}
+
+/// Prints two names by turns.
+fn print_by_turns(names: &(Name, Name), count: u64) -> Result<u64> {
     let mut checksum = 0_u64;
     for turn in 0..count {
-        let name = name_of_turn(&names, turn);
-        checksum = checksum.wrapping_add(name.to_ascii()?.len() as u64);
+        let text = name_of_turn(names, turn).to_ascii()?;
+        checksum = checksum.wrapping_add(text.len() as u64);
     }
     Ok(checksum)
 }

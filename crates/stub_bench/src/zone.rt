@@ -48,7 +48,8 @@ pub(crate) fn serve_missing(alloc: Global, count: u64) -> Result<u64> {
 fn serve(alloc: Global, even: &[u8], odd: &[u8], count: u64) -> Result<u64> {
     let even = request(alloc, even)?;
     let odd = request(alloc, odd)?;
-    let mut zone = large_zone(alloc)?;
+    let text = zone_text(alloc)?;
+    let mut zone = Box::new(alloc, Zone::from_text(alloc, text.as_str(), &[], None)?)?;
     serve_by_turns(&mut zone, even.as_slice(), odd.as_slice(), count)
 }
 
@@ -78,12 +79,6 @@ fn request(alloc: Global, label: &[u8]) -> Result<Vec<u8>, AllocError> {
     bytes.extend_from_slice(label)?;
     bytes.extend_from_slice(QUESTION)?;
     Ok(bytes)
-}
-
-/// The zone of the zone file.
-fn large_zone(alloc: Global) -> Result<Zone> {
-    let text = zone_text(alloc)?;
-    Ok(Zone::from_text(alloc, text.as_str(), &[], None)?)
 }
 
 /// The zone file.

@@ -1,5 +1,5 @@
 -- The answers of special-use names (RFC 6303, RFC 6761, RFC 7686).
-use Rattle.std.specs.Prelude.{◌||◌, if◌then◌else◌, Bool, [], ◌∷◌, Option, Some, None}
+use Rattle.std.specs.Prelude.{if◌then◌else◌, [], ◌∷◌, Option, Some, None}
 use Rattle.dns_codes.specs.DNSClass.{class_number, class_of}
 use Rattle.dns_codes.specs.RecordType.{type_number, type_of}
 use Rattle.dns_codes.specs.declared.record_type.RecordType.{RecordType}
@@ -7,9 +7,7 @@ use Rattle.dns_codes.specs.declared.record_type.RecordType.TheVariants as types
 use Rattle.dns_codes.specs.declared.dns_class.DNSClass.{DNSClass}
 use Rattle.dns_codes.specs.declared.dns_class.DNSClass.TheVariants as classes
 use Rattle.dns_names.specs.Name.{DomainName}
-use Rattle.dns_names.specs.Compare.{at_or_below}
-use Rattle.dns_text.specs.Usage.{zone_name, localhost_zone, in_addr_arpa_127_zone, ip6_arpa_1_zone, invalid_zone, onion_zone}
-use Rattle.dns_text.specs.declared.usage.ZoneUsage.{ZoneUsage}
+use Rattle.dns_text.specs.Usage.{is_loopback, is_nonexistent, zone_name, localhost_zone}
 use Rattle.dns_data.specs.declared.rdata.RData.{RData}
 use Rattle.dns_data.specs.declared.rdata.RData.TheVariants as of
 use Rattle.dns_records.specs.Record.{Record}
@@ -18,19 +16,6 @@ use Rattle.dns_messages.specs.declared.response_code.ResponseCode.TheVariants.{N
 use Rattle.stub_lookup.specs.Lookup.{max_ttl}
 use Rattle.stub_client.specs.declared.special_names.SpecialAnswer.{SpecialAnswer}
 use Rattle.stub_client.specs.declared.special_names.SpecialAnswer.TheVariants.{Ordinary, Loopback, Nothing}
-
--- whether a name is at or below a zone of special-use names
-abbrev pub is_within : ZoneUsage → DomainName → Bool
-is_within usage name = at_or_below (zone_name usage).labels name.labels
-
--- names of the local host (RFC 6761 section 6.3), and reverse names of its addresses (RFC 6303 sections 4.2 and 4.3)
-abbrev pub is_loopback : DomainName → Bool
-is_loopback name =
-    is_within localhost_zone name || is_within in_addr_arpa_127_zone name || is_within ip6_arpa_1_zone name
-
--- names that do not exist in the DNS (RFC 6761 section 6.4, RFC 7686 section 2)
-abbrev pub is_nonexistent : DomainName → Bool
-is_nonexistent name = is_within invalid_zone name || is_within onion_zone name
 
 -- the loopback addresses (RFC 1122 section 3.2.1.3, RFC 4291 section 2.5.3), and the name of the local host
 abbrev pub loopback_data : RecordType → Option RData

@@ -2,12 +2,12 @@
 
 ghost use Rattle.std.specs.Prelude.{◌≡◌, IfOk};
 ghost use Rattle.dns_text.specs.Usage.{zone_name, localhost_zone};
-ghost use Rattle.stub_client.specs.SpecialNames.{is_within, is_loopback, is_nonexistent, loopback_data, loopback_answer, name_answer, special_answer};
+ghost use Rattle.stub_client.specs.SpecialNames.{loopback_data, loopback_answer, name_answer, special_answer};
 
 use dns_data::{A, AAAA, PTR, RData};
 use dns_messages::{Query, Record, ResponseCode};
 use dns_names::Name;
-use dns_text::{ZoneUsage, usage};
+use dns_text::usage;
 use dns_wire::{DNSClass, RecordType};
 use std::alloc::{AllocError, Global};
 use std::net::{Ipv4Addr, Ipv6Addr};
@@ -47,38 +47,13 @@ fn name_answer(
 ) -> Result<SpecialAnswer, AllocError>
     ensures { IfOk result (λ answer. answer ≡ name_answer name.now record_type) }
 {
-    if is_loopback(alloc, name)? {
+    if usage::is_loopback(name) {
         return loopback_answer(alloc, name, record_type);
     }
-    if is_nonexistent(alloc, name)? {
+    if usage::is_nonexistent(name) {
         return Ok(SpecialAnswer::Nothing(ResponseCode::NXDomain));
     }
     Ok(SpecialAnswer::Ordinary)
-}
-
-/// Returns `true` if a name is that of the local host or of one of its addresses.
-fn is_loopback(alloc: Global, name: &Name) -> Result<bool, AllocError>
-    ensures { IfOk result (λ answer. answer ≡ is_loopback name.now) }
-{
-    Ok(
-        is_within(usage::localhost(alloc)?, name)
-            || is_within(usage::in_addr_arpa_127(alloc)?, name)
-            || is_within(usage::ip6_arpa_1(alloc)?, name),
-    )
-}
-
-/// Returns `true` if a name does not exist in the DNS.
-fn is_nonexistent(alloc: Global, name: &Name) -> Result<bool, AllocError>
-    ensures { IfOk result (λ answer. answer ≡ is_nonexistent name.now) }
-{
-    Ok(is_within(usage::invalid(alloc)?, name) || is_within(usage::onion(alloc)?, name))
-}
-
-/// Returns `true` if a name is at or below a zone of special-use names.
-fn is_within(zone: ZoneUsage, name: &Name) -> bool
-    ensures { result ≡ is_within zone name.now }
-{
-    zone.zone_of(name)
 }
 
 /// Answers a question for a name of the local host.

@@ -1,15 +1,10 @@
 //! IPv6 addresses (RFC 3596 section 2.2).
 
-ghost use Rattle.std.specs.Prelude.{◌≡◌, ℕ, IfOk, IfErr, Option};
-ghost use Rattle.dns_data.specs.Wire.{ValuesAt, RefusesFields};
+ghost use Rattle.std.specs.Prelude.{◌≡◌};
 ghost use Rattle.dns_data.specs.rdata.AAAA.{aaaa_kinds, aaaa_values};
-ghost use Rattle.dns_names.specs.Name.{DomainName};
-ghost use Rattle.dns_data.specs.Text.{AreParsed, RefusesTokens};
 
-use crate::error::RDataParseError;
-use crate::text::DataTokens;
-use crate::wire::read_ipv6;
-use dns_wire::{BinDecoder, BinEncodable, BinEncoder, DecodeError, EncodeError};
+use crate::fields::{FixedData, WriteFields};
+use dns_wire::{BinEncodable, BinEncoder, EncodeError};
 use std::fmt;
 use std::net::Ipv6Addr;
 
@@ -17,16 +12,11 @@ use std::net::Ipv6Addr;
 #[derive(Clone, Copy, Debug, PartialEq, Eq, PartialOrd, Ord)]
 pub struct AAAA(pub Ipv6Addr);
 
-impl AAAA {
-    /// Reads the data.
-    pub(crate) fn read(decoder: &mut BinDecoder<'_>) -> Result<AAAA, DecodeError>
-        ensures read { IfOk result (λ a. (data_end : ℕ) → ValuesAt decoder.old.bytes data_end
-            aaaa_kinds decoder.old.index (aaaa_values a) decoder.new.index) }
-        ensures refused { IfErr result (λ error. (data_end : ℕ)
-            → RefusesFields decoder.old.bytes data_end aaaa_kinds decoder.old.index error) }
-        ensures bytes { decoder.new.bytes ≡ decoder.old.bytes }
-    {
-        Ok(AAAA(read_ipv6(decoder)?))
+impl FixedData<(Ipv6Addr, ())> for AAAA {
+    ghost fields = { aaaa_values };
+
+    fn from_fields(given: (Ipv6Addr, ())) -> AAAA {
+        AAAA(given.0)
     }
 }
 
@@ -36,7 +26,7 @@ impl BinEncodable for AAAA {
     ghost pieces = { λ a s. values_pieces s.canonical aaaa_kinds (aaaa_values a) };
 
     fn emit(&self, encoder: &mut BinEncoder<'_>) -> Result<(), EncodeError> {
-        encoder.emit_vec(&self.0.octets())
+        (self.0, ()).emit_fields(encoder)
     }
 }
 
@@ -47,26 +37,13 @@ impl AAAA {
     pub fn encoded_len(&self) -> u128
         ensures { result ≡ values_len aaaa_kinds (aaaa_values self.now) }
     {
-        self.0.octets().len() as u128
-    }
-
-    /// Parses the data from its tokens.
-    pub(crate) fn parse(tokens: &mut DataTokens<'_, '_>) -> Result<AAAA, RDataParseError>
-        ensures parsed { (o : Option DomainName)
-            → IfOk result (λ a. AreParsed o aaaa_kinds tokens.old (aaaa_values a)) }
-        ensures refused { (o : Option DomainName)
-            → IfErr result (λ error. RefusesTokens o aaaa_kinds tokens.old error) }
-    {
-        let address = tokens.ipv6()?;
-        tokens.finish()?;
-        Ok(AAAA(address))
+        (self.0, ()).fields_len()
     }
 }
 
 impl fmt::Display for AAAA {
     ghost use Rattle.std.specs.Prelude.{Some};
     ghost use Rattle.dns_data.specs.Text.{values_text};
-    ghost use Rattle.dns_data.specs.rdata.AAAA.{aaaa_kinds, aaaa_values};
 
     ghost output = { λ a. Some (values_text aaaa_kinds (aaaa_values a)) };
 

@@ -1,17 +1,12 @@
 //! Mail exchanges (RFC 1035 section 3.3.9).
 
-ghost use Rattle.std.specs.Prelude.{◌≡◌, ◌≢◌, ℕ, IfOk, IfErr, option_map};
-ghost use Rattle.dns_data.specs.Wire.{ValuesAt, RefusesFields};
+ghost use Rattle.std.specs.Prelude.{◌≡◌, IfOk};
 ghost use Rattle.dns_data.specs.rdata.MX.{mx_kinds, mx_values};
-ghost use Rattle.dns_data.specs.Text.{AreParsed, RefusesTokens};
 
-use crate::error::RDataParseError;
-use crate::text::DataTokens;
+use crate::fields::{FixedData, WriteFields};
 use dns_names::Name;
-use dns_wire::{
-    BinDecodable, BinDecoder, BinEncodable, BinEncoder, DecodeError, EncodeError, RDataEncoding,
-};
-use std::alloc::{AllocError, Global};
+use dns_wire::{BinEncodable, BinEncoder, EncodeError};
+use std::alloc::AllocError;
 use std::fmt;
 
 /// A mail exchange (RFC 1035 section 3.3.9).
@@ -23,7 +18,20 @@ pub struct MX {
     pub exchange: Name,
 }
 
+impl FixedData<(u16, (Name, ()))> for MX {
+    ghost fields = { mx_values };
+
+    fn from_fields(given: (u16, (Name, ()))) -> MX {
+        let (preference, (exchange, _)) = given;
+        MX {
+            preference,
+            exchange,
+        }
+    }
+}
+
 impl MX {
+    ghost use Rattle.dns_data.specs.Field.{values_len};
     ghost use Rattle.dns_data.specs.declared.rdata.mx.MX.{MX};
 
     /// Clones the data.
@@ -36,20 +44,11 @@ impl MX {
         })
     }
 
-    /// Reads the data.
-    pub(crate) fn read(alloc: Global, decoder: &mut BinDecoder<'_>) -> Result<MX, DecodeError>
-        ensures read { IfOk result (λ mx. (data_end : ℕ) → ValuesAt decoder.old.bytes data_end
-            mx_kinds decoder.old.index (mx_values mx) decoder.new.index) }
-        ensures refused { IfErr result (λ error. error ≢ DecodeError.Memory → (data_end : ℕ)
-            → RefusesFields decoder.old.bytes data_end mx_kinds decoder.old.index error) }
-        ensures bytes { decoder.new.bytes ≡ decoder.old.bytes }
+    /// Returns the length of the data's uncompressed encoding.
+    pub fn encoded_len(&self) -> u128
+        ensures { result ≡ values_len mx_kinds (mx_values self.now) }
     {
-        let preference = u16::read(alloc, decoder)?;
-        let exchange = Name::read(alloc, decoder)?;
-        Ok(MX {
-            preference,
-            exchange,
-        })
+        (self.preference, (&self.exchange, ())).fields_len()
     }
 }
 
@@ -67,47 +66,13 @@ impl BinEncodable for MX {
     ghost pieces = { λ mx s. values_pieces s.canonical mx_kinds (mx_values mx) };
 
     fn emit(&self, encoder: &mut BinEncoder<'_>) -> Result<(), EncodeError> {
-        encoder.emit_u16(self.preference)?;
-        self.exchange
-            .emit_with_behavior(RDataEncoding::StandardRecord, encoder)
-    }
-}
-
-impl MX {
-    ghost use Rattle.dns_data.specs.Field.{values_len};
-
-    /// Returns the length of the data's uncompressed encoding.
-    pub fn encoded_len(&self) -> u128
-        ensures { result ≡ values_len mx_kinds (mx_values self.now) }
-    {
-        2 + self.exchange.encoded_len() as u128
-    }
-
-    /// Parses the data from its tokens.
-    pub(crate) fn parse(
-        alloc: Global,
-        tokens: &mut DataTokens<'_, '_>,
-        origin: Option<&Name>,
-    ) -> Result<MX, RDataParseError>
-        ensures parsed { IfOk result (λ m. AreParsed (option_map (λ o. o.now) origin.entry)
-            mx_kinds tokens.old (mx_values m)) }
-        ensures refused { IfErr result (λ error. error ≢ RDataParseError.Memory
-            → RefusesTokens (option_map (λ o. o.now) origin.entry)
-            mx_kinds tokens.old error) }
-    {
-        let preference = tokens.number16()?;
-        let exchange = tokens.only_name(alloc, origin)?;
-        Ok(MX {
-            preference,
-            exchange,
-        })
+        (self.preference, (&self.exchange, ())).emit_fields(encoder)
     }
 }
 
 impl fmt::Display for MX {
     ghost use Rattle.std.specs.Prelude.{Some};
     ghost use Rattle.dns_data.specs.Text.{values_text};
-    ghost use Rattle.dns_data.specs.rdata.MX.{mx_kinds, mx_values};
 
     ghost output = { λ m. Some (values_text mx_kinds (mx_values m)) };
 

@@ -1,22 +1,28 @@
 //! Name servers (RFC 1035 section 3.3.11).
 
-ghost use Rattle.std.specs.Prelude.{◌≡◌, ◌≢◌, ℕ, IfOk, IfErr, option_map};
-ghost use Rattle.dns_data.specs.Wire.{ValuesAt, RefusesFields};
+ghost use Rattle.std.specs.Prelude.{◌≡◌, IfOk};
 ghost use Rattle.dns_data.specs.rdata.NS.{ns_kinds, ns_values};
-ghost use Rattle.dns_data.specs.Text.{AreParsed, RefusesTokens};
 
-use crate::error::RDataParseError;
-use crate::text::DataTokens;
+use crate::fields::{FixedData, WriteFields};
 use dns_names::Name;
-use dns_wire::{BinDecoder, BinEncodable, BinEncoder, DecodeError, EncodeError, RDataEncoding};
-use std::alloc::{AllocError, Global};
+use dns_wire::{BinEncodable, BinEncoder, EncodeError};
+use std::alloc::AllocError;
 use std::fmt;
 
 /// A name server of a zone (RFC 1035 section 3.3.11).
 #[derive(Debug, Drop, PartialEq, Eq, PartialOrd, Ord)]
 pub struct NS(pub Name);
 
+impl FixedData<(Name, ())> for NS {
+    ghost fields = { ns_values };
+
+    fn from_fields(given: (Name, ())) -> NS {
+        NS(given.0)
+    }
+}
+
 impl NS {
+    ghost use Rattle.dns_data.specs.Field.{values_len};
     ghost use Rattle.dns_data.specs.declared.rdata.ns.NS.{NS};
 
     /// Clones the data.
@@ -26,15 +32,11 @@ impl NS {
         Ok(NS(self.0.clone()?))
     }
 
-    /// Reads the data.
-    pub(crate) fn read(alloc: Global, decoder: &mut BinDecoder<'_>) -> Result<NS, DecodeError>
-        ensures read { IfOk result (λ n. (data_end : ℕ) → ValuesAt decoder.old.bytes data_end
-            ns_kinds decoder.old.index (ns_values n) decoder.new.index) }
-        ensures refused { IfErr result (λ error. error ≢ DecodeError.Memory → (data_end : ℕ)
-            → RefusesFields decoder.old.bytes data_end ns_kinds decoder.old.index error) }
-        ensures bytes { decoder.new.bytes ≡ decoder.old.bytes }
+    /// Returns the length of the data's uncompressed encoding.
+    pub fn encoded_len(&self) -> u128
+        ensures { result ≡ values_len ns_kinds (ns_values self.now) }
     {
-        Ok(NS(Name::read(alloc, decoder)?))
+        (&self.0, ()).fields_len()
     }
 }
 
@@ -52,41 +54,13 @@ impl BinEncodable for NS {
     ghost pieces = { λ n s. values_pieces s.canonical ns_kinds (ns_values n) };
 
     fn emit(&self, encoder: &mut BinEncoder<'_>) -> Result<(), EncodeError> {
-        self.0
-            .emit_with_behavior(RDataEncoding::StandardRecord, encoder)
-    }
-}
-
-impl NS {
-    ghost use Rattle.dns_data.specs.Field.{values_len};
-
-    /// Returns the length of the data's uncompressed encoding.
-    pub fn encoded_len(&self) -> u128
-        ensures { result ≡ values_len ns_kinds (ns_values self.now) }
-    {
-        self.0.encoded_len() as u128
-    }
-
-    /// Parses the data from its tokens.
-    pub(crate) fn parse(
-        alloc: Global,
-        tokens: &mut DataTokens<'_, '_>,
-        origin: Option<&Name>,
-    ) -> Result<NS, RDataParseError>
-        ensures parsed { IfOk result (λ n. AreParsed (option_map (λ o. o.now) origin.entry)
-            ns_kinds tokens.old (ns_values n)) }
-        ensures refused { IfErr result (λ error. error ≢ RDataParseError.Memory
-            → RefusesTokens (option_map (λ o. o.now) origin.entry)
-            ns_kinds tokens.old error) }
-    {
-        Ok(NS(tokens.only_name(alloc, origin)?))
+        (&self.0, ()).emit_fields(encoder)
     }
 }
 
 impl fmt::Display for NS {
     ghost use Rattle.std.specs.Prelude.{Some};
     ghost use Rattle.dns_data.specs.Text.{values_text};
-    ghost use Rattle.dns_data.specs.rdata.NS.{ns_kinds, ns_values};
 
     ghost output = { λ n. Some (values_text ns_kinds (ns_values n)) };
 

@@ -1,21 +1,13 @@
 //! Starts of authority (RFC 1035 section 3.3.13).
 
-ghost use Rattle.std.specs.Prelude.{◌≡◌, ◌≢◌, ℕ, false, IfOk, IfErr, Option, option_map};
-ghost use Rattle.dns_wire.specs.Encoder.{state_of, IsAtEnd};
-ghost use Rattle.dns_wire.specs.Encodable.{Emits};
+ghost use Rattle.std.specs.Prelude.{◌≡◌, IfOk};
 ghost use Rattle.dns_data.specs.Field.{values_pieces};
-ghost use Rattle.dns_data.specs.Wire.{ValuesAt, RefusesFields};
-ghost use Rattle.dns_data.specs.rdata.SOA.{soa_kinds, number_kinds, number_values, soa_values};
-ghost use Rattle.dns_names.specs.Name.{DomainName};
-ghost use Rattle.dns_data.specs.Text.{AreParsed, RefusesTokens};
+ghost use Rattle.dns_data.specs.rdata.SOA.{soa_kinds, soa_values};
 
-use crate::error::RDataParseError;
-use crate::text::DataTokens;
+use crate::fields::{FixedData, Time, WriteFields};
 use dns_names::Name;
-use dns_wire::{
-    BinDecodable, BinDecoder, BinEncodable, BinEncoder, DecodeError, EncodeError, RDataEncoding,
-};
-use std::alloc::{AllocError, Global};
+use dns_wire::{BinEncodable, BinEncoder, EncodeError};
+use std::alloc::AllocError;
 use std::fmt;
 
 /// The start of a zone's authority (RFC 1035 section 3.3.13). The times are in seconds.
@@ -37,7 +29,38 @@ pub struct SOA {
     pub minimum: u32,
 }
 
+impl FixedData<(Name, (Name, (u32, (Time, (Time, (Time, (Time, ())))))))> for SOA {
+    ghost fields = { λ s. (
+      s.mname,
+      (
+        s.rname,
+        (
+          s.serial,
+          (
+            record { 0 = s.refresh },
+            (record { 0 = s.retry }, (record { 0 = s.expire }, (record { 0 = s.minimum }, tt))),
+          ),
+        ),
+      ),
+    ) };
+
+    fn from_fields(given: (Name, (Name, (u32, (Time, (Time, (Time, (Time, ())))))))) -> SOA {
+        let (mname, (rname, numbers)) = given;
+        let (serial, (refresh, (retry, (expire, (minimum, _))))) = numbers;
+        SOA {
+            mname,
+            rname,
+            serial,
+            refresh: refresh.0,
+            retry: retry.0,
+            expire: expire.0,
+            minimum: minimum.0,
+        }
+    }
+}
+
 impl SOA {
+    ghost use Rattle.dns_data.specs.Field.{values_len};
     ghost use Rattle.dns_data.specs.declared.rdata.soa.SOA.{SOA};
 
     /// Clones the data.
@@ -55,60 +78,30 @@ impl SOA {
         })
     }
 
-    /// Reads the data.
-    pub(crate) fn read(alloc: Global, decoder: &mut BinDecoder<'_>) -> Result<SOA, DecodeError>
-        ensures read { IfOk result (λ soa. (data_end : ℕ) → ValuesAt decoder.old.bytes data_end
-            soa_kinds decoder.old.index (soa_values soa) decoder.new.index) }
-        ensures refused { IfErr result (λ error. error ≢ DecodeError.Memory → (data_end : ℕ)
-            → RefusesFields decoder.old.bytes data_end soa_kinds decoder.old.index error) }
-        ensures bytes { decoder.new.bytes ≡ decoder.old.bytes }
+    /// Returns the times, in the order of their encoding.
+    fn times(&self) -> (Time, (Time, (Time, (Time, ()))))
+        ensures { result ≡ (
+          record { 0 = self.now.refresh },
+          (
+            record { 0 = self.now.retry },
+            (record { 0 = self.now.expire }, (record { 0 = self.now.minimum }, tt)),
+          ),
+        ) }
     {
-        let mname = Name::read(alloc, decoder)?;
-        let rname = Name::read(alloc, decoder)?;
-        let (serial, refresh, retry, expire, minimum) = SOA::read_numbers(alloc, decoder)?;
-        Ok(SOA {
-            mname,
-            rname,
-            serial,
-            refresh,
-            retry,
-            expire,
-            minimum,
-        })
+        (
+            Time(self.refresh),
+            (
+                Time(self.retry),
+                (Time(self.expire), (Time(self.minimum), ())),
+            ),
+        )
     }
 
-    /// Reads the serial number and the times.
-    fn read_numbers(
-        alloc: Global,
-        decoder: &mut BinDecoder<'_>,
-    ) -> Result<(u32, u32, u32, u32, u32), DecodeError>
-        ensures read { IfOk result (λ n. (data_end : ℕ) → ValuesAt decoder.old.bytes data_end
-            number_kinds decoder.old.index (n.0, (n.1, (n.2, (n.3, (n.4, tt)))))
-            decoder.new.index) }
-        ensures refused { IfErr result (λ error. error ≢ DecodeError.Memory → (data_end : ℕ)
-            → RefusesFields decoder.old.bytes data_end number_kinds decoder.old.index error) }
-        ensures bytes { decoder.new.bytes ≡ decoder.old.bytes }
+    /// Returns the length of the data's uncompressed encoding.
+    pub fn encoded_len(&self) -> u128
+        ensures { result ≡ values_len soa_kinds (soa_values self.now) }
     {
-        let serial = u32::read(alloc, decoder)?;
-        let refresh = u32::read(alloc, decoder)?;
-        let retry = u32::read(alloc, decoder)?;
-        let expire = u32::read(alloc, decoder)?;
-        let minimum = u32::read(alloc, decoder)?;
-        Ok((serial, refresh, retry, expire, minimum))
-    }
-
-    /// Writes the serial number and the times.
-    fn emit_numbers(&self, encoder: &mut BinEncoder<'_>) -> Result<(), EncodeError>
-        requires { IsAtEnd (state_of encoder.old) }
-        ensures { Emits (state_of encoder.old)
-            (values_pieces false number_kinds (number_values self.now)) result
-            (state_of encoder.new) }
-    {
-        encoder.emit_u32(self.serial)?;
-        encoder.emit_u32(self.refresh)?;
-        encoder.emit_u32(self.retry)?;
-        encoder.emit_u32(self.expire)?;
-        encoder.emit_u32(self.minimum)
+        (&self.mname, (&self.rname, (self.serial, self.times()))).fields_len()
     }
 }
 
@@ -124,102 +117,13 @@ impl BinEncodable for SOA {
     ghost pieces = { λ soa s. values_pieces s.canonical soa_kinds (soa_values soa) };
 
     fn emit(&self, encoder: &mut BinEncoder<'_>) -> Result<(), EncodeError> {
-        self.mname
-            .emit_with_behavior(RDataEncoding::StandardRecord, encoder)?;
-        self.rname
-            .emit_with_behavior(RDataEncoding::StandardRecord, encoder)?;
-        self.emit_numbers(encoder)
+        (&self.mname, (&self.rname, (self.serial, self.times()))).emit_fields(encoder)
     }
-}
-
-impl SOA {
-    ghost use Rattle.dns_data.specs.Field.{values_len};
-
-    /// Returns the length of the data's uncompressed encoding.
-    pub fn encoded_len(&self) -> u128
-        ensures { result ≡ values_len soa_kinds (soa_values self.now) }
-    {
-        self.mname.encoded_len() as u128 + self.rname.encoded_len() as u128 + 20
-    }
-
-    /// Parses the data from its tokens.
-    pub(crate) fn parse(
-        alloc: Global,
-        tokens: &mut DataTokens<'_, '_>,
-        origin: Option<&Name>,
-    ) -> Result<SOA, RDataParseError>
-        ensures parsed { IfOk result (λ s. AreParsed (option_map (λ o. o.now) origin.entry)
-            soa_kinds tokens.old (soa_values s)) }
-        ensures refused { IfErr result (λ error. error ≢ RDataParseError.Memory
-            → RefusesTokens (option_map (λ o. o.now) origin.entry)
-            soa_kinds tokens.old error) }
-    {
-        let mname = tokens.name(alloc, origin)?;
-        let rname = tokens.name(alloc, origin)?;
-        SOA::with_names(mname, rname, tokens)
-    }
-
-    /// Parses the numbers that follow the names.
-    fn with_names(
-        mname: Name,
-        rname: Name,
-        tokens: &mut DataTokens<'_, '_>,
-    ) -> Result<SOA, RDataParseError>
-        ensures names { IfOk result (λ s. (s.mname ≡ mname) × (s.rname ≡ rname)) }
-        ensures parsed { (o : Option DomainName) → IfOk result (λ s. AreParsed o
-            number_kinds tokens.old (number_values s)) }
-        ensures refused { (o : Option DomainName) → IfErr result (λ error.
-            RefusesTokens o number_kinds tokens.old error) }
-    {
-        let numbers = numbers(tokens)?;
-        Ok(SOA {
-            mname,
-            rname,
-            serial: numbers.serial,
-            refresh: numbers.refresh,
-            retry: numbers.retry,
-            expire: numbers.expire,
-            minimum: numbers.minimum,
-        })
-    }
-}
-
-/// The numbers that follow the names.
-#[derive(Clone, Copy)]
-struct SoaNumbers {
-    serial: u32,
-    refresh: u32,
-    retry: u32,
-    expire: u32,
-    minimum: u32,
-}
-
-/// Parses the numbers that follow the names.
-fn numbers(tokens: &mut DataTokens<'_, '_>) -> Result<SoaNumbers, RDataParseError>
-    ensures parsed { (o : Option DomainName) → IfOk result (λ n. AreParsed o number_kinds
-        tokens.old (n.serial, (n.refresh, (n.retry, (n.expire, (n.minimum, tt)))))) }
-    ensures refused { (o : Option DomainName) → IfErr result (λ error.
-        RefusesTokens o number_kinds tokens.old error) }
-{
-    let serial = tokens.number32()?;
-    let refresh = tokens.seconds()?;
-    let retry = tokens.seconds()?;
-    let expire = tokens.seconds()?;
-    let minimum = tokens.seconds()?;
-    tokens.finish()?;
-    Ok(SoaNumbers {
-        serial,
-        refresh,
-        retry,
-        expire,
-        minimum,
-    })
 }
 
 impl fmt::Display for SOA {
     ghost use Rattle.std.specs.Prelude.{Some};
     ghost use Rattle.dns_data.specs.Text.{values_text};
-    ghost use Rattle.dns_data.specs.rdata.SOA.{soa_kinds, soa_values};
 
     ghost output = { λ s. Some (values_text soa_kinds (soa_values s)) };
 

@@ -1,17 +1,12 @@
 //! Locations of services (RFC 2782).
 
-ghost use Rattle.std.specs.Prelude.{◌≡◌, ◌≢◌, ℕ, IfOk, IfErr, option_map};
-ghost use Rattle.dns_data.specs.Wire.{ValuesAt, RefusesFields};
+ghost use Rattle.std.specs.Prelude.{◌≡◌, IfOk};
 ghost use Rattle.dns_data.specs.rdata.SRV.{srv_kinds, srv_values};
-ghost use Rattle.dns_data.specs.Text.{AreParsed, RefusesTokens};
 
-use crate::error::RDataParseError;
-use crate::text::DataTokens;
+use crate::fields::{FixedData, Whole, WholeRef, WriteFields};
 use dns_names::Name;
-use dns_wire::{
-    BinDecodable, BinDecoder, BinEncodable, BinEncoder, DecodeError, EncodeError, RDataEncoding,
-};
-use std::alloc::{AllocError, Global};
+use dns_wire::{BinEncodable, BinEncoder, EncodeError};
+use std::alloc::AllocError;
 use std::fmt;
 
 /// The location of a service (RFC 2782).
@@ -26,7 +21,22 @@ pub struct SRV {
     pub target: Name,
 }
 
+impl FixedData<(u16, (u16, (u16, (Whole, ()))))> for SRV {
+    ghost fields = { λ s. (s.priority, (s.weight, (s.port, (record { 0 = s.target }, tt)))) };
+
+    fn from_fields(given: (u16, (u16, (u16, (Whole, ()))))) -> SRV {
+        let (priority, (weight, (port, (target, _)))) = given;
+        SRV {
+            priority,
+            weight,
+            port,
+            target: target.0,
+        }
+    }
+}
+
 impl SRV {
+    ghost use Rattle.dns_data.specs.Field.{values_len};
     ghost use Rattle.dns_data.specs.declared.rdata.srv.SRV.{SRV};
 
     /// Clones the data.
@@ -41,24 +51,15 @@ impl SRV {
         })
     }
 
-    /// Reads the data.
-    pub(crate) fn read(alloc: Global, decoder: &mut BinDecoder<'_>) -> Result<SRV, DecodeError>
-        ensures read { IfOk result (λ srv. (data_end : ℕ) → ValuesAt decoder.old.bytes data_end
-            srv_kinds decoder.old.index (srv_values srv) decoder.new.index) }
-        ensures refused { IfErr result (λ error. error ≢ DecodeError.Memory → (data_end : ℕ)
-            → RefusesFields decoder.old.bytes data_end srv_kinds decoder.old.index error) }
-        ensures bytes { decoder.new.bytes ≡ decoder.old.bytes }
+    /// Returns the length of the data's uncompressed encoding.
+    pub fn encoded_len(&self) -> u128
+        ensures { result ≡ values_len srv_kinds (srv_values self.now) }
     {
-        let priority = u16::read(alloc, decoder)?;
-        let weight = u16::read(alloc, decoder)?;
-        let port = u16::read(alloc, decoder)?;
-        let target = Name::read(alloc, decoder)?;
-        Ok(SRV {
-            priority,
-            weight,
-            port,
-            target,
-        })
+        (
+            self.priority,
+            (self.weight, (self.port, (WholeRef(&self.target), ()))),
+        )
+            .fields_len()
     }
 }
 
@@ -76,53 +77,17 @@ impl BinEncodable for SRV {
     ghost pieces = { λ srv s. values_pieces s.canonical srv_kinds (srv_values srv) };
 
     fn emit(&self, encoder: &mut BinEncoder<'_>) -> Result<(), EncodeError> {
-        encoder.emit_u16(self.priority)?;
-        encoder.emit_u16(self.weight)?;
-        encoder.emit_u16(self.port)?;
-        self.target
-            .emit_with_behavior(RDataEncoding::Canonical, encoder)
-    }
-}
-
-impl SRV {
-    ghost use Rattle.dns_data.specs.Field.{values_len};
-
-    /// Returns the length of the data's uncompressed encoding.
-    pub fn encoded_len(&self) -> u128
-        ensures { result ≡ values_len srv_kinds (srv_values self.now) }
-    {
-        6 + self.target.encoded_len() as u128
-    }
-
-    /// Parses the data from its tokens.
-    pub(crate) fn parse(
-        alloc: Global,
-        tokens: &mut DataTokens<'_, '_>,
-        origin: Option<&Name>,
-    ) -> Result<SRV, RDataParseError>
-        ensures parsed { IfOk result (λ s. AreParsed (option_map (λ o. o.now) origin.entry)
-            srv_kinds tokens.old (srv_values s)) }
-        ensures refused { IfErr result (λ error. error ≢ RDataParseError.Memory
-            → RefusesTokens (option_map (λ o. o.now) origin.entry)
-            srv_kinds tokens.old error) }
-    {
-        let priority = tokens.number16()?;
-        let weight = tokens.number16()?;
-        let port = tokens.number16()?;
-        let target = tokens.only_name(alloc, origin)?;
-        Ok(SRV {
-            priority,
-            weight,
-            port,
-            target,
-        })
+        (
+            self.priority,
+            (self.weight, (self.port, (WholeRef(&self.target), ()))),
+        )
+            .emit_fields(encoder)
     }
 }
 
 impl fmt::Display for SRV {
     ghost use Rattle.std.specs.Prelude.{Some};
     ghost use Rattle.dns_data.specs.Text.{values_text};
-    ghost use Rattle.dns_data.specs.rdata.SRV.{srv_kinds, srv_values};
 
     ghost output = { λ s. Some (values_text srv_kinds (srv_values s)) };
 

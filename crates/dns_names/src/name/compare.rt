@@ -1,7 +1,7 @@
 //! Equality, order and hash of names, and zones, ignoring ASCII case (RFC 1035 section 2.3.3, RFC 4034 section 6.1,
 //! RFC 4343).
 
-ghost use Rattle.std.specs.Prelude.{◌≡◌, ◌+◌, drop, length, ◌↔◌, ◌++◌, List, ℕ};
+ghost use Rattle.std.specs.Prelude.{◌≡◌, ◌+◌, drop, length, map, ◌↔◌, ◌++◌, List, ℕ};
 ghost use Rattle.dns_names.specs.Compare.{same_labels, at_or_below};
 ghost use Rattle.std.specs.Ordering.{nat_cmp, as_partial_cmp};
 ghost use Rattle.std.specs.Bool.{IsTrue};
@@ -82,6 +82,15 @@ impl Name {
         own <= others && name.ends_in(others - own, self)
     }
 
+    /// Returns `true` if the last labels are these, ignoring ASCII case: if the name is at or below the name that has
+    /// them.
+    pub fn ends_with(&self, labels: &[&[u8]]) -> bool
+        ensures { result ≡ at_or_below (map (λ label. label.now) labels.now) self.now.labels }
+    {
+        let (own, others) = (self.label_count(), labels.len());
+        others <= own && self.ends_in_labels(own - others, labels)
+    }
+
     /// Returns `true` if `name` is at or below this name, comparing case: if its last labels are this name's.
     pub fn zone_of_case(&self, name: &Name) -> bool
         ensures { IsTrue result ↔
@@ -157,6 +166,20 @@ impl Name {
                 .label(index - skipped)
                 .eq_ignore_ascii_case(self.label(index))
             {
+                return false;
+            }
+        }
+        true
+    }
+
+    /// Returns `true` if the labels after the first `skipped` are these, ignoring ASCII case.
+    fn ends_in_labels(&self, skipped: usize, labels: &[&[u8]]) -> bool
+        requires { length self.now.labels ≡ skipped + length labels.now }
+        ensures { result ≡ same_labels (map (λ label. label.now) labels.now)
+            (drop skipped self.now.labels) }
+    {
+        for index in skipped..self.label_count() {
+            if !labels[index - skipped].eq_ignore_ascii_case(self.label(index)) {
                 return false;
             }
         }

@@ -2,7 +2,7 @@
 
 use super::names::name_of;
 use dns_names::{AddrPrefix, Name};
-use dns_text::{IntoName, ZoneUsage, usage};
+use dns_text::{IntoName, ZoneUsage, usage, write_ip};
 use rows::{Answer, RowFault, made_or_none, named, parsed, text, two_words};
 use std::alloc::Global;
 use std::net::IpAddr;
@@ -10,6 +10,11 @@ use std::net::IpAddr;
 /// `address TEXT`: the address that a text is, printed, or `none`.
 pub(crate) fn address(alloc: Global, input: &str) -> Answer {
     made_or_none(alloc, input.to_ip())
+}
+
+/// `write-address ADDRESS`: the text of an address, which has no dots if it has 128 bits.
+pub(crate) fn written(alloc: Global, input: &str) -> Answer {
+    Ok(write_ip(alloc, address_of(input)?)?)
 }
 
 /// The address that a text is.

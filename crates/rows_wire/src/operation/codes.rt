@@ -73,6 +73,42 @@ fn class_answer(alloc: Global, class: DNSClass) -> Answer {
     Ok(format!(in alloc; "{class} {number}")?)
 }
 
+/// `same-type TYPE OTHER`: the types that the numbers of two types decode to, and whether the numbers are the same. `?1` is
+/// `Unknown(1)`, which a program may make.
+pub(crate) fn same_types(alloc: Global, input: &str) -> Answer {
+    let (one, other) = two_words(input)?;
+    let (one, other) = (type_of(one)?, type_of(other)?);
+    let is_same = one.is_same(other);
+    let (one, other) = (one.canonical(), other.canonical());
+    Ok(format!(in alloc; "{one} {other} {is_same}")?)
+}
+
+/// The type that a text names, or whose number it has behind `?`.
+fn type_of(text: &str) -> Result<RecordType, RowFault> {
+    match text.strip_prefix('?') {
+        Some(number) => Ok(RecordType::Unknown(parsed::<u16>(number)?)),
+        None => parsed::<RecordType>(text),
+    }
+}
+
+/// `same-class CLASS OTHER`: the classes that the numbers of two classes decode to, and whether the numbers are the same. `?1`
+/// is `Unknown(1)`, which a program may make.
+pub(crate) fn same_classes(alloc: Global, input: &str) -> Answer {
+    let (one, other) = two_words(input)?;
+    let (one, other) = (class_of(one)?, class_of(other)?);
+    let is_same = one.is_same(other);
+    let (one, other) = (one.canonical(), other.canonical());
+    Ok(format!(in alloc; "{one} {other} {is_same}")?)
+}
+
+/// The class that a text names, or whose number it has behind `?`.
+fn class_of(text: &str) -> Result<DNSClass, RowFault> {
+    match text.strip_prefix('?') {
+        Some(number) => Ok(DNSClass::Unknown(parsed::<u16>(number)?)),
+        None => parsed::<DNSClass>(text),
+    }
+}
+
 /// `serial NUMBER OTHER`: how a serial number compares to another, between the two.
 pub(crate) fn serial_order(alloc: Global, input: &str) -> Answer {
     let (one, other) = two_words(input)?;

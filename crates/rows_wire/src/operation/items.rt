@@ -1,13 +1,13 @@
 //! Lists of items, which an encoder writes up to the first that doesn't fit.
 
 use dns_names::Name;
-use dns_wire::{BinEncodable, BinEncoder, NameEncoding, ProtoError, emit_fitting};
+use dns_wire::{BinEncodable, BinEncoder, NameEncoding, ProtoError, emit_fitting, emit_if_fits};
 use rows::{Answer, RowFault, bytes_of, hex_of, parsed, two_words};
 use std::alloc::Global;
 
-/// `all|all-refs|all-iter|fitting SIZE HEX NUMBER ..`: how many numbers of 16 bits were written behind the bytes, where
+/// `all|all-refs|all-iter|fitting|first SIZE HEX NUMBER ..`: how many numbers of 16 bits were written behind the bytes, where
 /// the buffer may have so many bytes, or the refusal; and the buffer. The numbers are given as items, lent items and an
-/// iterator; `fitting` answers how many were written where not all fit.
+/// iterator; `fitting` answers how many were written where not all fit, and `first` writes the first number alone, if it fits.
 pub(crate) fn items(alloc: Global, word: &str, input: &str) -> Answer {
     let (size, rest) = two_words(input)?;
     let size = parsed::<u16>(size)?;
@@ -66,7 +66,11 @@ fn write_items<T: BinEncodable>(
         "all" => encoder.emit_all(items),
         "all-refs" => encoder.emit_all_refs(lent.as_slice()),
         "all-iter" => encoder.emit_iter(alloc, items.iter()),
-        _ => Ok(emit_fitting(items, &mut encoder)?),
+        "fitting" => Ok(emit_fitting(items, &mut encoder)?),
+        _ => match items.first() {
+            Some(item) => Ok(usize::from(emit_if_fits(item, &mut encoder)?)),
+            None => Ok(0),
+        },
     }
 }
 

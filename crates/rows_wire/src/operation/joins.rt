@@ -62,6 +62,17 @@ pub(crate) fn origin(alloc: Global, input: &str) -> Answer {
     made(alloc, Name::parse(alloc, text, Some(&origin)))
 }
 
+/// `origin-hex ORIGIN HEX`: the same of the bytes of a text.
+pub(crate) fn origin_of_bytes(alloc: Global, input: &str) -> Answer {
+    let (origin, digits) = two_words(input)?;
+    let bytes = bytes_of(alloc, digits)?;
+    let origin = name_of(alloc, origin)?;
+    made(
+        alloc,
+        Name::parse_bytes(alloc, bytes.as_slice(), Some(&origin)),
+    )
+}
+
 /// `from-labels LABEL LABEL ..`: the fully qualified name of some labels, or the refusal.
 pub(crate) fn from_labels(alloc: Global, input: &str) -> Answer {
     let labels: Vec<&str> = input.split(' ').collect(alloc)?;

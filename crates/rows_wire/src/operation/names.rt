@@ -2,7 +2,7 @@
 
 use dns_names::{LowerName, Name};
 use dns_text::IntoName;
-use rows::{Answer, RowFault, made, named, parsed, push_answer, shown, two_words};
+use rows::{Answer, RowFault, bytes_of, made, named, parsed, push_answer, shown, two_words};
 use std::alloc::Global;
 
 /// The name that a text spells, where the operation is not about its refusals.
@@ -16,6 +16,12 @@ pub(crate) fn name_of(alloc: Global, text: &str) -> Result<Name, RowFault> {
 /// `name TEXT`: the name that a text spells, printed, or the refusal.
 pub(crate) fn printed(alloc: Global, text: &str) -> Answer {
     made(alloc, Name::from_ascii(alloc, text))
+}
+
+/// `name-hex HEX`: the name that the bytes of a text spell, printed, or the refusal.
+pub(crate) fn of_bytes(alloc: Global, digits: &str) -> Answer {
+    let bytes = bytes_of(alloc, digits)?;
+    made(alloc, Name::from_ascii_bytes(alloc, bytes.as_slice()))
 }
 
 /// `relaxed TEXT`: the same by `from_str_relaxed`.
@@ -37,13 +43,13 @@ pub(crate) fn of_name(alloc: Global, word: &str, text: &str) -> Answer {
 }
 
 /// `debug-lower|lower-name|lower-copy|lower-base|lower-star TEXT`: the lower-case name as it is printed for a developer,
-/// and printed; a copy of it, the name above, or with `*` in place of its first label.
+/// and printed; a copy of a copy of it, the name above, or with `*` in place of its first label.
 pub(crate) fn of_lower_name(alloc: Global, word: &str, text: &str) -> Answer {
     let name = lower_of(alloc, text)?;
     match word {
         "debug-lower" => named(alloc, name),
         "lower-name" => shown(alloc, name),
-        "lower-copy" => shown(alloc, Clone::clone(&name)?),
+        "lower-copy" => shown(alloc, Clone::clone(&name.clone()?)?),
         "lower-base" => shown(alloc, name.base_name()?),
         _ => shown(alloc, name.into_wildcard()?),
     }

@@ -19,9 +19,10 @@ use std::fmt::Debug;
 /// - `sized HEX`: writes character data behind a place of 16 bits that holds its size; `late HEX SIZE`: writes
 ///   character data behind a place of 8 bits, which is filled under a limit of so many bytes;
 /// - `in MODE NAME`, `data KIND NAME`: writes a name while a guard sets the mode, or the mode that record data asks for;
+///   `name-in KIND NAME`: writes a name as record data asks for it, without a guard;
 /// - `mode MODE`, `canonical BOOL`, `limit SIZE`, `at PLACE`, `trim`: sets it, goes to a place, cuts off what is behind;
-/// - `store START END`: remembers bytes; `find START END`: where such bytes are remembered, or `none`; `begin`: whether a
-///   name may still be compressed;
+/// - `store START END`: remembers bytes; `find START END`: where such bytes are remembered, or `none`; `find-or-store START END`:
+///   both; `begin`: whether a name may still be compressed;
 /// - `hex`, `slice START END`, `offset`, `len`, `empty`, `encoding`, `is-canonical`: the bytes and the state.
 ///
 /// A write answers nothing where it succeeds, and else its refusal.
@@ -74,7 +75,9 @@ fn write_step(alloc: Global, encoder: &mut BinEncoder<'_>, word: &str, input: &s
         "name" => write_name(alloc, encoder, input),
         "in" => write_in(alloc, encoder, input),
         "data" => write_data(alloc, encoder, input),
+        "name-in" => write_name_in(alloc, encoder, input),
         "store" => store(alloc, encoder, input),
+        "find-or-store" => find_or_store(alloc, encoder, input),
         _ => set_step(alloc, encoder, word, input),
     }
 }
@@ -191,6 +194,16 @@ fn write_data(alloc: Global, encoder: &mut BinEncoder<'_>, input: &str) -> Answe
     write_name(alloc, guard.encoder_mut(), text)
 }
 
+fn write_name_in(alloc: Global, encoder: &mut BinEncoder<'_>, input: &str) -> Answer {
+    let (kind, text) = two_words(input)?;
+    let kind = data_kind(kind)?;
+    let name = name_of(alloc, text)?;
+    if encoder.offset() != encoder.len() {
+        return Err(RowFault::Lacks("a step to the end of the buffer"));
+    }
+    wrote(alloc, name.emit_with_behavior(kind, encoder))
+}
+
 /// Goes to a place of the buffer.
 fn go_to(encoder: &mut BinEncoder<'_>, place: usize) -> Result<(), RowFault> {
     if place > encoder.len() {
@@ -227,6 +240,11 @@ fn store(alloc: Global, encoder: &mut BinEncoder<'_>, input: &str) -> Answer {
     let (start, end) = range_of(encoder, input)?;
     encoder.store_label_pointer(start, end)?;
     Ok(String::new(alloc))
+}
+
+fn find_or_store(alloc: Global, encoder: &mut BinEncoder<'_>, input: &str) -> Answer {
+    let (start, end) = range_of(encoder, input)?;
+    made_or_none(alloc, encoder.find_or_store_label_pointer(start, end)?)
 }
 
 /// The mode with this word.

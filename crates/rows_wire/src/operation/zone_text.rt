@@ -1,13 +1,34 @@
 //! Tokens and times of a zone's text.
 
-use dns_text::{Lexer, LexerError, Token, parse_ttl};
-use rows::{Answer, RowFault, made, named, push_answer};
+use dns_text::{Lexer, LexerError, QuotedString, Token, parse_ttl, parse_ttl_bytes, unescape};
+use rows::{Answer, RowFault, bytes_of, hex_of, made, named, push_answer, text as text_of};
 use std::alloc::Global;
 use std::str;
 
 /// `ttl TEXT`: the seconds of a time to live, or the refusal.
 pub(crate) fn ttl(alloc: Global, text: &str) -> Answer {
     made(alloc, parse_ttl(text))
+}
+
+/// `ttl-hex HEX`: the same of the bytes of a text.
+pub(crate) fn ttl_of_bytes(alloc: Global, digits: &str) -> Answer {
+    let bytes = bytes_of(alloc, digits)?;
+    made(alloc, parse_ttl_bytes(bytes.as_slice()))
+}
+
+/// `unescape TEXT`: the bytes of a character string of this text, or `none`; and behind a bar the string as it is printed between
+/// quotes.
+pub(crate) fn unescaped(alloc: Global, text: &str) -> Answer {
+    match unescape(alloc, text.as_bytes())? {
+        Some(octets) => string_text(alloc, octets.as_slice()),
+        None => text_of(alloc, "none"),
+    }
+}
+
+/// The bytes of a character string, and the string between quotes.
+fn string_text(alloc: Global, octets: &[u8]) -> Answer {
+    let (bytes, quoted) = (hex_of(alloc, octets)?, QuotedString(octets));
+    Ok(format!(in alloc; "{bytes} | {quoted}")?)
 }
 
 /// `tokens TEXT`: the tokens of a text and the line on which it ends, or the refusal. `|` is the end of a line, at which

@@ -1,22 +1,22 @@
 use Rattle.std.proofs.Common.{None, refl, sym, ap, ◌∙◌, rules}
 use Rattle.std.proofs.lemmas.Result.{err_from_is_err_and}
 use Rattle.dns_codes.specs.declared.record_type.RecordType.TheVariants as types
-use Rattle.dns_codes.specs.RecordType.{type_of}
 use Rattle.dns_codes.specs.declared.record_type.RecordType.{RecordType}
 use Rattle.dns_data.specs.Text.{has_text}
 use Rattle.dns_data.specs.rdata.{kinds_of_type, no_text}
-use Rattle.dns_data.proofs.TextSteps.{no_form, parsed_as, refused_as}
+use Rattle.dns_data.proofs.TypeLaws.{no_form}
+use Rattle.dns_data.proofs.TextSteps.{parsed_as, refused_as}
 use Rattle.dns_data.proofs.rdata.RData.parse.Goals as goal
 
 pub returns-in_err-parse-in-A-clause-refused : goal.returns-in_err-parse-in-A-clause-refused
 returns-in_err-parse-in-A-clause-refused c =
     let p = err_from_is_err_and c.from_residual.result c.from_residual.ensures.1 in
-    rw (p.1, p.2) (λ other. refused_as types.A _ c.new-tokens.ensures (search rules) refl (c.in_err-parse-in-A.ensures.refused _))
+    rw (p.1, p.2) (λ other. refused_as types.A _ c.new-tokens.ensures (search rules) refl (c.in_err-parse-in-A.ensures.refused other))
 
 pub returns-in_err-parse-in-AAAA-clause-refused : goal.returns-in_err-parse-in-AAAA-clause-refused
 returns-in_err-parse-in-AAAA-clause-refused c =
     let p = err_from_is_err_and c.from_residual-in_err-parse-in-AAAA.result c.from_residual-in_err-parse-in-AAAA.ensures.1 in
-    rw (p.1, p.2) (λ other. refused_as types.AAAA _ c.new-tokens.ensures (search rules) refl (c.in_err-parse-in-AAAA.ensures.refused _))
+    rw (p.1, p.2) (λ other. refused_as types.AAAA _ c.new-tokens.ensures (search rules) refl (c.in_err-parse-in-AAAA.ensures.refused other))
 
 pub returns-in_err-parse-in-CNAME-clause-refused : goal.returns-in_err-parse-in-CNAME-clause-refused
 returns-in_err-parse-in-CNAME-clause-refused c =
@@ -54,20 +54,20 @@ returns-in_err-parse-in-TXT-clause-refused c =
     rw (p.1, p.2) (λ other. refused_as types.TXT _ c.new-tokens.ensures (search rules) refl (c.in_err-parse-in-TXT.ensures.refused _ other))
 
 pub returns-in_ok-parse-in-A-clause-parsed : goal.returns-in_ok-parse-in-A-clause-parsed
-returns-in_ok-parse-in-A-clause-parsed c = parsed_as _ c.new-tokens.ensures (search rules) refl refl (c.in_ok-parse-in-A.ensures.parsed None)
+returns-in_ok-parse-in-A-clause-parsed c = parsed_as _ c.new-tokens.ensures (search rules) refl refl c.in_ok-parse-in-A.ensures.parsed
 
 pub returns-in_ok-parse-in-AAAA-clause-parsed : goal.returns-in_ok-parse-in-AAAA-clause-parsed
-returns-in_ok-parse-in-AAAA-clause-parsed c = parsed_as _ c.new-tokens.ensures (search rules) refl refl (c.in_ok-parse-in-AAAA.ensures.parsed None)
+returns-in_ok-parse-in-AAAA-clause-parsed c = parsed_as _ c.new-tokens.ensures (search rules) refl refl c.in_ok-parse-in-AAAA.ensures.parsed
 
 pub returns-in_ok-parse-in-TXT-clause-parsed : goal.returns-in_ok-parse-in-TXT-clause-parsed
 returns-in_ok-parse-in-TXT-clause-parsed c = parsed_as _ c.new-tokens.ensures (search rules) refl refl (c.in_ok-parse-in-TXT.ensures.parsed None)
 
 pub returns-in_default : goal.returns-in_default
 returns-in_default c =
-    let same = c.from-2.ensures ∙ ap type_of c.from.ensures in
+    let same = c.canonical.ensures in
     let others = c.in_default in
     record {
       parsed = tt;
       refused = λ other. no_text (ap (λ (t : RecordType). has_text (kinds_of_type t)) (sym same)
-          ∙ no_form c.from-2.result others.not-A others.not-AAAA others.not-CNAME others.not-NS others.not-PTR others.not-MX others.not-SOA others.not-SRV others.not-TXT);
+          ∙ no_form c.canonical.result others.not-A others.not-AAAA others.not-CNAME others.not-NS others.not-PTR others.not-MX others.not-SOA others.not-SRV others.not-TXT);
     }

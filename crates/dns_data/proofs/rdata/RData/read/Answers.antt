@@ -7,7 +7,8 @@ use Rattle.dns_data.specs.declared.rdata.RData.{RData}
 use Rattle.dns_data.specs.Field.{Kind}
 use Rattle.dns_data.specs.Wire.{ValuesAt, RefusesFields, RefusesValues, refused_field}
 use Rattle.dns_data.specs.rdata.{data_kinds, data_values, kinds_of_type}
-use Rattle.dns_data.proofs.DataLaws.{data_onward, reads_data, wrong_end, reads_empty}
+use Rattle.dns_data.proofs.LayoutLaws.{values_onward}
+use Rattle.dns_data.proofs.DataLaws.{reads_data, wrong_end, reads_empty}
 use Rattle.dns_data.proofs.rdata.RData.read.Goals as goal
 
 -- the reader begins where the decoder is
@@ -42,7 +43,7 @@ returns-in_err-rdata-clause-refused c =
 pub overflow_sub-index : goal.overflow_sub-index
 overflow_sub-index c =
     let old = c.args.decoder.now in
-    omega (arith, data_onward old.bytes old.index c.args.len c.in_ok-rdata.rdata c.read_fields.new.decoder.index (values_there c.args.decoder.now c.clone-reader.result c.args.len c.read_fields.new.decoder.index c.in_ok-rdata.rdata (reader_is c.args.decoder.now c.clone-reader.result c.index-start.result c.clone-reader.ensures c.index-start.ensures.value) c.in_ok-rdata.ensures.read), c.index-start.ensures.value, c.index.ensures.value)
+    omega (arith, values_onward old.bytes (old.index + c.args.len) (data_kinds c.in_ok-rdata.rdata) old.index (data_values c.in_ok-rdata.rdata) c.read_fields.new.decoder.index (values_there c.args.decoder.now c.clone-reader.result c.args.len c.read_fields.new.decoder.index c.in_ok-rdata.rdata (reader_is c.args.decoder.now c.clone-reader.result c.index-start.result c.clone-reader.ensures c.index-start.ensures.value) c.in_ok-rdata.ensures.read), c.index-start.ensures.value, c.index.ensures.value)
 
 pub returns-then-index-start-clause-refused : goal.returns-then-index-start-clause-refused
 returns-then-index-start-clause-refused c = λ other.
@@ -63,5 +64,5 @@ returns-clause-read c =
     let there = values_there c.args.decoder.now c.clone-reader.result c.args.len c.read_fields.new.decoder.index c.in_ok-rdata.rdata (reader_is c.args.decoder.now c.clone-reader.result c.index-start.result c.clone-reader.ensures c.index-start.ensures.value) c.in_ok-rdata.ensures.read in
     let fits : type_number t < 2 ^ 16 = omega (arith, c.from.ensures, c.from.type_inv) in
     let some : 0 < c.args.len = omega (arith, c.if-len-eq0.false) in
-    let all : end ≡ old.index + c.args.len = omega (arith, c.if-index-start.false, c.index.ensures.value, c.index-start.ensures.value, c.from-2.ensures, data_onward old.bytes old.index c.args.len d end there) in
+    let all : end ≡ old.index + c.args.len = omega (arith, c.if-index-start.false, c.index.ensures.value, c.index-start.ensures.value, c.from-2.ensures, values_onward old.bytes (old.index + c.args.len) (data_kinds d) old.index (data_values d) end there) in
     reads_data old.bytes old.index c.args.len t d end fits (c.type_number_round_trips.ensures (type_number t)) (c.in_ok-rdata.ensures.of_type ∙ named) (c.in_ok-rdata.ensures.fields ∙ ap kinds_of_type named) some c.ranges.len.fits all there

@@ -6,30 +6,6 @@ use Rattle.dns_data.proofs.RefusalLaws.{refused_here}
 use Rattle.dns_data.proofs.TypeLaws.{opaque_kinds}
 use Rattle.dns_data.proofs.rdata.RData.read_fields.Goals as goal
 
-pub returns-in_ok-read-in-A-clause-read : goal.returns-in_ok-read-in-A-clause-read
-returns-in_ok-read-in-A-clause-read c = c.in_ok-read-in-A.ensures.read (c.args.decoder.now.index + c.args.len)
-
-pub returns-in_ok-read-in-AAAA-clause-read : goal.returns-in_ok-read-in-AAAA-clause-read
-returns-in_ok-read-in-AAAA-clause-read c = c.in_ok-read-in-AAAA.ensures.read (c.args.decoder.now.index + c.args.len)
-
-pub returns-in_ok-read-in-CNAME-clause-read : goal.returns-in_ok-read-in-CNAME-clause-read
-returns-in_ok-read-in-CNAME-clause-read c = c.in_ok-read-in-CNAME.ensures.read (c.args.decoder.now.index + c.args.len)
-
-pub returns-in_ok-read-in-NS-clause-read : goal.returns-in_ok-read-in-NS-clause-read
-returns-in_ok-read-in-NS-clause-read c = c.in_ok-read-in-NS.ensures.read (c.args.decoder.now.index + c.args.len)
-
-pub returns-in_ok-read-in-PTR-clause-read : goal.returns-in_ok-read-in-PTR-clause-read
-returns-in_ok-read-in-PTR-clause-read c = c.in_ok-read-in-PTR.ensures.read (c.args.decoder.now.index + c.args.len)
-
-pub returns-in_ok-read-in-MX-clause-read : goal.returns-in_ok-read-in-MX-clause-read
-returns-in_ok-read-in-MX-clause-read c = c.in_ok-read-in-MX.ensures.read (c.args.decoder.now.index + c.args.len)
-
-pub returns-in_ok-read-in-SOA-clause-read : goal.returns-in_ok-read-in-SOA-clause-read
-returns-in_ok-read-in-SOA-clause-read c = c.in_ok-read-in-SOA.ensures.read (c.args.decoder.now.index + c.args.len)
-
-pub returns-in_ok-read-in-SRV-clause-read : goal.returns-in_ok-read-in-SRV-clause-read
-returns-in_ok-read-in-SRV-clause-read c = c.in_ok-read-in-SRV.ensures.read (c.args.decoder.now.index + c.args.len)
-
 pub returns-in_err-rdata-in_default : goal.returns-in_err-rdata-in_default
 returns-in_err-rdata-in_default c =
     let p = err_from_is_err_and c.from_residual-in_err-rdata-in_default.result c.from_residual-in_err-rdata-in_default.ensures.1 in
