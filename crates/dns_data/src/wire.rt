@@ -1,9 +1,9 @@
 //! The fields of record data on the wire (RFC 1035 section 3.3).
 
-ghost use Rattle.std.specs.Prelude.{◌≡◌, ◌≢◌, ◌+◌, ◌≤◌, ℕ, length, flat_map, IsOk, IfOk, IfErr};
+ghost use Rattle.std.specs.Prelude.{◌≡◌, ◌≢◌, ◌+◌, ◌<◌, ◌≤◌, ℕ, List, length, flat_map, IfOk, IfErr};
 ghost use Rattle.std.specs.Net.Addr.{ipv6_octets};
 ghost use Rattle.dns_wire.specs.Encoder.{state_of, IsAtEnd};
-ghost use Rattle.dns_wire.specs.Encodable.{Emits, BytesAt, AreWritable};
+ghost use Rattle.dns_wire.specs.Encodable.{Piece, Emits, BytesAt};
 ghost use Rattle.dns_data.specs.Field.{Address4, Address6, string_pieces, option_pieces};
 ghost use Rattle.dns_data.specs.Wire.{StringAt, OptionAt, ItemsUpTo, RefusesItems, NoneAt, ValueAt, IsShort};
 
@@ -72,108 +72,101 @@ pub(crate) fn read_octets<const MAX: usize>(
     }
 }
 
-// ---- character strings
+// ---- items
 
-/// Reads a character string.
-fn read_string(alloc: Global, decoder: &mut BinDecoder<'_>) -> Result<CharacterString, DecodeError>
-    ensures read { IfOk result (λ string.
-        StringAt decoder.old.bytes decoder.old.index string decoder.new.index) }
-    ensures refused { IfErr result (λ error. error ≢ DecodeError.Memory
-        → (error ≡ DecodeError.InsufficientBytes)
-        × NoneAt (StringAt decoder.old.bytes) decoder.old.index) }
-    ensures bytes { decoder.new.bytes ≡ decoder.old.bytes }
-{
-    let len = decoder.read_u8()?;
-    read_octets(alloc, decoder, usize::from(len))
+/// An item of data whose items extend to its end.
+pub(crate) trait Item: Drop {
+    /// The bytes from a place up to an end decode to the item.
+    ghost ItemAt: { List ℕ → ℕ → Self → ℕ → Type 0 };
+
+    /// The pieces that are written for it.
+    ghost item_pieces: { Self → List Piece };
+
+    /// Reads an item.
+    fn read_item(alloc: Global, decoder: &mut BinDecoder<'_>) -> Result<Self, DecodeError>
+        ensures read { IfOk result (λ item.
+            ItemAt decoder.old.bytes decoder.old.index item decoder.new.index) }
+        ensures onward { IfOk result (λ _. decoder.old.index < decoder.new.index) }
+        ensures refused { IfErr result (λ error. error ≢ DecodeError.Memory
+            → (error ≡ DecodeError.InsufficientBytes)
+            × NoneAt (ItemAt decoder.old.bytes) decoder.old.index) }
+        ensures bytes { decoder.new.bytes ≡ decoder.old.bytes };
+
+    /// Writes the item.
+    fn emit_item(&self, encoder: &mut BinEncoder<'_>) -> Result<(), EncodeError>
+        requires { IsAtEnd (state_of encoder.old) }
+        ensures { Emits (state_of encoder.old) (item_pieces self.now) result
+            (state_of encoder.new) };
 }
 
-/// Reads character strings up to the end of data of `len` bytes. The last may extend past it.
-pub(crate) fn read_strings(
+/// Reads items up to the end of data of `len` bytes. The last may extend past it.
+pub(crate) fn read_items<T: Item>(
     alloc: Global,
     decoder: &mut BinDecoder<'_>,
     len: usize,
-) -> Result<Vec<CharacterString>, DecodeError>
-    ensures read { IfOk result (λ strings. ItemsUpTo (StringAt decoder.old.bytes)
-        (decoder.old.index + len) decoder.old.index strings.items decoder.new.index) }
+) -> Result<Vec<T>, DecodeError>
+    ensures read { IfOk result (λ items. ItemsUpTo (T.ItemAt decoder.old.bytes)
+        (decoder.old.index + len) decoder.old.index items.items decoder.new.index) }
     ensures refused { IfErr result (λ error. error ≢ DecodeError.Memory
         → (error ≡ DecodeError.InsufficientBytes)
-        × RefusesItems (StringAt decoder.old.bytes) (decoder.old.index + len) decoder.old.index) }
+        × RefusesItems (T.ItemAt decoder.old.bytes) (decoder.old.index + len) decoder.old.index) }
     ensures bytes { decoder.new.bytes ≡ decoder.old.bytes }
 {
     let start = decoder.index();
-    let mut strings = Vec::new(alloc);
+    let mut items = Vec::new(alloc);
     while decoder.index() - start < len {
-        let string = read_string(alloc, decoder)?;
-        strings.push(string)?;
+        let item = T::read_item(alloc, decoder)?;
+        items.push(item)?;
     }
-    Ok(strings)
+    Ok(items)
 }
 
-/// Writes character strings.
-pub(crate) fn emit_strings(
-    strings: &[CharacterString],
+/// Writes items.
+pub(crate) fn emit_items<T: Item>(
+    items: &[T],
     encoder: &mut BinEncoder<'_>,
 ) -> Result<(), EncodeError>
     requires { IsAtEnd (state_of encoder.old) }
-    ensures { Emits (state_of encoder.old) (flat_map string_pieces strings.now) result
+    ensures { Emits (state_of encoder.old) (flat_map T.item_pieces items.now) result
         (state_of encoder.new) }
 {
-    for string in strings {
-        encoder.emit_character_data_unrestricted(string.as_slice())?;
+    for item in items {
+        item.emit_item(encoder)?;
     }
     Ok(())
 }
 
-// ---- options
+impl Item for CharacterString {
+    ghost ItemAt = { StringAt };
 
-/// Reads an option.
-fn read_option(alloc: Global, decoder: &mut BinDecoder<'_>) -> Result<EdnsOption, DecodeError>
-    ensures read { IfOk result (λ option.
-        OptionAt decoder.old.bytes decoder.old.index option decoder.new.index) }
-    ensures refused { IfErr result (λ error. error ≢ DecodeError.Memory
-        → (error ≡ DecodeError.InsufficientBytes)
-        × NoneAt (OptionAt decoder.old.bytes) decoder.old.index) }
-    ensures bytes { decoder.new.bytes ≡ decoder.old.bytes }
-{
-    let code = decoder.read_u16()?;
-    let len = decoder.read_u16()?;
-    let octets = read_octets(alloc, decoder, usize::from(len))?;
-    Ok(EdnsOption::new(code, octets))
+    ghost item_pieces = { string_pieces };
+
+    fn read_item(
+        alloc: Global,
+        decoder: &mut BinDecoder<'_>,
+    ) -> Result<CharacterString, DecodeError> {
+        let len = decoder.read_u8()?;
+        read_octets(alloc, decoder, usize::from(len))
+    }
+
+    fn emit_item(&self, encoder: &mut BinEncoder<'_>) -> Result<(), EncodeError> {
+        encoder.emit_character_data_unrestricted(self.as_slice())
+    }
 }
 
-/// Reads options up to the end of data of `len` bytes. The last may extend past it.
-pub(crate) fn read_options(
-    alloc: Global,
-    decoder: &mut BinDecoder<'_>,
-    len: usize,
-) -> Result<Vec<EdnsOption>, DecodeError>
-    ensures read { IfOk result (λ options. ItemsUpTo (OptionAt decoder.old.bytes)
-        (decoder.old.index + len) decoder.old.index options.items decoder.new.index) }
-    ensures refused { IfErr result (λ error. error ≢ DecodeError.Memory
-        → (error ≡ DecodeError.InsufficientBytes)
-        × RefusesItems (OptionAt decoder.old.bytes) (decoder.old.index + len) decoder.old.index) }
-    ensures bytes { decoder.new.bytes ≡ decoder.old.bytes }
-{
-    let start = decoder.index();
-    let mut options = Vec::new(alloc);
-    while decoder.index() - start < len {
-        let option = read_option(alloc, decoder)?;
-        options.push(option)?;
-    }
-    Ok(options)
-}
+impl Item for EdnsOption {
+    ghost ItemAt = { OptionAt };
 
-/// Writes options.
-pub(crate) fn emit_options(
-    options: &[EdnsOption],
-    encoder: &mut BinEncoder<'_>,
-) -> Result<(), EncodeError>
-    requires { IsAtEnd (state_of encoder.old) }
-    ensures { Emits (state_of encoder.old) (flat_map option_pieces options.now) result
-        (state_of encoder.new) }
-{
-    for option in options {
-        option.emit(encoder)?;
+    ghost item_pieces = { option_pieces };
+
+    fn read_item(alloc: Global, decoder: &mut BinDecoder<'_>) -> Result<EdnsOption, DecodeError> {
+        let code = decoder.read_u16()?;
+        let len = decoder.read_u16()?;
+        let octets = read_octets(alloc, decoder, usize::from(len))?;
+        Ok(EdnsOption::new(code, octets))
     }
-    Ok(())
+
+    fn emit_item(&self, encoder: &mut BinEncoder<'_>) -> Result<(), EncodeError> {
+        self.emit(encoder)
+    }
 }

@@ -11,10 +11,12 @@ use Rattle.dns_messages.specs.declared.query.Query.{Query}
 use Rattle.dns_messages.specs.declared.message.Message.{Message}
 use Rattle.dns_messages.specs.declared.edns.Edns.{Edns}
 use Rattle.dns_messages.specs.declared.header.Metadata.{Metadata}
+use Rattle.dns_messages.specs.declared.message_type.MessageType.{MessageType}
 use Rattle.dns_messages.specs.declared.message_type.MessageType.TheVariants as kinds
 use Rattle.dns_messages.specs.declared.op_code.OpCode.TheVariants as ops
 use Rattle.dns_messages.specs.declared.response_code.ResponseCode.{ResponseCode}
-use Rattle.dns_messages.specs.Header.{has_bit, code_number, code_of}
+use Rattle.dns_messages.specs.Header.{code_number, code_of}
+use Rattle.dns_messages.proofs.HeaderLaws.{peeked}
 use Rattle.dns_messages.specs.Edns.{IsSoundEdns}
 use Rattle.dns_messages.specs.Encoding.{Encodes}
 use Rattle.dns_messages.specs.Cut.{cut, cut_form, front_reach, twelve_zeros, queries_pieces}
@@ -24,52 +26,39 @@ use Rattle.dns_records.specs.Record.{Record}
 use Rattle.dns_zone.specs.Rows.{ZoneContent}
 use Rattle.dns_zone.specs.Answer.{answer, IsSoundAnswer}
 use Rattle.dns_zone.specs.Section.{borrowed_answer}
-use Rattle.dns_zone.specs.Serving.{has_query_header, bare_reply, query_reply, reply_metadata, reply_edns, reply_to_queries, reply_by_code, reply, reply_limit, IsReplyTo}
+use Rattle.dns_zone.specs.Serving.{is_query, has_query_header, bare_reply, query_reply, reply_metadata, reply_edns, reply_to_queries, reply_by_code, reply, reply_limit, IsReplyTo}
 use Rattle.dns_zone.specs.declared.zone.answer.AnswerRef.{AnswerRef}
 use Rattle.dns_zone.specs.declared.road.Road.{Road}
 
 -- ---- the header
 
--- the kind of a message depends on QR alone
-kind_of_read : (bytes : List ℕ) (m : Message) → ReadsMessage bytes m
-    → m.metadata.message_type ≡ cond (has_bit 128 (get_or bytes 2 0)) kinds.Response kinds.Query
-kind_of_read bytes m r =
-    let third : r.header.third ≡ get_or bytes 2 0 =
-    sym (sym (get_or-take 12 bytes 2 0 (lit< tt)) ∙ ap (λ (xs : List ℕ). get_or xs 2 0) r.header.there.there) in
-    ap (λ (h : Metadata). h.message_type) r.metadata
-    ∙ (same m.edns r.head.metadata
-    ∙ (ap (λ (h : Metadata). h.message_type) r.header.metadata
-    ∙ ap (λ (b : ℕ). cond (has_bit 128 b) kinds.Response kinds.Query) third))
+-- the header decides whether a message is a query
+header_of_read : (bytes : List ℕ) (m : Message) → ReadsMessage bytes m → has_query_header bytes ≡ is_query (Some m.metadata)
+header_of_read bytes m r =
+    ap is_query (peeked bytes r.head r.header)
+    ∙ (same m.edns r.head.metadata ∙ ap (λ (h : Metadata). is_query (Some h)) (sym r.metadata))
   where
-    same : (e : Option Edns) (h : Metadata) → (extended e h).message_type ≡ h.message_type
+    same : (e : Option Edns) (h : Metadata) → is_query (Some h) ≡ is_query (Some (extended e h))
     same None h = refl
     same (Some e) h = refl
-
-header_of_read : (bytes : List ℕ) (m : Message) → ReadsMessage bytes m
-    → has_query_header bytes ≡ not (has_bit 128 (get_or bytes 2 0))
-header_of_read bytes m r =
-    let long : 12 ≤ length bytes = omega (arith, r.header.there.ends, r.header.there.within) in
-    λ i. le-leb 12 (length bytes) long i && not (has_bit 128 (get_or bytes 2 0))
 
 -- without the header of a query, a message is a response
 pub no_query : (bytes : List ℕ) → has_query_header bytes ≡ false → (m : Message) → ReadsMessage bytes m
     → m.metadata.message_type ≡ kinds.Response
-no_query bytes e m r =
-    kind_of_read bytes m r ∙ by (has_bit 128 (get_or bytes 2 0)) (sym (header_of_read bytes m r) ∙ e)
+no_query bytes e m r = by m.metadata.message_type (sym (header_of_read bytes m r) ∙ e)
   where
-    by : (b : Bool) → not b ≡ false → cond b kinds.Response kinds.Query ≡ kinds.Response
-    by true h = refl
-    by false h = absurd (true≢false h)
+    by : (kind : MessageType) → elim kind [ kinds.Query ↦ true | kinds.Response ↦ false ] ≡ false → kind ≡ kinds.Response
+    by kinds.Query h = absurd (true≢false h)
+    by kinds.Response h = refl
 
 -- with it, a message is a query
 pub a_query : (bytes : List ℕ) → has_query_header bytes ≡ true → (m : Message) → ReadsMessage bytes m
     → m.metadata.message_type ≡ kinds.Query
-a_query bytes e m r =
-    kind_of_read bytes m r ∙ by (has_bit 128 (get_or bytes 2 0)) (sym (header_of_read bytes m r) ∙ e)
+a_query bytes e m r = by m.metadata.message_type (sym (header_of_read bytes m r) ∙ e)
   where
-    by : (b : Bool) → not b ≡ true → cond b kinds.Response kinds.Query ≡ kinds.Query
-    by true h = absurd (true≢false (sym h))
-    by false h = refl
+    by : (kind : MessageType) → elim kind [ kinds.Query ↦ true | kinds.Response ↦ false ] ≡ true → kind ≡ kinds.Query
+    by kinds.Query h = refl
+    by kinds.Response h = absurd (true≢false (sym h))
 
 -- ---- header and question of a reply fit every datagram
 

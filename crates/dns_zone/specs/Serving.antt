@@ -1,5 +1,5 @@
 -- The replies of a zone's server (RFC 1035 sections 4.1 and 4.2, RFC 6891 sections 6 and 7).
-use Rattle.std.specs.Prelude.{◌≡◌, ◌≤◌, ◌&&◌, not, nat_le, length, slice_index, min, true, false, Bool, List, [], ◌∷◌, ℕ, Option, Some, None}
+use Rattle.std.specs.Prelude.{◌≡◌, ◌≤◌, length, min, true, false, Bool, List, [], ◌∷◌, ℕ, Option, Some, None}
 use Rattle.dns_messages.specs.declared.message_type.MessageType.TheVariants as kinds
 use Rattle.dns_messages.specs.declared.op_code.OpCode.{OpCode}
 use Rattle.dns_messages.specs.declared.op_code.OpCode.TheVariants as ops
@@ -16,15 +16,18 @@ use Rattle.dns_zone.specs.declared.zone.answer.Answer.{Answer}
 use Rattle.dns_zone.specs.declared.zone.reply.ReplyRef.{ReplyRef}
 use Rattle.dns_zone.specs.Answer.{answer}
 use Rattle.dns_zone.specs.Section.{borrowed_answer}
-use Rattle.dns_messages.specs.Header.{has_bit}
+use Rattle.dns_messages.specs.Header.{peeked_metadata}
 use Rattle.dns_messages.specs.Message.{payload_of}
 use Rattle.dns_messages.specs.Cut.{cut, cut_form}
 use Rattle.dns_messages.specs.Grammar.{ReadsMessage}
 
--- Whether bytes begin with the header of a query: twelve bytes, with QR clear. There is no reply to any others, and this is
--- decided before memory is taken.
+abbrev pub is_query : Option Metadata → Bool
+is_query (Some m) = elim m.message_type [ kinds.Query ↦ true | kinds.Response ↦ false ]
+is_query None = false
+
+-- Whether bytes begin with the header of a query. There is no reply to any others, and this is decided before memory is taken.
 abbrev pub has_query_header : List ℕ → Bool
-has_query_header bytes = nat_le 12 (length bytes) && not (has_bit 128 (slice_index bytes 2))
+has_query_header bytes = is_query (peeked_metadata bytes)
 
 -- AA is set if the zone decides whether the records exist
 abbrev pub has_authority : ResponseCode → Bool

@@ -13,7 +13,7 @@ use dns_wire::RecordType;
 fn is_at(set: &RecordSet, name: &Name, record_type: RecordType) -> bool
     ensures { result ≡ eq_by_cmp key_cmp (key name.now.labels record_type) (set_key set.now) }
 {
-    name.eq_ignore_root(set.name()) && u16::from(record_type) == u16::from(set.record_type())
+    name.eq_ignore_root(set.name()) && record_type.is_same(set.record_type())
 }
 
 /// Returns the index of the set of an owner and a type, or the number of sets if there is none.

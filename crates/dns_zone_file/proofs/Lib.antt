@@ -1,3 +1,4 @@
+pub mod AsciiLaws
 pub mod ContextLaws
 pub mod DistinctLaws
 pub mod EntryLaws

@@ -1,5 +1,7 @@
 -- The entries of a zone file (RFC 1035 section 5.1).
-use Rattle.std.specs.Prelude.{◌≢◌, ℕ, List, [], ◌∷◌, codes, Option, Some, None, Result, Ok, Err}
+use Rattle.std.specs.Prelude.{◌≢◌, ℕ, if◌then◌else◌, List, [], ◌∷◌, codes, Option, Some, None, Result, Ok, Err}
+use Rattle.std.specs.Char.{is_ascii}
+use Rattle.std.specs.List.{list_all}
 use Rattle.dns_names.specs.Name.{DomainName}
 use Rattle.dns_text.specs.Lexer.{Lexeme, Blank, CharData, QuotedString, At, Include, Origin, Ttl, EOL, LexerState, NextToken}
 use Rattle.dns_text.specs.Ttl.{time}
@@ -54,10 +56,14 @@ abbrev pub ttl_of : List Lexeme → Result ℕ EntryFault
 ttl_of (CharData text ∷ []) = or_invalid (time text)
 ttl_of other = Err InvalidDirective
 
--- the name of a text, as it is written
+-- the text, if it has no octet above 127
+abbrev pub ascii_text : List ℕ → Option (List ℕ)
+ascii_text text = if list_all is_ascii text then Some text else None
+
+-- the name of a text, as it is written, quoted or not; it is ASCII
 abbrev pub text_name : Lexeme → Option (List ℕ)
-text_name (CharData text) = Some text
-text_name (QuotedString text) = Some text
+text_name (CharData text) = ascii_text text
+text_name (QuotedString text) = ascii_text text
 text_name At = Some (codes "@")
 text_name other = None
 

@@ -3,7 +3,7 @@
 ghost use Rattle.std.specs.Prelude.{◌≡◌, ◌≢◌, ◌<◌, map, length, IfOk, IfErr, IfSome, Ok, Err, None, option_map};
 ghost use Rattle.dns_text.specs.Lexer.{NextToken};
 ghost use Rattle.dns_text.specs.Token.{lexeme};
-ghost use Rattle.dns_zone_file.specs.Entry.{LexesEntry, entry_of, origin_of, ttl_of, text_name, inclusion_of};
+ghost use Rattle.dns_zone_file.specs.Entry.{LexesEntry, entry_of, origin_of, ttl_of, ascii_text, text_name, inclusion_of};
 ghost use Rattle.dns_zone_file.specs.internal.Entry.{entry_view, inclusion_view, IsTextFault};
 ghost use Rattle.dns_zone_file.specs.internal.Error.{IsFault};
 
@@ -102,12 +102,19 @@ pub(crate) fn parse_default_ttl(arguments: &[Token<'_>]) -> Result<u32, EntryFau
     }
 }
 
-/// Returns the name of a text to include, as it is written.
+/// Returns the text, if it is ASCII.
+fn ascii_text(text: &[u8]) -> Option<&[u8]>
+    ensures { option_map (λ t. t.now) result ≡ ascii_text text.now }
+{
+    if text.is_ascii() { Some(text) } else { None }
+}
+
+/// Returns the name of a text to include, as it is written, if it is ASCII.
 fn text_name<'a>(token: Token<'a>) -> Option<&'a [u8]>
     ensures { option_map (λ name. name.now) result ≡ text_name (lexeme token.entry) }
 {
     match token {
-        Token::CharData(text) | Token::Quoted(text) => Some(text),
+        Token::CharData(text) | Token::Quoted(text) => ascii_text(text),
         Token::At => Some(b"@".as_slice()),
         _ => None,
     }

@@ -81,7 +81,7 @@ impl RecordSets {
     {
         for set in self.sets.as_slice() {
             if is_set_of(set, &resource_record.name, resource_record.record_type())
-                && u16::from(set.dns_class()) != u16::from(resource_record.dns_class)
+                && !set.dns_class().is_same(resource_record.dns_class)
             {
                 return true;
             }
@@ -117,7 +117,7 @@ impl RecordSets {
 fn is_set_of(set: &RecordSet, owner: &Name, record_type: RecordType) -> bool
     ensures { result ≡ is_set_of owner.now record_type set.now }
 {
-    owner == set.name() && u16::from(record_type) == u16::from(set.record_type())
+    owner == set.name() && record_type.is_same(set.record_type())
 }
 
 /// Returns the index of the set of an owner and a type, or the number of sets if there is none.

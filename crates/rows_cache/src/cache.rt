@@ -8,11 +8,11 @@ use crate::settings::cache_of;
 use dns_messages::{DnsResponse, Message};
 use rows::{Answer, RowFault, split, text, two_words, word_and_rest};
 use rows_text::{
-    error_text, message_of, moment_of, outcome_of, push_sections, question_of, response_of, type_of,
+    message_of, moment_of, outcome_of, push_sections, question_of, response_of, type_of,
 };
 use std::alloc::Global;
 use stub_cache::ResponseCache;
-use stub_lookup::{DnsError, Moment, NetError};
+use stub_lookup::{DnsError, Moment, NetError, NoRecords};
 
 /// `cache SETTINGS || STEP || ..`: the steps of a cache. A step is `insert MOMENT QUESTION = REPLY`, `insert-message MOMENT QUESTION =
 /// RESPONSE`, `insert-answer MOMENT QUESTION = NEGATIVE`, `get MOMENT QUESTION`, which prints what is stored, `clear`, `clear QUESTION`,
@@ -124,18 +124,17 @@ fn get_at(alloc: Global, cache: &ResponseCache, question: &str, now: Moment) -> 
 }
 
 /// What is stored: a message, or a negative answer.
-fn stored_text(alloc: Global, stored: Result<Message, NetError>) -> Answer {
-    let text = message_or_error(alloc, &stored);
+fn stored_text(alloc: Global, stored: Result<Message, NoRecords>) -> Answer {
+    let text = message_or_answer(alloc, &stored);
     drop(stored);
     text
 }
 
-/// A message, a negative answer, or another error.
-fn message_or_error(alloc: Global, stored: &Result<Message, NetError>) -> Answer {
+/// A message, or a negative answer.
+fn message_or_answer(alloc: Global, stored: &Result<Message, NoRecords>) -> Answer {
     match stored {
         Ok(message) => message_text(alloc, message),
-        Err(NetError::Dns(DnsError::NoRecordsFound(answer))) => negative_text(alloc, answer),
-        Err(error) => error_text(alloc, error),
+        Err(answer) => negative_text(alloc, answer),
     }
 }
 

@@ -39,7 +39,7 @@ pub(crate) fn hosts_fault(alloc: Global, name: &str) -> Answer {
 fn looked_up(alloc: Global, questions: &str, bytes: &[u8]) -> Answer {
     let mut text = String::new(alloc);
     let mut hosts = Hosts::default(alloc);
-    if let Err(fault) = hosts.read_hosts_conf(alloc, bytes, NOW) {
+    if let Err(fault) = hosts.read_hosts_conf(bytes, NOW) {
         write!(text, "{fault:?} / ")?;
     }
     push_found(alloc, &mut text, &hosts, questions)?;
@@ -49,7 +49,7 @@ fn looked_up(alloc: Global, questions: &str, bytes: &[u8]) -> Answer {
 /// The hosts of a file's text; `-` has none.
 pub(crate) fn hosts_of(alloc: Global, text: &str) -> Result<Hosts, RowFault> {
     let mut hosts = Hosts::default(alloc);
-    match hosts.read_hosts_conf(alloc, text.as_bytes(), NOW) {
+    match hosts.read_hosts_conf(text.as_bytes(), NOW) {
         Ok(()) => Ok(hosts),
         Err(HostsFault::Utf8) => Err(RowFault::Lacks("hosts")),
         // The hosts had no memory.
@@ -76,7 +76,7 @@ fn push_found(
 /// What hosts have for a question.
 fn found(alloc: Global, hosts: &Hosts, question: &str) -> Answer {
     let query = question_of(alloc, question)?;
-    match hosts.lookup_static_host(alloc, &query, NOW)? {
+    match hosts.lookup_static_host(&query, NOW)? {
         Some(lookup) => lookup_text(alloc, &lookup),
         None => text(alloc, "none"),
     }
@@ -99,12 +99,11 @@ fn insert(alloc: Global, hosts: &mut Hosts, insertion: &str) -> Result<(), RowFa
     let (key, lookup) = split(insertion, " = ", "a name and a lookup")?;
     let (name, kind) = two_words(key)?;
     let lookup = lookup_of(alloc, lookup)?;
-    insert_at(alloc, hosts, name_of(alloc, name)?, type_of(kind)?, lookup)
+    insert_at(hosts, name_of(alloc, name)?, type_of(kind)?, lookup)
 }
 
 /// Inserts a lookup for a name and a type.
 fn insert_at(
-    alloc: Global,
     hosts: &mut Hosts,
     name: Name,
     kind: RecordType,
@@ -112,7 +111,7 @@ fn insert_at(
 ) -> Result<(), RowFault> {
     match kind {
         RecordType::A | RecordType::Unknown(1) | RecordType::AAAA | RecordType::Unknown(28) => {
-            Ok(hosts.insert(alloc, name, kind, lookup, NOW)?)
+            Ok(hosts.insert(name, kind, lookup, NOW)?)
         }
         _ => Err(RowFault::Lacks("a type of addresses")),
     }

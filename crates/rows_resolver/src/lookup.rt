@@ -56,7 +56,7 @@ pub(crate) fn append(alloc: Global, input: &str) -> Answer {
 /// The records of a lookup and of another.
 fn appended(alloc: Global, first: &Lookup, second: &str) -> Answer {
     let second = lookup_of(alloc, second)?;
-    lookup_text(alloc, &first.append(alloc, second)?)
+    lookup_text(alloc, &first.append(second)?)
 }
 
 /// `copy LOOKUP`: its copy.
@@ -66,7 +66,7 @@ pub(crate) fn copy(alloc: Global, input: &str) -> Answer {
 
 /// The copy of a lookup.
 fn copied(alloc: Global, lookup: &Lookup) -> Answer {
-    lookup_text(alloc, &lookup.clone(alloc)?)
+    lookup_text(alloc, &lookup.clone()?)
 }
 
 /// `extend RECORDS || RECORDS || LOOKUP`: a lookup with more authorities and additionals.

@@ -54,7 +54,7 @@ fn found_with_hosts(
     let names = names_of(alloc, names)?;
     let options = DnsRequestOptions::default();
     let mut client = new_client(alloc, exchange);
-    let reply = lookup_names_with_hosts(alloc, names, kind, options, &mut client, hosts, NOW);
+    let reply = lookup_names_with_hosts(names, kind, options, &mut client, hosts, NOW);
     reply_text(alloc, reply)
 }
 
@@ -67,6 +67,6 @@ fn found_without_hosts(
 ) -> Answer {
     let options = DnsRequestOptions::default();
     let mut client = new_client(alloc, exchange);
-    let reply = lookup_names(alloc, names, kind, options, &mut client, NOW);
+    let reply = lookup_names(names, kind, options, &mut client, NOW);
     reply_text(alloc, reply)
 }

@@ -2,8 +2,8 @@
 
 use dns_messages::Query;
 use dns_zone::{Answer as ZoneAnswer, Zone};
-use rows_text::{push_section, question_of};
 use rows::{Answer, named, split};
+use rows_text::{push_section, question_of};
 use std::alloc::Global;
 
 /// `answer QUESTION || TEXT`: the answer of the zone that the text spells.

@@ -3,8 +3,8 @@
 use crate::includes::split_includes;
 use dns_names::Name;
 use dns_zone_file::{Parser, ZoneRecords};
-use rows_text::push_record;
 use rows::{Answer, RowFault, named, parsed, split};
+use rows_text::push_record;
 use std::alloc::{AllocError, Global};
 
 /// `zone-file TEXT`: what a zone file contains, or why it cannot be parsed.

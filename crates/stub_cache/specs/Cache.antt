@@ -15,10 +15,11 @@ use Rattle.stub_cache.specs.declared.cache.entry.Entry.{Entry}
 
 -- ---- entries
 
--- what is kept for a question: a response, or a negative answer
+-- what is stored for a question: a response, or a negative answer
 abbrev pub Kept : Type 0
 Kept = Result Message NoRecords
 
+-- the entries of a cache, the newest last, with its capacity and its bounds of TTLs
 pub record CacheContent : Type 0 where
   pub entries : List Entry
   -- how many entries there may be
@@ -31,6 +32,7 @@ same_key p q =
     same_name p.name q.name
     && ((type_number p.query_type == type_number q.query_type) && (class_number p.query_class == class_number q.query_class))
 
+-- whether an entry is for a question
 abbrev pub is_about : Query → Entry → Bool
 is_about q e = same_key e.question q
 
@@ -51,19 +53,22 @@ entry_of config q (Err answer) now = record {
 
 -- ---- what is found
 
+-- whether an entry is for a question and not past its deadline at a moment
 abbrev pub is_current : Query → ℕ → Entry → Bool
 is_current q now e = is_about q e && nat_le now e.deadline
 
+-- a response or a negative answer with its TTLs reduced by some seconds
 abbrev pub aged : ℕ → Kept → Kept
 aged seconds (Ok m) = Ok (aged_message seconds m)
 aged seconds (Err answer) = Err (aged_answer seconds answer)
 
--- what is kept for a question, with TTLs reduced by the seconds since it was stored
+-- what is stored for a question, with TTLs reduced by the seconds since it was stored
 abbrev pub current : List Entry → Query → ℕ → Option Kept
 current entries q now = option_map (λ e. aged (now - e.moment) e.kept) (find (is_current q now) entries)
 
 -- ---- what is stored
 
+-- whether no other entry has an earlier deadline
 abbrev pub is_first_due : Entry → List Entry → Bool
 is_first_due e [] = true
 is_first_due e (other ∷ others) = nat_le e.deadline other.deadline && is_first_due e others
@@ -88,23 +93,19 @@ staying capacity q entries =
 abbrev pub inserted : ℕ → List Entry → Entry → List Entry
 inserted capacity entries e = if capacity == 0 then entries else staying capacity e.question entries ++ e ∷ []
 
--- a cache with what is kept for a question at a moment
+-- a cache that stores a response or a negative answer at a moment
 abbrev pub storing : CacheContent → Query → Kept → ℕ → CacheContent
 storing cache q kept now = record cache {
   entries = inserted cache.capacity cache.entries (entry_of cache.config q kept now);
 }
 
--- of what was asked, a response or a negative answer is kept, and no other error
+-- of the replies to a question, responses and negative answers are stored, and no other error
 abbrev pub kept_of_result : Result Message NetError → Option Kept
 kept_of_result (Ok m) = Some (Ok m)
 kept_of_result (Err (Dns (dns.NoRecordsFound answer))) = Some (Err answer)
 kept_of_result (Err error) = None
 
+-- a cache that stores a response or a negative answer, if there is one
 abbrev pub storing_any : CacheContent → Query → Option Kept → ℕ → CacheContent
 storing_any cache q None now = cache
 storing_any cache q (Some kept) now = storing cache q kept now
-
--- what is kept, as it is returned
-abbrev pub result_of_kept : Kept → Result Message NetError
-result_of_kept (Ok m) = Ok m
-result_of_kept (Err answer) = Err (Dns (dns.NoRecordsFound answer))

@@ -1,4 +1,4 @@
--- Hosts: lookups that are kept for names, addresses of IPv4 apart from those of IPv6, and what is answered from them.
+-- Hosts: the lookups of names, those of IPv4 addresses apart from those of IPv6, and what they answer to questions.
 use Rattle.std.specs.Prelude.{ℕ, ◌+◌, ◌==◌, Bool, true, false, List, [], ◌∷◌, map, length, if◌then◌else◌, Option, Some, None, option_map, option_and_then}
 use Rattle.std.specs.List.{filter, find, list_any}
 use Rattle.std.specs.Str.{bytes_eq}
@@ -42,6 +42,7 @@ question name record_type = record { name = name; query_type = record_type; quer
 abbrev pub fresh : DomainName → RecordType → ℕ → LookupContent
 fresh name record_type now = lookup_of (question name record_type) [] (now + max_ttl)
 
+-- the entry of a name
 abbrev pub entry : DomainName → LookupContent → HostEntry
 entry name lookup = record { name = name; lookup = lookup }
 
@@ -66,10 +67,12 @@ with_lookup hosts name other lookup now = record hosts { a = with_lookup_of type
 
 -- ---- hosts of a file
 
+-- the type of the records that have an address (RFC 1035 section 3.4.1, RFC 3596 section 2.1)
 abbrev pub address_type : IpAddr → RecordType
 address_type (V4 a) = types.A
 address_type (V6 a) = types.AAAA
 
+-- the data of a record that has an address
 abbrev pub address_data : IpAddr → RData
 address_data (V4 a) = of.A (record { 0 = a })
 address_data (V6 a) = of.AAAA (record { 0 = a })
@@ -80,6 +83,7 @@ host_lookup now h =
     let asked = question h.name (address_type h.address) in
     lookup_of asked (record_for asked (address_data h.address) ∷ []) (now + max_ttl)
 
+-- the hosts with one of a file
 abbrev pub with_host : ℕ → HostsContent → Host → HostsContent
 with_host now hosts h = with_lookup hosts h.name (address_type h.address) (host_lookup now h) now
 
@@ -98,15 +102,18 @@ lookup_at name entries = option_map (λ (e : HostEntry). e.lookup) (find (λ e. 
 abbrev pub answered : LookupContent → Option LookupContent
 answered lookup = if length lookup.message.answers == 0 then None else Some lookup
 
+-- whether addresses are of one family and have the same octets or segments
 abbrev pub same_address : IpAddr → IpAddr → Bool
 same_address (V4 x) (V4 y) = bytes_eq (ipv4_octets x) (ipv4_octets y)
 same_address (V6 x) (V6 y) = bytes_eq (ipv6_segments x) (ipv6_segments y)
 same_address x y = false
 
+-- whether data has the address, if it has one
 abbrev pub is_address : IpAddr → Option IpAddr → Bool
 is_address address None = false
 is_address address (Some other) = same_address other address
 
+-- whether a record has the address
 abbrev pub is_address_of : IpAddr → Record → Bool
 is_address_of address r = is_address address (data_addr r.rdata)
 
@@ -114,10 +121,12 @@ is_address_of address r = is_address address (data_addr r.rdata)
 abbrev pub has_address : IpAddr → HostEntry → Bool
 has_address address e = list_any (is_address_of address) e.lookup.message.answers
 
+-- the entries of the family of an address
 abbrev pub entries_of : IpAddr → HostsContent → List HostEntry
 entries_of (V4 a) hosts = hosts.a
 entries_of (V6 a) hosts = hosts.aaaa
 
+-- a PTR record from an owner to the name of an entry, with a TTL of a day (RFC 1035 section 3.3.12)
 abbrev pub pointer : DomainName → HostEntry → Record
 pointer owner e = record { name = owner; dns_class = IN; ttl = max_ttl; rdata = of.PTR (record { 0 = e.name }) }
 
@@ -125,12 +134,13 @@ pointer owner e = record { name = owner; dns_class = IN; ttl = max_ttl; rdata = 
 abbrev pub pointers : DomainName → IpAddr → List HostEntry → List Record
 pointers owner address entries = map (pointer owner) (filter (has_address address) entries)
 
--- what a reverse name points to; its prefix stands for the address alone
+-- what a reverse name points to: the names of the address in its prefix
 abbrev pub pointer_lookup : Option AddrPrefix → HostsContent → Query → ℕ → Option LookupContent
 pointer_lookup None hosts query now = None
 pointer_lookup (Some prefix) hosts query now =
     answered (lookup_of query (pointers (qualified query.name) (addr_of prefix) (entries_of (addr_of prefix) hosts)) (now + max_ttl))
 
+-- what hosts answer to a question, by its type
 abbrev pub lookup_of_type : RecordType → HostsContent → Query → ℕ → Option LookupContent
 lookup_of_type types.A hosts query now = option_and_then answered (lookup_at query.name hosts.a)
 lookup_of_type types.AAAA hosts query now = option_and_then answered (lookup_at query.name hosts.aaaa)

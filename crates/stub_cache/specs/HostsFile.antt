@@ -29,6 +29,7 @@ lines_of bytes = slice_split (λ b. b == 10) (without_mark bytes)
 abbrev pub without_comment : List ℕ → List ℕ
 without_comment line = before_first (λ b. b == 35) line
 
+-- whether there is a character
 abbrev pub is_word : List ℕ → Bool
 is_word [] = false
 is_word (c ∷ cs) = true
@@ -57,6 +58,7 @@ abbrev pub hosts_of : Option IpAddr → List (List ℕ) → List Host
 hosts_of None names = []
 hosts_of (Some address) names = hosts_at address names
 
+-- the hosts of the words of a line: the first word spells an address, or there are none
 abbrev pub AreHostsOfWords : List (List ℕ) → List Host → Type 0
 AreHostsOfWords [] hosts = hosts ≡ []
 AreHostsOfWords (word ∷ names) hosts = (address : Option IpAddr) × IsTextOf word address × (hosts ≡ hosts_of address names)

@@ -1,4 +1,4 @@
--- Bounds of TTLs, and how long answers are kept (RFC 2181 sections 5.2 and 8, RFC 2308 section 5).
+-- Bounds of TTLs, and how long answers are stored (RFC 2181 sections 5.2 and 8, RFC 2308 section 5).
 use Rattle.std.specs.Prelude.{ℕ, Bool, false, ◌==◌, ◌||◌, ◌-◌, ◌++◌, nat_lt, min, max, List, [], ◌∷◌, map, Option, Some, None, option_map, Result, Ok, Err, if◌then◌else◌}
 use Rattle.std.specs.BTreeMap.{insert_entry, is_at}
 use Rattle.std.specs.List.{filter}
@@ -33,12 +33,15 @@ pub record TtlRange : Type 0 where
 abbrev pub range_of : Option ℕ → Option ℕ → TtlRange
 range_of minimum maximum = record { least = unwrap_or minimum 0; greatest = unwrap_or maximum max_ttl }
 
+-- the range of the TTLs of records
 abbrev pub positive_range : TtlBounds → TtlRange
 positive_range bounds = range_of bounds.positive_min bounds.positive_max
 
+-- the range of the times for which negative answers are stored
 abbrev pub negative_range : TtlBounds → TtlRange
 negative_range bounds = range_of bounds.negative_min bounds.negative_max
 
+-- whether the minimum is above the maximum
 abbrev pub is_reversed : TtlRange → Bool
 is_reversed range = nat_lt range.greatest range.least
 
@@ -46,6 +49,7 @@ is_reversed range = nat_lt range.greatest range.least
 abbrev pub are_reversed : TtlBounds → Bool
 are_reversed bounds = is_reversed (positive_range bounds) || is_reversed (negative_range bounds)
 
+-- the bounds, or the error that a minimum is above its maximum
 abbrev pub checked_bounds : TtlBounds → Result TtlBounds TtlBoundsError
 checked_bounds bounds = if are_reversed bounds then Err MinimumAboveMaximum else Ok bounds
 
@@ -85,6 +89,7 @@ bounds_of_options options = record {
   negative_max = options.negative_max_ttl;
 }
 
+-- the configuration that the options of a resolver set, or the error that a minimum is above its maximum
 abbrev pub checked_config : ResolverOpts → Result TtlConfigContent TtlBoundsError
 checked_config options = result_map_both plain_config (λ error. error) (checked_bounds (bounds_of_options options))
 
@@ -108,6 +113,7 @@ map_records f m = record m {
 abbrev pub clamped_record : TtlConfigContent → Record → Record
 clamped_record config r = record r { ttl = clamp (positive_range (bounds_of config (data_type r.rdata))) r.ttl }
 
+-- a message with the TTL of each record within the positive bounds of its type
 abbrev pub clamped : TtlConfigContent → Message → Message
 clamped config m = map_records (clamped_record config) m
 
@@ -118,11 +124,12 @@ abbrev pub lesser : ℕ → Option ℕ → ℕ
 lesser ttl None = ttl
 lesser ttl (Some other) = min ttl other
 
+-- the least TTL of some records
 abbrev pub least_ttl : List Record → Option ℕ
 least_ttl [] = None
 least_ttl (r ∷ rs) = Some (lesser r.ttl (least_ttl rs))
 
--- Which records decide how long a response is kept: the answers of the type that was asked for, and the aliases that lead to
+-- Which records decide how long a response is stored: the answers of the type that was asked for, and the aliases that lead to
 -- them; for NS, the NS records of the answer and authority sections (RFC 1034 section 4.2.1).
 abbrev pub deciding_records : RecordType → Message → List Record
 deciding_records kind m =
@@ -133,23 +140,26 @@ deciding_records kind m =
 abbrev pub lifetime_within : TtlRange → Option ℕ → ℕ
 lifetime_within range ttl = unwrap_or (option_map (clamp range) ttl) range.least
 
--- How long a response is kept, in seconds. The TTLs of its records are within their bounds already.
+-- How long a response is stored, in seconds. The TTLs of its records are within their bounds already.
 abbrev pub positive_lifetime : TtlConfigContent → RecordType → Message → ℕ
 positive_lifetime config kind m =
     lifetime_within (positive_range (bounds_of config kind)) (least_ttl (deciding_records kind m))
 
--- how long a negative answer is kept, in seconds (RFC 2308 section 5)
+-- how long a negative answer is stored, in seconds (RFC 2308 section 5)
 abbrev pub negative_lifetime : TtlConfigContent → RecordType → NoRecords → ℕ
 negative_lifetime config kind answer = lifetime_within (negative_range (bounds_of config kind)) answer.negative_ttl
 
 -- ---- ageing: TTLs are reduced by the seconds that have passed, to 0 at the least (RFC 1034 section 5.3.3)
 
+-- a name server with the TTLs that are left
 abbrev pub aged_referral : ℕ → ForwardNSData → ForwardNSData
 aged_referral seconds r = record { ns = after_seconds seconds r.ns; glue = map (after_seconds seconds) r.glue }
 
+-- a message with the TTLs that are left
 abbrev pub aged_message : ℕ → Message → Message
 aged_message seconds m = map_records (after_seconds seconds) m
 
+-- a negative answer with the TTLs that are left: its own, and those of all its records
 abbrev pub aged_answer : ℕ → NoRecords → NoRecords
 aged_answer seconds answer = record answer {
   soa = option_map (after_seconds seconds) answer.soa;

@@ -1,6 +1,6 @@
 //! The cache of responses.
 
-ghost use Rattle.std.specs.Prelude.{◌≡◌, ◌≤◌, ◌^◌, [], IfOk, OnOk, OnErr, option_copied, option_map};
+ghost use Rattle.std.specs.Prelude.{◌≡◌, ◌≤◌, ◌^◌, [], IfOk, OnOk, OnErr, option_copied};
 ghost use Rattle.std.specs.List.{find};
 
 mod ageing;
@@ -26,7 +26,6 @@ pub struct ResponseCache {
     entries: Vec<Entry>,
     capacity: u64,
     config: TtlConfig,
-    alloc: Global,
 }
 
 impl Model for ResponseCache {
@@ -38,7 +37,7 @@ impl Model for ResponseCache {
 }
 
 impl ResponseCache {
-    ghost use Rattle.stub_cache.specs.Cache.{cleared_of, current, inserted, kept_of_result, result_of_kept, storing_any};
+    ghost use Rattle.stub_cache.specs.Cache.{cleared_of, current, inserted, kept_of_result, storing_any};
     ghost use Rattle.stub_cache.specs.Ttl.{clamped, positive_lifetime};
 
     /// Creates an empty cache with a capacity: the maximum number of its entries.
@@ -49,7 +48,6 @@ impl ResponseCache {
             entries: Vec::new(alloc),
             capacity,
             config: ttl_config,
-            alloc,
         }
     }
 
@@ -130,18 +128,15 @@ impl ResponseCache {
 
     /// Returns a copy of what is stored for a question, if it is current at a moment. Its TTLs are reduced by the seconds
     /// since it was stored, to 0 at the least.
-    ///
-    /// A negative answer is [`DnsError::NoRecordsFound`](stub_lookup::DnsError::NoRecordsFound).
     pub fn get(
         &self,
         query: &Query,
         now: Moment,
-    ) -> Result<Option<Result<Message, NetError>>, AllocError>
-        ensures { IfOk result (λ found.
-            found ≡ option_map result_of_kept (current self.now.entries query.now now)) }
+    ) -> Result<Option<Result<Message, NoRecords>>, AllocError>
+        ensures { IfOk result (λ found. found ≡ current self.now.entries query.now now) }
     {
         match find_current(self.entries.as_slice(), query, now) {
-            Some(entry) => Ok(Some(entry.reply_at(self.alloc, now)?)),
+            Some(entry) => Ok(Some(entry.reply_at(now)?)),
             None => Ok(None),
         }
     }

@@ -22,6 +22,7 @@ use table::HostTable;
 pub struct Hosts {
     a: HostTable,
     aaaa: HostTable,
+    alloc: Global,
 }
 
 impl Model for Hosts {
@@ -43,6 +44,7 @@ impl Hosts {
         Hosts {
             a: HostTable::new(alloc),
             aaaa: HostTable::new(alloc),
+            alloc,
         }
     }
 
@@ -51,7 +53,6 @@ impl Hosts {
     /// [`MAX_TTL`](stub_lookup::MAX_TTL) seconds after `now`.
     pub fn insert(
         &mut self,
-        alloc: Global,
         name: Name,
         record_type: RecordType,
         lookup: Lookup,
@@ -65,9 +66,9 @@ impl Hosts {
     {
         let mut name = name;
         name.set_fqdn(true);
-        match RecordType::from(u16::from(record_type)) {
-            RecordType::AAAA => self.aaaa.insert(alloc, name, RecordType::AAAA, lookup, now),
-            _ => self.a.insert(alloc, name, RecordType::A, lookup, now),
+        match record_type.canonical() {
+            RecordType::AAAA => self.aaaa.insert(name, RecordType::AAAA, lookup, now),
+            _ => self.a.insert(name, RecordType::A, lookup, now),
         }
     }
 
@@ -76,28 +77,22 @@ impl Hosts {
     /// where a reverse name of a network stands for its first address; and for other types nothing.
     pub fn lookup_static_host(
         &self,
-        alloc: Global,
         query: &Query,
         now: Moment,
     ) -> Result<Option<Lookup>, AllocError>
         requires { now ≤ 2 ^ 62 }
         ensures { IfOk result (λ found. found ≡ static_lookup self.now query.now now) }
     {
-        match RecordType::from(u16::from(query.query_type)) {
-            RecordType::A => self.a.lookup(alloc, &query.name),
-            RecordType::AAAA => self.aaaa.lookup(alloc, &query.name),
-            RecordType::PTR => self.lookup_pointers(alloc, query, now),
+        match query.query_type.canonical() {
+            RecordType::A => self.a.lookup(&query.name),
+            RecordType::AAAA => self.aaaa.lookup(&query.name),
+            RecordType::PTR => self.lookup_pointers(query, now),
             _ => Ok(None),
         }
     }
 
     /// Returns the names of the address that a name, taken as fully qualified, is the reverse name of.
-    fn lookup_pointers(
-        &self,
-        alloc: Global,
-        query: &Query,
-        now: Moment,
-    ) -> Result<Option<Lookup>, AllocError>
+    fn lookup_pointers(&self, query: &Query, now: Moment) -> Result<Option<Lookup>, AllocError>
         requires { now ≤ 2 ^ 62 }
         ensures { IfOk result (λ found. found
             ≡ pointer_lookup (arpa_prefix (qualified query.now.name)) self.now query.now now) }
@@ -105,7 +100,7 @@ impl Hosts {
         let mut owner = query.name.clone()?;
         owner.set_fqdn(true);
         match owner.parse_arpa_name() {
-            Ok(prefix) => self.pointers_of(alloc, query, &owner, prefix.addr(), now),
+            Ok(prefix) => self.pointers_of(query, &owner, prefix.addr(), now),
             Err(_) => Ok(None),
         }
     }
@@ -113,7 +108,6 @@ impl Hosts {
     /// Returns the pointers from an owner to the names of an address, as the answer to a question.
     fn pointers_of(
         &self,
-        alloc: Global,
         query: &Query,
         owner: &Name,
         address: IpAddr,
@@ -123,12 +117,12 @@ impl Hosts {
         ensures { IfOk result (λ found. found ≡ answered (lookup_of query.now
             (pointers owner.now address (entries_of address self.now)) (now + max_ttl))) }
     {
-        let pointers = self.entries(address).pointers(alloc, owner, address)?;
+        let pointers = self.entries(address).pointers(owner, address)?;
         if pointers.is_empty() {
             return Ok(None);
         }
         let query = query.clone()?;
-        Ok(Some(Lookup::new_with_max_ttl(alloc, query, pointers, now)?))
+        Ok(Some(Lookup::new_with_max_ttl(self.alloc, query, pointers, now)?))
     }
 
     /// Returns the entries of an address family.

@@ -165,7 +165,7 @@ impl TtlConfig {
         self.bounds_of(query_type).positive_range()
     }
 
-    /// Returns the range of the seconds for which negative answers to questions of a type are kept.
+    /// Returns the range of the seconds for which negative answers to questions of a type are stored.
     pub fn negative_response_ttl_bounds(&self, query_type: RecordType) -> RangeInclusive<u32>
         ensures { result ≡ closed_range (negative_range (bounds_of self.now query_type)) }
     {

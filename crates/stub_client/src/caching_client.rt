@@ -148,8 +148,8 @@ impl<C: DnsHandle> CachingClient<C> {
             Err(_) => return Err(NetError::Memory),
         }
         match self.next_step(&query, kept, depth, options, now) {
-            Step::Gives(message) => store_message(self.alloc, &mut self.cache, query, message, now),
-            Step::Misses(answer) => store_answer(self.alloc, &mut self.cache, query, answer, now),
+            Step::Gives(message) => store_message(&mut self.cache, query, message, now),
+            Step::Misses(answer) => store_answer(&mut self.cache, query, answer, now),
             Step::Stops(error) => Err(error),
             Step::Follows(target, aliases) => {
                 let reply = self.look_up(target, aliases, depth + 1, options, now);

@@ -5,6 +5,7 @@ use Rattle.stub_config.specs.declared.strategy.LookupIpStrategy.TheVariants.{Ipv
 use Rattle.stub_config.specs.declared.strategy.ResolveHosts.TheVariants.{Auto}
 use Rattle.stub_config.specs.declared.strategy.ServerOrderingStrategy.TheVariants.{QueryStatistics}
 
+-- the options of a resolver that sets none
 abbrev pub default_options : ResolverOpts
 default_options = record {
   ndots = 1;

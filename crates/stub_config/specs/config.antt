@@ -10,9 +10,11 @@ pub mod Connection
 pub mod PublicServers
 pub mod ServerGroup
 
+-- UDP alone
 abbrev pub udp_connection : List ConnectionConfig
 udp_connection = connection_of Udp ∷ []
 
+-- TCP alone
 abbrev pub tcp_connection : List ConnectionConfig
 tcp_connection = connection_of Tcp ∷ []
 

@@ -10,7 +10,6 @@ ghost use Rattle.stub_cache.specs.Hosts.{question};
 use dns_messages::Query;
 use dns_names::Name;
 use dns_wire::RecordType;
-use std::alloc::Global;
 use std::vec;
 use stub_cache::Hosts;
 use stub_client::{CachingClient, DnsHandle};
@@ -22,7 +21,6 @@ use stub_lookup::{Lookup, Moment, NetError};
 /// An error or a response without answers leads to the next name. If no name has answers, the result for the last one is
 /// returned. Want of memory ends the lookup. If there are no names, the error is [`NetError::Message`].
 pub fn lookup_names<C: DnsHandle>(
-    _alloc: Global,
     names: Vec<Name>,
     record_type: RecordType,
     options: DnsRequestOptions,
@@ -40,7 +38,6 @@ pub fn lookup_names<C: DnsHandle>(
 
 /// Looks up names, in order, as [`lookup_names`] does. The hosts are asked for the first name, before the client.
 pub fn lookup_names_with_hosts<C: DnsHandle>(
-    alloc: Global,
     names: Vec<Name>,
     record_type: RecordType,
     options: DnsRequestOptions,
@@ -58,7 +55,7 @@ pub fn lookup_names_with_hosts<C: DnsHandle>(
         return no_names();
     };
     let query = Query::query(name, record_type);
-    let first = ask_with_hosts(alloc, query, options, client, hosts, now);
+    let first = ask_with_hosts(query, options, client, hosts, now);
     attempt(first, names, record_type, options, client, now)
 }
 
@@ -107,7 +104,6 @@ pub(crate) fn is_final(reply: &Result<Lookup, NetError>) -> bool
 
 /// Asks the hosts for a question, and the client if they have nothing for it.
 pub(crate) fn ask_with_hosts<C: DnsHandle>(
-    alloc: Global,
     query: Query,
     options: DnsRequestOptions,
     client: &mut CachingClient<C>,
@@ -119,7 +115,7 @@ pub(crate) fn ask_with_hosts<C: DnsHandle>(
         (λ old q reply new. Answers C.gives options now old q reply new)
         client.old query result client.new }
 {
-    match hosts.lookup_static_host(alloc, &query, now)? {
+    match hosts.lookup_static_host(&query, now)? {
         Some(lookup) => Ok(lookup),
         None => client.lookup(query, options, now),
     }

@@ -114,7 +114,6 @@ impl<H: DnsHandle> Resolver<H> {
         let names = self.settings.names_for(self.alloc, name)?;
         let options = self.settings.request_options();
         lookup_names_with_hosts(
-            self.alloc,
             names,
             record_type,
             options,

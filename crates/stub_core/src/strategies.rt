@@ -44,16 +44,7 @@ pub fn lookup_ip_names<C: DnsHandle>(
         finally_ip_addr client.old names.items result client.new }
 {
     let names = names.into_iter();
-    let last = attempt(
-        alloc,
-        no_addresses(),
-        names,
-        strategy,
-        client,
-        options,
-        hosts,
-        now,
-    );
+    let last = attempt(no_addresses(), names, strategy, client, options, hosts, now);
     addresses(or_fallback(alloc, last, finally_ip_addr, now))
 }
 
@@ -66,7 +57,6 @@ fn no_addresses() -> Result<Lookup, NetError>
 
 /// Looks up the addresses of names, in order, unless the last reply ends the lookup.
 fn attempt<C: DnsHandle>(
-    alloc: Global,
     mut last: Result<Lookup, NetError>,
     names: vec::IntoIter<Name>,
     strategy: LookupIpStrategy,
@@ -85,7 +75,7 @@ fn attempt<C: DnsHandle>(
             return last;
         }
         drop(last);
-        last = look_up_addresses(alloc, &name, strategy, client, options, hosts, now);
+        last = look_up_addresses(&name, strategy, client, options, hosts, now);
     }
     last
 }

@@ -34,10 +34,6 @@ no_records query code = record {
   authorities = None;
 }
 
--- a negative answer without its SOA record
-abbrev pub without_soa : NoRecords → NoRecords
-without_soa answer = record answer { soa = None }
-
 -- a text is not a name, or there was no memory for the name
 abbrev pub error_of_name : ParseError → NetError
 error_of_name names.Memory = Memory

@@ -1,5 +1,5 @@
 -- What a lookup found: a response, and how long it is valid.
-use Rattle.std.specs.Prelude.{◌++◌, List, [], ◌∷◌, ℕ, None, min}
+use Rattle.std.specs.Prelude.{◌++◌, List, [], ◌∷◌, ℕ, min}
 use Rattle.dns_codes.specs.declared.dns_class.DNSClass.TheVariants.{IN}
 use Rattle.dns_data.specs.declared.rdata.RData.{RData}
 use Rattle.dns_records.specs.Record.{Record}
@@ -27,6 +27,7 @@ response_to query answers =
       answers = answers;
     }
 
+-- a response to one question that is valid until a moment
 abbrev pub lookup_of : Query → List Record → ℕ → LookupContent
 lookup_of query answers valid_until = record
     { message = response_to query answers; valid_until = valid_until }
@@ -35,7 +36,7 @@ lookup_of query answers valid_until = record
 abbrev pub record_for : Query → RData → Record
 record_for query rdata = record { name = query.name; dns_class = IN; ttl = max_ttl; rdata = rdata }
 
--- the records of both, section by section, behind the header and the questions of the first
+-- the header and the questions of the first, and the records of both, section by section
 abbrev pub joined_messages : Message → Message → Message
 joined_messages first second = record first {
   answers = first.answers ++ second.answers;
@@ -49,15 +50,3 @@ joined first second = record {
   message = joined_messages first.message second.message;
   valid_until = min first.valid_until second.valid_until;
 }
-
--- a message without the records of its sections
-abbrev pub without_records : Message → Message
-without_records m = record m { answers = []; authorities = []; additionals = [] }
-
--- a message without a signature
-abbrev pub unsigned : Message → Message
-unsigned m = record m { signature = None }
-
--- a message without an OPT record and a signature
-abbrev pub without_extensions : Message → Message
-without_extensions m = record (unsigned m) { edns = None }

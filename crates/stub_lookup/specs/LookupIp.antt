@@ -4,6 +4,7 @@ use Rattle.std.specs.declared.net.ip_addr.IpAddr.{IpAddr}
 use Rattle.dns_data.specs.rdata.{data_addr}
 use Rattle.dns_records.specs.Record.{Record}
 
+-- an address, if there is one, in front of others
 abbrev pub before_addresses : Option IpAddr → List IpAddr → List IpAddr
 before_addresses None addresses = addresses
 before_addresses (Some address) addresses = address ∷ addresses

@@ -30,6 +30,7 @@ abbrev pub with_soa_data : Record → RData → Option (generic.Record SOA)
 with_soa_data r (of.SOA soa) = Some (record { name = r.name; dns_class = r.dns_class; ttl = r.ttl; rdata = soa })
 with_soa_data r other = None
 
+-- a record with data of the type SOA, if there is one
 abbrev pub as_soa : Option Record → Option (generic.Record SOA)
 as_soa None = None
 as_soa (Some r) = with_soa_data r r.rdata
@@ -63,6 +64,7 @@ error_by_code code m = Some (errors.ResponseCode code)
 abbrev pub error_in : Message → Option DnsError
 error_in m = error_by_code m.metadata.response_code m
 
+-- a response, unless there is an error
 abbrev pub unless_error : DnsResponse → Option DnsError → Result DnsResponse NetError
 unless_error response None = Ok response
 unless_error response (Some error) = Err (Dns error)

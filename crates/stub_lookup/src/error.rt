@@ -252,18 +252,19 @@ impl<T: Drop> From<AllocFailed<T>> for NetError {
     }
 }
 
-impl From<DnsError> for NetError {
+impl From<NoRecords> for NetError {
     ghost use Rattle.std.specs.Prelude.{◌≡◌};
+    ghost use Rattle.stub_lookup.specs.declared.error.DnsError.TheVariants.{NoRecordsFound};
     ghost use Rattle.stub_lookup.specs.declared.error.NetError.TheVariants.{Dns};
 
-    ghost from_gives = { λ error e. e ≡ Dns error };
+    ghost from_gives = { λ answer e. e ≡ Dns (NoRecordsFound answer) };
 
-    fn from(error: DnsError) -> NetError {
-        NetError::Dns(error)
+    fn from(answer: NoRecords) -> NetError {
+        NetError::Dns(DnsError::NoRecordsFound(answer))
     }
 }
 
-/// Want of memory becomes [`NetError::Memory`].
+/// [`ParseError::Memory`] becomes [`NetError::Memory`].
 impl From<ParseError> for NetError {
     ghost use Rattle.std.specs.Prelude.{◌≡◌};
     ghost use Rattle.stub_lookup.specs.Error.{error_of_name};

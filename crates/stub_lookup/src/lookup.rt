@@ -4,7 +4,6 @@ ghost use Rattle.std.specs.Prelude.{◌≡◌, ◌≤◌, ◌<◌, ◌+◌, ◌^
 
 mod equality;
 
-use crate::copy::copy_message;
 use crate::moment::Moment;
 use dns_data::RData;
 use dns_messages::{Message, OpCode, Query, Record, Sequence};
@@ -167,22 +166,22 @@ impl Lookup {
     }
 
     /// Copies the lookup.
-    pub fn clone(&self, alloc: Global) -> Result<Lookup, AllocError>
+    pub fn clone(&self) -> Result<Lookup, AllocError>
         ensures { IfOk result (λ copy. copy ≡ self.now) }
     {
         Ok(Lookup {
-            message: copy_message(alloc, &self.message)?,
+            message: self.message.clone()?,
             valid_until: self.valid_until,
         })
     }
 
     /// Returns a lookup with the records of both, section by section. Its deadline is the sooner one, and the rest is
     /// that of `self`.
-    pub fn append(&self, alloc: Global, other: Lookup) -> Result<Lookup, AllocError>
+    pub fn append(&self, other: Lookup) -> Result<Lookup, AllocError>
         ensures { IfOk result (λ lookup. lookup ≡ joined self.now other) }
     {
         let valid_until = sooner(self.valid_until, other.valid_until);
-        let message = join_messages(alloc, &self.message, Message::from(other))?;
+        let message = join_messages(&self.message, Message::from(other))?;
         Ok(Lookup {
             message,
             valid_until,
@@ -258,27 +257,23 @@ fn sooner(first: Moment, second: Moment) -> Moment
 }
 
 /// Copies a message, and adds the records of another one, section by section.
-fn join_messages(alloc: Global, first: &Message, second: Message) -> Result<Message, AllocError>
+fn join_messages(first: &Message, second: Message) -> Result<Message, AllocError>
     ensures { IfOk result (λ message. message ≡ joined_messages first.now second) }
 {
     let mut second = second;
-    copy_with_sections(alloc, first, &mut second)
+    copy_with_sections(first, &mut second)
 }
 
-/// Copies a message, and moves the records of another one behind its own, section by section.
-fn copy_with_sections(
-    alloc: Global,
-    first: &Message,
-    second: &mut Message,
-) -> Result<Message, AllocError>
+/// Copies a message, and moves the records of another one to the ends of its sections.
+fn copy_with_sections(first: &Message, second: &mut Message) -> Result<Message, AllocError>
     ensures { IfOk result (λ message. message ≡ joined_messages first.now second.old) }
 {
-    let mut message = copy_message(alloc, first)?;
+    let mut message = first.clone()?;
     add_sections(&mut message, second)?;
     Ok(message)
 }
 
-/// Moves the records of another message behind those of a message, section by section.
+/// Moves the records of another message to the ends of the sections of a message.
 fn add_sections(message: &mut Message, other: &mut Message) -> Result<(), AllocError>
     ensures { OnOk result (message.new ≡ joined_messages message.old other.old) }
 {

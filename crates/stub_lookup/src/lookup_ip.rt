@@ -88,12 +88,9 @@ impl IntoIterator for LookupIp {
     ghost into_iter_gives = { λ lookup it. it ≡ addresses_in lookup.message.answers };
 
     fn into_iter(self) -> LookupIpIntoIter {
+        let answers = Message::from(self.lookup).into_parts().answers;
         LookupIpIntoIter {
-            records: Message::from(self.lookup)
-                .into_parts()
-                .answers
-                .into_vec()
-                .into_iter(),
+            records: answers.into_vec().into_iter(),
         }
     }
 }
@@ -130,7 +127,7 @@ impl<'a> Iterator for LookupIpIter<'a> {
 
 ghost use Rattle.std.specs.Prelude.{◌∷◌, [], IfSome, IfNone};
 
-/// Returns the first address, and the records behind its own.
+/// Returns the first address, and the records after its own.
 fn first_address<'a>(records: &'a [Record]) -> Option<(IpAddr, &'a [Record])>
     ensures some { IfSome result (λ found.
         addresses_in records.now ≡ found.0 ∷ addresses_in found.1.now) }

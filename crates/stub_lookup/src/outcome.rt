@@ -2,11 +2,12 @@
 
 ghost use Rattle.std.specs.Prelude.{◌≡◌, IfOk, Err, true};
 ghost use Rattle.dns_wire.specs.Error.{IsUnless};
-ghost use Rattle.stub_lookup.specs.Outcome.{any_records, as_soa, error_in, first_question, is_negative, no_records_in, outcome};
+ghost use Rattle.dns_messages.specs.Response.{soa_in};
+ghost use Rattle.stub_lookup.specs.Outcome.{any_records, as_soa, error_in, first_question, is_negative, no_records_in, outcome, with_soa_data};
 ghost use Rattle.stub_lookup.specs.declared.error.NetError.TheVariants.{Memory};
 
 use crate::error::{DnsError, NetError, NoRecords};
-use dns_data::{RData, SOA};
+use dns_data::SOA;
 use dns_messages::{DnsResponse, Query, Record, ResponseCode, Sequence};
 use std::alloc::{AllocError, Global};
 
@@ -27,7 +28,7 @@ impl DnsError {
                     return Ok(response);
                 }
                 let answer = no_records(alloc, response)?;
-                Err(NetError::Dns(DnsError::NoRecordsFound(answer)))
+                Err(NetError::from(answer))
             }
             ResponseCode::Unknown(_) => Ok(response),
             code => Err(NetError::Dns(DnsError::ResponseCode(code))),
@@ -39,7 +40,7 @@ impl DnsError {
 fn no_records(alloc: Global, response: DnsResponse) -> Result<NoRecords, AllocError>
     ensures { IfOk result (λ answer. answer ≡ no_records_in response.message) }
 {
-    let soa = copy_soa(response.soa())?;
+    let soa = copy_soa(&response)?;
     let negative_ttl = response.negative_ttl();
     let parts = response.into_message().into_parts();
     Ok(NoRecords {
@@ -52,25 +53,24 @@ fn no_records(alloc: Global, response: DnsResponse) -> Result<NoRecords, AllocEr
     })
 }
 
-ghost use Rattle.std.specs.Prelude.{option_copied};
-
-/// Copies a record with data of the type SOA.
-fn copy_soa(found: Option<&Record>) -> Result<Option<Record<SOA>>, AllocError>
-    ensures { IfOk result (λ copy. copy ≡ as_soa (option_copied found.entry)) }
+/// Copies the first SOA record of the authority section of a response (RFC 2308 section 3).
+pub fn copy_soa(response: &DnsResponse) -> Result<Option<Record<SOA>>, AllocError>
+    ensures { IfOk result (λ soa. soa ≡ as_soa (soa_in response.now.message.authorities)) }
 {
-    let Some(found) = found else {
-        return Ok(None);
-    };
-    let RData::SOA(soa) = &found.rdata else {
-        return Ok(None);
-    };
-    let rdata = soa.clone()?;
-    Ok(Some(Record {
-        name: found.name.clone()?,
-        dns_class: found.dns_class,
-        ttl: found.ttl,
-        rdata,
-    }))
+    match response.soa() {
+        Some(found) => copy_with_soa_data(found),
+        None => Ok(None),
+    }
+}
+
+/// Copies a record as one with data of the type SOA, if its data is of this type.
+fn copy_with_soa_data(found: &Record) -> Result<Option<Record<SOA>>, AllocError>
+    ensures { IfOk result (λ soa. soa ≡ with_soa_data found.now found.now.rdata) }
+{
+    match found.try_borrow::<SOA>() {
+        Some(soa) => Ok(Some(soa.to_owned()?)),
+        None => Ok(None),
+    }
 }
 
 /// Returns the first question, or that for the addresses of the root.

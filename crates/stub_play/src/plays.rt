@@ -77,7 +77,7 @@ fn read_hosts(alloc: Global, src: &[u8]) -> Result<Hosts, HostsFault>
     ensures fault { IfErr result (λ fault. HostsAre src.now (Err fault)) }
 {
     let mut hosts = Hosts::default(alloc);
-    hosts.read_hosts_conf(alloc, src, 0)?;
+    hosts.read_hosts_conf(src, 0)?;
     Ok(hosts)
 }
 

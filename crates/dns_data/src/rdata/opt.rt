@@ -10,7 +10,7 @@ ghost use Rattle.dns_data.specs.Text.{hex_text};
 
 use crate::generic::write_hex;
 use crate::octets::OptionData;
-use crate::wire::{emit_options, read_options};
+use crate::wire::{emit_items, read_items};
 use dns_wire::{BinDecoder, BinEncodable, BinEncoder, DecodeError, EncodeError};
 use std::alloc::{AllocError, Global};
 use std::cmp::Ordering;
@@ -192,7 +192,7 @@ impl OPT {
             decoder.old.index error) }
         ensures bytes { decoder.new.bytes ≡ decoder.old.bytes }
     {
-        let options = read_options(alloc, decoder, usize::from(len))?;
+        let options = read_items(alloc, decoder, usize::from(len))?;
         Ok(OPT::new(options))
     }
 }
@@ -203,7 +203,7 @@ impl BinEncodable for OPT {
     ghost pieces = { λ opt s. values_pieces s.canonical opt_kinds (opt_values opt) };
 
     fn emit(&self, encoder: &mut BinEncoder<'_>) -> Result<(), EncodeError> {
-        emit_options(self.options(), encoder)
+        emit_items(self.options(), encoder)
     }
 }
 

@@ -12,7 +12,7 @@ ghost use Rattle.dns_data.specs.internal.Text.{more_strings_text};
 use crate::error::RDataParseError;
 use crate::octets::CharacterString;
 use crate::text::DataTokens;
-use crate::wire::{emit_strings, read_strings};
+use crate::wire::{emit_items, read_items};
 use dns_text::QuotedString;
 use dns_wire::{BinDecoder, BinEncodable, BinEncoder, DecodeError, EncodeError};
 use std::alloc::{AllocError, Global};
@@ -69,7 +69,7 @@ impl TXT {
             decoder.old.index error) }
         ensures bytes { decoder.new.bytes ≡ decoder.old.bytes }
     {
-        let strings = read_strings(alloc, decoder, usize::from(len))?;
+        let strings = read_items(alloc, decoder, usize::from(len))?;
         Ok(TXT::new(strings))
     }
 }
@@ -80,7 +80,7 @@ impl BinEncodable for TXT {
     ghost pieces = { λ txt s. values_pieces s.canonical txt_kinds (txt_values txt) };
 
     fn emit(&self, encoder: &mut BinEncoder<'_>) -> Result<(), EncodeError> {
-        emit_strings(self.strings(), encoder)
+        emit_items(self.strings(), encoder)
     }
 }
 

@@ -12,7 +12,7 @@ use crate::zone::section::Section;
 use dns_messages::{Query, ResponseCode, Sequence};
 use dns_names::Name;
 use dns_records::{Record, RecordSet};
-use dns_wire::RecordType;
+use dns_wire::{DNSClass, RecordType};
 use std::alloc::{AllocError, Global};
 
 /// The answer of a zone to a question: a response code, and two sections of records.
@@ -133,7 +133,7 @@ fn answer_from<'a>(origin: &'a Name, sets: &'a [RecordSet], query: &'a Query) ->
     if is_without_rows(query.query_type) {
         return AnswerRef::refusal(origin, ResponseCode::NotImp);
     }
-    if u16::from(query.query_class) != 1 || !origin.zone_of(&query.name) {
+    if !query.query_class.is_same(DNSClass::IN) || !origin.zone_of(&query.name) {
         return AnswerRef::refusal(origin, ResponseCode::Refused);
     }
     let records = answering_records(sets, &query.name, query.query_type);

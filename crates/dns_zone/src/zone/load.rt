@@ -224,7 +224,7 @@ fn has_other_class(sets: &[RecordSet]) -> bool
     ensures { result ≡ list_any (λ s. not (is_internet s)) sets.now }
 {
     for set in sets {
-        if u16::from(set.dns_class()) != u16::from(DNSClass::IN) {
+        if !set.dns_class().is_same(DNSClass::IN) {
             return true;
         }
     }
@@ -247,7 +247,7 @@ fn has_owner_outside(origin: &Name, sets: &[RecordSet]) -> bool
 fn is_soa(set: &RecordSet) -> bool
     ensures { result ≡ is_soa set.now }
 {
-    u16::from(set.record_type()) == u16::from(RecordType::SOA)
+    set.record_type().is_same(RecordType::SOA)
 }
 
 /// Returns `true` if a set has the SOA record of the origin.

@@ -8,7 +8,7 @@ use crate::zone::Zone;
 use crate::zone::answer::AnswerRef;
 use crate::zone::reply::ReplyRef;
 use dns_messages::laws::messages_decode_unambiguously;
-use dns_messages::{Message, OpCode, ResponseCode};
+use dns_messages::{Message, MessageType, Metadata, OpCode, ResponseCode};
 use dns_names::Name;
 use dns_wire::{DecodeError, EncodeError};
 use std::alloc::AllocError;
@@ -86,11 +86,14 @@ impl Zone {
     }
 }
 
-/// Returns `true` if bytes begin with the header of a query: twelve bytes, with QR clear.
+/// Returns `true` if bytes begin with the header of a query.
 fn has_query_header(bytes: &[u8]) -> bool
     ensures { result ≡ is_query_header bytes.now }
 {
-    bytes.len() >= 12 && bytes[2] / 128 % 2 != 1
+    match Metadata::peek(bytes) {
+        Some(metadata) => matches!(metadata.message_type, MessageType::Query),
+        None => false,
+    }
 }
 
 /// Returns how many bytes a reply to a request may have: at least 512.

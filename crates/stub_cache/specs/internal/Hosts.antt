@@ -7,6 +7,7 @@ use Rattle.stub_lookup.specs.Lookup.{LookupContent, joined}
 use Rattle.stub_cache.specs.Hosts.{entry}
 use Rattle.stub_cache.specs.declared.hosts.table.HostEntry.{HostEntry}
 
+-- an index one entry further on
 abbrev pub one_more : Result ℕ ℕ → Result ℕ ℕ
 one_more (Ok index) = Ok (suc index)
 one_more (Err index) = Err (suc index)

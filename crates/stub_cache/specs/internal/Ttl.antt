@@ -12,14 +12,16 @@ use Rattle.stub_cache.specs.Ttl.{TtlRange, lesser}
 abbrev pub range_between : RangeInclusive ℕ → TtlRange
 range_between range = record { least = range.start; greatest = range.end }
 
+-- whether two types have the same number
 abbrev pub is_same_type : RecordType → RecordType → Bool
 is_same_type kind other = type_number kind == type_number other
 
--- Whether records of a type decide how long a response to a question of a type is kept: those that were asked for, and
+-- Whether records of a type decide how long a response to a question of a type is stored: those that were asked for, and
 -- aliases unless the question asks for NS.
 abbrev pub is_deciding : RecordType → RecordType → Bool
 is_deciding asked kind = is_same_type kind asked || (is_same_type kind types.CNAME && not (is_same_type asked types.NS))
 
+-- whether a record decides how long a response to a question of a type is stored
 abbrev pub is_deciding_record : RecordType → Record → Bool
 is_deciding_record asked r = is_deciding asked (data_type r.rdata)
 

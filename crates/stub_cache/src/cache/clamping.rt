@@ -2,7 +2,7 @@
 
 ghost use Rattle.std.specs.Prelude.{◌≡◌, filter, map};
 ghost use Rattle.stub_cache.specs.Ttl.{bounds_of, clamp, clamped, clamped_record, deciding_records, least_ttl, lifetime_within, negative_lifetime, positive_lifetime, positive_range};
-ghost use Rattle.stub_cache.specs.internal.Ttl.{is_deciding, is_deciding_record, is_same_type, lesser_of, range_between};
+ghost use Rattle.stub_cache.specs.internal.Ttl.{is_deciding, is_deciding_record, lesser_of, range_between};
 ghost use Rattle.dns_data.specs.rdata.{data_type};
 
 use crate::ttl::TtlConfig;
@@ -95,7 +95,7 @@ fn deciding_ttl(query_type: RecordType, message: &Message) -> Option<u32>
     ensures { result ≡ least_ttl (deciding_records query_type message.now) }
 {
     let answers = least_ttl(query_type, message.answers.as_slice());
-    if !is_same_type(query_type, RecordType::NS) {
+    if !query_type.is_same(RecordType::NS) {
         return answers;
     }
     let authorities = least_ttl(query_type, message.authorities.as_slice());
@@ -120,15 +120,8 @@ fn least_ttl(query_type: RecordType, records: &[Record]) -> Option<u32>
 fn is_deciding(query_type: RecordType, kind: RecordType) -> bool
     ensures { result ≡ is_deciding query_type kind }
 {
-    is_same_type(kind, query_type)
-        || is_same_type(kind, RecordType::CNAME) && !is_same_type(query_type, RecordType::NS)
-}
-
-/// Returns whether the numbers of two types are equal.
-fn is_same_type(kind: RecordType, other: RecordType) -> bool
-    ensures { result ≡ is_same_type kind other }
-{
-    u16::from(kind) == u16::from(other)
+    kind.is_same(query_type)
+        || kind.is_same(RecordType::CNAME) && !query_type.is_same(RecordType::NS)
 }
 
 /// Returns the lesser of two TTLs, or the only one.

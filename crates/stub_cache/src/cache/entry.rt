@@ -1,17 +1,17 @@
 //! Entries of a cache.
 
 ghost use Rattle.std.specs.Prelude.{◌≡◌, ◌≤◌, ◌-◌, ◌^◌, IfOk, Ok, Err};
-ghost use Rattle.stub_cache.specs.Cache.{aged, entry_of, is_about, is_current, result_of_kept};
+ghost use Rattle.stub_cache.specs.Cache.{aged, entry_of, is_about, is_current};
 ghost use Rattle.stub_cache.specs.Ttl.{aged_answer, aged_message};
 
 use super::ageing::{age_answer, age_message};
 use super::clamping::{clamp_message, negative_lifetime, positive_lifetime};
 use crate::ttl::TtlConfig;
 use dns_messages::{Message, Query};
-use std::alloc::{AllocError, Global};
-use stub_lookup::{DnsError, Moment, NetError, NoRecords, copy_message};
+use std::alloc::AllocError;
+use stub_lookup::{Moment, NoRecords};
 
-/// What is kept for a question since a moment.
+/// The response to a question, or a negative answer, since the moment at which it was stored.
 pub struct Entry {
     /// The question.
     pub question: Query,
@@ -73,8 +73,8 @@ impl Entry {
         ensures { result ≡ is_about query.now self.now }
     {
         self.question.name == query.name
-            && u16::from(self.question.query_type) == u16::from(query.query_type)
-            && u16::from(self.question.query_class) == u16::from(query.query_class)
+            && self.question.query_type.is_same(query.query_type)
+            && self.question.query_class.is_same(query.query_class)
     }
 
     /// Returns `true` if the entry is for a question and is current at a moment.
@@ -84,44 +84,32 @@ impl Entry {
         self.is_about(query) && now <= self.deadline
     }
 
-    /// Returns a copy of what is kept, with the TTLs that are left at a moment.
-    pub fn reply_at(
-        &self,
-        alloc: Global,
-        now: Moment,
-    ) -> Result<Result<Message, NetError>, AllocError>
-        ensures { IfOk result (λ reply.
-            reply ≡ result_of_kept (aged (now - self.now.moment) self.now.kept)) }
+    /// Returns a copy of the response or the negative answer, with the TTLs that are left at a moment.
+    pub fn reply_at(&self, now: Moment) -> Result<Result<Message, NoRecords>, AllocError>
+        ensures { IfOk result (λ reply. reply ≡ aged (now - self.now.moment) self.now.kept) }
     {
         let seconds = now.saturating_sub(self.moment);
         match &self.kept {
-            Ok(message) => Ok(Ok(copy_aged_message(alloc, message, seconds)?)),
-            Err(answer) => {
-                let answer = copy_aged_answer(alloc, answer, seconds)?;
-                Ok(Err(NetError::Dns(DnsError::NoRecordsFound(answer))))
-            }
+            Ok(message) => Ok(Ok(copy_aged_message(message, seconds)?)),
+            Err(answer) => Ok(Err(copy_aged_answer(answer, seconds)?)),
         }
     }
 }
 
 /// Copies a message, and reduces its TTLs by `seconds`, to 0 at the least.
-fn copy_aged_message(alloc: Global, message: &Message, seconds: u64) -> Result<Message, AllocError>
+fn copy_aged_message(message: &Message, seconds: u64) -> Result<Message, AllocError>
     ensures { IfOk result (λ copy. copy ≡ aged_message seconds message.now) }
 {
-    let mut copy = copy_message(alloc, message)?;
+    let mut copy = message.clone()?;
     age_message(&mut copy, seconds);
     Ok(copy)
 }
 
 /// Copies a negative answer, and reduces its TTLs by `seconds`, to 0 at the least.
-fn copy_aged_answer(
-    alloc: Global,
-    answer: &NoRecords,
-    seconds: u64,
-) -> Result<NoRecords, AllocError>
+fn copy_aged_answer(answer: &NoRecords, seconds: u64) -> Result<NoRecords, AllocError>
     ensures { IfOk result (λ copy. copy ≡ aged_answer seconds answer.now) }
 {
-    let mut copy = answer.clone(alloc)?;
+    let mut copy = answer.clone()?;
     age_answer(&mut copy, seconds);
     Ok(copy)
 }

@@ -1,4 +1,4 @@
-//! How entries make room for others.
+//! Cache eviction.
 
 ghost use Rattle.std.specs.Prelude.{◌≡◌, ◌<◌, ◌≤◌, length};
 ghost use Rattle.std.specs.List.{list_any, remove};

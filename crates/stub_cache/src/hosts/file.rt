@@ -53,36 +53,31 @@ impl Hosts {
     ///
     /// Reading ends at the first line that is not valid UTF-8, its comment included, or when memory cannot be allocated.
     /// The hosts before that are inserted.
-    pub fn read_hosts_conf(
-        &mut self,
-        alloc: Global,
-        src: &[u8],
-        now: Moment,
-    ) -> Result<(), HostsFault>
+    pub fn read_hosts_conf(&mut self, src: &[u8], now: Moment) -> Result<(), HostsFault>
         requires { now ≤ 2 ^ 62 }
         ensures { (hosts : List Host) × ReadsLines (lines_of src.now) hosts result
             × (self.new ≡ with_hosts now self.old hosts) }
     {
         for line in without_mark(src).split(|byte| *byte == b'\n') {
-            self.read_line(alloc, line, now)?;
+            self.read_line(line, now)?;
         }
         Ok(())
     }
 
     /// Inserts the hosts of a line.
-    fn read_line(&mut self, alloc: Global, line: &[u8], now: Moment) -> Result<(), HostsFault>
+    fn read_line(&mut self, line: &[u8], now: Moment) -> Result<(), HostsFault>
         requires { now ≤ 2 ^ 62 }
         ensures { (hosts : List Host) × ReadsLine line.now hosts result
             × (self.new ≡ with_hosts now self.old hosts) }
     {
         match str::from_utf8(line) {
-            Ok(text) => Ok(self.read_words(alloc, without_comment(text), now)?),
+            Ok(text) => Ok(self.read_words(without_comment(text), now)?),
             Err(_) => Err(HostsFault::Utf8),
         }
     }
 
     /// Inserts the hosts of a line without a comment.
-    fn read_words(&mut self, alloc: Global, text: &str, now: Moment) -> Result<(), AllocError>
+    fn read_words(&mut self, text: &str, now: Moment) -> Result<(), AllocError>
         requires { now ≤ 2 ^ 62 }
         ensures { InsertsHosts (AreHostsOfWords (words text.now)) now self.old self.new result }
     {
@@ -91,7 +86,7 @@ impl Hosts {
             return Ok(());
         };
         match parse_ip(first.as_bytes()) {
-            Some(address) => self.read_names(alloc, address, words, now),
+            Some(address) => self.read_names(address, words, now),
             None => Ok(()),
         }
     }
@@ -99,7 +94,6 @@ impl Hosts {
     /// Inserts the names of an address.
     fn read_names(
         &mut self,
-        alloc: Global,
         address: IpAddr,
         names: SplitWhitespace<'_>,
         now: Moment,
@@ -111,47 +105,35 @@ impl Hosts {
             now self.old self.new result }
     {
         for word in names {
-            self.read_name(alloc, address, word, now)?;
+            self.read_name(address, word, now)?;
         }
         Ok(())
     }
 
     /// Inserts a name of an address, if the word is a name.
-    fn read_name(
-        &mut self,
-        alloc: Global,
-        address: IpAddr,
-        word: &str,
-        now: Moment,
-    ) -> Result<(), AllocError>
+    fn read_name(&mut self, address: IpAddr, word: &str, now: Moment) -> Result<(), AllocError>
         requires { now ≤ 2 ^ 62 }
         ensures ok { OnOk result (self.new
             ≡ with_hosts now self.old (hosts_at address (word.now ∷ []))) }
         ensures err { OnErr result (self.new ≡ self.old) }
     {
-        match parse_host_name(alloc, word)? {
-            Some(name) => self.insert_host(alloc, name, address, now),
+        match parse_host_name(self.alloc, word)? {
+            Some(name) => self.insert_host(name, address, now),
             None => Ok(()),
         }
     }
 
     /// Inserts a name of an address.
-    fn insert_host(
-        &mut self,
-        alloc: Global,
-        name: Name,
-        address: IpAddr,
-        now: Moment,
-    ) -> Result<(), AllocError>
+    fn insert_host(&mut self, name: Name, address: IpAddr, now: Moment) -> Result<(), AllocError>
         requires { now ≤ 2 ^ 62 }
         ensures ok { OnOk result (self.new
             ≡ with_host now self.old (record { name = name; address = address })) }
         ensures err { OnErr result (self.new ≡ self.old) }
     {
-        let lookup = host_lookup(alloc, &name, address, now)?;
+        let lookup = host_lookup(self.alloc, &name, address, now)?;
         match address {
-            IpAddr::V4(_) => self.insert(alloc, name, RecordType::A, lookup, now),
-            IpAddr::V6(_) => self.insert(alloc, name, RecordType::AAAA, lookup, now),
+            IpAddr::V4(_) => self.insert(name, RecordType::A, lookup, now),
+            IpAddr::V6(_) => self.insert(name, RecordType::AAAA, lookup, now),
         }
     }
 }

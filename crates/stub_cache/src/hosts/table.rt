@@ -53,7 +53,6 @@ impl HostTable {
     /// Inserts a lookup for a fully qualified name.
     pub(crate) fn insert(
         &mut self,
-        alloc: Global,
         name: Name,
         record_type: RecordType,
         lookup: Lookup,
@@ -65,15 +64,14 @@ impl HostTable {
         ensures err { OnErr result (self.new ≡ self.old) }
     {
         match find_place(self.entries.as_slice(), &name) {
-            Ok(index) => self.join(alloc, index, lookup),
-            Err(index) => self.insert_new(alloc, index, name, record_type, lookup, now),
+            Ok(index) => self.join(index, lookup),
+            Err(index) => self.insert_new(index, name, record_type, lookup, now),
         }
     }
 
     /// Inserts the first lookup of a name at an index.
     fn insert_new(
         &mut self,
-        alloc: Global,
         index: usize,
         name: Name,
         record_type: RecordType,
@@ -86,17 +84,17 @@ impl HostTable {
             ≡ insert self.old index (entry name (joined (fresh name record_type now) lookup))) }
         ensures err { OnErr result (self.new ≡ self.old) }
     {
-        let lookup = first_lookup(alloc, &name, record_type, lookup, now)?;
+        let lookup = first_lookup(*self.entries.allocator(), &name, record_type, lookup, now)?;
         self.insert_at(index, HostEntry { name, lookup })
     }
 
     /// Joins a lookup to that of the entry at an index.
-    fn join(&mut self, alloc: Global, index: usize, lookup: Lookup) -> Result<(), AllocError>
+    fn join(&mut self, index: usize, lookup: Lookup) -> Result<(), AllocError>
         requires { index < length self.old }
         ensures ok { OnOk result (self.new ≡ joined_at index lookup self.old) }
         ensures err { OnErr result (self.new ≡ self.old) }
     {
-        let joined = self.entries[index].lookup.append(alloc, lookup)?;
+        let joined = self.entries[index].lookup.append(lookup)?;
         // An assignment in place would drop the old lookup field by field, with a case in the proof for each field.
         drop(mem::replace(&mut self.entries[index].lookup, joined));
         Ok(())
@@ -113,26 +111,26 @@ impl HostTable {
     }
 
     /// Returns the lookup of a name, taken as fully qualified, if it has answers.
-    pub(crate) fn lookup(&self, alloc: Global, name: &Name) -> Result<Option<Lookup>, AllocError>
+    pub(crate) fn lookup(&self, name: &Name) -> Result<Option<Lookup>, AllocError>
         ensures { IfOk result (λ found.
             found ≡ option_and_then answered (lookup_at name.now self.now)) }
     {
         match find_lookup(self.entries.as_slice(), name) {
-            Some(lookup) if !lookup.answers().is_empty() => Ok(Some(lookup.clone(alloc)?)),
+            Some(lookup) if !lookup.answers().is_empty() => Ok(Some(lookup.clone()?)),
             _ => Ok(None),
         }
     }
 
     /// Returns pointers from an owner to the names that have an address.
-    pub(crate) fn pointers(
-        &self,
-        alloc: Global,
-        owner: &Name,
-        address: IpAddr,
-    ) -> Result<Vec<Record>, AllocError>
+    pub(crate) fn pointers(&self, owner: &Name, address: IpAddr) -> Result<Vec<Record>, AllocError>
         ensures { IfOk result (λ records. records.items ≡ pointers owner.now address self.now) }
     {
-        pointers_to(alloc, self.entries.as_slice(), owner, address)
+        pointers_to(
+            *self.entries.allocator(),
+            self.entries.as_slice(),
+            owner,
+            address,
+        )
     }
 }
 
@@ -249,5 +247,5 @@ fn first_lookup(
 {
     let query = Query::query(name.clone()?, record_type);
     let fresh = Lookup::new_with_max_ttl(alloc, query, Vec::new(alloc), now)?;
-    fresh.append(alloc, lookup)
+    fresh.append(lookup)
 }

@@ -66,7 +66,7 @@ fn cached_reply(
 {
     match cache.get(query, now)? {
         Some(Ok(message)) => Ok(Some(Ok(cached_lookup(alloc, query, message, now)?))),
-        Some(Err(error)) => Ok(Some(Err(error))),
+        Some(Err(answer)) => Ok(Some(Err(NetError::from(answer)))),
         None => Ok(None),
     }
 }

@@ -2,8 +2,7 @@
 
 ghost use Rattle.std.specs.Prelude.{◌≡◌, ◌≢◌, ◌&&◌, ℕ, nat_lt, false, IfOk, IsOk, IsErr, Ok, Err};
 ghost use Rattle.dns_messages.specs.declared.query.Query.{Query};
-ghost use Rattle.dns_messages.specs.Response.{soa_in};
-ghost use Rattle.stub_lookup.specs.Outcome.{as_soa, outcome, with_soa_data};
+ghost use Rattle.stub_lookup.specs.Outcome.{outcome};
 ghost use Rattle.stub_client.specs.Looks.{MayRunOut};
 ghost use Rattle.stub_client.specs.Step.{given_message, is_given, kept_aliases, max_depth, meaning, next_question, nothing_found, step_along, step_of, step_on};
 ghost use Rattle.stub_client.specs.declared.caching_client.step.LookupSettings.{LookupSettings};
@@ -13,10 +12,9 @@ ghost use Rattle.stub_lookup.specs.declared.error.NetError.TheVariants.{Dns, Mem
 
 use super::answers::{given_message, is_given, kept_aliases};
 use super::chain::{Chain, chain_of};
-use dns_data::{RData, SOA};
 use dns_messages::{DnsResponse, Message, Query, Record, Sequence};
 use std::alloc::{AllocError, Global};
-use stub_lookup::{DnsError, NetError, NoRecords};
+use stub_lookup::{DnsError, NetError, NoRecords, copy_soa};
 
 /// The number of aliases that are followed.
 const MAX_DEPTH: u8 = 7;
@@ -202,33 +200,4 @@ fn nothing_found(query: &Query, response: &DnsResponse) -> Result<NoRecords, All
     answer.soa = soa;
     answer.negative_ttl = response.negative_ttl();
     Ok(answer)
-}
-
-/// Copies the first SOA record of the authority section.
-fn copy_soa(response: &DnsResponse) -> Result<Option<Record<SOA>>, AllocError>
-    ensures { IfOk result (λ soa. soa ≡ as_soa (soa_in response.now.message.authorities)) }
-{
-    match response.soa() {
-        Some(entry) => copy_with_soa_data(entry),
-        None => Ok(None),
-    }
-}
-
-/// Copies a record as one with data of the type SOA, if its data is of this type.
-fn copy_with_soa_data(entry: &Record) -> Result<Option<Record<SOA>>, AllocError>
-    ensures { IfOk result (λ soa. soa ≡ with_soa_data entry.now entry.now.rdata) }
-{
-    match &entry.rdata {
-        RData::SOA(soa) => {
-            let name = entry.name.clone()?;
-            let rdata = soa.clone()?;
-            Ok(Some(Record {
-                name,
-                dns_class: entry.dns_class,
-                ttl: entry.ttl,
-                rdata,
-            }))
-        }
-        _ => Ok(None),
-    }
 }

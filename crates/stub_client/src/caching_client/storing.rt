@@ -11,11 +11,10 @@ ghost use Rattle.stub_client.specs.internal.Looks.{reply_if_stored};
 use dns_messages::{Message, OpCode, Query};
 use std::alloc::{AllocError, Global};
 use stub_cache::ResponseCache;
-use stub_lookup::{DnsError, Lookup, Moment, NetError, NoRecords, copy_message, copy_records};
+use stub_lookup::{DnsError, Lookup, Moment, NetError, NoRecords, copy_records};
 
 /// Stores a message as the response to a question, and returns its lookup.
 pub(super) fn store_message(
-    alloc: Global,
     cache: &mut ResponseCache,
     query: Query,
     message: Message,
@@ -26,7 +25,7 @@ pub(super) fn store_message(
     ensures { Stores now cache.old query (Some (Ok message))
         (given_reply cache.old.config now query message) result cache.new }
 {
-    let lookup = given_lookup(alloc, cache, &query, &message, now);
+    let lookup = given_lookup(cache, &query, &message, now);
     let stored = cache.insert_message(query, message, now);
     lookup_if_stored(stored, lookup)
 }
@@ -34,7 +33,6 @@ pub(super) fn store_message(
 /// Returns the lookup of a message that is stored: a copy with its TTLs within their bounds, which is valid as long as
 /// the message is stored.
 fn given_lookup(
-    alloc: Global,
     cache: &ResponseCache,
     query: &Query,
     message: &Message,
@@ -45,7 +43,7 @@ fn given_lookup(
     ensures { IfOk result (λ lookup.
         Ok lookup ≡ given_reply cache.now.config now query.now message.now) }
 {
-    let mut copy = copy_message(alloc, message)?;
+    let mut copy = message.clone()?;
     let lifetime = cache.clamp_positive_ttls(query.query_type, &mut copy);
     Ok(Lookup::new(copy, now + u64::from(lifetime)))
 }
@@ -63,7 +61,6 @@ fn lookup_if_stored(
 
 /// Stores a negative answer to a question, and returns it.
 pub(super) fn store_answer(
-    alloc: Global,
     cache: &mut ResponseCache,
     query: Query,
     answer: NoRecords,
@@ -72,7 +69,7 @@ pub(super) fn store_answer(
     requires { now ≤ 2 ^ 62 }
     ensures { Stores now cache.old query (Some (Err answer)) (negative answer) result cache.new }
 {
-    let copy = answer.clone(alloc);
+    let copy = answer.clone();
     let stored = cache.insert_answer(query, answer, now);
     answer_if_stored(stored, copy)
 }
@@ -101,7 +98,7 @@ pub(super) fn store_reply(
 {
     match reply {
         Ok(lookup) => store_lookup(alloc, cache, query, lookup, now),
-        Err(error) => store_failure(alloc, cache, query, error, now),
+        Err(error) => store_failure(cache, query, error, now),
     }
 }
 
@@ -138,7 +135,6 @@ fn insert_response(
 
 /// Stores an error to which the alias of a question led, if it is a negative answer, and returns it.
 fn store_failure(
-    alloc: Global,
     cache: &mut ResponseCache,
     query: Query,
     error: NetError,
@@ -148,7 +144,7 @@ fn store_failure(
     ensures { Stores now cache.old query (kept_of query (Err error)) (Err error) result cache.new }
 {
     match error.into_no_records() {
-        Ok(answer) => store_answer(alloc, cache, query, answer, now),
+        Ok(answer) => store_answer(cache, query, answer, now),
         Err(error) => Err(error),
     }
 }
@@ -158,7 +154,7 @@ fn response_to(alloc: Global, query: &Query, lookup: &Lookup) -> Result<Message,
     ensures { IfOk result (λ response. Some (Ok response) ≡ kept_of query.now (Ok lookup.now)) }
 {
     let mut response = empty_response(alloc, query)?;
-    copy_sections(alloc, lookup, &mut response)?;
+    copy_sections(lookup, &mut response)?;
     Ok(response)
 }
 
@@ -173,16 +169,16 @@ fn empty_response(alloc: Global, query: &Query) -> Result<Message, AllocError>
 }
 
 /// Copies the records of a lookup into a response.
-fn copy_sections(alloc: Global, lookup: &Lookup, response: &mut Message) -> Result<(), AllocError>
+fn copy_sections(lookup: &Lookup, response: &mut Message) -> Result<(), AllocError>
     ensures { OnOk result (response.new ≡ record response.old {
       answers = lookup.now.message.answers;
       authorities = lookup.now.message.authorities;
       additionals = lookup.now.message.additionals;
     }) }
 {
-    response.insert_answers(copy_records(alloc, lookup.answers())?);
-    response.insert_authorities(copy_records(alloc, lookup.authorities())?);
-    response.insert_additionals(copy_records(alloc, lookup.additionals())?);
+    response.insert_answers(copy_records(&lookup.message().answers)?.into_vec());
+    response.insert_authorities(copy_records(&lookup.message().authorities)?.into_vec());
+    response.insert_additionals(copy_records(&lookup.message().additionals)?.into_vec());
     Ok(())
 }
 

@@ -6,6 +6,7 @@ use Rattle.stub_config.specs.declared.config.connection.ProtocolConfig.{Protocol
 use Rattle.stub_config.specs.declared.config.connection.ProtocolConfig.TheVariants.{Udp, Tcp}
 use Rattle.stub_config.specs.declared.config.connection.ConnectionConfig.{ConnectionConfig}
 
+-- the protocol of a connection's settings
 abbrev pub protocol_of : ProtocolConfig → Protocol
 protocol_of Udp = protocols.Udp
 protocol_of Tcp = protocols.Tcp

@@ -7,6 +7,7 @@ use Rattle.stub_config.specs.declared.config.name_server.NameServerConfig.{NameS
 use Rattle.stub_config.specs.declared.config.server_group.Protocols.{Protocols}
 use Rattle.stub_config.specs.declared.config.server_group.Protocols.TheVariants.{Udp, Tcp, UdpAndTcp}
 
+-- the connections to each server of a group
 abbrev pub connections_of : Protocols → List ConnectionConfig
 connections_of Udp = udp_connection
 connections_of Tcp = tcp_connection

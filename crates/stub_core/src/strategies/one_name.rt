@@ -10,7 +10,6 @@ use crate::attempts::{ask_with_hosts, is_final};
 use dns_messages::Query;
 use dns_names::Name;
 use dns_wire::RecordType;
-use std::alloc::Global;
 use stub_cache::Hosts;
 use stub_client::{CachingClient, DnsHandle};
 use stub_config::{DnsRequestOptions, LookupIpStrategy};
@@ -18,7 +17,6 @@ use stub_lookup::{Lookup, Moment, NetError};
 
 /// Looks up the addresses of a name, of the types and in the order of a strategy.
 pub(super) fn look_up_addresses<C: DnsHandle>(
-    alloc: Global,
     name: &Name,
     strategy: LookupIpStrategy,
     client: &mut CachingClient<C>,
@@ -34,18 +32,17 @@ pub(super) fn look_up_addresses<C: DnsHandle>(
     let v4 = RecordType::A;
     let v6 = RecordType::AAAA;
     match strategy {
-        LookupIpStrategy::Ipv4Only => one(alloc, name, v4, client, options, hosts, now),
-        LookupIpStrategy::Ipv6Only => one(alloc, name, v6, client, options, hosts, now),
-        LookupIpStrategy::Ipv4AndIpv6 => both(alloc, name, v4, v6, client, options, hosts, now),
-        LookupIpStrategy::Ipv6AndIpv4 => both(alloc, name, v6, v4, client, options, hosts, now),
-        LookupIpStrategy::Ipv6thenIpv4 => then(alloc, name, v6, v4, client, options, hosts, now),
-        LookupIpStrategy::Ipv4thenIpv6 => then(alloc, name, v4, v6, client, options, hosts, now),
+        LookupIpStrategy::Ipv4Only => one(name, v4, client, options, hosts, now),
+        LookupIpStrategy::Ipv6Only => one(name, v6, client, options, hosts, now),
+        LookupIpStrategy::Ipv4AndIpv6 => both(name, v4, v6, client, options, hosts, now),
+        LookupIpStrategy::Ipv6AndIpv4 => both(name, v6, v4, client, options, hosts, now),
+        LookupIpStrategy::Ipv6thenIpv4 => then(name, v6, v4, client, options, hosts, now),
+        LookupIpStrategy::Ipv4thenIpv6 => then(name, v4, v6, client, options, hosts, now),
     }
 }
 
 /// Looks up the records of a type.
 fn one<C: DnsHandle>(
-    alloc: Global,
     name: &Name,
     record_type: RecordType,
     client: &mut CachingClient<C>,
@@ -59,12 +56,11 @@ fn one<C: DnsHandle>(
         client.old (question name.now record_type) result client.new }
 {
     let query = Query::query(name.clone()?, record_type);
-    ask_with_hosts(alloc, query, options, client, hosts, now)
+    ask_with_hosts(query, options, client, hosts, now)
 }
 
 /// Looks up the records of two types, one after the other, and joins what was found.
 fn both<C: DnsHandle>(
-    alloc: Global,
     name: &Name,
     first: RecordType,
     second: RecordType,
@@ -79,17 +75,16 @@ fn both<C: DnsHandle>(
         old (question name.now kind) reply new)
         first second client.old result client.new }
 {
-    let reply = one(alloc, name, first, client, options, hosts, now);
+    let reply = one(name, first, client, options, hosts, now);
     if is_out_of_memory(&reply) {
         return reply;
     }
-    let other = one(alloc, name, second, client, options, hosts, now);
-    join(alloc, reply, other)
+    let other = one(name, second, client, options, hosts, now);
+    join(reply, other)
 }
 
 /// Looks up the records of the first type, and those of the second if there are none.
 fn then<C: DnsHandle>(
-    alloc: Global,
     name: &Name,
     first: RecordType,
     second: RecordType,
@@ -104,12 +99,12 @@ fn then<C: DnsHandle>(
         old (question name.now kind) reply new)
         first second client.old result client.new }
 {
-    let found = one(alloc, name, first, client, options, hosts, now);
+    let found = one(name, first, client, options, hosts, now);
     if is_final(&found) {
         return found;
     }
     drop(found);
-    one(alloc, name, second, client, options, hosts, now)
+    one(name, second, client, options, hosts, now)
 }
 
 /// Returns `true` if memory ran out.
@@ -121,7 +116,6 @@ fn is_out_of_memory(reply: &Result<Lookup, NetError>) -> bool
 
 /// Joins the replies for two types: the records of both, or of the one that was found, or the first error.
 fn join(
-    alloc: Global,
     first: Result<Lookup, NetError>,
     second: Result<Lookup, NetError>,
 ) -> Result<Lookup, NetError>
@@ -132,7 +126,7 @@ fn join(
         return second;
     }
     match second {
-        Ok(lookup) => join_found(alloc, first, lookup),
+        Ok(lookup) => join_found(first, lookup),
         Err(other) => {
             drop(other);
             first
@@ -141,15 +135,11 @@ fn join(
 }
 
 /// Appends a lookup to that of the reply for the first type, or returns it if the reply is an error.
-fn join_found(
-    alloc: Global,
-    first: Result<Lookup, NetError>,
-    second: Lookup,
-) -> Result<Lookup, NetError>
+fn join_found(first: Result<Lookup, NetError>, second: Lookup) -> Result<Lookup, NetError>
     ensures { Joins first (Ok second) result }
 {
     match first {
-        Ok(lookup) => Ok(lookup.append(alloc, second)?),
+        Ok(lookup) => Ok(lookup.append(second)?),
         Err(error) => {
             drop(error);
             Ok(second)

@@ -14,5 +14,5 @@ returns-then-others-own c =
 pub returns-else-others-own : goal.returns-else-others-own
 returns-else-others-own c =
     let none : at_or_below (map (λ label. label.now) c.args.labels.now) c.args.self.now.labels ≡ false =
-        too_short (map (λ label. label.now) c.args.labels.now) c.args.self.now.labels (omega (arith, length-map c.args.labels.now (λ label. label.now))) in
+    too_short (map (λ label. label.now) c.args.labels.now) c.args.self.now.labels (omega (arith, length-map c.args.labels.now (λ label. label.now))) in
     rw none (grind (arith, nat_tests))

@@ -14,4 +14,4 @@ returns c =
     c.lesser_of.ensures
     ∙ ap (λ first. lesser_of first c.least_ttl-authorities.result) (c.least_ttl-answers.ensures ∙ ap least c.as_slice.ensures)
     ∙ ap (λ second. lesser_of (least m.answers) second) (c.least_ttl-authorities.ensures ∙ ap least c.as_slice-2.ensures)
-    ∙ least_for_ns asked m (sym c.is_same_type.ensures ∙ c.if-not-is_same_type.false)
+    ∙ least_for_ns asked m (sym c.is_same.ensures ∙ c.if-not-is_same.false)

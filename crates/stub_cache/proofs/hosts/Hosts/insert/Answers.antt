@@ -24,7 +24,7 @@ returns-in_default-clause-ok c =
     let hosts : HostsContent = record { a = c.self.inside.a; aaaa = c.self.inside.aaaa } in
     let own = c.set_fqdn.new.self in
     let kind : RecordType = type_of (type_number c.args.record_type) in
-    let kind_is : kind ≡ types.A = address_type_is (type_number c.args.record_type) c.requires.address (λ e. c.in_default.not-AAAA (c.from-2.ensures ∙ ap type_of c.from.ensures ∙ e)) in
+    let kind_is : kind ≡ types.A = address_type_is (type_number c.args.record_type) c.requires.address (λ e. c.in_default.not-AAAA (c.canonical.ensures ∙ e)) in
     on_ok_weaker c.insert-in_default.result
     (λ (e : c.insert-in_default.new.self ≡ with_entry own (fresh own types.A c.args.now) c.args.lookup c.self.inside.a).
     inserted_a hosts c.args.name own kind c.args.lookup c.args.now c.insert-in_default.new.self c.set_fqdn.ensures kind_is e
