@@ -6,7 +6,7 @@ use Rattle.dns_wire.specs.declared.name_encoding.NameEncoding.TheVariants.{Uncom
 use Rattle.dns_wire.proofs.NameLaws.{length-whole_form}
 use Rattle.dns_wire.proofs.PieceLaws.{form-encoding}
 use Rattle.dns_wire.proofs.SectionLaws.{piece_max_len, pieces_max_len, name_form-most}
-use Rattle.dns_data.specs.Field.{OptionValue, Kind, Values, option_form, values_pieces, values_len}
+use Rattle.dns_data.specs.Field.{OptionValue, Kind, Values, option_form, value_pieces, values_pieces, values_len}
 use Rattle.dns_data.specs.rdata.OPT.{opt_kinds, opt_values}
 use Rattle.dns_data.specs.rdata.TXT.{txt_kinds, txt_values}
 use Rattle.dns_data.specs.Wire.{ItemsUpTo, no_more_items, one_more_item}
@@ -52,6 +52,10 @@ items_len ItemAt pieces each {place = place} (one_more_item {middle = m} {item =
 
 pub values_len-pieces : (kinds : List Kind) (values : Values kinds) → values_len kinds values ≡ pieces_max_len (values_pieces false kinds values)
 values_len-pieces kinds values = form-whole (values_pieces false kinds values)
+
+pub values_len-cons : (kind : Kind) (kinds : List Kind) (values : Values (kind ∷ kinds)) → values_len (kind ∷ kinds) values ≡ values_len (kind ∷ []) (values.0, tt) + values_len kinds values.1
+values_len-cons kind kinds values =
+    omega (arith, values_len-pieces (kind ∷ kinds) values, values_len-pieces (kind ∷ []) (values.0, tt), values_len-pieces kinds values.1, pieces_max_len-append (value_pieces false kind values.0) (values_pieces false kinds values.1), pieces_max_len-append (value_pieces false kind values.0) [])
 
 string_first : (string : List ℕ) (strings : List (List ℕ)) → values_len txt_kinds (txt_values (string ∷ strings)) ≡ (1 + length string) + values_len txt_kinds (txt_values strings)
 string_first string strings = omega (arith, values_len-pieces txt_kinds (txt_values (string ∷ strings)), values_len-pieces txt_kinds (txt_values strings))

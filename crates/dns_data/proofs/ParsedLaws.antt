@@ -12,7 +12,7 @@ use Rattle.dns_data.specs.declared.error.RDataParseError.{RDataParseError}
 use Rattle.dns_data.specs.declared.rdata.RData.{RData}
 use Rattle.dns_data.specs.declared.rdata.RData.TheVariants as of
 use Rattle.dns_data.specs.rdata.{data_type, data_kinds, data_values, kinds_of_type, IsParsedData, RefusesText, no_text, bad_tokens}
-use Rattle.dns_data.proofs.UnambiguousLaws.{data_of}
+use Rattle.dns_data.proofs.TypeLaws.{data_of}
 
 -- ---- one value of each kind
 

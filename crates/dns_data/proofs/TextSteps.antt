@@ -1,9 +1,8 @@
 -- The fields of record data, one after another.
-use Rattle.std.proofs.Common.{◌≡◌, true, false, List, [], Option, refl, sym, ap, subst, ◌∙◌, rules}
+use Rattle.std.proofs.Common.{◌≡◌, true, List, [], Option, sym, ap, subst, ◌∙◌}
 use Rattle.std.specs.Prelude.{◌≢◌}
 use Rattle.dns_codes.specs.RecordType.{type_number, type_of}
 use Rattle.dns_codes.specs.declared.record_type.RecordType.{RecordType}
-use Rattle.dns_codes.specs.declared.record_type.RecordType.TheVariants as types
 use Rattle.dns_names.specs.Name.{DomainName}
 use Rattle.dns_text.specs.Lexer.{Lexeme}
 use Rattle.dns_data.specs.Text.{AreParsed, RefusesTokens, tokens_left, has_text}
@@ -16,11 +15,6 @@ pub left_over : {origin : Option DomainName} {tokens : List Lexeme} {error : RDa
 left_over {origin} {tokens} p = subst (λ (e : RDataParseError). RefusesTokens origin [] tokens e) (sym p.1) (tokens_left p.0)
 
 -- ---- data of a type
-
-pub no_form : (t : RecordType) → ¬ (t ≡ types.A) → ¬ (t ≡ types.AAAA) → ¬ (t ≡ types.CNAME) → ¬ (t ≡ types.NS) → ¬ (t ≡ types.PTR) → ¬ (t ≡ types.MX) → ¬ (t ≡ types.SOA) → ¬ (t ≡ types.SRV) → ¬ (t ≡ types.TXT)
-    → has_text (kinds_of_type t) ≡ false
-no_form types.A a b c d e f g h i = absurd (a refl)
-no_form t a b c d e f g h i = search rules
 
 pub parsed_as : {origin : Option DomainName} {record_type : RecordType} {tokens : List Lexeme} {d : RData} (old : List Lexeme) → old ≡ tokens → type_of (type_number record_type) ≡ data_type d
     → has_text (kinds_of_type (data_type d)) ≡ true → data_kinds d ≡ kinds_of_type (data_type d) → AreParsed origin (data_kinds d) old (data_values d) → IsParsedData origin record_type tokens d

@@ -4,7 +4,7 @@ use Rattle.dns_codes.specs.declared.record_type.RecordType.{RecordType}
 use Rattle.dns_codes.specs.declared.record_type.RecordType.TheVariants as types
 use Rattle.dns_codes.specs.RecordType.{type_number, type_of}
 use Rattle.dns_wire.specs.declared.error.DecodeError.{DecodeError}
-use Rattle.dns_data.specs.Field.{OptionValue, Opaque, Values, AreSoundValues}
+use Rattle.dns_data.specs.Field.{Kind, OptionValue, Values, AreSoundValues}
 use Rattle.dns_data.specs.Wire.{OptionAt, ValuesAt}
 use Rattle.dns_data.specs.declared.rdata.RData.{RData}
 use Rattle.dns_data.specs.declared.rdata.RData.TheVariants as of
@@ -12,42 +12,16 @@ use Rattle.dns_data.specs.rdata.{data_type, data_kinds, data_values, kinds_of_ty
 use Rattle.dns_data.proofs.WireLaws.{values_same, data_not_refused, data_refusal_same}
 use Rattle.dns_data.proofs.LayoutLaws.{layout_at, items-ahead, no_values}
 use Rattle.dns_data.proofs.DataLaws.{data_layout}
-
--- the data of a type with some values
-abbrev pub data_of : (t : RecordType) → Values (kinds_of_type t) → RData
-data_of types.A v = of.A (record { 0 = v.0 })
-data_of types.AAAA v = of.AAAA (record { 0 = v.0 })
-data_of types.CNAME v = of.CNAME (record { 0 = v.0 })
-data_of types.NS v = of.NS (record { 0 = v.0 })
-data_of types.PTR v = of.PTR (record { 0 = v.0 })
-data_of types.MX v = of.MX (record { preference = v.0; exchange = v.1.0 })
-data_of types.SOA v = of.SOA (record { mname = v.0; rname = v.1.0; serial = v.1.1.0; refresh = v.1.1.1.0; retry = v.1.1.1.1.0; expire = v.1.1.1.1.1.0; minimum = v.1.1.1.1.1.1.0 })
-data_of types.SRV v = of.SRV (record { priority = v.0; weight = v.1.0; port = v.1.1.0; target = v.1.1.1.0 })
-data_of types.TXT v = of.TXT v.0
-data_of types.OPT v = of.OPT v.0
-data_of other v = of.Unknown other v.0
+use Rattle.dns_data.proofs.TypeLaws.{data_of, opaque_values}
 
 module _ (bytes : List ℕ) (place data_end : ℕ) where
   -- data is that of its type with its values
   abbrev pub HasValues : RecordType → RData → Type 0
   HasValues t d = (v : Values (kinds_of_type t)) × (d ≡ data_of t v) × ValuesAt bytes data_end (kinds_of_type t) place v data_end
 
-  opaque_values : (code : RecordType) (bs : List ℕ) → data_kinds (of.Unknown code bs) ≡ kinds_of_type code → ValuesAt bytes data_end (Opaque ∷ []) place (bs, tt) data_end → HasValues code (of.Unknown code bs)
-  opaque_values types.A bs e h = absurd (cc)
-  opaque_values types.AAAA bs e h = absurd (cc)
-  opaque_values types.CNAME bs e h = absurd (cc)
-  opaque_values types.NS bs e h = absurd (cc)
-  opaque_values types.PTR bs e h = absurd (cc)
-  opaque_values types.MX bs e h = absurd (cc)
-  opaque_values types.SOA bs e h = absurd (cc)
-  opaque_values types.SRV bs e h = absurd (cc)
-  opaque_values types.TXT bs e h = absurd (cc)
-  opaque_values types.OPT bs e h = absurd (cc)
-  opaque_values code bs e h = ((bs, tt), refl, h)
-
   has_values : (d : RData) → HasFieldsOfType d → place < data_end → ValuesAt bytes data_end (data_kinds d) place (data_values d) data_end → HasValues (data_type d) d
   has_values (of.Update0 t) fields some h = absurd (omega (arith, some, h))
-  has_values (of.Unknown code bs) fields some h = opaque_values code bs fields h
+  has_values (of.Unknown code bs) fields some h = opaque_values (λ (kinds : List Kind) (v : Values kinds). ValuesAt bytes data_end kinds place v data_end) code bs fields h
   has_values d fields some h = (data_values d, refl, h)
 
 type_values : (bytes : List ℕ) (place len : ℕ) (t : RecordType) (d : RData) → 0 < len → ReadsData bytes place t len d → HasValues bytes place (place + len) (type_of (type_number t)) d

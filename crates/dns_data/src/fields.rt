@@ -1,7 +1,9 @@
 //! The fields of record data one after another, on the wire and in text (RFC 1035 sections 3.3 and 5.1).
 
-ghost use Rattle.std.specs.Prelude.{◌≡◌, ◌≢◌, ◌+◌, [], ◌∷◌, ℕ, List, IfOk, IfErr, option_map};
-ghost use Rattle.dns_data.specs.Field.{Kind, Number16, Number32, Seconds, Address4, Address6, CompressibleName, WholeName, ValueOf, Values};
+ghost use Rattle.std.specs.Prelude.{◌≡◌, ◌≢◌, ◌+◌, ◌*◌, ◌<◌, ◌≤◌, ◌^◌, [], ◌∷◌, ℕ, List, length, IsOk, IfOk, IfErr, option_map};
+ghost use Rattle.dns_wire.specs.Encoder.{state_of, IsAtEnd};
+ghost use Rattle.dns_wire.specs.Encodable.{Emits, AreWritable};
+ghost use Rattle.dns_data.specs.Field.{Kind, Number16, Number32, Seconds, Address4, Address6, CompressibleName, WholeName, ValueOf, Values, value_pieces, values_pieces, values_len};
 ghost use Rattle.dns_data.specs.Wire.{ValueAt, ValuesAt, RefusesValue, RefusesFields};
 ghost use Rattle.dns_data.specs.Text.{Takes, AreParsed, RefusesToken, RefusesTokens};
 
@@ -9,7 +11,7 @@ use crate::error::RDataParseError;
 use crate::text::DataTokens;
 use crate::wire::{read_ipv4, read_ipv6};
 use dns_names::Name;
-use dns_wire::{BinDecodable, BinDecoder, DecodeError};
+use dns_wire::{BinDecodable, BinDecoder, BinEncoder, DecodeError, EncodeError, RDataEncoding};
 use std::alloc::Global;
 use std::net::{Ipv4Addr, Ipv6Addr};
 
@@ -46,6 +48,10 @@ pub(crate) struct Time(pub(crate) u32);
 /// A name that is never compressed (RFC 3597 section 4).
 #[derive(Drop)]
 pub(crate) struct Whole(pub(crate) Name);
+
+/// A name that is never compressed, to be encoded.
+#[derive(Clone, Copy)]
+pub(crate) struct WholeRef<'a>(pub(crate) &'a Name);
 
 impl Field for u16 {
     ghost kind = { Number16 };
@@ -284,5 +290,177 @@ pub(crate) trait FixedData<F: Fields>: Drop {
     {
         let given = F::parse_fields(alloc, tokens, origin)?;
         Ok(Self::from_fields(given))
+    }
+}
+
+// ---- encoding
+
+/// A field that is encoded.
+pub(crate) trait WriteField {
+    ghost kind: { Kind };
+
+    ghost value: { Self → ValueOf kind };
+
+    /// Writes the field.
+    fn emit_field(&self, encoder: &mut BinEncoder<'_>) -> Result<(), EncodeError>
+        requires { IsAtEnd (state_of encoder.old) }
+        ensures emits { Emits (state_of encoder.old)
+            (value_pieces (state_of encoder.old).canonical kind (value self.now))
+            result (state_of encoder.new) }
+        ensures writable { IsOk result → AreWritable
+            (value_pieces (state_of encoder.old).canonical kind (value self.now)) };
+
+    /// Returns the length of the field's uncompressed encoding.
+    fn field_len(&self) -> u128
+        ensures value { result ≡ values_len (kind ∷ []) (value self.now, tt) }
+        ensures bounded { result ≤ 255 };
+}
+
+/// Fields that are encoded one after another: `(first, (second, ()))`.
+pub(crate) trait WriteFields {
+    ghost kinds: { List Kind };
+
+    ghost values: { Self → Values kinds };
+
+    /// Writes the fields.
+    fn emit_fields(&self, encoder: &mut BinEncoder<'_>) -> Result<(), EncodeError>
+        requires { IsAtEnd (state_of encoder.old) }
+        ensures emits { Emits (state_of encoder.old)
+            (values_pieces (state_of encoder.old).canonical kinds (values self.now))
+            result (state_of encoder.new) }
+        ensures writable { IsOk result → AreWritable
+            (values_pieces (state_of encoder.old).canonical kinds (values self.now)) };
+
+    /// Returns the length of the fields' uncompressed encoding.
+    fn fields_len(&self) -> u128
+        requires { length kinds < 2 ^ 64 }
+        ensures value { result ≡ values_len kinds (values self.now) }
+        ensures bounded { result ≤ 255 * length kinds };
+}
+
+impl WriteFields for () {
+    ghost kinds = { [] };
+
+    ghost values = { λ _. tt };
+
+    fn emit_fields(&self, _encoder: &mut BinEncoder<'_>) -> Result<(), EncodeError> {
+        Ok(())
+    }
+
+    fn fields_len(&self) -> u128 {
+        0
+    }
+}
+
+impl<F: WriteField, R: WriteFields> WriteFields for (F, R) {
+    ghost kinds = { F.kind ∷ R.kinds };
+
+    ghost values = { λ fields. (F.value fields.0, R.values fields.1) };
+
+    fn emit_fields(&self, encoder: &mut BinEncoder<'_>) -> Result<(), EncodeError> {
+        self.0.emit_field(encoder)?;
+        self.1.emit_fields(encoder)
+    }
+
+    fn fields_len(&self) -> u128 {
+        self.0.field_len() + self.1.fields_len()
+    }
+}
+
+impl WriteField for u16 {
+    ghost kind = { Number16 };
+
+    ghost value = { λ number. number };
+
+    fn emit_field(&self, encoder: &mut BinEncoder<'_>) -> Result<(), EncodeError> {
+        encoder.emit_u16(*self)
+    }
+
+    fn field_len(&self) -> u128 {
+        2
+    }
+}
+
+impl WriteField for u32 {
+    ghost kind = { Number32 };
+
+    ghost value = { λ number. number };
+
+    fn emit_field(&self, encoder: &mut BinEncoder<'_>) -> Result<(), EncodeError> {
+        encoder.emit_u32(*self)
+    }
+
+    fn field_len(&self) -> u128 {
+        4
+    }
+}
+
+impl WriteField for Time {
+    ghost kind = { Seconds };
+
+    ghost value = { λ time. time.0 };
+
+    fn emit_field(&self, encoder: &mut BinEncoder<'_>) -> Result<(), EncodeError> {
+        encoder.emit_u32(self.0)
+    }
+
+    fn field_len(&self) -> u128 {
+        4
+    }
+}
+
+impl WriteField for Ipv4Addr {
+    ghost kind = { Address4 };
+
+    ghost value = { λ address. address };
+
+    fn emit_field(&self, encoder: &mut BinEncoder<'_>) -> Result<(), EncodeError> {
+        encoder.emit_vec(&self.octets())
+    }
+
+    fn field_len(&self) -> u128 {
+        self.octets().len() as u128
+    }
+}
+
+impl WriteField for Ipv6Addr {
+    ghost kind = { Address6 };
+
+    ghost value = { λ address. address };
+
+    fn emit_field(&self, encoder: &mut BinEncoder<'_>) -> Result<(), EncodeError> {
+        encoder.emit_vec(&self.octets())
+    }
+
+    fn field_len(&self) -> u128 {
+        self.octets().len() as u128
+    }
+}
+
+impl WriteField for &Name {
+    ghost kind = { CompressibleName };
+
+    ghost value = { λ name. name.now };
+
+    fn emit_field(&self, encoder: &mut BinEncoder<'_>) -> Result<(), EncodeError> {
+        self.emit_with_behavior(RDataEncoding::StandardRecord, encoder)
+    }
+
+    fn field_len(&self) -> u128 {
+        self.encoded_len() as u128
+    }
+}
+
+impl WriteField for WholeRef<'_> {
+    ghost kind = { WholeName };
+
+    ghost value = { λ name. name.0.now };
+
+    fn emit_field(&self, encoder: &mut BinEncoder<'_>) -> Result<(), EncodeError> {
+        self.0.emit_with_behavior(RDataEncoding::Canonical, encoder)
+    }
+
+    fn field_len(&self) -> u128 {
+        self.0.encoded_len() as u128
     }
 }

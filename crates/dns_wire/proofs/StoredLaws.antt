@@ -1,12 +1,11 @@
 -- Suffixes whose bytes are stored one after another.
-use Rattle.std.proofs.Common.{◌≡◌, ℕ, zero, suc, ◌+◌, Bool, true, false, cond, leb, ltb, List, [], ◌∷◌, ◌++◌, ◌≤◌, length, length-append, length-take, take, drop, Some, refl, sym, ap, ◌∙◌, subst, arith}
+use Rattle.std.proofs.Common.{◌≡◌, ℕ, zero, suc, ◌+◌, Bool, true, false, cond, ltb, List, [], ◌∷◌, ◌++◌, ◌≤◌, length, take, drop, Some, refl, sym, ap, ◌∙◌, subst, arith}
 use Rattle.std.specs.Prelude.{filter, slice_range, slice_get, Result, Ok, Err, OnErr}
 use Rattle.std.proofs.lemmas.List.{take-append-le, take-append-drop, take_all, drop_at}
-use Rattle.std.proofs.lemmas.Bool.{le-leb}
 use Rattle.std.proofs.lemmas.Slice.{between_is}
 use Rattle.dns_wire.specs.Suffixes.{Suffix, suffixes_before}
-use Rattle.dns_wire.specs.internal.Suffixes.{bytes_of, suffix_of, suffixes_of, AreStoredFrom}
-use Rattle.dns_wire.specs.declared.suffix_index.Entry.{Entry}
+use Rattle.dns_wire.specs.internal.Suffixes.{suffix_of, suffixes_of, AreStoredFrom}
+use Rattle.dns_wire.specs.declared.suffixes.Entry.{Entry}
 
 pub on_err : {T E P : Type 0} (r : Result T E) → P → OnErr r P
 on_err (Ok x) p = tt
@@ -51,30 +50,18 @@ stored-last place end (x ∷ []) zero e are len found = let same : x ≡ e = cc 
 stored-last place end (x ∷ y ∷ es) zero e are len found = absurd (omega (arith, len))
 stored-last place end (x ∷ es) (suc last) e are len found = (are.0, are.1, stored-last x.end end es last e are.2 (omega (arith, len)) found)
 
--- after the store is cut
-pub stored-take : (n : ℕ) (stored : List ℕ) (es : List Entry) → AreStoredFrom 0 n es → n ≤ length stored → AreStoredFrom 0 (length (take n stored)) es
-stored-take n stored es are within = stored-later 0 n (length (take n stored)) es (omega (arith, length-take n stored)) are
-
 -- ---- the bytes
 
 -- bytes behind a range do not change it
-pub bytes_of-append : (stored more : List ℕ) (e : Entry) → e.end ≤ length stored → bytes_of (stored ++ more) e ≡ bytes_of stored e
-bytes_of-append stored more e within =
-    let before : leb e.end (length stored) ≡ true = le-leb _ _ within in
-    let after : leb e.end (length (stored ++ more)) ≡ true = le-leb _ _ (omega (arith, length-append stored more)) in
-    rw (before, after) (between_is (stored ++ more) e.start e.end ∙ ap (drop e.start) (take-append-le e.end stored more within) ∙ sym (between_is stored e.start e.end))
-
--- bytes that are stored last
-pub bytes_of-last : (stored more : List ℕ) (e : Entry) → e.start ≡ length stored → e.end ≡ length (stored ++ more) → bytes_of (stored ++ more) e ≡ more
-bytes_of-last stored more e start end =
-    let within : leb e.end (length (stored ++ more)) ≡ true = le-leb _ _ (omega (arith, end)) in
-    rw within (between_is (stored ++ more) e.start e.end ∙ ap (drop e.start) (take_all e.end (stored ++ more) (omega (arith, end))) ∙ drop_at stored more e.start (sym start))
+range-append : (stored more : List ℕ) (e : Entry) → e.end ≤ length stored → slice_range (stored ++ more) e.start e.end ≡ slice_range stored e.start e.end
+range-append stored more e within =
+    between_is (stored ++ more) e.start e.end ∙ ap (drop e.start) (take-append-le e.end stored more within) ∙ sym (between_is stored e.start e.end)
 
 pub suffixes_of-append : (place : ℕ) (stored more : List ℕ) (es : List Entry) → AreStoredFrom place (length stored) es → suffixes_of (stored ++ more) es ≡ suffixes_of stored es
 suffixes_of-append place stored more [] are = refl
 suffixes_of-append place stored more (e ∷ es) are =
     let within = stored-at place (length stored) (e ∷ es) 0 e are refl in
-    rw (bytes_of-append stored more e within.1) (ap (λ (ss : List Suffix). suffix_of stored e ∷ ss) (suffixes_of-append e.end stored more es are.2))
+    rw (range-append stored more e within.1) (ap (λ (ss : List Suffix). suffix_of stored e ∷ ss) (suffixes_of-append e.end stored more es are.2))
 
 pub suffixes_of-take : (place n : ℕ) (stored : List ℕ) (es : List Entry) → AreStoredFrom place (length (take n stored)) es → suffixes_of (take n stored) es ≡ suffixes_of stored es
 suffixes_of-take place n stored es are =
@@ -93,7 +80,10 @@ suffixes_of-before place stored (e ∷ es) = at (ltb e.offset place) (suffixes_o
 -- a suffix more, with its bytes at the end
 pub suffixes_of-push : (place : ℕ) (stored more : List ℕ) (es : List Entry) (e : Entry) → AreStoredFrom place (length stored) es → e.start ≡ length stored → e.end ≡ length (stored ++ more)
     → suffixes_of (stored ++ more) (es ++ e ∷ []) ≡ suffixes_of stored es ++ record { start = e.offset; bytes = more } ∷ []
-suffixes_of-push place stored more [] e are start end = ap (λ (xs : List ℕ). record { start = e.offset; bytes = xs } ∷ []) (bytes_of-last stored more e start end)
+suffixes_of-push place stored more [] e are start end =
+    let bytes : slice_range (stored ++ more) e.start e.end ≡ more =
+    between_is (stored ++ more) e.start e.end ∙ ap (drop e.start) (take_all e.end (stored ++ more) (omega (arith, end))) ∙ drop_at stored more e.start (sym start) in
+    ap (λ (xs : List ℕ). record { start = e.offset; bytes = xs } ∷ []) bytes
 suffixes_of-push place stored more (x ∷ es) e are start end =
     let within = stored-at place (length stored) (x ∷ es) 0 x are refl in
-    rw (bytes_of-append stored more x within.1) (ap (λ (ss : List Suffix). suffix_of stored x ∷ ss) (suffixes_of-push x.end stored more es e are.2 start end))
+    rw (range-append stored more x within.1) (ap (λ (ss : List Suffix). suffix_of stored x ∷ ss) (suffixes_of-push x.end stored more es e are.2 start end))

@@ -5,8 +5,8 @@
 //! on no byte that was written before. So the pieces tell what the buffer contains; `laws` says that they decode again.
 //!
 //! - `decoder`, `decodable`: reads from the front of the unread bytes, where a failed read changes nothing;
-//! - `encoder`, `encodable`: writes at an offset, up to a maximum size; `suffixes`, `suffix_index`: the targets of compression
-//!   pointers; `name_encoding`, `modal_encoder`: how names are encoded; `place`: places that are filled in later; `items`: lists of
+//! - `encoder`, `encodable`: writes at an offset, up to a maximum size; `suffixes`: the targets of compression pointers;
+//!   `name_encoding`, `modal_encoder`: how names are encoded; `place`: places that are filled in later; `items`: lists of
 //!   values; `numbers`: numbers as values;
 //! - `error`: the errors; `laws`: the laws of decoding and encoding. The codes are those of `dns_codes`.
 #![tactic(auto)]
@@ -22,7 +22,6 @@ mod modal_encoder;
 mod name_encoding;
 mod numbers;
 mod place;
-mod suffix_index;
 mod suffixes;
 
 pub use decodable::BinDecodable;

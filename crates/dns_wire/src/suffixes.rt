@@ -1,10 +1,9 @@
 //! Remembered suffixes of names, the targets of compression pointers (RFC 1035 section 4.1.4).
 
-ghost use Rattle.std.specs.Prelude.{◌≡◌, ◌≤◌, length};
+ghost use Rattle.std.specs.Prelude.{◌≡◌, ◌≤◌, filter, length, nat_lt};
 ghost use Rattle.dns_wire.specs.Suffixes.{place_of};
-ghost use Rattle.dns_wire.specs.internal.Suffixes.{AreStoredFrom};
+ghost use Rattle.dns_wire.specs.internal.Suffixes.{suffixes_of, AreStoredFrom};
 
-use crate::suffix_index::{Entry, SuffixIndex, retain_before};
 use std::alloc::{AllocError, Global};
 use std::marker::Model;
 
@@ -14,29 +13,31 @@ const FIRST_SUFFIXES: usize = 16;
 /// The first allocation has room for so many bytes of suffixes.
 const FIRST_BYTES: usize = 256;
 
-/// The suffixes that an encoder remembers, in order.
+/// A suffix: its offset in the message, and the range of its bytes in the store.
+#[derive(Clone, Copy)]
+struct Entry {
+    offset: u16,
+    start: usize,
+    end: usize,
+}
+
+/// The suffixes that an encoder remembers, in order. Their bytes are stored one after another in one vector.
 #[derive(Drop)]
 pub struct Suffixes {
-    /// The bytes of the suffixes, one after another.
     stored: Vec<u8>,
-    /// The suffixes in the order in which they were appended.
     entries: Vec<Entry>,
-    /// The suffixes by their bytes.
-    index: SuffixIndex,
-    /// Every suffix has an offset below this one.
-    offset_bound: usize,
 }
 
 impl Model for Suffixes {
     ghost use Rattle.std.specs.Prelude.{List, length};
     ghost use Rattle.dns_wire.specs.Suffixes.{Suffix};
-    ghost use Rattle.dns_wire.specs.internal.Suffixes.{suffixes_of, AreStored};
+    ghost use Rattle.dns_wire.specs.internal.Suffixes.{suffixes_of, AreStoredFrom};
 
     ghost Value = { List Suffix };
 
     ghost view = { λ s. suffixes_of s.stored.items s.entries.items };
 
-    ghost invariant = { λ s. AreStored s.stored.items s.entries.items s.index s.offset_bound };
+    ghost invariant = { λ s. AreStoredFrom 0 (length s.stored.items) s.entries.items };
 }
 
 impl Suffixes {
@@ -50,8 +51,6 @@ impl Suffixes {
         Suffixes {
             stored: Vec::new(alloc),
             entries: Vec::new(alloc),
-            index: SuffixIndex::new(alloc),
-            offset_bound: 0,
         }
     }
 
@@ -71,7 +70,7 @@ impl Suffixes {
     pub(crate) fn find(&self, bytes: &[u8]) -> Option<u16>
         ensures { result ≡ place_of self.now bytes.now }
     {
-        self.index.find(&self.stored, bytes)
+        find_entry(self.stored.as_slice(), self.entries.as_slice(), bytes)
     }
 
     /// Appends a suffix.
@@ -91,25 +90,20 @@ impl Suffixes {
         ensures { self.new ≡ self.old }
     {
         self.entries.reserve(FIRST_SUFFIXES)?;
-        self.index.reserve(FIRST_SUFFIXES)?;
         self.stored.reserve(FIRST_BYTES)?;
         Ok(())
     }
 
-    /// Appends a suffix and its bytes. After the index has the suffix, nothing is allocated.
+    /// Appends a suffix and its bytes.
     fn append(&mut self, offset: u16, bytes: &[u8]) -> Result<(), AllocError>
         ensures ok { OnOk result (self.new
             ≡ self.old ++ record { start = offset; bytes = bytes.now } ∷ []) }
         ensures err { OnErr result (self.new ≡ self.old) }
     {
-        self.entries.reserve(1)?;
         let start = self.stored.len();
         self.stored.extend_from_slice(bytes)?;
         let end = self.stored.len();
-        let entry = Entry { offset, start, end };
-        self.index.insert(&self.stored, entry)?;
-        self.entries.push(entry)?;
-        self.offset_bound = self.offset_bound.max(usize::from(offset) + 1);
+        self.entries.push(Entry { offset, start, end })?;
         Ok(())
     }
 
@@ -117,15 +111,30 @@ impl Suffixes {
     pub(crate) fn forget_from(&mut self, offset: usize)
         ensures { self.new ≡ suffixes_before offset self.old }
     {
-        if self.offset_bound <= offset {
-            return;
-        }
-        self.offset_bound = offset;
         retain_before(&mut self.entries, offset);
-        self.index.forget_from(offset);
         let end = end_of_last(self.entries.as_slice(), self.stored.len());
         self.stored.truncate(end);
     }
+}
+
+/// Returns the offset of the first entry with these bytes.
+fn find_entry(stored: &[u8], entries: &[Entry], bytes: &[u8]) -> Option<u16>
+    requires { AreStoredFrom 0 (length stored.now) entries.now }
+    ensures { result ≡ place_of (suffixes_of stored.now entries.now) bytes.now }
+{
+    for entry in entries {
+        if &stored[entry.start..entry.end] == bytes {
+            return Some(entry.offset);
+        }
+    }
+    None
+}
+
+/// Retains the entries before `offset`.
+fn retain_before(entries: &mut Vec<Entry>, offset: usize)
+    ensures { entries.new.items ≡ filter (λ e. nat_lt e.offset offset) entries.old.items }
+{
+    entries.retain(move |entry| usize::from(entry.offset) < offset);
 }
 
 /// Returns where the stored bytes of the last entry end, of `len` stored bytes.

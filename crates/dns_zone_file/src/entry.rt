@@ -61,11 +61,14 @@ pub(crate) fn next_entry<'a>(
 pub(crate) fn entry_of<'t, 'a>(tokens: &'t [Token<'a>]) -> Entry<'t, 'a>
     ensures { entry_view result ≡ entry_of (map lexeme tokens.now) }
 {
-    match tokens {
-        [] | [Token::Blank] => Entry::Nothing,
-        [Token::Origin, arguments @ ..] => Entry::Origin(arguments),
-        [Token::Ttl, arguments @ ..] => Entry::Ttl(arguments),
-        [Token::Include, arguments @ ..] => Entry::Include(arguments),
+    let [first, arguments @ ..] = tokens else {
+        return Entry::Nothing;
+    };
+    match first {
+        Token::Blank if arguments.is_empty() => Entry::Nothing,
+        Token::Origin => Entry::Origin(arguments),
+        Token::Ttl => Entry::Ttl(arguments),
+        Token::Include => Entry::Include(arguments),
         _ => Entry::Record,
     }
 }

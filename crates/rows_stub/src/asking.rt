@@ -32,12 +32,19 @@ fn asked(alloc: Global, handle: &mut WireHandle<ListLink>, question: &str) -> An
 }
 
 /// `handle IDS || ITEMS || STEP || ..`: the steps of a handle over a link that brings the items, as `step` has them. ` / `
-/// parts what they print.
+/// parts what they print. The last step may be `take`, which takes the handle apart and prints the drawn ids.
 pub(crate) fn handle(alloc: Global, input: &str) -> Answer {
     let (ids, rest) = split(input, " || ", "ids")?;
     let (items, steps) = split(rest, " || ", "what comes, and steps")?;
     let mut handle = handle_of(alloc, ids, items)?;
-    steps_text(alloc, &mut handle, steps)
+    match steps.strip_suffix(" || take") {
+        Some(steps) => {
+            let text = steps_text(alloc, &mut handle, steps)?;
+            let ids = drawn(alloc, handle.into_sent().as_slice())?;
+            Ok(format!(in alloc; "{text} / {ids}")?)
+        }
+        None => steps_text(alloc, &mut handle, steps),
+    }
 }
 
 /// What the steps of a handle print.
@@ -65,8 +72,8 @@ pub(crate) fn handle_of(
 }
 
 /// Takes a step: `ask QUESTION`, which asks with the default options; `send WORDS = MESSAGE`, which sends this request;
-/// `bring ITEMS`, which lets the link bring more; `reserve NUMBER`, `reset` and `take`, which prints the ids. `state` prints
-/// what the handle tells, and `datagrams` what it sent.
+/// `bring ITEMS`, which lets the link bring more; `reserve NUMBER` and `reset`. `state` prints what the handle tells, and
+/// `datagrams` what it sent.
 fn step(alloc: Global, handle: &mut WireHandle<ListLink>, part: &str) -> Answer {
     let (word, rest) = word_and_rest(part);
     match word {
@@ -74,7 +81,6 @@ fn step(alloc: Global, handle: &mut WireHandle<ListLink>, part: &str) -> Answer 
         "send" => return send_request(alloc, handle, request_of(alloc, rest)?),
         "state" => return state(alloc, handle),
         "datagrams" => return datagrams(alloc, handle.link().sent()),
-        "take" => return drawn(alloc, handle.take_sent().as_slice()),
         "bring" => handle.link_mut().take_words(rest)?,
         "reset" => handle.reset_counts(),
         "reserve" => handle.reserve(parsed::<usize>(rest)?)?,

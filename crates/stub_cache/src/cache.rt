@@ -1,6 +1,6 @@
 //! The cache of responses.
 
-ghost use Rattle.std.specs.Prelude.{◌≡◌, ◌≤◌, ◌^◌, [], IfOk, OnOk, OnErr, option_copied};
+ghost use Rattle.std.specs.Prelude.{◌≡◌, ◌≤◌, ◌^◌, [], IfOk, OnOk, OnErr, Ok, Err, option_copied};
 ghost use Rattle.std.specs.List.{find};
 
 mod ageing;
@@ -37,7 +37,7 @@ impl Model for ResponseCache {
 }
 
 impl ResponseCache {
-    ghost use Rattle.stub_cache.specs.Cache.{cleared_of, current, inserted, kept_of_result, storing_any};
+    ghost use Rattle.stub_cache.specs.Cache.{cleared_of, current, inserted, kept_of_result, storing, storing_any};
     ghost use Rattle.stub_cache.specs.Ttl.{clamped, positive_lifetime};
 
     /// Creates an empty cache with a capacity: the maximum number of its entries.

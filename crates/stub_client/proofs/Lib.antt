@@ -11,3 +11,4 @@ pub mod RoadLaws
 pub mod SpecialNamesRows
 pub mod StepCases
 pub mod StepLaws
+pub mod StoringLaws

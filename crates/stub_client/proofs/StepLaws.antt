@@ -6,14 +6,17 @@ use Rattle.dns_records.specs.Record.{Record}
 use Rattle.dns_messages.specs.Response.{is_empty}
 use Rattle.dns_messages.specs.declared.message.Message.{Message}
 use Rattle.dns_messages.specs.declared.query.Query.{Query}
+use Rattle.stub_lookup.specs.Error.{negative_answer}
+use Rattle.stub_lookup.specs.declared.error.DnsError.TheVariants as dns
 use Rattle.stub_lookup.specs.declared.error.NetError.{NetError}
-use Rattle.stub_lookup.specs.declared.error.NetError.TheVariants.{Memory}
+use Rattle.stub_lookup.specs.declared.error.NetError.TheVariants as errors
+use Rattle.stub_lookup.specs.declared.error.NoRecords.{NoRecords}
 use Rattle.stub_client.specs.Handle.{Outcome}
 use Rattle.stub_client.specs.Step.{is_given, kept_aliases, max_depth, next_question, step_along, step_on}
 use Rattle.stub_client.specs.declared.caching_client.chain.Chain.{Chain}
 use Rattle.stub_client.specs.declared.caching_client.step.LookupSettings.{LookupSettings}
 use Rattle.stub_client.specs.declared.caching_client.step.Step.{Step}
-use Rattle.stub_client.specs.declared.caching_client.step.Step.TheVariants.{Follows}
+use Rattle.stub_client.specs.declared.caching_client.step.Step.TheVariants.{Follows, Stops}
 
 -- ---- found records
 
@@ -57,11 +60,33 @@ pub follows-along : (settings : LookupSettings) (q : Query) (chain : Chain) (kep
 follows-along settings q chain kept depth m none goes =
     second (is_given q chain kept m) (chain.is_alias && nat_lt depth max_depth) _ _ _ none goes
 
+-- an error that is a negative answer
+pub is-negative : (error : NetError) (answer : NoRecords) → negative_answer error ≡ Ok answer
+    → error ≡ errors.Dns (dns.NoRecordsFound answer)
+is-negative (errors.Dns (dns.NoRecordsFound found)) answer h = cc
+is-negative (errors.Dns (dns.ResponseCode code)) answer h = absurd (cc)
+is-negative (errors.Proto error) answer h = absurd (cc)
+is-negative (errors.Message text) answer h = absurd (cc)
+is-negative (errors.Link fault) answer h = absurd (cc)
+is-negative errors.Unsupported answer h = absurd (cc)
+is-negative errors.Memory answer h = absurd (cc)
+
+-- any other error ends a lookup
+pub stops-on : (settings : LookupSettings) (q : Query) (kept : List Record) (depth : ℕ) (error other : NetError)
+    → negative_answer error ≡ Err other → Stops other ≡ step_on settings q kept depth (Err error)
+stops-on settings q kept depth (errors.Dns (dns.NoRecordsFound answer)) other h = absurd (cc)
+stops-on settings q kept depth (errors.Dns (dns.ResponseCode code)) other h = cc
+stops-on settings q kept depth (errors.Proto error) other h = cc
+stops-on settings q kept depth (errors.Message text) other h = cc
+stops-on settings q kept depth (errors.Link fault) other h = cc
+stops-on settings q kept depth errors.Unsupported other h = cc
+stops-on settings q kept depth errors.Memory other h = cc
+
 -- what an outcome leads to that an error tells, unless memory ran out
 pub leads-on : {E : Type 0} (settings : LookupSettings) (q : Query) (kept : List Record) (depth : ℕ) (out : Outcome)
     (error : NetError) (r : Result Step E)
     → IfOk r (λ step. (settings : LookupSettings) (q : Query) (kept : List Record) (depth : ℕ) → step ≡ step_on settings q kept depth (Err error))
-    → (IsOk r → error ≢ Memory) → (error ≢ Memory → out ≡ Err error)
+    → (IsOk r → error ≢ errors.Memory) → (error ≢ errors.Memory → out ≡ Err error)
     → IfOk r (λ step. step ≡ step_on settings q kept depth out)
 leads-on settings q kept depth out error (Ok step) leads known means =
     leads settings q kept depth ∙ ap (step_on settings q kept depth) (sym (means (known refl)))

@@ -21,21 +21,46 @@ use stub_lookup::{Lookup, Moment, NetError};
 /// A client of a handle, with a cache. It follows aliases.
 #[derive(Drop)]
 pub struct CachingClient<C> {
-    /// What sends the requests.
-    pub handle: C,
+    pub(crate) handle: C,
     pub(crate) cache: ResponseCache,
     pub(crate) preserve_intermediates: bool,
     alloc: Global,
 }
 
-impl<C: DnsHandle> CachingClient<C> {
+impl<C> CachingClient<C> {
     ghost use Rattle.std.specs.Borrow.{sem, Lends};
+    ghost use Rattle.stub_client.specs.contracts.caching_client.CachingClient.{the_row as client_row};
+
+    /// Returns the handle.
+    pub fn handle(&self) -> &C
+        ensures { result.now ≡ self.now.handle }
+    {
+        &self.handle
+    }
+
+    /// Returns a mutable reference to the handle.
+    pub fn handle_mut(&mut self) -> &mut C
+        ensures value { result.now ≡ self.old.handle }
+        ensures* lends { sem 𝓛 (Lends (client_row C.row) C.row self.entry result
+            (λ handle. record self.old { handle = handle })) }
+    {
+        &mut self.handle
+    }
+
+    /// Returns the handle, and drops the cache.
+    pub fn into_handle(self) -> C
+        ensures { result ≡ self.handle }
+    {
+        self.handle
+    }
+}
+
+impl<C: DnsHandle> CachingClient<C> {
     ghost use Rattle.stub_cache.specs.Cache.{cleared_of};
     ghost use Rattle.stub_cache.specs.Ttl.{default_bounds, plain_config};
     ghost use Rattle.stub_client.specs.Looks.{Answers};
     ghost use Rattle.stub_client.specs.Step.{max_depth};
     ghost use Rattle.stub_client.specs.internal.Looks.{LooksUp, Tries, IsAsked, IsNotAsked};
-    ghost use Rattle.stub_client.specs.contracts.caching_client.CachingClient.{the_row as client_row};
 
     /// Creates a client of a handle, with an empty cache of a capacity and default bounds of TTLs.
     ///
@@ -75,15 +100,6 @@ impl<C: DnsHandle> CachingClient<C> {
             preserve_intermediates,
             alloc,
         }
-    }
-
-    /// Returns a mutable reference to the handle.
-    pub fn handle_mut(&mut self) -> &mut C
-        ensures value { result.now ≡ self.old.handle }
-        ensures* lends { sem 𝓛 (Lends (client_row C.row) C.row self.entry result
-            (λ handle. record self.old { handle = handle })) }
-    {
-        &mut self.handle
     }
 
     /// Removes all entries of the cache.

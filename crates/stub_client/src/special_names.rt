@@ -33,11 +33,8 @@ pub enum SpecialAnswer {
 pub fn special_answer(alloc: Global, query: &Query) -> Result<SpecialAnswer, AllocError>
     ensures { IfOk result (λ answer. answer ≡ special_answer query.now) }
 {
-    match DNSClass::from(u16::from(query.query_class)) {
-        DNSClass::IN => {
-            let record_type = RecordType::from(u16::from(query.query_type));
-            name_answer(alloc, &query.name, record_type)
-        }
+    match query.query_class.canonical() {
+        DNSClass::IN => name_answer(alloc, &query.name, query.query_type.canonical()),
         _ => Ok(SpecialAnswer::Ordinary),
     }
 }

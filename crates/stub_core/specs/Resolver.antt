@@ -1,5 +1,5 @@
 -- Lookups of a resolver: of a name, or of a host. What is removed from its cache.
-use Rattle.std.specs.Prelude.{◌≡◌, ◌+◌, ◌⊎◌, nat_lt, true, false, List, [], ◌∷◌, ℕ, Bool, Option, Some, None, Result, Ok, Err}
+use Rattle.std.specs.Prelude.{◌≡◌, ◌+◌, ◌*◌, ◌⊎◌, nat_lt, true, false, List, [], ◌∷◌, length, ℕ, Bool, Option, Some, None, Result, Ok, Err}
 use Rattle.std.specs.declared.net.ip_addr.IpAddr.{IpAddr}
 use Rattle.dns_codes.specs.RecordType.{type_number, type_of}
 use Rattle.dns_codes.specs.declared.record_type.RecordType.{RecordType}
@@ -35,6 +35,11 @@ request_options options = record {
 -- the names that a lookup of a name attempts
 abbrev pub names_for : Settings → DomainName → List DomainName
 names_for settings name = attempted_names settings.options.ndots settings.config.domain settings.config.search name
+
+-- The maximum number of questions that a lookup asks: eight for each of two types of addresses, for the name itself, and for the
+-- name completed with the domain and with each name of the search list.
+abbrev pub max_questions : Settings → ℕ
+max_questions settings = (length settings.config.search + 2) * 16
 
 -- a type by its number
 abbrev pub known_type : RecordType → RecordType

@@ -21,6 +21,9 @@ use stub_client::{CachingClient, DnsHandle};
 use stub_config::{ResolverConfig, ResolverOpts};
 use stub_lookup::{Lookup, Moment, NetError};
 
+/// The maximum number of questions that a lookup asks for a name: eight for each of two types of addresses.
+const MAX_QUESTIONS_OF_NAME: usize = 16;
+
 /// A resolver over a handle, with a cache.
 ///
 /// A question is answered by the hosts where a lookup asks them, or else as one for a special-use name (RFC 6761), or from
@@ -34,7 +37,8 @@ pub struct Resolver<H> {
 
 impl<H> Resolver<H> {
     ghost use Rattle.std.specs.Borrow.{sem, Lends};
-    ghost use Rattle.stub_core.specs.Resolver.{with_handle};
+    ghost use Rattle.std.specs.Prelude.{◌-◌, min};
+    ghost use Rattle.stub_core.specs.Resolver.{max_questions, with_handle};
     ghost use Rattle.stub_core.specs.ResolverBuilder.{default_settings};
     ghost use Rattle.stub_core.specs.contracts.resolver.Resolver.{the_row as resolver_row};
 
@@ -66,14 +70,37 @@ impl<H> Resolver<H> {
         self.settings.hosts = hosts;
     }
 
+    /// Returns the handle.
+    pub fn handle(&self) -> &H
+        ensures { result.now ≡ self.now.client.handle }
+    {
+        self.client.handle()
+    }
+
     /// Returns a mutable reference to the handle.
     pub fn handle_mut(&mut self) -> &mut H
         ensures value { result.now ≡ self.old.client.handle }
         ensures* lends { sem 𝓛 (Lends (resolver_row H.row) H.row self.entry result
             (with_handle self.old)) }
     {
-        let client = &mut self.client;
-        &mut client.handle
+        self.client.handle_mut()
+    }
+
+    /// Returns the handle, and drops the rest of the resolver.
+    pub fn into_handle(self) -> H
+        ensures { result ≡ self.client.handle }
+    {
+        self.client.into_handle()
+    }
+
+    /// Returns the maximum number of questions that a lookup asks the handle, which is at most `usize::MAX`.
+    ///
+    /// It attempts at most one name for each name of the search list and for the domain, and the name itself.
+    pub fn max_questions(&self) -> usize
+        ensures { result ≡ min (max_questions self.now.settings) (2 ^ 64 - 1) }
+    {
+        let max_names = self.settings.config.search().len().saturating_add(2);
+        max_names.saturating_mul(MAX_QUESTIONS_OF_NAME)
     }
 }
 
@@ -95,7 +122,7 @@ impl<H: DnsHandle> Resolver<H> {
         ensures { ResolvesName H.gives now (N.name name) record_type self.old result self.new }
     {
         let name = name.into_name(self.alloc)?;
-        self.lookup_name(&name, RecordType::from(u16::from(record_type)), now)
+        self.lookup_name(&name, record_type.canonical(), now)
     }
 
     /// Looks up records of a type, which is used as it is, for a name.

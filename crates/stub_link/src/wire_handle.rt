@@ -96,16 +96,6 @@ impl<L: Link> WireHandle<L> {
         self.ids.len().saturating_sub(self.sent.len())
     }
 
-    /// Takes the ids that were drawn, in order, each with its question. The next question is asked under the first id of
-    /// the list again.
-    pub fn take_sent(&mut self) -> Vec<(u16, Query)>
-        ensures taken { result ≡ self.old.sent }
-        ensures none { self.new.sent.items ≡ [] }
-        ensures rest { self.new ≡ record self.old { sent = self.new.sent } }
-    {
-        std::mem::replace(&mut self.sent, Vec::new(self.alloc))
-    }
-
     /// Reserves capacity for `additional` more ids that are drawn.
     pub fn reserve(&mut self, additional: usize) -> Result<(), AllocError>
         ensures room { OnOk result (
@@ -217,6 +207,15 @@ fn remember(sent: &mut Vec<(u16, Query)>, id: u16, query: &Query) -> Result<(), 
     let question = query.clone()?;
     sent.push((id, question))?;
     Ok(())
+}
+
+impl<L: Link + Drop> WireHandle<L> {
+    /// Returns the ids that were drawn, in order, each with its question.
+    pub fn into_sent(self) -> Vec<(u16, Query)>
+        ensures { result ≡ self.sent }
+    {
+        self.sent
+    }
 }
 
 impl<L: Link> DnsHandle for WireHandle<L> {

@@ -133,7 +133,7 @@ fn write_error<W: io::Write>(error: &NetError, writer: &mut W) -> io::Result<()>
 fn as_read(rtype: RecordType) -> RecordType
     ensures { result ≡ type_of (type_number rtype) }
 {
-    RecordType::from(u16::from(rtype))
+    rtype.canonical()
 }
 
 /// A record's owner. A name without labels is the root, qualified or not.

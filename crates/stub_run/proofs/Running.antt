@@ -107,18 +107,15 @@ pub stops-at : (events : List Event) (i : ℕ) (e : Event) (state : RunState) �
     → StopsAt i events state
 stops-at events i e state within is out = inr (e, slice_get_read events (length events) i e refl within is, out)
 
--- The report of a run when it had reached an earlier point: a resolver was looked at, and then an event happened to it.
-pub tells-before : (reports : List EventReport) (old looked new : WireResolver) (progress : Progress) (report : Report)
-    → looked ≡ old
+-- The report of a run when it had reached an earlier point, before an event.
+pub tells-before : (reports : List EventReport) (old new : WireResolver) (progress : Progress) (report : Report)
     → progress ≡ record { drawn = length old.client.handle.sent.items; dropped = old.client.handle.dropped }
-    → take (length looked.client.handle.sent.items) new.client.handle.sent.items ≡ looked.client.handle.sent.items
+    → take (length old.client.handle.sent.items) new.client.handle.sent.items ≡ old.client.handle.sent.items
     → report.events.items ≡ reports → report.sent.items ≡ take progress.drawn new.client.handle.sent.items
     → report.dropped ≡ progress.dropped → Tells reports old report
-tells-before reports old looked new progress report same reached front events sent dropped =
-    let first : take (length old.client.handle.sent.items) new.client.handle.sent.items ≡ old.client.handle.sent.items =
-    subst (λ (r : WireResolver). take (length r.client.handle.sent.items) new.client.handle.sent.items ≡ r.client.handle.sent.items) same front in
+tells-before reports old new progress report reached front events sent dropped =
     record {
       events = events;
-      sent = sent ∙ ap (λ (p : Progress). take p.drawn new.client.handle.sent.items) reached ∙ first;
+      sent = sent ∙ ap (λ (p : Progress). take p.drawn new.client.handle.sent.items) reached ∙ front;
       dropped = dropped ∙ ap (λ (p : Progress). p.dropped) reached;
     }

@@ -23,9 +23,6 @@ type WireResolver = Resolver<WireHandle<ScriptedLink>>;
 /// The last moment at which an event may happen.
 const MAX_MOMENT: u64 = 1 << 62;
 
-/// The maximum number of questions that a lookup asks for one name: eight for each of two types of addresses.
-const MAX_QUESTIONS_OF_NAME: usize = 16;
-
 /// Runs the events in a world, in order.
 ///
 /// Memory for all reports, and for the ids that the events draw, is taken before the first event. The error is
@@ -46,24 +43,24 @@ pub fn run(world: World, events: &[Event]) -> Result<Report, Stopped>
     let World {
         alloc,
         mut resolver,
-        max_names,
     } = world;
+    let max_questions = resolver.max_questions();
     let mut reports = Vec::new(alloc);
     if reports.reserve(events.len()).is_err()
-        || reserve_ids(&mut resolver, max_names, events.len()).is_err()
+        || reserve_ids(&mut resolver, max_questions, events.len()).is_err()
     {
         // There was no memory for the reports or the ids.
-        return Err(Stopped::Memory(report_of(&mut resolver, reports)));
+        return Err(Stopped::Memory(report_of(resolver, reports)));
     }
     for event in events {
-        let progress = progress_of(&mut resolver);
+        let progress = progress_of(&resolver);
         match happen(&mut resolver, event) {
             // The link or its server ran out of memory.
-            None => return Err(Stopped::Memory(report_at(progress, &mut resolver, reports))),
+            None => return Err(Stopped::Memory(report_at(progress, resolver, reports))),
             Some(report) => push_report(&mut reports, report),
         }
     }
-    Ok(report_of(&mut resolver, reports))
+    Ok(report_of(resolver, reports))
 }
 
 /// Returns `true` if the moments do not go back, and none is after 2^62.
@@ -84,20 +81,18 @@ fn is_in_order(events: &[Event]) -> bool
 /// Reserves capacity for the ids that events draw, as far as ids are left.
 fn reserve_ids(
     resolver: &mut WireResolver,
-    max_names: usize,
+    max_questions: usize,
     event_count: usize,
 ) -> Result<(), AllocError>
     ensures alike { (state : RunState)
         → AreAlike (λ handle asks. IsIn handle asks) resolver.old state
         → AreAlike (λ handle asks. IsIn handle asks) resolver.new state }
     ensures room { OnOk result (vec_len resolver.new.client.handle.sent
-        + min (event_count * max_names * 16) (length resolver.old.client.handle.ids.items
+        + min (event_count * max_questions) (length resolver.old.client.handle.ids.items
         - length resolver.old.client.handle.sent.items)
         ≤ vec_capacity resolver.new.client.handle.sent) }
 {
-    let questions = event_count
-        .saturating_mul(max_names)
-        .saturating_mul(MAX_QUESTIONS_OF_NAME);
+    let questions = event_count.saturating_mul(max_questions);
     let handle = resolver.handle_mut();
     let left = handle.ids_left();
     handle.reserve(questions.min(left))
@@ -111,14 +106,13 @@ struct Progress {
 }
 
 /// Returns what a run has reached.
-fn progress_of(resolver: &mut WireResolver) -> Progress
-    ensures result { result ≡ record {
-      drawn = length resolver.old.client.handle.sent.items;
-      dropped = resolver.old.client.handle.dropped;
+fn progress_of(resolver: &WireResolver) -> Progress
+    ensures { result ≡ record {
+      drawn = length resolver.now.client.handle.sent.items;
+      dropped = resolver.now.client.handle.dropped;
     } }
-    ensures same { resolver.new ≡ resolver.old }
 {
-    let handle = resolver.handle_mut();
+    let handle = resolver.handle();
     Progress {
         drawn: handle.sent().len(),
         dropped: handle.dropped(),
@@ -179,26 +173,26 @@ fn reply_to(resolver: &mut WireResolver, event: &Event) -> EventReply
 }
 
 /// Returns the report of a run so far.
-fn report_of(resolver: &mut WireResolver, events: Vec<EventReport>) -> Report
+fn report_of(resolver: WireResolver, events: Vec<EventReport>) -> Report
     ensures events { result.events ≡ events }
-    ensures sent { result.sent ≡ resolver.old.client.handle.sent }
-    ensures dropped { result.dropped ≡ resolver.old.client.handle.dropped }
+    ensures sent { result.sent ≡ resolver.client.handle.sent }
+    ensures dropped { result.dropped ≡ resolver.client.handle.dropped }
 {
-    let handle = resolver.handle_mut();
+    let handle = resolver.into_handle();
     Report {
         events,
         dropped: handle.dropped(),
-        sent: handle.take_sent(),
+        sent: handle.into_sent(),
     }
 }
 
 /// Returns the report of a run when it had reached an earlier point.
-fn report_at(progress: Progress, resolver: &mut WireResolver, events: Vec<EventReport>) -> Report
+fn report_at(progress: Progress, resolver: WireResolver, events: Vec<EventReport>) -> Report
     ensures events { result.events ≡ events }
-    ensures sent { result.sent.items ≡ take progress.drawn resolver.old.client.handle.sent.items }
+    ensures sent { result.sent.items ≡ take progress.drawn resolver.client.handle.sent.items }
     ensures dropped { result.dropped ≡ progress.dropped }
 {
-    let mut sent = resolver.handle_mut().take_sent();
+    let mut sent = resolver.into_handle().into_sent();
     sent.truncate(progress.drawn);
     Report {
         events,

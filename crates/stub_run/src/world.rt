@@ -18,8 +18,6 @@ use stub_lookup::NetError;
 pub struct World {
     pub(crate) alloc: Global,
     pub(crate) resolver: Resolver<WireHandle<ScriptedLink>>,
-    /// An upper bound of the number of names that a lookup attempts.
-    pub(crate) max_names: usize,
 }
 
 impl World {
@@ -43,16 +41,10 @@ impl World {
             (state : RunState) × IsFirst zone limit ids.items config options hosts state
             × BeginsWith world state) }
     {
-        // The domain, the search list, and the name itself.
-        let max_names = config.search().len().saturating_add(2);
         let link = ScriptedLink::new(alloc, zone, limit);
         let handle = WireHandle::new(alloc, link, ids);
         let builder = Resolver::builder_with_config(alloc, config, handle);
         let resolver = builder.with_options(options).with_hosts(hosts).build()?;
-        Ok(World {
-            alloc,
-            resolver,
-            max_names,
-        })
+        Ok(World { alloc, resolver })
     }
 }

@@ -3,7 +3,7 @@
 ghost use Rattle.std.specs.Prelude.{◌≡◌};
 ghost use Rattle.dns_data.specs.rdata.A.{a_kinds, a_values};
 
-use crate::fields::FixedData;
+use crate::fields::{FixedData, WriteFields};
 use dns_wire::{BinEncodable, BinEncoder, EncodeError};
 use std::fmt;
 use std::net::Ipv4Addr;
@@ -26,7 +26,7 @@ impl BinEncodable for A {
     ghost pieces = { λ a s. values_pieces s.canonical a_kinds (a_values a) };
 
     fn emit(&self, encoder: &mut BinEncoder<'_>) -> Result<(), EncodeError> {
-        encoder.emit_vec(&self.0.octets())
+        (self.0, ()).emit_fields(encoder)
     }
 }
 
@@ -37,14 +37,13 @@ impl A {
     pub fn encoded_len(&self) -> u128
         ensures { result ≡ values_len a_kinds (a_values self.now) }
     {
-        self.0.octets().len() as u128
+        (self.0, ()).fields_len()
     }
 }
 
 impl fmt::Display for A {
     ghost use Rattle.std.specs.Prelude.{Some};
     ghost use Rattle.dns_data.specs.Text.{values_text};
-    ghost use Rattle.dns_data.specs.rdata.A.{a_kinds, a_values};
 
     ghost output = { λ a. Some (values_text a_kinds (a_values a)) };
 

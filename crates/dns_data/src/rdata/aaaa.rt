@@ -3,7 +3,7 @@
 ghost use Rattle.std.specs.Prelude.{◌≡◌};
 ghost use Rattle.dns_data.specs.rdata.AAAA.{aaaa_kinds, aaaa_values};
 
-use crate::fields::FixedData;
+use crate::fields::{FixedData, WriteFields};
 use dns_wire::{BinEncodable, BinEncoder, EncodeError};
 use std::fmt;
 use std::net::Ipv6Addr;
@@ -26,7 +26,7 @@ impl BinEncodable for AAAA {
     ghost pieces = { λ a s. values_pieces s.canonical aaaa_kinds (aaaa_values a) };
 
     fn emit(&self, encoder: &mut BinEncoder<'_>) -> Result<(), EncodeError> {
-        encoder.emit_vec(&self.0.octets())
+        (self.0, ()).emit_fields(encoder)
     }
 }
 
@@ -37,14 +37,13 @@ impl AAAA {
     pub fn encoded_len(&self) -> u128
         ensures { result ≡ values_len aaaa_kinds (aaaa_values self.now) }
     {
-        self.0.octets().len() as u128
+        (self.0, ()).fields_len()
     }
 }
 
 impl fmt::Display for AAAA {
     ghost use Rattle.std.specs.Prelude.{Some};
     ghost use Rattle.dns_data.specs.Text.{values_text};
-    ghost use Rattle.dns_data.specs.rdata.AAAA.{aaaa_kinds, aaaa_values};
 
     ghost output = { λ a. Some (values_text aaaa_kinds (aaaa_values a)) };
 

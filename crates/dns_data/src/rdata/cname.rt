@@ -3,9 +3,9 @@
 ghost use Rattle.std.specs.Prelude.{◌≡◌, IfOk};
 ghost use Rattle.dns_data.specs.rdata.CNAME.{cname_kinds, cname_values};
 
-use crate::fields::FixedData;
+use crate::fields::{FixedData, WriteFields};
 use dns_names::Name;
-use dns_wire::{BinEncodable, BinEncoder, EncodeError, RDataEncoding};
+use dns_wire::{BinEncodable, BinEncoder, EncodeError};
 use std::alloc::AllocError;
 use std::fmt;
 
@@ -22,6 +22,7 @@ impl FixedData<(Name, ())> for CNAME {
 }
 
 impl CNAME {
+    ghost use Rattle.dns_data.specs.Field.{values_len};
     ghost use Rattle.dns_data.specs.declared.rdata.cname.CNAME.{CNAME};
 
     /// Clones the data.
@@ -29,6 +30,13 @@ impl CNAME {
         ensures { IfOk result (λ copy. copy ≡ self.now) }
     {
         Ok(CNAME(self.0.clone()?))
+    }
+
+    /// Returns the length of the data's uncompressed encoding.
+    pub fn encoded_len(&self) -> u128
+        ensures { result ≡ values_len cname_kinds (cname_values self.now) }
+    {
+        (&self.0, ()).fields_len()
     }
 }
 
@@ -46,26 +54,13 @@ impl BinEncodable for CNAME {
     ghost pieces = { λ c s. values_pieces s.canonical cname_kinds (cname_values c) };
 
     fn emit(&self, encoder: &mut BinEncoder<'_>) -> Result<(), EncodeError> {
-        self.0
-            .emit_with_behavior(RDataEncoding::StandardRecord, encoder)
-    }
-}
-
-impl CNAME {
-    ghost use Rattle.dns_data.specs.Field.{values_len};
-
-    /// Returns the length of the data's uncompressed encoding.
-    pub fn encoded_len(&self) -> u128
-        ensures { result ≡ values_len cname_kinds (cname_values self.now) }
-    {
-        self.0.encoded_len() as u128
+        (&self.0, ()).emit_fields(encoder)
     }
 }
 
 impl fmt::Display for CNAME {
     ghost use Rattle.std.specs.Prelude.{Some};
     ghost use Rattle.dns_data.specs.Text.{values_text};
-    ghost use Rattle.dns_data.specs.rdata.CNAME.{cname_kinds, cname_values};
 
     ghost output = { λ c. Some (values_text cname_kinds (cname_values c)) };
 

@@ -3,9 +3,9 @@
 ghost use Rattle.std.specs.Prelude.{◌≡◌, IfOk};
 ghost use Rattle.dns_data.specs.rdata.MX.{mx_kinds, mx_values};
 
-use crate::fields::FixedData;
+use crate::fields::{FixedData, WriteFields};
 use dns_names::Name;
-use dns_wire::{BinEncodable, BinEncoder, EncodeError, RDataEncoding};
+use dns_wire::{BinEncodable, BinEncoder, EncodeError};
 use std::alloc::AllocError;
 use std::fmt;
 
@@ -31,6 +31,7 @@ impl FixedData<(u16, (Name, ()))> for MX {
 }
 
 impl MX {
+    ghost use Rattle.dns_data.specs.Field.{values_len};
     ghost use Rattle.dns_data.specs.declared.rdata.mx.MX.{MX};
 
     /// Clones the data.
@@ -41,6 +42,13 @@ impl MX {
             preference: self.preference,
             exchange: self.exchange.clone()?,
         })
+    }
+
+    /// Returns the length of the data's uncompressed encoding.
+    pub fn encoded_len(&self) -> u128
+        ensures { result ≡ values_len mx_kinds (mx_values self.now) }
+    {
+        (self.preference, (&self.exchange, ())).fields_len()
     }
 }
 
@@ -58,27 +66,13 @@ impl BinEncodable for MX {
     ghost pieces = { λ mx s. values_pieces s.canonical mx_kinds (mx_values mx) };
 
     fn emit(&self, encoder: &mut BinEncoder<'_>) -> Result<(), EncodeError> {
-        encoder.emit_u16(self.preference)?;
-        self.exchange
-            .emit_with_behavior(RDataEncoding::StandardRecord, encoder)
-    }
-}
-
-impl MX {
-    ghost use Rattle.dns_data.specs.Field.{values_len};
-
-    /// Returns the length of the data's uncompressed encoding.
-    pub fn encoded_len(&self) -> u128
-        ensures { result ≡ values_len mx_kinds (mx_values self.now) }
-    {
-        2 + self.exchange.encoded_len() as u128
+        (self.preference, (&self.exchange, ())).emit_fields(encoder)
     }
 }
 
 impl fmt::Display for MX {
     ghost use Rattle.std.specs.Prelude.{Some};
     ghost use Rattle.dns_data.specs.Text.{values_text};
-    ghost use Rattle.dns_data.specs.rdata.MX.{mx_kinds, mx_values};
 
     ghost output = { λ m. Some (values_text mx_kinds (mx_values m)) };
 

@@ -3,9 +3,9 @@
 ghost use Rattle.std.specs.Prelude.{◌≡◌, IfOk};
 ghost use Rattle.dns_data.specs.rdata.NS.{ns_kinds, ns_values};
 
-use crate::fields::FixedData;
+use crate::fields::{FixedData, WriteFields};
 use dns_names::Name;
-use dns_wire::{BinEncodable, BinEncoder, EncodeError, RDataEncoding};
+use dns_wire::{BinEncodable, BinEncoder, EncodeError};
 use std::alloc::AllocError;
 use std::fmt;
 
@@ -22,6 +22,7 @@ impl FixedData<(Name, ())> for NS {
 }
 
 impl NS {
+    ghost use Rattle.dns_data.specs.Field.{values_len};
     ghost use Rattle.dns_data.specs.declared.rdata.ns.NS.{NS};
 
     /// Clones the data.
@@ -29,6 +30,13 @@ impl NS {
         ensures { IfOk result (λ copy. copy ≡ self.now) }
     {
         Ok(NS(self.0.clone()?))
+    }
+
+    /// Returns the length of the data's uncompressed encoding.
+    pub fn encoded_len(&self) -> u128
+        ensures { result ≡ values_len ns_kinds (ns_values self.now) }
+    {
+        (&self.0, ()).fields_len()
     }
 }
 
@@ -46,26 +54,13 @@ impl BinEncodable for NS {
     ghost pieces = { λ n s. values_pieces s.canonical ns_kinds (ns_values n) };
 
     fn emit(&self, encoder: &mut BinEncoder<'_>) -> Result<(), EncodeError> {
-        self.0
-            .emit_with_behavior(RDataEncoding::StandardRecord, encoder)
-    }
-}
-
-impl NS {
-    ghost use Rattle.dns_data.specs.Field.{values_len};
-
-    /// Returns the length of the data's uncompressed encoding.
-    pub fn encoded_len(&self) -> u128
-        ensures { result ≡ values_len ns_kinds (ns_values self.now) }
-    {
-        self.0.encoded_len() as u128
+        (&self.0, ()).emit_fields(encoder)
     }
 }
 
 impl fmt::Display for NS {
     ghost use Rattle.std.specs.Prelude.{Some};
     ghost use Rattle.dns_data.specs.Text.{values_text};
-    ghost use Rattle.dns_data.specs.rdata.NS.{ns_kinds, ns_values};
 
     ghost output = { λ n. Some (values_text ns_kinds (ns_values n)) };
 

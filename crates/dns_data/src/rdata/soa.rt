@@ -1,14 +1,12 @@
 //! Starts of authority (RFC 1035 section 3.3.13).
 
-ghost use Rattle.std.specs.Prelude.{◌≡◌, false, IfOk};
-ghost use Rattle.dns_wire.specs.Encoder.{state_of, IsAtEnd};
-ghost use Rattle.dns_wire.specs.Encodable.{Emits};
+ghost use Rattle.std.specs.Prelude.{◌≡◌, IfOk};
 ghost use Rattle.dns_data.specs.Field.{values_pieces};
-ghost use Rattle.dns_data.specs.rdata.SOA.{soa_kinds, number_kinds, number_values, soa_values};
+ghost use Rattle.dns_data.specs.rdata.SOA.{soa_kinds, soa_values};
 
-use crate::fields::{FixedData, Time};
+use crate::fields::{FixedData, Time, WriteFields};
 use dns_names::Name;
-use dns_wire::{BinEncodable, BinEncoder, EncodeError, RDataEncoding};
+use dns_wire::{BinEncodable, BinEncoder, EncodeError};
 use std::alloc::AllocError;
 use std::fmt;
 
@@ -62,6 +60,7 @@ impl FixedData<(Name, (Name, (u32, (Time, (Time, (Time, (Time, ())))))))> for SO
 }
 
 impl SOA {
+    ghost use Rattle.dns_data.specs.Field.{values_len};
     ghost use Rattle.dns_data.specs.declared.rdata.soa.SOA.{SOA};
 
     /// Clones the data.
@@ -79,18 +78,30 @@ impl SOA {
         })
     }
 
-    /// Writes the serial number and the times.
-    fn emit_numbers(&self, encoder: &mut BinEncoder<'_>) -> Result<(), EncodeError>
-        requires { IsAtEnd (state_of encoder.old) }
-        ensures { Emits (state_of encoder.old)
-            (values_pieces false number_kinds (number_values self.now)) result
-            (state_of encoder.new) }
+    /// Returns the times, in the order of their encoding.
+    fn times(&self) -> (Time, (Time, (Time, (Time, ()))))
+        ensures { result ≡ (
+          record { 0 = self.now.refresh },
+          (
+            record { 0 = self.now.retry },
+            (record { 0 = self.now.expire }, (record { 0 = self.now.minimum }, tt)),
+          ),
+        ) }
     {
-        encoder.emit_u32(self.serial)?;
-        encoder.emit_u32(self.refresh)?;
-        encoder.emit_u32(self.retry)?;
-        encoder.emit_u32(self.expire)?;
-        encoder.emit_u32(self.minimum)
+        (
+            Time(self.refresh),
+            (
+                Time(self.retry),
+                (Time(self.expire), (Time(self.minimum), ())),
+            ),
+        )
+    }
+
+    /// Returns the length of the data's uncompressed encoding.
+    pub fn encoded_len(&self) -> u128
+        ensures { result ≡ values_len soa_kinds (soa_values self.now) }
+    {
+        (&self.mname, (&self.rname, (self.serial, self.times()))).fields_len()
     }
 }
 
@@ -106,29 +117,13 @@ impl BinEncodable for SOA {
     ghost pieces = { λ soa s. values_pieces s.canonical soa_kinds (soa_values soa) };
 
     fn emit(&self, encoder: &mut BinEncoder<'_>) -> Result<(), EncodeError> {
-        self.mname
-            .emit_with_behavior(RDataEncoding::StandardRecord, encoder)?;
-        self.rname
-            .emit_with_behavior(RDataEncoding::StandardRecord, encoder)?;
-        self.emit_numbers(encoder)
-    }
-}
-
-impl SOA {
-    ghost use Rattle.dns_data.specs.Field.{values_len};
-
-    /// Returns the length of the data's uncompressed encoding.
-    pub fn encoded_len(&self) -> u128
-        ensures { result ≡ values_len soa_kinds (soa_values self.now) }
-    {
-        self.mname.encoded_len() as u128 + self.rname.encoded_len() as u128 + 20
+        (&self.mname, (&self.rname, (self.serial, self.times()))).emit_fields(encoder)
     }
 }
 
 impl fmt::Display for SOA {
     ghost use Rattle.std.specs.Prelude.{Some};
     ghost use Rattle.dns_data.specs.Text.{values_text};
-    ghost use Rattle.dns_data.specs.rdata.SOA.{soa_kinds, soa_values};
 
     ghost output = { λ s. Some (values_text soa_kinds (soa_values s)) };
 

@@ -3,9 +3,9 @@
 ghost use Rattle.std.specs.Prelude.{◌≡◌, IfOk};
 ghost use Rattle.dns_data.specs.rdata.SRV.{srv_kinds, srv_values};
 
-use crate::fields::{FixedData, Whole};
+use crate::fields::{FixedData, Whole, WholeRef, WriteFields};
 use dns_names::Name;
-use dns_wire::{BinEncodable, BinEncoder, EncodeError, RDataEncoding};
+use dns_wire::{BinEncodable, BinEncoder, EncodeError};
 use std::alloc::AllocError;
 use std::fmt;
 
@@ -36,6 +36,7 @@ impl FixedData<(u16, (u16, (u16, (Whole, ()))))> for SRV {
 }
 
 impl SRV {
+    ghost use Rattle.dns_data.specs.Field.{values_len};
     ghost use Rattle.dns_data.specs.declared.rdata.srv.SRV.{SRV};
 
     /// Clones the data.
@@ -48,6 +49,17 @@ impl SRV {
             port: self.port,
             target: self.target.clone()?,
         })
+    }
+
+    /// Returns the length of the data's uncompressed encoding.
+    pub fn encoded_len(&self) -> u128
+        ensures { result ≡ values_len srv_kinds (srv_values self.now) }
+    {
+        (
+            self.priority,
+            (self.weight, (self.port, (WholeRef(&self.target), ()))),
+        )
+            .fields_len()
     }
 }
 
@@ -65,29 +77,17 @@ impl BinEncodable for SRV {
     ghost pieces = { λ srv s. values_pieces s.canonical srv_kinds (srv_values srv) };
 
     fn emit(&self, encoder: &mut BinEncoder<'_>) -> Result<(), EncodeError> {
-        encoder.emit_u16(self.priority)?;
-        encoder.emit_u16(self.weight)?;
-        encoder.emit_u16(self.port)?;
-        self.target
-            .emit_with_behavior(RDataEncoding::Canonical, encoder)
-    }
-}
-
-impl SRV {
-    ghost use Rattle.dns_data.specs.Field.{values_len};
-
-    /// Returns the length of the data's uncompressed encoding.
-    pub fn encoded_len(&self) -> u128
-        ensures { result ≡ values_len srv_kinds (srv_values self.now) }
-    {
-        6 + self.target.encoded_len() as u128
+        (
+            self.priority,
+            (self.weight, (self.port, (WholeRef(&self.target), ()))),
+        )
+            .emit_fields(encoder)
     }
 }
 
 impl fmt::Display for SRV {
     ghost use Rattle.std.specs.Prelude.{Some};
     ghost use Rattle.dns_data.specs.Text.{values_text};
-    ghost use Rattle.dns_data.specs.rdata.SRV.{srv_kinds, srv_values};
 
     ghost output = { λ s. Some (values_text srv_kinds (srv_values s)) };
 

@@ -66,15 +66,15 @@ fn is_found(query: &Query, chain: &Chain, entry: &Record) -> bool
 fn has_class(query: &Query, entry: &Record) -> bool
     ensures { result ≡ has_class query.now entry.now }
 {
-    u16::from(entry.dns_class) == u16::from(query.query_class)
+    entry.dns_class.is_same(query.query_class)
 }
 
 /// Returns `true` if a record has the type of a question, or any type is asked for (RFC 1035 section 3.2.3).
 fn asks_for(query: &Query, entry: &Record) -> bool
     ensures { result ≡ asks_for query.now entry.now }
 {
-    let asked = u16::from(query.query_type);
-    asked == u16::from(RecordType::ANY) || asked == u16::from(entry.record_type())
+    let asked = query.query_type;
+    asked.is_same(RecordType::ANY) || entry.record_type().is_same(asked)
 }
 
 /// Returns `true` if a record is at the end of the aliases of a question, or at its name.
@@ -202,7 +202,7 @@ fn is_kept_alias(settings: LookupSettings, query: &Query, entry: &Record) -> boo
 fn is_alias(entry: &Record) -> bool
     ensures { result ≡ has_type types.CNAME entry.now }
 {
-    u16::from(entry.record_type()) == u16::from(RecordType::CNAME)
+    entry.record_type().is_same(RecordType::CNAME)
 }
 
 /// Copies a record, with a TTL of at most `most` seconds.

@@ -37,8 +37,8 @@ pub(super) fn chain_of(query: &Query, message: &Message) -> Result<Chain, AllocE
 fn asks_for_aliases(query: &Query) -> bool
     ensures { result ≡ asks_for_aliases query.now }
 {
-    let asked = u16::from(query.query_type);
-    asked == u16::from(RecordType::CNAME) || asked == u16::from(RecordType::ANY)
+    let asked = query.query_type;
+    asked.is_same(RecordType::CNAME) || asked.is_same(RecordType::ANY)
 }
 
 /// Returns where the aliases among answers lead from a name, each one from where those before it lead.

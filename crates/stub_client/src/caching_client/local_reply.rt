@@ -14,7 +14,7 @@ use crate::special_names::{SpecialAnswer, special_answer};
 use dns_messages::{Message, Query, Record};
 use std::alloc::{AllocError, Global};
 use stub_cache::ResponseCache;
-use stub_lookup::{DnsError, Lookup, MAX_TTL, Moment, NetError, NoRecords};
+use stub_lookup::{Lookup, MAX_TTL, Moment, NetError, NoRecords};
 
 /// Returns the reply to a question that is answered without the handle, if it is.
 pub(super) fn local_reply(
@@ -32,7 +32,7 @@ pub(super) fn local_reply(
         SpecialAnswer::Loopback(entry) => Ok(Some(Ok(loopback_lookup(alloc, query, entry, now)?))),
         SpecialAnswer::Nothing(code) => {
             let answer = NoRecords::new(query.clone()?, code);
-            Ok(Some(Err(NetError::Dns(DnsError::NoRecordsFound(answer)))))
+            Ok(Some(Err(NetError::from(answer))))
         }
     }
 }

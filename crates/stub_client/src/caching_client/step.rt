@@ -186,7 +186,7 @@ fn stops(query: &Query, response: &DnsResponse) -> Result<Step, AllocError>
         (Dns (errors.NoRecordsFound (nothing_found query.now response.now.message)))) }
 {
     let answer = nothing_found(query, response)?;
-    Ok(Step::Stops(NetError::Dns(DnsError::NoRecordsFound(answer))))
+    Ok(Step::Stops(NetError::from(answer)))
 }
 
 // ---- no records

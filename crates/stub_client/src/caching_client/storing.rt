@@ -1,8 +1,6 @@
 //! What a client stores in its cache.
 
 ghost use Rattle.std.specs.Prelude.{◌≡◌, ◌≤◌, ◌<◌, ◌^◌, length, IfOk, IsOkAnd, OnErr, OnOk, Ok, Err, Some, []};
-ghost use Rattle.stub_lookup.specs.declared.error.DnsError.TheVariants.{NoRecordsFound};
-ghost use Rattle.stub_lookup.specs.declared.error.NetError.TheVariants.{Dns};
 ghost use Rattle.stub_lookup.specs.Lookup.{response_to};
 ghost use Rattle.stub_cache.specs.Cache.{storing};
 ghost use Rattle.stub_client.specs.Looks.{Stores, given_reply, kept_of, negative};
@@ -11,7 +9,7 @@ ghost use Rattle.stub_client.specs.internal.Looks.{reply_if_stored};
 use dns_messages::{Message, OpCode, Query};
 use std::alloc::{AllocError, Global};
 use stub_cache::ResponseCache;
-use stub_lookup::{DnsError, Lookup, Moment, NetError, NoRecords, copy_records};
+use stub_lookup::{Lookup, Moment, NetError, NoRecords, copy_records};
 
 /// Stores a message as the response to a question, and returns its lookup.
 pub(super) fn store_message(
@@ -82,7 +80,7 @@ fn answer_if_stored(
     ensures { result ≡ reply_if_stored negative stored answer }
 {
     stored?;
-    Err(no_records_found(answer?))
+    Err(NetError::from(answer?))
 }
 
 /// Stores the reply to which the alias of a question led, if it can be stored, and returns it.
@@ -180,11 +178,4 @@ fn copy_sections(lookup: &Lookup, response: &mut Message) -> Result<(), AllocErr
     response.insert_authorities(copy_records(&lookup.message().authorities)?.into_vec());
     response.insert_additionals(copy_records(&lookup.message().additionals)?.into_vec());
     Ok(())
-}
-
-/// Returns the error that there are no records for a question.
-fn no_records_found(answer: NoRecords) -> NetError
-    ensures { result ≡ Dns (NoRecordsFound answer) }
-{
-    NetError::Dns(DnsError::NoRecordsFound(answer))
 }

@@ -11,13 +11,6 @@ loop-name-preserved g c =
     c.in-Some.name c.look_up_addresses-last.result c.look_up_addresses-last.new.client c.args.last c.args.client.now (into_iter_items c.args.names)
     c.loop-name.invariant c.in-Some.ensures.steps.0 (sym c.is_final.ensures ∙ c.if-is_final.false) c.look_up_addresses-last.ensures
 
-pub loop-name-preserved-else-is_final : goal.loop-name-preserved-else-is_final
-loop-name-preserved-else-is_final g c =
-    next-leads-on (OfAddresses g.C.DnsHandle.gives c.args.options c.args.strategy c.args.hosts.now c.args.now)
-    c.loop-name.last c.loop-name.client (into_iter_items c.loop-name.name-iterator) (into_iter_items c.next.new.self)
-    c.in-Some.name c.look_up_addresses-last.result c.look_up_addresses-last.new.client c.args.last c.args.client.now (into_iter_items c.args.names)
-    c.loop-name.invariant c.in-Some.ensures.steps.0 (sym c.is_final.ensures ∙ c.if-is_final.false) c.look_up_addresses-last.ensures
-
 pub returns-then-is_final : goal.returns-then-is_final
 returns-then-is_final g c =
     c.loop-name.invariant c.loop-name.last c.loop-name.client

@@ -53,15 +53,13 @@ loop-event-preserved c =
     let events = c.args.events.now in
     let reports = c.loop-event.reports.items in
     let e = c.event-item.result in
-    let looked = c.progress_of-progress.new.resolver in
     let more : take (i + 1) events ≡ take i events ++ e ∷ [] =
     take_more events i e c.loop-event-test.true ∙ ap (λ (x : Event). take i events ++ x ∷ []) (sym c.event-item.is) in
     record {
       runs = λ first begins.
-          let before : HasRun first (take i events) reports looked =
-          subst (λ (r : WireResolver). HasRun first (take i events) reports r) (sym c.progress_of-progress.ensures.same) (c.loop-event.invariant.runs first begins) in
           let after : HasRun first (take i events ++ e ∷ []) (reports ++ c.in-Some.report ∷ []) c.happen.new.resolver =
-          has-run-more first (take i events) reports looked e c.in-Some.report c.happen.new.resolver c.in-Some.ensures.step before in
+          has-run-more first (take i events) reports c.loop-event.resolver e c.in-Some.report c.happen.new.resolver c.in-Some.ensures.step
+          (c.loop-event.invariant.runs first begins) in
           subst (λ (rs : List EventReport). HasRun first (take (i + 1) events) rs c.happen.new.resolver) (sym c.push_report.ensures.items)
           (subst (λ (es : List Event). HasRun first es (reports ++ c.in-Some.report ∷ []) c.happen.new.resolver) (sym more) after);
       count = c.push_report.ensures.len ∙ ap (λ (n : ℕ). n + 1) c.loop-event.invariant.count;
@@ -105,11 +103,9 @@ returns-in-None c =
       run = tt;
       stopped = λ first begins.
           let ran = c.loop-event.invariant.runs first begins in
-          let looked : AreAlike IsInState c.progress_of-progress.new.resolver ran.state =
-          subst (λ (r : WireResolver). AreAlike IsInState r ran.state) (sym c.progress_of-progress.ensures.same) ran.alike in
           is-report-before first events i reports old c.report_at.result ran
-          (stops-at events i c.event-item.result ran.state c.loop-event-test.true c.event-item.is (c.in-None.ensures.stop refl ran.state looked))
-          (tells-before reports old c.progress_of-progress.new.resolver c.happen.new.resolver c.progress_of-progress.result c.report_at.result
-          c.progress_of-progress.ensures.same c.progress_of-progress.ensures.result c.in-None.ensures.front
+          (stops-at events i c.event-item.result ran.state c.loop-event-test.true c.event-item.is (c.in-None.ensures.stop refl ran.state ran.alike))
+          (tells-before reports old c.happen.new.resolver c.progress_of-progress.result c.report_at.result
+          c.progress_of-progress.ensures c.in-None.ensures.front
           (ap (λ (v : Vec EventReport). v.items) c.report_at.ensures.events) c.report_at.ensures.sent c.report_at.ensures.dropped);
     }

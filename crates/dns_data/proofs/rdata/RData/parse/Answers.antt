@@ -4,7 +4,8 @@ use Rattle.dns_codes.specs.declared.record_type.RecordType.TheVariants as types
 use Rattle.dns_codes.specs.declared.record_type.RecordType.{RecordType}
 use Rattle.dns_data.specs.Text.{has_text}
 use Rattle.dns_data.specs.rdata.{kinds_of_type, no_text}
-use Rattle.dns_data.proofs.TextSteps.{no_form, parsed_as, refused_as}
+use Rattle.dns_data.proofs.TypeLaws.{no_form}
+use Rattle.dns_data.proofs.TextSteps.{parsed_as, refused_as}
 use Rattle.dns_data.proofs.rdata.RData.parse.Goals as goal
 
 pub returns-in_err-parse-in-A-clause-refused : goal.returns-in_err-parse-in-A-clause-refused

@@ -26,7 +26,7 @@ returns-clause-supported c = λ supported.
       faults = handle.faults;
     } in
     world-begins zone limit ids c.args.config c.args.options c.args.hosts c.new-handle.result builder
-    (record { alloc = c.args.alloc; resolver = c.in_ok-resolver.resolver; max_names = c.saturating_add-max_names.result })
+    (record { alloc = c.args.alloc; resolver = c.in_ok-resolver.resolver })
     asked settings
     (built-handle c.args.options c.args.hosts c.new-handle.result first second builder
     c.builder_with_config-builder.ensures.handle c.with_options.ensures c.with_hosts.ensures)

@@ -1,7 +1,0 @@
-use Rattle.std.proofs.Common.{arith}
-use Rattle.dns_data.specs.rdata.NS.{ns_kinds, ns_values}
-use Rattle.dns_data.proofs.LengthLaws.{values_len-pieces}
-use Rattle.dns_data.proofs.rdata.ns.NS.encoded_len.Goals as goal
-
-pub returns : goal.returns
-returns c = omega (arith, values_len-pieces ns_kinds (ns_values c.args.self.now), c.encoded_len.ensures.value)
