@@ -7,7 +7,7 @@ use Rattle.stub_client.specs.Handle.{Outcome}
 use Rattle.stub_core.specs.Resolver.{with_handle}
 use Rattle.stub_client.specs.declared.request.DnsRequest.{DnsRequest}
 use Rattle.stub_core.specs.declared.resolver.Resolver.{Resolver}
-use Rattle.stub_link.specs.Asks.{AskState, AsksZone, Deliveries, Honest, IsIn, begin, deliveries_of}
+use Rattle.stub_link.specs.Asks.{AskState, AsksZone, Honest, IsIn, begin, deliveries_of}
 use Rattle.stub_link.specs.ScriptedLink.{Receives, Sends}
 use Rattle.stub_link.specs.WireHandle.{Asks, AsksBy}
 use Rattle.stub_link.specs.declared.link.scripted.Script.{Script}

@@ -1,10 +1,6 @@
 -- A run goes on, event by event, and is reported.
-use Rattle.std.proofs.Common.{◌≡◌, ◌≤◌, ◌<◌, ◌+◌, ◌^◌, ◌++◌, false, ℕ, zero, suc, List, [], ◌∷◌, length, take, get_or, refl, sym, ap, subst, ◌∙◌, arith, inr}
-use Rattle.std.specs.Prelude.{OnOk}
-use Rattle.std.proofs.lemmas.List.{take_more, take_all}
+use Rattle.std.proofs.Common.{◌≡◌, ◌≤◌, ◌<◌, ◌^◌, ◌++◌, false, ℕ, zero, suc, List, [], ◌∷◌, length, take, get_or, refl, sym, ap, subst, ◌∙◌, arith, inr}
 use Rattle.std.proofs.lemmas.Option.{slice_get_read}
-use Rattle.dns_messages.specs.declared.query.Query.{Query}
-use Rattle.stub_link.specs.Asks.{AskState, IsIn}
 use Rattle.stub_run.specs.Alike.{AreAlike}
 use Rattle.stub_run.specs.Event.{moment_of}
 use Rattle.stub_run.specs.Run.{InOrder, IsReportBefore, IsReportOf, RunState, Runs, RunsOut, Step, StopsAt, asks_of}

@@ -5,7 +5,6 @@ use Rattle.stub_link.specs.declared.wire_handle.AskCounts.{AskCounts}
 use Rattle.stub_link.specs.declared.link.scripted.ScriptedLink.{ScriptedLink}
 use Rattle.stub_run.specs.Alike.{AreAlike}
 use Rattle.stub_run.specs.Run.{RunState, Step}
-use Rattle.stub_run.specs.declared.event.Event.{Event}
 use Rattle.stub_run.specs.declared.report.EventReport.{EventReport}
 use Rattle.stub_run.proofs.Happening.{Happens, IsInState, WireResolver, happens, happens-alike, happens-front, happens-out}
 use Rattle.stub_run.proofs.runs.happen.Goals as goal

@@ -1,14 +1,11 @@
-use Rattle.std.proofs.Common.{◌≡◌, ◌≤◌, ◌+◌, ◌++◌, ◌↔◌, Bool, true, false, not, ℕ, List, [], ◌∷◌, Result, Ok, Err, IsTrue, OnOk, is_err, length, take, vec_len, vec_capacity, refl, sym, ap, subst, ◌∙◌, arith, ◌^◌, get_or, inl}
+use Rattle.std.proofs.Common.{◌≡◌, ◌≤◌, ◌+◌, ◌++◌, false, ℕ, List, [], ◌∷◌, Result, Ok, Err, OnOk, is_err, length, take, vec_len, vec_capacity, refl, sym, ap, subst, ◌∙◌, arith, ◌^◌, inl}
 use Rattle.std.proofs.lemmas.List.{take_more, take_all}
 use Rattle.std.specs.Global.{Vec}
-use Rattle.stub_run.specs.Alike.{AreAlike}
 use Rattle.stub_run.specs.Event.{moment_of}
-use Rattle.stub_run.specs.Run.{InOrder, RunState}
-use Rattle.stub_run.specs.World.{BeginsWith}
 use Rattle.stub_run.specs.declared.event.Event.{Event}
 use Rattle.stub_run.specs.declared.report.EventReport.{EventReport}
-use Rattle.stub_run.proofs.Happening.{IsInState, WireResolver}
-use Rattle.stub_run.proofs.Running.{HasRun, Tells, has-begun, has-run-more, has-run-same, is-report-before, is-report-of, moment-in-order, stops-at, tells-before}
+use Rattle.stub_run.proofs.Happening.{WireResolver}
+use Rattle.stub_run.proofs.Running.{HasRun, has-begun, has-run-more, has-run-same, is-report-before, is-report-of, moment-in-order, stops-at, tells-before}
 use Rattle.stub_run.proofs.runs.run.Goals as goal
 use Rattle.stub_run.proofs.runs.run.Goals.{then-is_err-via-then-is_err, then-is_err-via-else-is_err+then-is_err-2}
 
