@@ -1,5 +1,5 @@
 -- One question, asked over any link (RFC 1035 section 7.3, RFC 5452 sections 3 and 9).
-use Rattle.std.specs.Prelude.{◌≡◌, ◌==◌, ◌&&◌, ◌+◌, ◌*◌, ◌≤◌, ◌^◌, ◌-◌, ◌⊎◌, nat_le, min, zero, suc, Bool, true, false, List, [], ◌∷◌, ◌++◌, ℕ, ⊤, length, slice_get, Option, Some, None, Result, Ok, Err, if◌then◌else◌}
+use Rattle.std.specs.Prelude.{◌≡◌, ◌==◌, ◌&&◌, ◌+◌, ◌≤◌, ◌^◌, ◌-◌, ◌⊎◌, min, zero, suc, Bool, true, false, List, [], ◌∷◌, ◌++◌, ℕ, ⊤, length, slice_get, Option, Some, None, Result, Ok, Err, if◌then◌else◌}
 use Rattle.dns_messages.specs.declared.message_type.MessageType.{MessageType}
 use Rattle.dns_messages.specs.declared.message_type.MessageType.TheVariants as kinds
 use Rattle.dns_messages.specs.declared.op_code.OpCode.{OpCode}
@@ -8,7 +8,7 @@ use Rattle.dns_messages.specs.declared.header.Metadata.{Metadata}
 use Rattle.dns_messages.specs.declared.query.Query.{Query}
 use Rattle.dns_messages.specs.declared.message.Message.{Message}
 use Rattle.dns_messages.specs.declared.response.DnsResponse.{DnsResponse}
-use Rattle.dns_messages.specs.Header.{metadata_of}
+use Rattle.dns_messages.specs.Header.{peeked_metadata}
 use Rattle.dns_messages.specs.Question.{same_question}
 use Rattle.dns_messages.specs.Cut.{cut_form, uncompressed_len}
 use Rattle.dns_messages.specs.Sound.{IsSound}
@@ -55,19 +55,13 @@ repeats q queries = false
 abbrev pub is_reply_header : ℕ → Metadata → Bool
 is_reply_header id m = is_response m.message_type && (is_query_code m.op_code && (m.id == id))
 
--- the header of bytes, if they are twelve at least: an id, two bytes of flags, and eight of counts (RFC 1035 section 4.1.1)
-abbrev pub header_of : List ℕ → Option Metadata
-header_of (first ∷ second ∷ third ∷ fourth ∷ counts) =
-    if nat_le 8 (length counts) then Some (metadata_of (256 * first + second) third fourth) else None
-header_of bytes = None
-
 abbrev pub is_reply_header_if : ℕ → Option Metadata → Bool
 is_reply_header_if id (Some m) = is_reply_header id m
 is_reply_header_if id None = false
 
 -- bytes with the header of a reply under an id
 abbrev pub has_reply_header : ℕ → List ℕ → Bool
-has_reply_header id bytes = is_reply_header_if id (header_of bytes)
+has_reply_header id bytes = is_reply_header_if id (peeked_metadata bytes)
 
 -- a reply to a question under an id
 abbrev pub matches : ℕ → Query → Message → Bool

@@ -1,10 +1,10 @@
 //! Which datagrams are the reply to a question (RFC 5452 sections 3 and 9).
 
 ghost use Rattle.std.specs.Prelude.{◌≡◌, true, IfOk, OnErr};
-ghost use Rattle.stub_link.specs.WireHandle.{FailsByLink, FindsReply, Waits, accepted, has_reply_header, header_of, is_reply_header, matches};
+ghost use Rattle.stub_link.specs.WireHandle.{FailsByLink, FindsReply, Waits, accepted, has_reply_header, is_reply_header, matches};
 
 use crate::link::{Link, LinkError};
-use dns_messages::laws::messages_decode_unambiguously;
+use dns_messages::laws::{headers_are_peeked, messages_decode_unambiguously};
 use dns_messages::{DnsResponse, Message, MessageType, Metadata, OpCode, Query, ResponseError};
 use dns_wire::DecodeError;
 use std::alloc::{AllocError, Global};
@@ -53,6 +53,7 @@ fn reply_in(
     ensures headed { OnErr result (has_reply_header id bytes.items ≡ true) }
 {
     messages_decode_unambiguously();
+    headers_are_peeked();
     if !has_reply_header(id, bytes.as_slice()) {
         return Ok(None);
     }
@@ -74,25 +75,11 @@ fn reply_in(
     }
 }
 
-/// Returns the header of a datagram, if it is long enough to have one (RFC 1035 section 4.1.1).
-fn header_of(bytes: &[u8]) -> Option<Metadata>
-    ensures { result ≡ header_of bytes.now }
-{
-    let [first, second, third, fourth, counts @ ..] = bytes else {
-        return None;
-    };
-    if counts.len() < 8 {
-        return None;
-    }
-    let id = 256 * u16::from(*first) + u16::from(*second);
-    Some(Metadata::from_bytes(id, *third, *fourth))
-}
-
 /// Returns `true` if a datagram has the header of a reply under an id.
 fn has_reply_header(id: u16, bytes: &[u8]) -> bool
     ensures { result ≡ has_reply_header id bytes.now }
 {
-    match header_of(bytes) {
+    match Metadata::peek(bytes) {
         Some(header) => is_reply_header(id, header),
         None => false,
     }

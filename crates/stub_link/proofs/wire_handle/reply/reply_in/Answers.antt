@@ -7,7 +7,7 @@ use Rattle.stub_link.proofs.wire_handle.reply.reply_in.Goals as goal
 pub returns-then-not-has_reply_header-clause-found :
     goal.returns-then-not-has_reply_header-clause-found
 returns-then-not-has_reply_header-clause-found c = λ m reads.
-    not-headed c.args.id c.args.query.now c.args.bytes.items m (ap (has_reply_header c.args.id) (sym c.as_slice.ensures.value) ∙ sym c.has_reply_header.ensures ∙ c.if-not-has_reply_header.true) reads
+    not-headed c.headers_are_peeked.ensures c.args.id c.args.query.now c.args.bytes.items m (ap (has_reply_header c.args.id) (sym c.as_slice.ensures.value) ∙ sym c.has_reply_header.ensures ∙ c.if-not-has_reply_header.true) reads
 
 pub returns-in_default-clause-found : goal.returns-in_default-clause-found
 returns-in_default-clause-found c = λ m reads.
