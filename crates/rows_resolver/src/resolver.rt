@@ -13,9 +13,6 @@ use std::alloc::Global;
 use stub_core::{DnsHandle, ListHandle, Resolver, ResolverBuilder};
 use stub_lookup::{Lookup, NetError};
 
-/// The resolver of a row over an exchange, or why it is refused.
-type Built<'a> = Result<Resolver<Recorder<'a>>, NetError>;
-
 /// `resolver|set-hosts SETTINGS || LOOKUP || HOSTS || OUTCOMES`: a lookup of a resolver with hosts, which are set before it is built
 /// or afterwards; behind bars the questions that were asked, and how many outcomes are left.
 pub(crate) fn resolver(alloc: Global, word: &str, input: &str) -> Answer {
@@ -50,7 +47,9 @@ fn resolved(
 ) -> Answer {
     let builder = builder_of(alloc, settings, Recorder::new(alloc, exchange))?;
     let mut resolver = built_with(alloc, builder, hosts)?;
-    answer_or_refusal(alloc, &mut resolver, asked)
+    let text = answer_or_refusal(alloc, &mut resolver, asked);
+    drop(resolver);
+    text
 }
 
 /// A lookup of a resolver over an exchange, with hosts that are set once it is built.
@@ -62,21 +61,34 @@ fn resolved_with_set_hosts(
     asked: &str,
 ) -> Answer {
     let builder = builder_of(alloc, settings, Recorder::new(alloc, exchange))?;
-    let mut resolver = Box::new(alloc, Box::into_inner(builder).build())?;
-    set_hosts(alloc, &mut resolver, hosts)?;
-    answer_or_refusal(alloc, &mut resolver, asked)
+    let mut resolver = Box::into_inner(builder).build();
+    let text = answer_with_hosts(alloc, &mut resolver, hosts, asked);
+    drop(resolver);
+    text
 }
 
-/// Sets the hosts of a resolver, if there is one.
-fn set_hosts(alloc: Global, resolver: &mut Built<'_>, hosts: &str) -> Result<(), RowFault> {
-    if let Ok(resolver) = resolver {
-        resolver.set_hosts(hosts_of(alloc, hosts)?);
+/// A lookup of a resolver once its hosts are set, or why there is none.
+fn answer_with_hosts<H: DnsHandle>(
+    alloc: Global,
+    resolver: &mut Result<Resolver<H>, NetError>,
+    hosts: &str,
+    asked: &str,
+) -> Answer {
+    match resolver {
+        Ok(resolver) => {
+            resolver.set_hosts(hosts_of(alloc, hosts)?);
+            answer_of(alloc, resolver, asked)
+        }
+        Err(error) => error_text(alloc, error),
     }
-    Ok(())
 }
 
 /// A lookup of a resolver, or why there is none.
-fn answer_or_refusal(alloc: Global, resolver: &mut Built<'_>, asked: &str) -> Answer {
+fn answer_or_refusal<H: DnsHandle>(
+    alloc: Global,
+    resolver: &mut Result<Resolver<H>, NetError>,
+    asked: &str,
+) -> Answer {
     match resolver {
         Ok(resolver) => answer_of(alloc, resolver, asked),
         Err(error) => error_text(alloc, error),
@@ -102,13 +114,13 @@ fn options_or_refusal(alloc: Global, resolver: &Result<Resolver<ListHandle>, Net
 }
 
 /// What is built with the hosts of a file's text.
-fn built_with<'a>(
+fn built_with<H: DnsHandle + Drop>(
     alloc: Global,
-    builder: Box<ResolverBuilder<Recorder<'a>>>,
+    builder: Box<ResolverBuilder<H>>,
     hosts: &str,
-) -> Result<Box<Built<'a>>, RowFault> {
+) -> Result<Result<Resolver<H>, NetError>, RowFault> {
     let hosts = hosts_of(alloc, hosts)?;
-    Ok(Box::new(alloc, Box::into_inner(builder).with_hosts(hosts).build())?)
+    Ok(Box::into_inner(builder).with_hosts(hosts).build())
 }
 
 /// The builder of a resolver with settings over a handle.
