@@ -10,6 +10,7 @@ use rows_text::{
     error_text, name_of, reply_text, resolver_config_of, set_resolver_options, type_of,
 };
 use std::alloc::Global;
+use stub_cache::Hosts;
 use stub_core::{DnsHandle, ListHandle, Resolver, ResolverBuilder};
 use stub_lookup::{Lookup, NetError};
 
@@ -45,8 +46,8 @@ fn resolved(
     hosts: &str,
     asked: &str,
 ) -> Answer {
-    let builder = builder_of(alloc, settings, Recorder::new(alloc, exchange))?;
-    let mut resolver = built_with(alloc, builder, hosts)?;
+    let hosts = hosts_of(alloc, hosts)?;
+    let mut resolver = build(alloc, settings, hosts, Recorder::new(alloc, exchange))?;
     let text = answer_or_refusal(alloc, &mut resolver, asked);
     drop(resolver);
     text
@@ -60,8 +61,8 @@ fn resolved_with_set_hosts(
     hosts: &str,
     asked: &str,
 ) -> Answer {
-    let builder = builder_of(alloc, settings, Recorder::new(alloc, exchange))?;
-    let mut resolver = Box::into_inner(builder).build();
+    let none = Hosts::default(alloc);
+    let mut resolver = build(alloc, settings, none, Recorder::new(alloc, exchange))?;
     let text = answer_with_hosts(alloc, &mut resolver, hosts, asked);
     drop(resolver);
     text
@@ -113,13 +114,14 @@ fn options_or_refusal(alloc: Global, resolver: &Result<Resolver<ListHandle>, Net
     }
 }
 
-/// What is built with the hosts of a file's text.
-fn built_with<H: DnsHandle + Drop>(
+/// The resolver with settings and hosts over a handle, or its refusal.
+fn build<H: DnsHandle + Drop>(
     alloc: Global,
-    builder: Box<ResolverBuilder<H>>,
-    hosts: &str,
+    settings: &str,
+    hosts: Hosts,
+    handle: H,
 ) -> Result<Result<Resolver<H>, NetError>, RowFault> {
-    let hosts = hosts_of(alloc, hosts)?;
+    let builder = builder_of(alloc, settings, handle)?;
     Ok(Box::into_inner(builder).with_hosts(hosts).build())
 }
 
