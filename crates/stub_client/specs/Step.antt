@@ -1,11 +1,11 @@
 -- What a client does with the outcome of a question (RFC 1034 section 5.3.3, RFC 2308 section 2).
-use Rattle.std.specs.Prelude.{◌==◌, ◌&&◌, ◌||◌, ◌++◌, if◌then◌else◌, not, nat_lt, min, map, Bool, true, false, List, [], ◌∷◌, ℕ, Option, Some, None, Ok, Err}
+use Rattle.std.specs.Prelude.{◌==◌, ◌&&◌, ◌||◌, ◌++◌, if◌then◌else◌, is_some, not, nat_lt, min, map, Bool, true, false, List, [], ◌∷◌, ℕ, Option, Some, None, Ok, Err}
 use Rattle.std.specs.List.{filter, list_any}
 use Rattle.dns_codes.specs.RecordType.{type_number}
 use Rattle.dns_codes.specs.DNSClass.{class_number}
 use Rattle.dns_codes.specs.declared.dns_class.DNSClass.TheVariants.{IN}
 use Rattle.dns_codes.specs.declared.record_type.RecordType.TheVariants as types
-use Rattle.dns_names.specs.Compare.{same_labels}
+use Rattle.dns_names.specs.Compare.{same_name}
 use Rattle.dns_names.specs.Name.{DomainName}
 use Rattle.dns_data.specs.declared.rdata.RData.{RData}
 use Rattle.dns_data.specs.declared.rdata.RData.TheVariants as of
@@ -30,10 +30,10 @@ use Rattle.stub_client.specs.declared.caching_client.step.Step.TheVariants.{Give
 
 -- where the data of a record leads from a name: that of an alias of this name to its target, and that of an SRV record of any
 -- owner to its target (RFC 2782)
-abbrev pub next_name : List (List ℕ) → Record → RData → Option DomainName
-next_name labels r (of.CNAME alias) = if same_labels r.name.labels labels then Some alias.0 else None
-next_name labels r (of.SRV service) = Some service.target
-next_name labels r other = None
+abbrev pub next_name : DomainName → Record → RData → Option DomainName
+next_name name r (of.CNAME alias) = if same_name r.name name then Some alias.0 else None
+next_name name r (of.SRV service) = Some service.target
+next_name name r other = None
 
 abbrev pub extended : Chain → ℕ → Option DomainName → Chain
 extended chain ttl None = chain
@@ -42,7 +42,7 @@ extended chain ttl (Some target) = record { name = target; ttl = min ttl chain.t
 -- the aliases among answers, in order
 abbrev pub chain_over : Chain → List Record → Chain
 chain_over chain [] = chain
-chain_over chain (r ∷ rs) = chain_over (extended chain r.ttl (next_name chain.name.labels r r.rdata)) rs
+chain_over chain (r ∷ rs) = chain_over (extended chain r.ttl (next_name chain.name r r.rdata)) rs
 
 abbrev pub chain_start : Query → Chain
 chain_start q = record { name = q.name; ttl = max_ttl; is_alias = false }
@@ -65,7 +65,7 @@ has_class q r = class_number r.dns_class == class_number q.query_class
 
 -- whether a record is at the end of a chain, or at the name that is asked for
 abbrev pub is_at_either : DomainName → Query → Record → Bool
-is_at_either name q r = same_labels r.name.labels name.labels || same_labels r.name.labels q.name.labels
+is_at_either name q r = same_name r.name name || same_name r.name q.name
 
 -- whether a record, of any section, is found
 abbrev pub is_found : Query → DomainName → Record → Bool
@@ -82,7 +82,7 @@ is_given q chain kept m = not (is_empty (found q chain m)) && (not chain.is_alia
 
 -- whether a record was found at the end of the aliases
 abbrev pub is_end_found : Query → Chain → Message → Bool
-is_end_found q chain m = list_any (λ r. same_labels r.name.labels chain.name.labels) (found q chain m)
+is_end_found q chain m = list_any (λ r. same_name r.name chain.name) (found q chain m)
 
 -- whether the answers are selected: after kept aliases, and where aliases are left out
 abbrev pub is_selected : LookupSettings → Query → Chain → List Record → Message → Bool
@@ -143,10 +143,15 @@ nothing_found q m = record (no_records q m.metadata.response_code) {
   negative_ttl = negative_ttl (soa_in m.authorities);
 }
 
--- a reply that is no error: what was found, or an alias, or nothing
+-- whether aliases end in nothing: no record is found, and the reply has the SOA record of a negative answer (RFC 2308 section 2.1)
+abbrev pub is_negative_end : Query → Chain → Message → Bool
+is_negative_end q chain m = chain.is_alias && (is_empty (found q chain m) && is_some (soa_in m.authorities))
+
+-- a reply that is no error: what was found, or aliases that end in nothing, or an alias to follow, or nothing
 abbrev pub step_along : LookupSettings → Query → Chain → List Record → ℕ → Message → Step
 step_along settings q chain kept depth m =
     if is_given q chain kept m then Gives (given_message settings q chain kept m)
+    else if is_negative_end q chain m then Misses (nothing_found q m)
     else if chain.is_alias && nat_lt depth max_depth
     then Follows (next_question q chain) (kept_aliases settings q chain kept m)
     else Stops (Dns (dns.NoRecordsFound (nothing_found q m)))

@@ -128,9 +128,10 @@ impl<C: DnsHandle> CachingClient<C> {
     /// and are at either name. If there are some, the lookup has the response, which is stored; its TTLs are within the
     /// bounds of their types, and it is valid as long as it is stored. If the end of the aliases was found, the
     /// answers are what was found, with TTLs of at most those of the aliases, unless intermediates are preserved. If
-    /// there are none, the end of the aliases is looked up in the same way. What that returns is returned and stored for
-    /// the question. At most seven aliases are followed. If there is no record, the error is
-    /// [`DnsError::NoRecordsFound`].
+    /// there are none, but the response has aliases and the SOA record of a negative answer, the question has this
+    /// negative answer, which is stored (RFC 2308 section 2.1). Otherwise, the end of the aliases is looked up in the
+    /// same way. What that returns is returned and stored for the question. At most seven aliases are followed. If there
+    /// is no record, the error is [`DnsError::NoRecordsFound`].
     pub fn lookup(
         &mut self,
         query: Query,

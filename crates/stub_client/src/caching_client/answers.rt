@@ -1,7 +1,7 @@
 //! What is found in a reply, and the message that is returned (RFC 1034 section 5.3.3).
 
 ghost use Rattle.std.specs.Prelude.{◌≡◌, ◌&&◌, ◌||◌, not, IfOk, OnOk};
-ghost use Rattle.dns_names.specs.Compare.{same_labels};
+ghost use Rattle.dns_names.specs.Compare.{same_name};
 ghost use Rattle.dns_codes.specs.declared.record_type.RecordType.TheVariants as types;
 ghost use Rattle.dns_messages.specs.Response.{has_type, is_empty};
 ghost use Rattle.stub_client.specs.Step.{asks_for, found, given_answers, given_message, has_class, is_at_either, is_end_found, is_found, is_given, is_kept_alias, is_selected, kept_aliases, lowered, selected_answers, with_question};
@@ -23,7 +23,7 @@ pub(super) fn is_given(query: &Query, chain: &Chain, kept: &[Record], message: &
 }
 
 /// Returns `true` if a record of any section is found.
-fn is_any_found(query: &Query, chain: &Chain, message: &Message) -> bool
+pub(super) fn is_any_found(query: &Query, chain: &Chain, message: &Message) -> bool
     ensures { result ≡ not (is_empty (found query.now chain.now message.now)) }
 {
     for entry in message.all_sections() {
@@ -49,9 +49,9 @@ fn is_end_found(query: &Query, chain: &Chain, message: &Message) -> bool
 /// Returns `true` if a record is found, and is at the end of the aliases.
 fn is_found_at_end(query: &Query, chain: &Chain, entry: &Record) -> bool
     ensures { result ≡ (is_found query.now chain.now.name entry.now
-        && same_labels entry.now.name.labels chain.now.name.labels) }
+        && same_name entry.now.name chain.now.name) }
 {
-    is_found(query, chain, entry) && entry.name.eq_ignore_root(&chain.name)
+    is_found(query, chain, entry) && entry.name == chain.name
 }
 
 /// Returns `true` if a record has the class and the type of a question, and is at its name or at the end of the
@@ -81,7 +81,7 @@ fn asks_for(query: &Query, entry: &Record) -> bool
 fn is_at_either(query: &Query, chain: &Chain, entry: &Record) -> bool
     ensures { result ≡ is_at_either chain.now.name query.now entry.now }
 {
-    entry.name.eq_ignore_root(&chain.name) || entry.name.eq_ignore_root(&query.name)
+    entry.name == chain.name || entry.name == query.name
 }
 
 // ---- the message

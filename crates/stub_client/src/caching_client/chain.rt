@@ -67,11 +67,11 @@ fn chain_over(name: &Name, answers: &[Record]) -> Result<Chain, AllocError>
 /// Returns where a record leads from a name: an alias of this name to its target, and an SRV record of any owner to its
 /// target (RFC 2782).
 fn next_name<'a>(name: &Name, entry: &'a Record) -> Option<&'a Name>
-    ensures { option_copied result ≡ next_name name.now.labels entry.now entry.now.rdata }
+    ensures { option_copied result ≡ next_name name.now entry.now entry.now.rdata }
 {
     match &entry.rdata {
         RData::CNAME(alias) => {
-            if entry.name.eq_ignore_root(name) {
+            if entry.name == *name {
                 Some(&alias.0)
             } else {
                 None

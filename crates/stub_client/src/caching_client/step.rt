@@ -4,13 +4,13 @@ ghost use Rattle.std.specs.Prelude.{◌≡◌, ◌≢◌, ◌&&◌, ℕ, nat_lt,
 ghost use Rattle.dns_messages.specs.declared.query.Query.{Query};
 ghost use Rattle.stub_lookup.specs.Outcome.{outcome};
 ghost use Rattle.stub_client.specs.Looks.{MayRunOut};
-ghost use Rattle.stub_client.specs.Step.{given_message, is_given, kept_aliases, max_depth, meaning, next_question, nothing_found, step_along, step_of, step_on};
+ghost use Rattle.stub_client.specs.Step.{given_message, is_given, is_negative_end, kept_aliases, max_depth, meaning, next_question, nothing_found, step_along, step_of, step_on};
 ghost use Rattle.stub_client.specs.declared.caching_client.step.LookupSettings.{LookupSettings};
 ghost use Rattle.stub_client.specs.declared.caching_client.step.Step.TheVariants as steps;
 ghost use Rattle.stub_lookup.specs.declared.error.DnsError.TheVariants as errors;
 ghost use Rattle.stub_lookup.specs.declared.error.NetError.TheVariants.{Dns, Memory};
 
-use super::answers::{given_message, is_given, kept_aliases};
+use super::answers::{given_message, is_any_found, is_given, kept_aliases};
 use super::chain::{Chain, chain_of};
 use dns_messages::{DnsResponse, Message, Query, Record, Sequence};
 use std::alloc::{AllocError, Global};
@@ -136,11 +136,30 @@ fn follows_or_stops(
     ensures { IfOk result (λ step.
         step ≡ step_along settings query.now chain kept depth response.message) }
 {
-    if is_followed(&chain, depth) {
+    if is_negative_end(query, &chain, &response) {
+        misses(query, &response)
+    } else if is_followed(&chain, depth) {
         follows(settings, query, chain, kept, response.message())
     } else {
         stops(query, &response)
     }
+}
+
+/// Returns `true` if aliases end in nothing: no record is found, and the response has the SOA record of a negative answer
+/// (RFC 2308 section 2.1).
+fn is_negative_end(query: &Query, chain: &Chain, response: &DnsResponse) -> bool
+    ensures { result ≡ is_negative_end query.now chain.now response.now.message }
+{
+    chain.is_alias && !is_any_found(query, chain, response.message()) && response.soa().is_some()
+}
+
+/// Returns the step to the negative answer in which aliases end.
+fn misses(query: &Query, response: &DnsResponse) -> Result<Step, AllocError>
+    ensures { IfOk result (λ step.
+        step ≡ steps.Misses (nothing_found query.now response.now.message)) }
+{
+    let answer = nothing_found(query, response)?;
+    Ok(Step::Misses(answer))
 }
 
 /// Returns `true` if aliases at a depth are followed.
