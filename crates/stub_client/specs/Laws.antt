@@ -14,7 +14,7 @@ use Rattle.stub_cache.specs.declared.cache.entry.Entry.{Entry}
 use Rattle.stub_client.specs.Handle.{Ask}
 use Rattle.stub_client.specs.Looks.{Looks, Reply}
 use Rattle.stub_client.specs.SpecialNames.{special_answer}
-use Rattle.stub_client.specs.Step.{chain_of, is_found, is_given, is_selected, lowered, meaning, next_question}
+use Rattle.stub_client.specs.Step.{chain_of, is_found, is_given, is_negative_end, is_selected, lowered, meaning, next_question}
 use Rattle.stub_client.specs.declared.caching_client.step.LookupSettings.{LookupSettings}
 use Rattle.stub_client.specs.declared.special_names.SpecialAnswer.TheVariants.{Loopback}
 
@@ -52,8 +52,8 @@ pub record BearsOut (holds : RecordClaim) (config : TtlConfigContent) (now : ℕ
   pub answers : EachOf q.query_type (λ r. holds q now (clamped_record config r)) m.answers
   pub others : EachOf q.query_type (λ r. is_found q (chain_of q m).name r ≡ true → holds q now (clamped_record config r))
       (m.authorities ++ m.additionals)
-  pub along : (chain_of q m).is_alias ≡ true → (r : Record) → has_type q.query_type r ≡ true
-      → holds (next_question q (chain_of q m)) now r → holds q now r
+  pub along : is_negative_end q (chain_of q m) m ≡ false → (chain_of q m).is_alias ≡ true
+      → (r : Record) → has_type q.query_type r ≡ true → holds (next_question q (chain_of q m)) now r → holds q now r
 
 -- The same where aliases are not preserved, for what is returned alone: the answers as they are or, if they are selected, the
 -- found records with a TTL of at most that of the aliases; and the end of the aliases where the client asks for it.
@@ -64,8 +64,8 @@ pub record BearsOutClosely (holds : RecordClaim) (settings : LookupSettings) (co
   pub selected : is_given q (chain_of q m) [] m ≡ true → is_selected settings q (chain_of q m) [] m ≡ true
       → EachOf q.query_type (λ r. is_found q (chain_of q m).name r ≡ true
       → holds q now (clamped_record config (lowered (chain_of q m).ttl r))) (all_records m)
-  pub along : is_given q (chain_of q m) [] m ≡ false → (chain_of q m).is_alias ≡ true
-      → (r : Record) → has_type q.query_type r ≡ true → holds (next_question q (chain_of q m)) now r → holds q now r
+  pub along : is_given q (chain_of q m) [] m ≡ false → is_negative_end q (chain_of q m) m ≡ false
+      → (chain_of q m).is_alias ≡ true → (r : Record) → has_type q.query_type r ≡ true → holds (next_question q (chain_of q m)) now r → holds q now r
 
 -- each reply to one of the questions that is no error
 abbrev pub EachReply : (Query → Message → Type 0) → List Ask → Type 0
