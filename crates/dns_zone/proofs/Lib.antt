@@ -1,4 +1,5 @@
 pub mod AnswerLaws
+pub mod ChainLaws
 pub mod FirstLaws
 pub mod InsertedLaws
 pub mod KeptLaws

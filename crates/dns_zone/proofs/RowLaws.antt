@@ -158,6 +158,19 @@ row_below sets name = any_owners name sets ∙ sym (any_entries (λ k. at_or_bel
 pub sound_there : (sets : List RecordSetValue) (i : ℕ) (x : RecordSetValue) → AreSoundSets sets → i < length sets → x ≡ get_or sets i x → AreSoundRows (rows_of x.records)
 sound_there sets i x all h is = (All-at IsSoundSet sets i x all h is).rows
 
+-- the rows at each key are sound
+sound_if : (p : RecordSetValue → Bool) (sets : List RecordSetValue) → AreSoundSets sets → AreSoundRows (unwrap_or (rows_if (list.find p sets)) [])
+unfolding rows_if
+sound_if p [] all = tt
+sound_if p (s ∷ ss) all = by_test (p s) (sound_if p ss all.1)
+  where
+    by_test : (b : Bool) → AreSoundRows (unwrap_or (rows_if (list.find p ss)) []) → AreSoundRows (unwrap_or (rows_if (cond b (Some s) (list.find p ss))) [])
+    by_test true more = all.0.rows
+    by_test false more = more
+
+pub sound_rows_at : (sets : List RecordSetValue) → AreSoundSets sets → (labels : List (List ℕ)) (t : RecordType) → AreSoundRows (rows_at (rows_of_sets sets) labels t)
+sound_rows_at sets all labels t = subst (λ (o : Option (List Row)). AreSoundRows (unwrap_or o [])) (sym (get-sets sets (key labels t))) (sound_if (tied (key labels t)) sets all)
+
 -- ---- no key is without rows
 
 filled_there : (p : RecordSetValue → Bool) (sets : List RecordSetValue) → AreSoundSets sets → rows_if (list.find p sets) ≢ Some []

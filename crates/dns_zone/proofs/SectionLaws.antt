@@ -5,16 +5,11 @@ use Rattle.std.proofs.lemmas.List.{append-nil}
 use Rattle.dns_wire.specs.Encoder.{EncoderState, IsAtEnd}
 use Rattle.dns_wire.specs.Encodable.{Piece, Position, position_of, after, reach, attempts_at_limit, append_pieces, Emits, AreWritable, AllBehind}
 use Rattle.dns_wire.specs.Items.{fitting_prefix, all_pieces, attempts_after, fitting_items, fitting_pieces, append_fitting}
-use Rattle.dns_wire.proofs.ItemLaws.{Underway, all_begins, all_goes_on, all_ends}
+use Rattle.dns_wire.proofs.ItemLaws.{Underway, all_goes_on, fitting_prefix-le}
 use Rattle.dns_records.specs.Record.{Record}
-use Rattle.dns_records.specs.declared.row.Row.{Row}
 use Rattle.dns_messages.specs.Cut.{record_item}
-use Rattle.dns_zone.specs.Rows.{row_of, rows_of}
-use Rattle.dns_zone.specs.Answer.{record_of}
-use Rattle.dns_zone.specs.Section.{borrowed_record, row_with, section_records}
-use Rattle.dns_zone.specs.declared.zone.section.RowRef.{RowRef}
+use Rattle.dns_zone.specs.Section.{section_records}
 use Rattle.dns_zone.specs.declared.zone.section.Section.{Section}
-use Rattle.dns_zone.proofs.ListLaws.{drop_at, drop_whole}
 
 -- the items are `g` of what is borrowed
 module _ {X Y : Type 0} (pieces : X → Position → List Piece) (g : Y → X) where
@@ -72,30 +67,9 @@ module _ {X Y : Type 0} (pieces : X → Position → List Piece) (g : Y → X) w
 
 -- ---- the records of a section, one after another
 
--- a record of the set as it is in the section
-abbrev pub section_record : Section → Record → Record
-section_record s x = record_of s.owner.now (row_with s.ttl (row_of x))
-
--- the records from an index on
-abbrev pub records_from : Section → ℕ → List Record
-records_from s i = map (λ (row : Row). record_of s.owner.now (row_with s.ttl row)) (rows_of (drop i s.records.now))
-
-from_at : (s : Section) (i : ℕ) (x : Record) → i < length s.records.now → x ≡ get_or s.records.now i x → records_from s i ≡ section_record s x ∷ records_from s (i + 1)
-from_at s i x below is = ap (λ (xs : List Record). map (λ (row : Row). record_of s.owner.now (row_with s.ttl row)) (rows_of xs)) (drop_at s.records.now i x below is)
-
-pub from_end : (s : Section) (i : ℕ) → length s.records.now ≤ i → records_from s i ≡ []
-from_end s i past = ap (λ (xs : List Record). map (λ (row : Row). record_of s.owner.now (row_with s.ttl row)) (rows_of xs)) (drop_whole s.records.now i past)
-
--- the next record, borrowed
-pub next_row : (s : Section) (i : ℕ) (x : Record) (row : RowRef) → i < length s.records.now → x ≡ get_or s.records.now i x → borrowed_record row ≡ section_record s x → records_from s i ≡ borrowed_record row ∷ records_from s (i + 1)
-next_row s i x row below is e = from_at s i x below is ∙ ap (λ (r : Record). r ∷ records_from s (i + 1)) (sym e)
-
 abbrev pub WritesSection : EncoderState → EncoderState → Section → List Record → ℕ → Type 0
 WritesSection old w s rest count = Underway record_item old w (section_records s) rest count
 
-pub section_begins : (w : EncoderState) (s : Section) → IsAtEnd w → AllBehind (position_of w) → WritesSection w w s (records_from s 0) 0
-section_begins w s end behind = all_begins record_item w (section_records s) end behind
-
-pub section_ends : (old w : EncoderState) (s : Section) (i count : ℕ) → WritesSection old w s (records_from s i) count → length s.records.now ≤ i
-    → (count ≡ length (fitting_items record_item old (section_records s))) × (w ≡ append_fitting record_item old (section_records s)) × AreWritable (fitting_pieces record_item old (section_records s))
-section_ends old w s i count u past = all_ends record_item old w (section_records s) count (subst (λ (rest : List Record). WritesSection old w s rest count) (from_end s i past) u)
+-- how many records a section has, and how many were written
+pub count_below : (old w : EncoderState) (s : Section) (rest : List Record) (count : ℕ) → WritesSection old w s rest count → count ≤ length (section_records s)
+count_below old w s rest count u = omega (arith, u.counts, fitting_prefix-le record_item old.limit (position_of old) (section_records s))

@@ -1,5 +1,5 @@
 -- The answer of a zone to a question (RFC 1034 section 4.3.2, RFC 2308 sections 2 and 3).
-use Rattle.std.specs.Prelude.{false, ◌≡◌, ◌<◌, ◌==◌, ◌&&◌, ◌||◌, nat_le, not, map, min, if◌then◌else◌, Bool, List, [], ◌∷◌, ℕ}
+use Rattle.std.specs.Prelude.{false, ◌≡◌, ◌<◌, ◌==◌, ◌&&◌, ◌||◌, ◌++◌, nat_le, not, map, min, if◌then◌else◌, zero, suc, Bool, List, [], ◌∷◌, ℕ, Option, Some, None}
 use Rattle.dns_codes.specs.RecordType.{type_number}
 use Rattle.dns_codes.specs.DNSClass.{class_number}
 use Rattle.dns_codes.specs.declared.dns_class.DNSClass.TheVariants.{IN}
@@ -9,9 +9,11 @@ use Rattle.dns_names.specs.Name.{DomainName}
 use Rattle.dns_names.specs.Compare.{at_or_below}
 use Rattle.dns_messages.specs.declared.response_code.ResponseCode.{ResponseCode}
 use Rattle.dns_messages.specs.declared.response_code.ResponseCode.TheVariants.{NoError, NXDomain, NotImp, Refused}
+use Rattle.dns_text.specs.Usage.{is_loopback, is_nonexistent}
 use Rattle.dns_zone.specs.declared.zone.answer.Answer.{Answer}
 use Rattle.dns_messages.specs.declared.query.Query.{Query}
 use Rattle.dns_records.specs.Record.{Record}
+use Rattle.dns_data.specs.declared.rdata.cname.CNAME.{CNAME}
 use Rattle.dns_data.specs.declared.rdata.RData.{RData}
 use Rattle.dns_data.specs.declared.rdata.RData.TheVariants as of
 use Rattle.dns_records.specs.declared.row.Row.{Row}
@@ -40,6 +42,10 @@ authority_row row = record row { ttl = negative_ttl row.ttl row.rdata }
 abbrev pub authority : ZoneContent → List Record
 authority zone = map (λ row. record_of zone.origin (authority_row row)) (rows_at zone.rows zone.origin.labels types.SOA)
 
+-- an answer without records
+abbrev pub bare : ResponseCode → Answer
+bare code = record { code = code; answers = []; authorities = [] }
+
 -- the answer where a name has neither the type nor an alias: whether the name exists, and the SOA record
 abbrev pub negative : ZoneContent → List (List ℕ) → Answer
 negative zone name = record {
@@ -48,23 +54,51 @@ negative zone name = record {
   authorities = authority zone;
 }
 
--- the rows of a type, or, if there are none, the alias
-abbrev pub or_alias : List Row → List Row → List Row
-or_alias [] alias = alias
-or_alias (row ∷ rows) alias = row ∷ rows
+-- the answer with these rows at a name
+abbrev pub positive : DomainName → List Row → Answer
+positive owner rows = record (bare NoError) { answers = map (record_of owner) rows }
 
--- the rows that answer a question for a type at a name (RFC 1034 section 4.3.2, step 3a)
-abbrev pub answering_rows : Rows → List (List ℕ) → RecordType → List Row
-answering_rows rows name t = or_alias (rows_at rows name t) (rows_at rows name types.CNAME)
+-- the answer with these rows at a name, or the negative answer if there are none
+abbrev pub direct_answer : ZoneContent → DomainName → List Row → Answer
+direct_answer zone owner [] = negative zone owner.labels
+direct_answer zone owner (row ∷ rows) = positive owner (row ∷ rows)
 
--- the answer with these rows, whose owner is spelled like that of the question
-abbrev pub found : ZoneContent → Query → List Row → Answer
-found zone q [] = negative zone q.name.labels
-found zone q (row ∷ rows) = record { code = NoError; answers = map (record_of q.name) (row ∷ rows); authorities = [] }
+-- ---- aliases (RFC 1034 section 3.6.2)
 
--- an answer without records
-abbrev pub refusal : ResponseCode → Answer
-refusal code = record { code = code; answers = []; authorities = [] }
+-- an answer with records before its answers
+abbrev pub after_records : List Record → Answer → Answer
+after_records records a = record a { answers = records ++ a.answers }
+
+-- where an alias leads if it is followed: to a name in the zone that is not a special-use name
+abbrev pub next_owner : DomainName → RData → Option DomainName
+next_owner origin (of.CNAME alias) =
+    if at_or_below origin.labels alias.0.labels && not (is_loopback alias.0 || is_nonexistent alias.0) then Some alias.0
+    else None
+next_owner origin other = None
+
+-- the rest of an answer: at the next name, or nothing if the alias is not followed
+abbrev pub rest_at : (DomainName → Answer) → Option DomainName → Answer
+rest_at answer_of None = bare NoError
+rest_at answer_of (Some owner) = answer_of owner
+
+-- The answer at a name that has these rows of the type and these aliases: `on_alias` where there is an alias and no such row.
+abbrev pub answer_by : ZoneContent → DomainName → List Row → List Row → (Row → Answer) → Answer
+answer_by zone owner [] (alias ∷ more) on_alias = on_alias alias
+answer_by zone owner rows aliases on_alias = direct_answer zone owner rows
+
+-- the answer to a question for a type at a name, along an alias chain of so many links at most
+unfoldable pub answer_at : ℕ → ZoneContent → RecordType → DomainName → Answer
+answer_at zero zone t owner =
+    answer_by zone owner (rows_at zone.rows owner.labels t) (rows_at zone.rows owner.labels types.CNAME) (λ alias. bare NoError)
+answer_at (suc links) zone t owner =
+    answer_by zone owner (rows_at zone.rows owner.labels t) (rows_at zone.rows owner.labels types.CNAME)
+    (λ alias. after_records (record_of owner alias ∷ []) (rest_at (answer_at links zone t) (next_owner zone.origin alias.rdata)))
+
+-- the most aliases that an answer follows
+abbrev pub max_aliases : ℕ
+max_aliases = 7
+
+-- ---- answers
 
 -- whether a question is refused because of its type, its class or its name
 abbrev pub is_refused : ZoneContent → Query → Bool
@@ -72,12 +106,24 @@ is_refused zone q =
     is_no_row_type (type_number q.query_type)
     || (not (class_number q.query_class == 1) || not (at_or_below zone.origin.labels q.name.labels))
 
--- The answer to a question: the first case that applies.
+-- The answer to a question: the first case that applies (RFC 1034 section 4.3.2). The owner of its first record is spelled like
+-- the name in the question, and that of each other record like the target of the alias before it.
 abbrev pub answer : ZoneContent → Query → Answer
 answer zone q =
-    if is_no_row_type (type_number q.query_type) then refusal NotImp
-    else if not (class_number q.query_class == 1) || not (at_or_below zone.origin.labels q.name.labels) then refusal Refused
-    else found zone q (answering_rows zone.rows q.name.labels q.query_type)
+    if is_no_row_type (type_number q.query_type) then bare NotImp
+    else if not (class_number q.query_class == 1) || not (at_or_below zone.origin.labels q.name.labels) then bare Refused
+    else answer_at max_aliases zone q.query_type q.name
+
+-- Records along an alias chain from a name: an alias of each name leads to the next, and the last name has rows of the type, or
+-- the chain stops.
+pub data IsChain (rows : Rows) (t : RecordType) : DomainName → List Record → Type 0 where
+  found : (owner : DomainName) → IsChain rows t owner (map (record_of owner) (rows_at rows owner.labels t))
+  stops : (owner : DomainName) → IsChain rows t owner []
+  last : (owner : DomainName) (alias : Row) (more : List Row) → rows_at rows owner.labels types.CNAME ≡ alias ∷ more
+      → IsChain rows t owner (record_of owner alias ∷ [])
+  leads : (owner : DomainName) (alias : Row) (more : List Row) (data : CNAME) (records : List Record)
+      → rows_at rows owner.labels types.CNAME ≡ alias ∷ more → alias.rdata ≡ of.CNAME data
+      → IsChain rows t data.0 records → IsChain rows t owner (record_of owner alias ∷ records)
 
 -- ---- answers that can be encoded and decoded again
 

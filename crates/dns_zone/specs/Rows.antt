@@ -25,6 +25,10 @@ pub record ZoneContent : Type 0 where
 abbrev pub rows_of_sets : List RecordSetValue → Rows
 rows_of_sets sets = rows_map.from_entries (map (λ s. (set_key s, rows_of s.records)) sets)
 
+-- the zone with this origin and these sets
+abbrev pub zone_of : DomainName → List RecordSetValue → ZoneContent
+zone_of origin sets = record { origin = origin; rows = rows_of_sets sets }
+
 -- What the data of rows must be to be encoded in a section of a message and decoded again: it is sound, of a type other than
 -- OPT and TSIG, and not the absent data of a record of an update.
 pub record IsSoundRowData (d : RData) : Type 0 where

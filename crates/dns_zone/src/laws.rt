@@ -1,9 +1,26 @@
 //! Theorems about the definitions of this crate, as functions with empty bodies.
 
-ghost use Rattle.std.specs.Prelude.{ℕ, List, [], None, Ok};
+ghost use Rattle.std.specs.Prelude.{◌≡◌, false, ℕ, List, [], None, Ok};
+ghost use Rattle.dns_codes.specs.declared.record_type.RecordType.TheVariants as types;
+ghost use Rattle.dns_messages.specs.declared.query.Query.{Query};
+ghost use Rattle.dns_zone.specs.Answer.{answer, direct_answer, is_refused, IsChain};
 ghost use Rattle.dns_zone.specs.Load.{ReadsZone};
 ghost use Rattle.dns_zone.specs.Printed.{IsZoneText, IsPrintable};
-ghost use Rattle.dns_zone.specs.Rows.{ZoneContent};
+ghost use Rattle.dns_zone.specs.Rows.{ZoneContent, rows_at};
+
+/// Without an alias at the name in a question, the answer has the rows of its type, or is negative.
+pub fn names_without_alias_are_answered_directly()
+    ensures { (zone : ZoneContent) (q : Query) → is_refused zone q ≡ false
+        → rows_at zone.rows q.name.labels types.CNAME ≡ []
+        → answer zone q
+        ≡ direct_answer zone q.name (rows_at zone.rows q.name.labels q.query_type) }
+{}
+
+/// The answers to a question are records along an alias chain from its name.
+pub fn answers_are_alias_chains()
+    ensures { (zone : ZoneContent) (q : Query)
+        → IsChain zone.rows q.query_type q.name (answer zone q).answers }
+{}
 
 /// Each text of a zone parses back to the zone, without texts to include and without an origin, if the data of each row has
 /// a text form.

@@ -4,7 +4,7 @@
 //! encodes the answer without copying a record.
 //!
 //! - `zone`: zones; `zone::load`: the zone of a zone file; `zone::display`: the zone file of a zone; `zone::answer`: its
-//!   answers; `zone::serve`: its replies;
+//!   answers; `zone::chain`: those along alias chains; `zone::serve`: its replies;
 //! - `rows`: record sets; `road`: the transports of a message;
 //! - `laws`: theorems about the definitions of this crate.
 #![tactic(auto)]

@@ -3,9 +3,11 @@
 ghost use Rattle.std.specs.Prelude.{◌≡◌};
 
 mod answer;
+mod chain;
 mod display;
 mod load;
 mod reply;
+mod row_refs;
 mod section;
 mod serve;
 

@@ -17,7 +17,7 @@ use std::env;
 use std::process::ExitCode;
 
 /// What may be repeated.
-const WHAT: [&str; 20] = [
+const WHAT: [&str; 21] = [
     "all",
     "name-read",
     "name-write",
@@ -33,6 +33,7 @@ const WHAT: [&str; 20] = [
     "zone-read",
     "serve-a",
     "serve-cname",
+    "serve-chain",
     "serve-nxdomain",
     "cache-insert",
     "cache-hit",

@@ -5,7 +5,7 @@ ghost use Rattle.std.specs.Prelude.{◌≡◌, []};
 use crate::cache::{get_nothing, get_responses, insert_responses, replace_responses};
 use crate::data::{parse_data, print_data, read_data, write_data};
 use crate::message::{read_messages, write_messages};
-use crate::zone::{read_zones, serve_addresses, serve_aliases, serve_missing};
+use crate::zone::{read_zones, serve_addresses, serve_aliases, serve_chains, serve_missing};
 use anyhow::Result;
 use dns_names::Name;
 use dns_wire::{BinDecoder, BinEncoder};
@@ -36,12 +36,14 @@ pub(crate) enum Operation {
     MessageRead,
     /// Encodes this reply.
     MessageWrite,
-    /// Reads a zone file of 10,000 records and an SOA record.
+    /// Reads a zone file of 10,008 records and an SOA record.
     ZoneRead,
     /// Serves a question for the addresses of a name in that zone.
     ServeA,
     /// Serves a question for the addresses of an alias in that zone.
     ServeCname,
+    /// Serves a question for the addresses of the first of seven aliases that form a chain in that zone.
+    ServeChain,
     /// Serves a question for a name that is not in that zone.
     ServeNxdomain,
     /// Inserts a response into a cache, in place of an earlier one.
@@ -76,7 +78,7 @@ const BYTES: &[u8; 29] = b"\x03com\x00\x07example\xC0\x00\x03www\xC0\x05\x01a\xC
 
 impl Operation {
     /// All of them.
-    pub(crate) const ALL: [Operation; 19] = [
+    pub(crate) const ALL: [Operation; 20] = [
         Operation::NameRead,
         Operation::NameWrite,
         Operation::NameParse,
@@ -91,6 +93,7 @@ impl Operation {
         Operation::ZoneRead,
         Operation::ServeA,
         Operation::ServeCname,
+        Operation::ServeChain,
         Operation::ServeNxdomain,
         Operation::CacheInsert,
         Operation::CacheHit,
@@ -115,6 +118,7 @@ impl Operation {
             Operation::ZoneRead => "zone-read",
             Operation::ServeA => "serve-a",
             Operation::ServeCname => "serve-cname",
+            Operation::ServeChain => "serve-chain",
             Operation::ServeNxdomain => "serve-nxdomain",
             Operation::CacheInsert => "cache-insert",
             Operation::CacheHit => "cache-hit",
@@ -140,6 +144,7 @@ impl Operation {
             Operation::ZoneRead => read_zones(alloc, count),
             Operation::ServeA => serve_addresses(alloc, count),
             Operation::ServeCname => serve_aliases(alloc, count),
+            Operation::ServeChain => serve_chains(alloc, count),
             Operation::ServeNxdomain => serve_missing(alloc, count),
             Operation::CacheInsert => insert_responses(alloc, count),
             Operation::CacheHit => get_responses(alloc, count),

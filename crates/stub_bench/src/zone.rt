@@ -1,4 +1,4 @@
-//! The operations on zones: reading a zone file of an SOA record and 10,000 others, which 5,000 owners have, and serving
+//! The operations on zones: reading a zone file of an SOA record and 10,008 others, which 5,008 owners have, and serving
 //! questions over that zone.
 
 use anyhow::Result;
@@ -37,6 +37,11 @@ pub(crate) fn serve_addresses(alloc: Global, count: u64) -> Result<u64> {
 /// Serves questions for the addresses of the first and the last alias, by turns.
 pub(crate) fn serve_aliases(alloc: Global, count: u64) -> Result<u64> {
     serve(alloc, b"\x02c0", b"\x05c1249", count)
+}
+
+/// Serves questions for the addresses of the first name of a chain of seven aliases.
+pub(crate) fn serve_chains(alloc: Global, count: u64) -> Result<u64> {
+    serve(alloc, b"\x02e0", b"\x02e0", count)
 }
 
 /// Serves questions for the addresses of two names that do not exist, by turns.
@@ -87,7 +92,16 @@ fn zone_text(alloc: Global) -> Result<String, AllocError> {
     for group in 0..GROUPS {
         push_owners(&mut text, group)?;
     }
+    push_chain(&mut text)?;
     Ok(text)
+}
+
+/// Adds seven aliases, each of which leads to the next, and an address at the end.
+fn push_chain(text: &mut String) -> Result<(), AllocError> {
+    for link in 0..7 {
+        writeln!(text, "e{link} CNAME e{}", link + 1)?;
+    }
+    text.push_str("e7 A 10.4.0.1\n")
 }
 
 /// Adds the eight records of four owners: one with two addresses; one with an address of each family; an alias; and one with

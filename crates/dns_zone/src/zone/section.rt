@@ -1,15 +1,16 @@
 //! Sections of an answer, whose records are borrowed from a zone.
 
-ghost use Rattle.std.specs.Prelude.{◌≡◌, true, [], map, length, IfOk, IfErr, IsOk, OnErr};
+ghost use Rattle.std.specs.Prelude.{◌≡◌, ◌≤◌, ◌++◌, true, [], map, length, IfOk, IfErr, IsOk, OnErr};
 ghost use Rattle.dns_wire.specs.Encoder.{state_of, IsAtEnd, CanRollBack};
 ghost use Rattle.dns_wire.specs.Encodable.{position_of, AllBehind, AreWritable};
 ghost use Rattle.dns_wire.specs.Items.{fitting_items, fitting_pieces, append_fitting};
 ghost use Rattle.dns_records.specs.Record.{record_pieces};
 ghost use Rattle.dns_messages.specs.Cut.{record_item};
-ghost use Rattle.dns_zone.specs.Rows.{row_of, rows_of, AreSoundRows};
-ghost use Rattle.dns_zone.specs.Answer.{authority_row, negative_ttl, record_of, AreSoundRecords};
-ghost use Rattle.dns_zone.specs.Section.{borrowed_record, row_with, section_records};
+ghost use Rattle.dns_zone.specs.Rows.{row_of, rows_of};
+ghost use Rattle.dns_zone.specs.Answer.{authority_row, negative_ttl, record_of};
+ghost use Rattle.dns_zone.specs.Section.{alias_records, borrowed_record, remaining_records, row_with, section_records};
 
+use crate::zone::row_refs::RowRefs;
 use dns_data::RData;
 use dns_messages::{EmitAndCount, Sequence};
 use dns_names::Name;
@@ -34,9 +35,14 @@ pub(crate) enum SectionTtl {
     Negative,
 }
 
-/// A section of an answer: the records of a set of the zone, with an owner and a TTL.
+/// The most aliases that an answer follows.
+pub(crate) const MAX_ALIASES: usize = 7;
+
+/// A section of an answer: aliases, and then the records of a set of the zone, with an owner and a TTL.
 #[derive(Clone, Copy, Drop)]
 pub(crate) struct Section<'a> {
+    /// The aliases, and then no more.
+    aliases: [Option<RowRef<'a>>; MAX_ALIASES],
     owner: &'a Name,
     ttl: SectionTtl,
     records: &'a [Record],
@@ -54,7 +60,7 @@ fn negative_ttl(soa: &Record) -> u32
 
 impl SectionTtl {
     /// Returns the TTL of a record in the section.
-    fn of(self, stored: &Record) -> u32
+    pub(crate) fn of(self, stored: &Record) -> u32
         ensures { result ≡ (row_with self (row_of stored.now)).ttl }
     {
         match self {
@@ -64,7 +70,19 @@ impl SectionTtl {
     }
 }
 
-impl RowRef<'_> {
+impl<'a> RowRef<'a> {
+    /// Creates the record of a set with this owner and this TTL.
+    pub(crate) fn new(owner: &'a Name, ttl: SectionTtl, stored: &'a Record) -> RowRef<'a>
+        ensures { borrowed_record result
+            ≡ record_of owner.now (row_with ttl (row_of stored.now)) }
+    {
+        RowRef {
+            owner,
+            ttl: ttl.of(stored),
+            rdata: &stored.rdata,
+        }
+    }
+
     /// Copies the record.
     fn to_owned(&self) -> Result<Record, AllocError>
         ensures { IfOk result (λ copy. copy ≡ borrowed_record self.now) }
@@ -90,14 +108,24 @@ impl BinEncodable for RowRef<'_> {
 }
 
 impl<'a> Section<'a> {
-    /// Creates the answer section with these records, whose owner is spelled like that of the question.
-    pub(crate) fn answers(owner: &'a Name, records: &'a [Record]) -> Section<'a>
-        ensures records { section_records result
-            ≡ map (record_of owner.now) (rows_of records.now) }
-        ensures sound { owner.now.is_fqdn ≡ true → AreSoundRows (rows_of records.now)
-            → AreSoundRecords (section_records result) }
+    /// Creates a section without records. `owner` is ignored.
+    pub(crate) fn empty(owner: &'a Name) -> Section<'a>
+        ensures { section_records result ≡ [] }
+    {
+        Section::along([None; MAX_ALIASES], owner, &[])
+    }
+
+    /// Creates the answer section with these aliases and these records of a name.
+    pub(crate) fn along(
+        aliases: [Option<RowRef<'a>>; MAX_ALIASES],
+        owner: &'a Name,
+        records: &'a [Record],
+    ) -> Section<'a>
+        ensures { section_records result
+            ≡ alias_records aliases ++ map (record_of owner.now) (rows_of records.now) }
     {
         Section {
+            aliases,
             owner,
             ttl: SectionTtl::Unchanged,
             records,
@@ -106,39 +134,22 @@ impl<'a> Section<'a> {
 
     /// Creates the authority section of a negative answer with these SOA records.
     pub(crate) fn authority(origin: &'a Name, records: &'a [Record]) -> Section<'a>
-        ensures records { section_records result
+        ensures { section_records result
             ≡ map (λ row. record_of origin.now (authority_row row)) (rows_of records.now) }
-        ensures sound { origin.now.is_fqdn ≡ true → AreSoundRows (rows_of records.now)
-            → AreSoundRecords (section_records result) }
     {
         Section {
+            aliases: [None; MAX_ALIASES],
             owner: origin,
             ttl: SectionTtl::Negative,
             records,
         }
     }
 
-    /// Creates a section without records. It has no use for the owner.
-    pub(crate) fn empty(owner: &'a Name) -> Section<'a>
-        ensures { section_records result ≡ [] }
+    /// Iterates over the records.
+    fn rows(&self) -> RowRefs<'_>
+        ensures { remaining_records result ≡ section_records self.now }
     {
-        Section {
-            owner,
-            ttl: SectionTtl::Unchanged,
-            records: &[],
-        }
-    }
-
-    /// Returns a record of the set as it is in the section.
-    fn row(&self, stored: &'a Record) -> RowRef<'a>
-        ensures { borrowed_record result
-            ≡ record_of self.now.owner.now (row_with self.now.ttl (row_of stored.now)) }
-    {
-        RowRef {
-            owner: self.owner,
-            ttl: self.ttl.of(stored),
-            rdata: &stored.rdata,
-        }
+        RowRefs::new(&self.aliases, self.owner, self.ttl, self.records)
     }
 
     /// Copies the records. An empty section takes no memory.
@@ -147,8 +158,9 @@ impl<'a> Section<'a> {
         ensures empty { section_records self.now ≡ [] → IsOk result }
     {
         let mut copies = Sequence::new(alloc);
-        for stored in self.records {
-            copies.push(self.row(stored).to_owned()?)?;
+        let mut rows = self.rows();
+        while let Some(row) = rows.next() {
+            copies.push(row.to_owned()?)?;
         }
         Ok(copies)
     }
@@ -170,8 +182,8 @@ impl<'a> Section<'a> {
         ensures back { OnErr result (CanRollBack (state_of encoder.old) (state_of encoder.new)) }
     {
         let mut count = 0;
-        for stored in self.records {
-            let row = self.row(stored);
+        let mut rows = self.rows();
+        while let Some(row) = rows.next() {
             let fits = emit_if_fits(&row, encoder)?;
             if !fits {
                 return Ok(count);
@@ -188,10 +200,25 @@ impl EmitAndCount for Section<'_> {
     ghost items = { section_records };
 
     fn len(&self) -> usize {
-        self.records.len()
+        alias_count(&self.aliases) + self.records.len()
     }
 
     fn emit(&mut self, encoder: &mut BinEncoder<'_>) -> Result<usize, EncodeError> {
         self.emit_fitting(encoder)
     }
+}
+
+/// Returns the number of aliases before the first place without one.
+fn alias_count(aliases: &[Option<RowRef<'_>>]) -> usize
+    ensures count { result ≡ length (alias_records aliases.now) }
+    ensures most { result ≤ length aliases.now }
+{
+    let mut count = 0;
+    for alias in aliases {
+        if alias.is_none() {
+            return count;
+        }
+        count += 1;
+    }
+    count
 }

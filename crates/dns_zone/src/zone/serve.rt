@@ -27,7 +27,7 @@ impl Zone {
             self.alloc,
             request,
             &[],
-            AnswerRef::refusal(&self.origin, code),
+            AnswerRef::bare(&self.origin, code),
         )
     }
 

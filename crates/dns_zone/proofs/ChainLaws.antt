@@ -1,0 +1,71 @@
+-- The answer along an alias chain, link by link.
+use Rattle.std.proofs.Common.{◌≡◌, ◌+◌, ◌-◌, ◌<◌, ◌≤◌, zero, suc, ℕ, List, [], ◌∷◌, ◌++◌, length, map, refl, sym, ap, ◌∙◌, arith, Option, Some, None, slice_set}
+use Rattle.std.proofs.lemmas.List.{append_assoc}
+use Rattle.dns_codes.specs.declared.record_type.RecordType.{RecordType}
+use Rattle.dns_codes.specs.declared.record_type.RecordType.TheVariants as types
+use Rattle.dns_names.specs.Name.{DomainName}
+use Rattle.dns_messages.specs.declared.response_code.ResponseCode.TheVariants.{NoError}
+use Rattle.dns_records.specs.Record.{Record}
+use Rattle.dns_records.specs.declared.row.Row.{Row}
+use Rattle.dns_zone.specs.declared.zone.answer.Answer.{Answer}
+use Rattle.dns_zone.specs.declared.zone.section.RowRef.{RowRef}
+use Rattle.dns_zone.specs.Rows.{ZoneContent, rows_at}
+use Rattle.dns_zone.specs.Answer.{after_records, answer_at, answer_by, bare, max_aliases, next_owner, record_of, rest_at}
+use Rattle.dns_zone.specs.Section.{alias_records, borrowed_record}
+
+-- ---- aliases, as an array has them
+
+-- the first places have aliases, and the others have none
+abbrev pub HasAliases : ℕ → List (Option RowRef) → Type 0
+HasAliases n [] = Unit {0}
+HasAliases zero (None ∷ aliases) = HasAliases zero aliases
+HasAliases zero (Some alias ∷ aliases) = ⊥
+HasAliases (suc n) (None ∷ aliases) = ⊥
+HasAliases (suc n) (Some alias ∷ aliases) = HasAliases n aliases
+
+none_left : (aliases : List (Option RowRef)) → HasAliases zero aliases → alias_records aliases ≡ []
+none_left [] has = refl
+none_left (None ∷ aliases) has = refl
+none_left (Some alias ∷ aliases) has = absurd has
+
+-- the next place takes one more alias
+pub one_more_alias : (n : ℕ) (aliases : List (Option RowRef)) (alias : RowRef) → HasAliases n aliases → n < length aliases
+    → (alias_records (slice_set aliases n (Some alias)) ≡ alias_records aliases ++ borrowed_record alias ∷ []) × HasAliases (suc n) (slice_set aliases n (Some alias))
+one_more_alias n [] alias has within = absurd (omega arith)
+one_more_alias zero (None ∷ aliases) alias has within = (ap (λ (rs : List Record). borrowed_record alias ∷ rs) (none_left aliases has), has)
+one_more_alias zero (Some first ∷ aliases) alias has within = absurd has
+one_more_alias (suc n) (None ∷ aliases) alias has within = absurd has
+one_more_alias (suc n) (Some first ∷ aliases) alias has within =
+    let rest = one_more_alias n aliases alias has (omega arith) in
+    (ap (λ (rs : List Record). borrowed_record first ∷ rs) rest.0, rest.1)
+
+-- ---- the answer at a name
+
+module _ (zone : ZoneContent) (t : RecordType) (owner : DomainName) where
+  abbrev there : (Row → Answer) → Answer
+  there on_alias = answer_by zone owner (rows_at zone.rows owner.labels t) (rows_at zone.rows owner.labels types.CNAME) on_alias
+
+  -- a name without an alias, or with rows of the type
+  pub ends_at : (links : ℕ) (a : Answer) → ((on_alias : Row → Answer) → there on_alias ≡ a) → answer_at links zone t owner ≡ a
+  unfolding answer_at
+  ends_at zero a is = is (λ alias. bare NoError)
+  ends_at (suc links) a is = is (λ alias. after_records (record_of owner alias ∷ []) (rest_at (answer_at links zone t) (next_owner zone.origin alias.rdata)))
+
+  -- a name with an alias
+  pub leads_on : (links : ℕ) (alias : Row) → ((on_alias : Row → Answer) → there on_alias ≡ on_alias alias)
+      → answer_at (suc links) zone t owner ≡ after_records (record_of owner alias ∷ []) (rest_at (answer_at links zone t) (next_owner zone.origin alias.rdata))
+  unfolding answer_at
+  leads_on links alias is = is (λ alias. after_records (record_of owner alias ∷ []) (rest_at (answer_at links zone t) (next_owner zone.origin alias.rdata)))
+
+  -- an alias that is one too many
+  pub breaks_off : (alias : Row) → ((on_alias : Row → Answer) → there on_alias ≡ on_alias alias) → answer_at zero zone t owner ≡ bare NoError
+  unfolding answer_at
+  breaks_off alias is = is (λ alias. bare NoError)
+
+-- records before records
+pub after_both : (first second : List Record) (a : Answer) → after_records first (after_records second a) ≡ after_records (first ++ second) a
+after_both first second a = ap (λ (rs : List Record). record a { answers = rs }) (sym (append_assoc first second a.answers))
+
+-- one of the links that are left
+pub one_link : (i : ℕ) → i < max_aliases → max_aliases - i ≡ suc (max_aliases - (i + 1))
+one_link i below = omega arith
