@@ -92,6 +92,11 @@ module _ (zone : ZoneContent) (origin_fqdn : zone.origin.is_fqdn ≡ true) (soun
   sound_after : (r : Record) (a : Answer) → IsSoundIn false r → IsSoundAnswer a → IsSoundAnswer (after_records (r ∷ []) a)
   sound_after r a first is = record { code_fits = is.code_fits; code_named = is.code_named; answers = (first, is.answers); authorities = is.authorities }
 
+  sound_rest : (answer_of : DomainName → Answer) (o : Option DomainName) → IfSome o (λ target. target.is_fqdn ≡ true)
+      → ((target : DomainName) → target.is_fqdn ≡ true → IsSoundAnswer (answer_of target)) → IsSoundAnswer (rest_at answer_of o)
+  sound_rest answer_of None is next = bare_sound NoError (omega arith) refl
+  sound_rest answer_of (Some target) is next = next target is
+
   pub sound_at : (links : ℕ) (t : RecordType) (owner : DomainName) → owner.is_fqdn ≡ true → IsSoundAnswer (answer_at links zone t owner)
   unfolding answer_at
   sound_at zero t owner fqdn =
@@ -101,11 +106,7 @@ module _ (zone : ZoneContent) (origin_fqdn : zone.origin.is_fqdn ≡ true) (soun
       sound_by owner (rows_at zone.rows owner.labels t) (rows_at zone.rows owner.labels types.CNAME)
       (λ alias. after_records (record_of owner alias ∷ []) (rest_at (answer_at links zone t) (next_owner zone.origin alias.rdata))) fqdn (sound owner.labels t) (sound owner.labels types.CNAME)
       (λ alias is. sound_after (record_of owner alias) (rest_at (answer_at links zone t) (next_owner zone.origin alias.rdata)) (sound_record owner alias alias.ttl fqdn is.ttl_fits is)
-      (sound_rest (next_owner zone.origin alias.rdata) (sound_next zone.origin alias.rdata alias refl is)))
-    where
-      sound_rest : (o : Option DomainName) → IfSome o (λ target. target.is_fqdn ≡ true) → IsSoundAnswer (rest_at (answer_at links zone t) o)
-      sound_rest None is = bare_sound NoError (omega arith) refl
-      sound_rest (Some target) is = sound_at links t target is
+      (sound_rest (answer_at links zone t) (next_owner zone.origin alias.rdata) (sound_next zone.origin alias.rdata alias refl is) (λ target is_fqdn. sound_at links t target is_fqdn)))
 
   pub sound_answer : (q : Query) → q.name.is_fqdn ≡ true → IsSoundAnswer (answer zone q)
   sound_answer q fqdn = by_cases (is_no_row_type (type_number q.query_type)) (not (class_number q.query_class == 1) || not (at_or_below zone.origin.labels q.name.labels))
@@ -129,10 +130,10 @@ module _ (zone : ZoneContent) (t : RecordType) where
   chain_on : (links : ℕ) (owner : DomainName) (alias : Row) (more : List Row) (d : RData) → rows_at zone.rows owner.labels types.CNAME ≡ alias ∷ more → alias.rdata ≡ d
       → ((target : DomainName) → IsChain zone.rows t target (answer_at links zone t target).answers)
       → IsChain zone.rows t owner (record_of owner alias ∷ (rest_at (answer_at links zone t) (next_owner zone.origin d)).answers)
-  chain_on links owner alias more (of.CNAME data) there e next = by_test (at_or_below zone.origin.labels data.0.labels && not (is_loopback data.0 || is_nonexistent data.0))
+  chain_on links owner alias more (of.CNAME cname) there e next = by_test (at_or_below zone.origin.labels cname.0.labels && not (is_loopback cname.0 || is_nonexistent cname.0))
     where
-      by_test : (b : Bool) → IsChain zone.rows t owner (record_of owner alias ∷ (rest_at (answer_at links zone t) (cond b (Some data.0) None)).answers)
-      by_test true = leads owner alias more data _ there e (next data.0)
+      by_test : (b : Bool) → IsChain zone.rows t owner (record_of owner alias ∷ (rest_at (answer_at links zone t) (cond b (Some cname.0) None)).answers)
+      by_test true = leads owner alias more cname _ there e (next cname.0)
       by_test false = last owner alias more there
   chain_on links owner alias more other there e next = last owner alias more there
 

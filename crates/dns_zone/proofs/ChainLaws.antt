@@ -1,5 +1,5 @@
 -- The answer along an alias chain, link by link.
-use Rattle.std.proofs.Common.{◌≡◌, ◌+◌, ◌-◌, ◌<◌, ◌≤◌, zero, suc, ℕ, List, [], ◌∷◌, ◌++◌, length, map, refl, sym, ap, ◌∙◌, arith, Option, Some, None, slice_set}
+use Rattle.std.proofs.Common.{◌≡◌, ◌+◌, ◌-◌, ◌<◌, ◌≤◌, zero, suc, ℕ, List, [], ◌∷◌, ◌++◌, length, map, refl, sym, ap, ◌∙◌, arith, add-one, Option, Some, None, slice_set}
 use Rattle.std.proofs.lemmas.List.{append_assoc}
 use Rattle.dns_codes.specs.declared.record_type.RecordType.{RecordType}
 use Rattle.dns_codes.specs.declared.record_type.RecordType.TheVariants as types
@@ -28,16 +28,24 @@ none_left [] has = refl
 none_left (None ∷ aliases) has = refl
 none_left (Some alias ∷ aliases) has = absurd has
 
--- the next place takes one more alias
-pub one_more_alias : (n : ℕ) (aliases : List (Option RowRef)) (alias : RowRef) → HasAliases n aliases → n < length aliases
+one_more : (n : ℕ) (aliases : List (Option RowRef)) (alias : RowRef) → HasAliases n aliases → n < length aliases
     → (alias_records (slice_set aliases n (Some alias)) ≡ alias_records aliases ++ borrowed_record alias ∷ []) × HasAliases (suc n) (slice_set aliases n (Some alias))
-one_more_alias n [] alias has within = absurd (omega arith)
-one_more_alias zero (None ∷ aliases) alias has within = (ap (λ (rs : List Record). borrowed_record alias ∷ rs) (none_left aliases has), has)
-one_more_alias zero (Some first ∷ aliases) alias has within = absurd has
-one_more_alias (suc n) (None ∷ aliases) alias has within = absurd has
-one_more_alias (suc n) (Some first ∷ aliases) alias has within =
-    let rest = one_more_alias n aliases alias has (omega arith) in
-    (ap (λ (rs : List Record). borrowed_record first ∷ rs) rest.0, rest.1)
+    × (length (slice_set aliases n (Some alias)) ≡ length aliases)
+one_more n [] alias has within = absurd (omega arith)
+one_more zero (None ∷ aliases) alias has within = (ap (λ (rs : List Record). borrowed_record alias ∷ rs) (none_left aliases has), has, refl)
+one_more zero (Some first ∷ aliases) alias has within = absurd has
+one_more (suc n) (None ∷ aliases) alias has within = absurd has
+one_more (suc n) (Some first ∷ aliases) alias has within =
+    let rest = one_more n aliases alias has (omega arith) in
+    (ap (λ (rs : List Record). borrowed_record first ∷ rs) rest.0, rest.1, omega (arith, rest.2))
+
+-- the next place takes one more alias
+pub one_more_alias : (n : ℕ) (aliases : List (Option RowRef)) (alias : RowRef) (r : Record) → HasAliases n aliases → n < length aliases → borrowed_record alias ≡ r
+    → (alias_records (slice_set aliases n (Some alias)) ≡ alias_records aliases ++ r ∷ []) × HasAliases (n + 1) (slice_set aliases n (Some alias))
+    × (length (slice_set aliases n (Some alias)) ≡ length aliases)
+one_more_alias n aliases alias r has within is =
+    let more = one_more n aliases alias has within in
+    (more.0 ∙ ap (λ (x : Record). alias_records aliases ++ x ∷ []) is, rw (add-one) more.1, more.2)
 
 -- ---- the answer at a name
 
@@ -62,10 +70,32 @@ module _ (zone : ZoneContent) (t : RecordType) (owner : DomainName) where
   unfolding answer_at
   breaks_off alias is = is (λ alias. bare NoError)
 
+one_link : (i : ℕ) → i < max_aliases → max_aliases - i ≡ suc (max_aliases - (i + 1))
+one_link i below = omega arith
+
 -- records before records
-pub after_both : (first second : List Record) (a : Answer) → after_records first (after_records second a) ≡ after_records (first ++ second) a
+after_both : (first second : List Record) (a : Answer) → after_records first (after_records second a) ≡ after_records (first ++ second) a
 after_both first second a = ap (λ (rs : List Record). record a { answers = rs }) (sym (append_assoc first second a.answers))
 
--- one of the links that are left
-pub one_link : (i : ℕ) → i < max_aliases → max_aliases - i ≡ suc (max_aliases - (i + 1))
-one_link i below = omega arith
+-- ---- the answer after aliases
+
+module _ (zone : ZoneContent) (t : RecordType) (owner : DomainName) where
+  -- a chain that ends here
+  pub ends_along : (links : ℕ) (before : List Record) (a : Answer) → ((on_alias : Row → Answer) → there zone t owner on_alias ≡ a)
+      → after_records before a ≡ after_records before (answer_at links zone t owner)
+  ends_along links before a is = ap (after_records before) (sym (ends_at zone t owner links a is))
+
+  -- a chain that would be too long
+  pub breaks_along : (links : ℕ) (before : List Record) (alias : Row) → links ≡ 0 → ((on_alias : Row → Answer) → there zone t owner on_alias ≡ on_alias alias)
+      → after_records before (bare NoError) ≡ after_records before (answer_at links zone t owner)
+  breaks_along links before alias none is = ap (after_records before) (sym (ap (λ (n : ℕ). answer_at n zone t owner) none ∙ breaks_off zone t owner alias is))
+
+  -- an alias is added, and the chain goes on
+  pub follows_along : (i : ℕ) (before after : List Record) (alias : Row) → i < max_aliases → after ≡ before ++ record_of owner alias ∷ []
+      → ((on_alias : Row → Answer) → there zone t owner on_alias ≡ on_alias alias)
+      → after_records after (rest_at (answer_at (max_aliases - (i + 1)) zone t) (next_owner zone.origin alias.rdata)) ≡ after_records before (answer_at (max_aliases - i) zone t owner)
+  follows_along i before after alias below added is =
+      let rest : Answer = rest_at (answer_at (max_aliases - (i + 1)) zone t) (next_owner zone.origin alias.rdata) in
+      ap (λ (rs : List Record). after_records rs rest) added ∙ sym (after_both before (record_of owner alias ∷ []) rest)
+      ∙ ap (after_records before) (sym (leads_on zone t owner (max_aliases - (i + 1)) alias is))
+      ∙ ap (λ (n : ℕ). after_records before (answer_at n zone t owner)) (sym (one_link i below))

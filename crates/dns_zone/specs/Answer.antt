@@ -121,9 +121,9 @@ pub data IsChain (rows : Rows) (t : RecordType) : DomainName → List Record →
   stops : (owner : DomainName) → IsChain rows t owner []
   last : (owner : DomainName) (alias : Row) (more : List Row) → rows_at rows owner.labels types.CNAME ≡ alias ∷ more
       → IsChain rows t owner (record_of owner alias ∷ [])
-  leads : (owner : DomainName) (alias : Row) (more : List Row) (data : CNAME) (records : List Record)
-      → rows_at rows owner.labels types.CNAME ≡ alias ∷ more → alias.rdata ≡ of.CNAME data
-      → IsChain rows t data.0 records → IsChain rows t owner (record_of owner alias ∷ records)
+  leads : (owner : DomainName) (alias : Row) (more : List Row) (cname : CNAME) (records : List Record)
+      → rows_at rows owner.labels types.CNAME ≡ alias ∷ more → alias.rdata ≡ of.CNAME cname
+      → IsChain rows t cname.0 records → IsChain rows t owner (record_of owner alias ∷ records)
 
 -- ---- answers that can be encoded and decoded again
 

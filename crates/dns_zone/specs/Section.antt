@@ -1,5 +1,5 @@
 -- Sections of an answer, whose records are borrowed from a zone.
-use Rattle.std.specs.Prelude.{◌≡◌, ◌++◌, List, [], ◌∷◌, map, Option, Some, None}
+use Rattle.std.specs.Prelude.{◌≡◌, ◌++◌, drop, List, [], ◌∷◌, map, Option, Some, None}
 use Rattle.dns_names.specs.Name.{DomainName}
 use Rattle.dns_records.specs.Record.{Record}
 use Rattle.dns_records.specs.declared.row.Row.{Row}
@@ -42,7 +42,7 @@ section_records s = alias_records s.aliases ++ set_records s.owner.now s.ttl s.r
 
 -- the records that an iterator has not returned
 abbrev pub remaining_records : RowRefs → List Record
-remaining_records rows = alias_records rows.aliases.now ++ set_records rows.owner.now rows.ttl rows.records.now
+remaining_records rows = alias_records (drop rows.index rows.aliases.now) ++ set_records rows.owner.now rows.ttl rows.records.now
 
 -- a record is the first of those that an iterator had left, or there was none
 abbrev pub IsNext : List Record → Option RowRef → List Record → Type 0

@@ -63,7 +63,7 @@ fn negative_answer<'a>(
     aliases: Aliases<'a>,
     owner: &Name,
 ) -> AnswerRef<'a>
-    ensures { borrowed_answer result ≡ after_records (alias_records aliases)
+    ensures { borrowed_answer result ≡ after_records (alias_records aliases.entry)
         (negative (zone_of origin.now sets.now) owner.now.labels) }
 {
     let code = if has_row_below(sets, owner) {
@@ -87,7 +87,7 @@ fn direct_answer<'a>(
     owner: &'a Name,
     records: &'a [Record],
 ) -> AnswerRef<'a>
-    ensures { borrowed_answer result ≡ after_records (alias_records aliases)
+    ensures { borrowed_answer result ≡ after_records (alias_records aliases.entry)
         (direct_answer (zone_of origin.now sets.now) owner.now (rows_of records.now)) }
 {
     if records.is_empty() {
@@ -103,7 +103,7 @@ fn positive_answer<'a>(
     owner: &'a Name,
     records: &'a [Record],
 ) -> AnswerRef<'a>
-    ensures { borrowed_answer result ≡ after_records (alias_records aliases)
+    ensures { borrowed_answer result ≡ after_records (alias_records aliases.entry)
         (positive owner.now (rows_of records.now)) }
 {
     AnswerRef {

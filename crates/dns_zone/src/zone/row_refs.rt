@@ -9,27 +9,30 @@ use dns_records::Record;
 
 /// An iterator over the records of a section: its aliases, and then the records of its set.
 #[derive(Drop)]
-pub(crate) struct RowRefs<'a> {
-    aliases: &'a [Option<RowRef<'a>>],
+pub(crate) struct RowRefs<'s, 'a> {
+    aliases: &'s [Option<RowRef<'a>>],
+    /// The number of aliases that were returned.
+    index: usize,
     owner: &'a Name,
     ttl: SectionTtl,
     records: &'a [Record],
 }
 
-impl<'a> RowRefs<'a> {
+impl<'s, 'a> RowRefs<'s, 'a> {
     /// Iterates over aliases, up to the first place without one, and then over the records of a set, with an owner and a
     /// TTL.
     pub(crate) fn new(
-        aliases: &'a [Option<RowRef<'a>>],
+        aliases: &'s [Option<RowRef<'a>>],
         owner: &'a Name,
         ttl: SectionTtl,
         records: &'a [Record],
-    ) -> RowRefs<'a>
+    ) -> RowRefs<'s, 'a>
         ensures { remaining_records result
             ≡ alias_records aliases.now ++ set_records owner.now ttl records.now }
     {
         RowRefs {
             aliases,
+            index: 0,
             owner,
             ttl,
             records,
@@ -40,11 +43,10 @@ impl<'a> RowRefs<'a> {
     pub(crate) fn next(&mut self) -> Option<RowRef<'a>>
         ensures { IsNext (remaining_records self.old) result (remaining_records self.new) }
     {
-        if let Some((Some(alias), others)) = self.aliases.split_first() {
-            self.aliases = others;
+        if let Some(Some(alias)) = self.aliases.get(self.index) {
+            self.index += 1;
             return Some(*alias);
         }
-        self.aliases = &[];
         let (first, others) = self.records.split_first()?;
         self.records = others;
         Some(RowRef::new(self.owner, self.ttl, first))

@@ -122,7 +122,7 @@ impl<'a> Section<'a> {
         records: &'a [Record],
     ) -> Section<'a>
         ensures { section_records result
-            ≡ alias_records aliases ++ map (record_of owner.now) (rows_of records.now) }
+            ≡ alias_records aliases.entry ++ map (record_of owner.now) (rows_of records.now) }
     {
         Section {
             aliases,
@@ -146,7 +146,7 @@ impl<'a> Section<'a> {
     }
 
     /// Iterates over the records.
-    fn rows(&self) -> RowRefs<'_>
+    fn rows(&self) -> RowRefs<'_, 'a>
         ensures { remaining_records result ≡ section_records self.now }
     {
         RowRefs::new(&self.aliases, self.owner, self.ttl, self.records)
@@ -181,16 +181,17 @@ impl<'a> Section<'a> {
         ensures memory { IfErr result (λ error. error ≡ EncodeError.Memory) }
         ensures back { OnErr result (CanRollBack (state_of encoder.old) (state_of encoder.new)) }
     {
-        let mut count = 0;
+        let len = self.len();
         let mut rows = self.rows();
-        while let Some(row) = rows.next() {
-            let fits = emit_if_fits(&row, encoder)?;
-            if !fits {
+        for count in 0..len {
+            let Some(row) = rows.next() else {
+                return Ok(count);
+            };
+            if !emit_if_fits(&row, encoder)? {
                 return Ok(count);
             }
-            count += 1;
         }
-        Ok(count)
+        Ok(len)
     }
 }
 
