@@ -1,0 +1,59 @@
+//! Where the records that a lookup returns come from.
+
+ghost use Rattle.std.specs.Prelude.{◌≡◌, ◌≤◌, ◌++◌, false, List, ℕ};
+ghost use Rattle.dns_records.specs.Record.{Record};
+ghost use Rattle.dns_messages.specs.declared.query.Query.{Query};
+ghost use Rattle.stub_cache.specs.Cache.{CacheContent};
+ghost use Rattle.stub_cache.specs.Ttl.{TtlConfigContent};
+ghost use Rattle.stub_client.specs.AnswerTypes.{CacheHasAskedTypes, HasAskedTypes, ReplyHasAskedTypes};
+ghost use Rattle.stub_client.specs.Laws.{EachReply, EveryLookup, HasNoMinimum};
+ghost use Rattle.stub_client.specs.Origins.{Asked, CacheIsBrought, CacheIsBroughtClosely, IsBrought, IsBroughtClosely, ReplyIsBrought, ReplyIsBroughtClosely, asked_at};
+
+/// Every record that a lookup returns or stores was brought by a response to one of the questions that were asked so far.
+///
+/// The record has the type that was asked for. Its origin names the response, the moment at which it came, and the responses
+/// whose aliases led there.
+pub fn every_record_is_brought()
+    ensures { (history : List Asked) → EveryLookup (λ settings now old q asks reply new.
+        HasNoMinimum old.config q.query_type → CacheIsBrought old.config history now old
+        → CacheIsBrought old.config (history ++ asked_at now asks) now new
+        × ReplyIsBrought old.config (history ++ asked_at now asks) q now reply) }
+{}
+
+/// Where aliases are left out, the TTL of a record is also bounded by those of the aliases in the response that brought it.
+pub fn every_record_is_brought_closely()
+    ensures { (history : List Asked) → EveryLookup (λ settings now old q asks reply new.
+        settings.preserve_intermediates ≡ false
+        → HasNoMinimum old.config q.query_type → CacheIsBroughtClosely old.config history now old
+        → CacheIsBroughtClosely old.config (history ++ asked_at now asks) now new
+        × ReplyIsBroughtClosely old.config (history ++ asked_at now asks) q now reply) }
+{}
+
+/// The origin of a record remains one after further questions, and so do those of a cache at later moments.
+pub fn later_questions_keep()
+    ensures records { (config : TtlConfigContent) (history more : List Asked)
+        (q : Query) (now : ℕ) (r : Record)
+        → IsBrought config history q now r → IsBrought config (history ++ more) q now r }
+    ensures caches { (config : TtlConfigContent) (history more : List Asked) (now later : ℕ)
+        (cache : CacheContent) → now ≤ later
+        → CacheIsBrought config history now cache
+        → CacheIsBrought config (history ++ more) later cache }
+{}
+
+/// Where aliases are left out, the same holds.
+pub fn later_questions_keep_closely()
+    ensures records { (config : TtlConfigContent) (history more : List Asked)
+        (q : Query) (now : ℕ) (r : Record)
+        → IsBroughtClosely config history q now r → IsBroughtClosely config (history ++ more) q now r }
+    ensures caches { (config : TtlConfigContent) (history more : List Asked) (now later : ℕ)
+        (cache : CacheContent) → now ≤ later
+        → CacheIsBroughtClosely config history now cache
+        → CacheIsBroughtClosely config (history ++ more) later cache }
+{}
+
+/// Where each response has only answers of the type that was asked for and aliases, so have the reply and the cache.
+pub fn every_answer_has_an_asked_type()
+    ensures { EveryLookup (λ settings now old q asks reply new.
+        CacheHasAskedTypes old → EachReply HasAskedTypes asks
+        → CacheHasAskedTypes new × ReplyHasAskedTypes q reply) }
+{}
