@@ -9,6 +9,8 @@ ghost use Rattle.stub_client.specs.AnswerTypes.{CacheHasAskedTypes, HasAskedType
 ghost use Rattle.stub_client.specs.Laws.{EachReply, EveryLookup, HasNoMinimum};
 ghost use Rattle.stub_client.specs.Origins.{Asked, CacheIsBrought, CacheIsBroughtClosely, IsBrought, IsBroughtClosely, ReplyIsBrought, ReplyIsBroughtClosely, asked_at};
 
+use dns_codes::laws::type_number_round_trips;
+
 /// Every record that a lookup returns or stores was brought by a response to one of the questions that were asked so far.
 ///
 /// The record has the type that was asked for. Its origin names the response, the moment at which it came, and the responses
@@ -56,4 +58,6 @@ pub fn every_answer_has_an_asked_type()
     ensures { EveryLookup (λ settings now old q asks reply new.
         CacheHasAskedTypes old → EachReply HasAskedTypes asks
         → CacheHasAskedTypes new × ReplyHasAskedTypes q reply) }
-{}
+{
+    type_number_round_trips();
+}
