@@ -38,9 +38,9 @@ pub record HasResponse (history : List Asked) (q : Query) (moment : ℕ) (respon
 -- A response brings a record to its question: an answer of the type that was asked for, whatever its owner, or a record of this
 -- type that is found in another section. The TTL is within its bounds.
 pub data Brings (config : TtlConfigContent) (q : Query) (m : Message) : Record → Type 0 where
-  in_answers : (r : Record) → Contains m.answers r → has_type q.query_type r ≡ true → Brings (clamped_record config r)
+  in_answers : (r : Record) → Contains m.answers r → has_type q.query_type r ≡ true → Brings config q m (clamped_record config r)
   elsewhere : (r : Record) → Contains (m.authorities ++ m.additionals) r → has_type q.query_type r ≡ true
-      → is_found q (chain_of q m).name r ≡ true → Brings (clamped_record config r)
+      → is_found q (chain_of q m).name r ≡ true → Brings config q m (clamped_record config r)
 
 -- the aliases of a response lead on: they do not end in nothing (RFC 2308 section 2.1)
 pub record LeadsOn (q : Query) (m : Message) : Type 0 where
@@ -53,13 +53,14 @@ pub record LeadsOn (q : Query) (m : Message) : Type 0 where
 abbrev pub is_complete : Query → Message → Bool
 is_complete q m = (chain_of q m).is_alias && is_end_found q (chain_of q m) m
 
--- Where aliases are left out, a response brings the records at their end, with a TTL of at most that of each alias; or else, if any
--- record is found, its answers of the type that was asked for.
+-- Where aliases are left out, a response brings the records at their end, with a TTL of at most that of each alias, or else, if
+-- any record is found, its answers of the type that was asked for.
 pub data BringsClosely (config : TtlConfigContent) (q : Query) (m : Message) : Record → Type 0 where
   directly : (r : Record) → Contains m.answers r → has_type q.query_type r ≡ true → is_complete q m ≡ false
-      → is_empty (found q (chain_of q m) m) ≡ false → BringsClosely (clamped_record config r)
+      → is_empty (found q (chain_of q m) m) ≡ false → BringsClosely config q m (clamped_record config r)
   after_aliases : (r : Record) → Contains (all_records m) r → has_type q.query_type r ≡ true → is_complete q m ≡ true
-      → is_found q (chain_of q m).name r ≡ true → BringsClosely (clamped_record config (lowered (chain_of q m).ttl r))
+      → is_found q (chain_of q m).name r ≡ true
+      → BringsClosely config q m (clamped_record config (lowered (chain_of q m).ttl r))
 
 -- the aliases of a response lead on, and it has no record for the question
 pub record LeadsOnClosely (q : Query) (m : Message) : Type 0 where
@@ -74,18 +75,19 @@ pub record IsLeftOf (since now : ℕ) (first r : Record) : Type 0 where
   pub past : since ≤ now
   pub lasts : now + r.ttl ≤ since + first.ttl
 
--- A record may be returned for a question at a moment, after these questions: a response to it brought the record; the aliases of a
--- response led on to a question for which the record could then be returned; the record is that of the local host; or it could be
+-- A record may be returned for a question at a moment, after the questions of a history: a response to it carries the record; the
+-- aliases of a response lead to a question for which it may then be returned; it is that of the local host; or it might be
 -- returned before, for the question in any spelling, and comes from the cache.
-pub data Comes (Brings : Query → Message → Record → Type 0) (LeadsOn : Query → Message → Type 0) (history : List Asked)
+pub data Comes (Carries : Query → Message → Record → Type 0) (Leads : Query → Message → Type 0) (history : List Asked)
     : Query → ℕ → Record → Type 0 where
   by_response : (q : Query) (now : ℕ) (r : Record) (response : DnsResponse) → HasResponse history q now response
-      → Brings q response.message r → Comes q now r
+      → Carries q response.message r → Comes Carries Leads history q now r
   by_alias : (q : Query) (now : ℕ) (r : Record) (response : DnsResponse) → HasResponse history q now response
-      → LeadsOn q response.message → Comes (next_question q (chain_of q response.message)) now r → Comes q now r
-  by_loopback : (q : Query) (now : ℕ) (r : Record) → special_answer q ≡ Loopback r → Comes q now r
-  by_cache : (p q : Query) (since now : ℕ) (first r : Record) → Comes p since first → same_key p q ≡ true
-      → IsLeftOf since now first r → Comes q now r
+      → Leads q response.message → Comes Carries Leads history (next_question q (chain_of q response.message)) now r
+      → Comes Carries Leads history q now r
+  by_loopback : (q : Query) (now : ℕ) (r : Record) → special_answer q ≡ Loopback r → Comes Carries Leads history q now r
+  by_cache : (p q : Query) (since now : ℕ) (first r : Record) → Comes Carries Leads history p since first → same_key p q ≡ true
+      → IsLeftOf since now first r → Comes Carries Leads history q now r
 
 -- the origin of a record: the responses and the aliases that brought it
 abbrev pub IsBrought : TtlConfigContent → List Asked → RecordClaim

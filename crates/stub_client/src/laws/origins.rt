@@ -11,10 +11,11 @@ ghost use Rattle.stub_client.specs.Origins.{Asked, CacheIsBrought, CacheIsBrough
 
 use dns_codes::laws::type_number_round_trips;
 
-/// Every record that a lookup returns or stores was brought by a response to one of the questions that were asked so far.
+/// Every record of the requested type that a lookup returns or stores comes from a response to one of the questions asked so
+/// far, or is that of the local host.
 ///
-/// The record has the type that was asked for. Its origin names the response, the moment at which it came, and the responses
-/// whose aliases led there.
+/// Its origin names the response, the moment at which it came, and the responses whose aliases led there. The history may
+/// be that of any lookups before this one.
 pub fn every_record_is_brought()
     ensures { (history : List Asked) → EveryLookup (λ settings now old q asks reply new.
         HasNoMinimum old.config q.query_type → CacheIsBrought old.config history now old
@@ -22,7 +23,7 @@ pub fn every_record_is_brought()
         × ReplyIsBrought old.config (history ++ asked_at now asks) q now reply) }
 {}
 
-/// Where aliases are left out, the TTL of a record is also bounded by those of the aliases in the response that brought it.
+/// If aliases are not preserved, the TTL of a record is also bounded by those of the aliases in the response that brought it.
 pub fn every_record_is_brought_closely()
     ensures { (history : List Asked) → EveryLookup (λ settings now old q asks reply new.
         settings.preserve_intermediates ≡ false
@@ -31,7 +32,7 @@ pub fn every_record_is_brought_closely()
         × ReplyIsBroughtClosely old.config (history ++ asked_at now asks) q now reply) }
 {}
 
-/// The origin of a record remains one after further questions, and so do those of a cache at later moments.
+/// The origin of a record remains valid after further questions, and those of a cache at every later moment.
 pub fn later_questions_keep()
     ensures records { (config : TtlConfigContent) (history more : List Asked)
         (q : Query) (now : ℕ) (r : Record)
@@ -42,18 +43,19 @@ pub fn later_questions_keep()
         → CacheIsBrought config (history ++ more) later cache }
 {}
 
-/// Where aliases are left out, the same holds.
+/// [`later_questions_keep`] for origins with the least TTL of the aliases.
 pub fn later_questions_keep_closely()
     ensures records { (config : TtlConfigContent) (history more : List Asked)
         (q : Query) (now : ℕ) (r : Record)
-        → IsBroughtClosely config history q now r → IsBroughtClosely config (history ++ more) q now r }
+        → IsBroughtClosely config history q now r
+        → IsBroughtClosely config (history ++ more) q now r }
     ensures caches { (config : TtlConfigContent) (history more : List Asked) (now later : ℕ)
         (cache : CacheContent) → now ≤ later
         → CacheIsBroughtClosely config history now cache
         → CacheIsBroughtClosely config (history ++ more) later cache }
 {}
 
-/// Where each response has only answers of the type that was asked for and aliases, so have the reply and the cache.
+/// If every response has only answers of the requested type and aliases, so have the reply and the cache.
 pub fn every_answer_has_an_asked_type()
     ensures { EveryLookup (λ settings now old q asks reply new.
         CacheHasAskedTypes old → EachReply HasAskedTypes asks
