@@ -1,7 +1,7 @@
 -- Where records come from is a claim that every lookup keeps.
 use Rattle.std.proofs.Common.{◌≡◌, ℕ, ◌+◌, ◌-◌, ◌≤◌, ◌&&◌, ◌||◌, ◌++◌, not, Bool, true, false, List, [], ◌∷◌, Ok, Err, All, Contains, refl, sym, ap, ◌∙◌, slice_index_or, arith}
 use Rattle.std.proofs.lemmas.Bool.{not-true}
-use Rattle.std.proofs.lemmas.List.Elements.{All-nil, All-cons, All-head, All-tail, All-weaker, All-contains_itself, Contains-append_left, Contains-append_right, Contains-get_or}
+use Rattle.std.proofs.lemmas.List.Elements.{All-nil, All-cons, All-head, All-tail, All-weaker, All-contains_itself, Contains-get_or}
 use Rattle.dns_codes.specs.DNSClass.{class_number}
 use Rattle.dns_codes.specs.RecordType.{type_number}
 use Rattle.dns_names.specs.Compare.{same_name}
@@ -18,7 +18,7 @@ use Rattle.stub_cache.specs.declared.cache.entry.Entry.{Entry}
 use Rattle.stub_client.specs.Handle.{Ask}
 use Rattle.stub_client.specs.Laws.{BearsOut, BearsOutClosely, EachReply, HasNoMinimum, HoldsOfCache, HoldsOfEntry, HoldsOfKept, HoldsOfLoopback, HoldsOfReply, Outlasts, RecordClaim}
 use Rattle.stub_client.specs.Looks.{Looks, Reply}
-use Rattle.stub_client.specs.Origins.{Asked, Brings, BringsClosely, Comes, HasResponse, IsBrought, IsBroughtClosely, IsLeftOf, LeadsOn, LeadsOnClosely, after_aliases, asked_at, by_alias, by_cache, by_loopback, by_response, directly, elsewhere, in_answers, is_complete}
+use Rattle.stub_client.specs.Origins.{Asked, Brings, BringsClosely, Comes, HasResponse, IsBrought, IsBroughtClosely, IsLeftOf, IsPartOf, LeadsOn, LeadsOnClosely, after_aliases, asked_at, by_alias, by_cache, by_loopback, by_response, directly, elsewhere, in_answers, is_complete}
 use Rattle.stub_client.specs.Step.{chain_of, found, is_end_found, is_found, is_given, is_negative_end, is_selected, lowered, next_question}
 use Rattle.stub_client.specs.declared.caching_client.step.LookupSettings.{LookupSettings}
 use Rattle.stub_client.proofs.ClaimLaws.{holds-later, lookup-keeps}
@@ -60,20 +60,18 @@ each-asked P now (ask ∷ asks) h =
     (All-head P (record { moment = now; ask = ask }) (asked_at now asks) h)
     (each-asked P now asks (All-tail P (record { moment = now; ask = ask }) (asked_at now asks) h))
 
--- what is asked at a moment is in the list from then on
-are-asked : (history : List Asked) (now : ℕ) (asks : List Ask)
-    → All (λ ask. Contains (history ++ asked_at now asks) (record { moment = now; ask = ask })) asks
-are-asked history now asks =
-    each-asked (Contains (history ++ asked_at now asks)) now asks
-    (All-weaker (Contains (asked_at now asks)) (Contains (history ++ asked_at now asks))
-    (λ asked. Contains-append_right history (asked_at now asks) asked) (asked_at now asks)
-    (All-contains_itself (asked_at now asks)))
+-- what is asked at a moment is in each list that has it
+are-asked : (history : List Asked) (now : ℕ) (asks : List Ask) → IsPartOf (asked_at now asks) history
+    → All (λ ask. Contains history (record { moment = now; ask = ask })) asks
+are-asked history now asks part =
+    each-asked (Contains history) now asks
+    (All-weaker (Contains (asked_at now asks)) (Contains history) part (asked_at now asks) (All-contains_itself (asked_at now asks)))
 
-has-longer : (history more : List Asked) (q : Query) (moment : ℕ) (response : DnsResponse) → HasResponse history q moment response
-    → HasResponse (history ++ more) q moment response
-has-longer history more q moment response has = record {
+has-more : (history all : List Asked) (q : Query) (moment : ℕ) (response : DnsResponse) → IsPartOf history all
+    → HasResponse history q moment response → HasResponse all q moment response
+has-more history all q moment response part has = record {
   outcome = has.outcome;
-  asked = Contains-append_left history more (record { moment = moment; ask = record { question = q; outcome = has.outcome } }) has.asked;
+  asked = part (record { moment = moment; ask = record { question = q; outcome = has.outcome } }) has.asked;
   means = has.means;
 }
 
@@ -95,15 +93,15 @@ module _ (Carries : Query → Message → Record → Type 0) (Leads : Query → 
   comes-loopback q now r e = by_loopback q now r e
 
   -- Further questions keep it.
-  pub comes-longer : (more : List Asked) {q : Query} {now : ℕ} {r : Record} → Comes Carries Leads history q now r
-      → Comes Carries Leads (history ++ more) q now r
-  comes-longer more (by_response q now r response has brings) =
-      by_response q now r response (has-longer history more q now response has) brings
-  comes-longer more (by_alias q now r response has leads rest) =
-      by_alias q now r response (has-longer history more q now response has) leads (comes-longer more rest)
-  comes-longer more (by_loopback q now r e) = by_loopback q now r e
-  comes-longer more (by_cache p q since now first r before same left) =
-      by_cache p q since now first r (comes-longer more before) same left
+  pub comes-still : (all : List Asked) → IsPartOf history all → {q : Query} {now : ℕ} {r : Record} → Comes Carries Leads history q now r
+      → Comes Carries Leads all q now r
+  comes-still all part (by_response q now r response has brings) =
+      by_response q now r response (has-more history all q now response part has) brings
+  comes-still all part (by_alias q now r response has leads rest) =
+      by_alias q now r response (has-more history all q now response part has) leads (comes-still all part rest)
+  comes-still all part (by_loopback q now r e) = by_loopback q now r e
+  comes-still all part (by_cache p q since now first r before same left) =
+      by_cache p q since now first r (comes-still all part before) same left
 
 -- ---- claims that imply another
 
@@ -121,18 +119,13 @@ cache-weaker P R f now cache h =
     (λ e holds. record { past = holds.past; kept = kept-weaker P R f e.question e.moment e.deadline e.kept holds.kept })
     cache.entries h
 
-pub reply-weaker : (P R : RecordClaim) → ((q : Query) (now : ℕ) (r : Record) → P q now r → R q now r) → (q : Query) (now : ℕ) (reply : Reply)
-    → HoldsOfReply P q now reply → HoldsOfReply R q now reply
-reply-weaker P R f q now (Ok lookup) h = each-weaker q.query_type (P q now) (R q now) (λ r typed holds. f q now r holds) lookup.message.answers h
-reply-weaker P R f q now (Err error) h = tt
-
-module _ (Carries : Query → Message → Record → Type 0) (Leads : Query → Message → Type 0) (history more : List Asked) where
-  pub cache-longer : (now later : ℕ) (cache : CacheContent) → now ≤ later → HoldsOfCache (Comes Carries Leads history) now cache
-      → HoldsOfCache (Comes Carries Leads (history ++ more)) later cache
-  cache-longer now later cache after holds =
-      holds-later (Comes Carries Leads (history ++ more)) now later cache after
-      (cache-weaker (Comes Carries Leads history) (Comes Carries Leads (history ++ more))
-      (λ q now r. comes-longer Carries Leads history more) now cache holds)
+module _ (Carries : Query → Message → Record → Type 0) (Leads : Query → Message → Type 0) (history all : List Asked) where
+  pub cache-still : (now later : ℕ) (cache : CacheContent) → IsPartOf history all → now ≤ later
+      → HoldsOfCache (Comes Carries Leads history) now cache → HoldsOfCache (Comes Carries Leads all) later cache
+  cache-still now later cache part after holds =
+      holds-later (Comes Carries Leads all) now later cache after
+      (cache-weaker (Comes Carries Leads history) (Comes Carries Leads all)
+      (λ q now r. comes-still Carries Leads history all part) now cache holds)
 
 -- ---- responses bear it out
 
@@ -178,34 +171,32 @@ module _ (config : TtlConfigContent) (history : List Asked) (now : ℕ) (q : Que
 -- ---- lookups
 
 module _ (history : List Asked) (settings : LookupSettings) (now : ℕ) (old : CacheContent) (q : Query) (asks : List Ask) (reply : Reply)
-    (new : CacheContent) (looks : Looks settings now 0 [] old q asks reply new) (none : HasNoMinimum old.config q.query_type) where
-  abbrev all : List Asked
-  all = history ++ asked_at now asks
-
+    (new : CacheContent) (looks : Looks settings now 0 [] old q asks reply new) (none : HasNoMinimum old.config q.query_type)
+    (part : IsPartOf (asked_at now asks) history) where
   each-response : (Bears : Query → Message → Type 0)
-      → ((p : Query) (response : DnsResponse) → HasResponse all p now response → Bears p response.message) → EachReply Bears asks
+      → ((p : Query) (response : DnsResponse) → HasResponse history p now response → Bears p response.message) → EachReply Bears asks
   each-response Bears bears = λ k d less response means.
       let ask = slice_index_or asks k d in
-      bears ask.question response (record { outcome = ask.outcome; asked = are-asked history now asks k d less; means = means })
+      bears ask.question response (record { outcome = ask.outcome; asked = are-asked history now asks part k d less; means = means })
 
   pub brought : HoldsOfCache (IsBrought old.config history) now old
-      → HoldsOfCache (IsBrought old.config all) now new × HoldsOfReply (IsBrought old.config all) q now reply
+      → HoldsOfCache (IsBrought old.config history) now new × HoldsOfReply (IsBrought old.config history) q now reply
   brought holds =
-      let outlasts : Outlasts (IsBrought old.config all) = comes-outlasts (Brings old.config) LeadsOn all in
-      lookup-keeps (IsBrought old.config all) outlasts (comes-loopback (Brings old.config) LeadsOn all)
-      settings now 0 [] old q asks reply new none (no-aliases settings q)
-      (cache-longer (Brings old.config) LeadsOn history (asked_at now asks) now now old (omega arith) holds)
-      (all-steps (IsBrought old.config all) outlasts settings old.config now asks
-      (each-response (BearsOut (IsBrought old.config all) old.config now) (λ p response has. bears-out old.config all now p response has)))
+      let outlasts : Outlasts (IsBrought old.config history) = comes-outlasts (Brings old.config) LeadsOn history in
+      lookup-keeps (IsBrought old.config history) outlasts (comes-loopback (Brings old.config) LeadsOn history)
+      settings now 0 [] old q asks reply new none (no-aliases settings q) holds
+      (all-steps (IsBrought old.config history) outlasts settings old.config now asks
+      (each-response (BearsOut (IsBrought old.config history) old.config now)
+      (λ p response has. bears-out old.config history now p response has)))
       looks
 
   pub brought-closely : settings.preserve_intermediates ≡ false → HoldsOfCache (IsBroughtClosely old.config history) now old
-      → HoldsOfCache (IsBroughtClosely old.config all) now new × HoldsOfReply (IsBroughtClosely old.config all) q now reply
+      → HoldsOfCache (IsBroughtClosely old.config history) now new × HoldsOfReply (IsBroughtClosely old.config history) q now reply
   brought-closely off holds =
-      lookup-keeps (IsBroughtClosely old.config all) (comes-outlasts (BringsClosely old.config) LeadsOnClosely all)
-      (comes-loopback (BringsClosely old.config) LeadsOnClosely all) settings now 0 [] old q asks reply new none (no-aliases settings q)
-      (cache-longer (BringsClosely old.config) LeadsOnClosely history (asked_at now asks) now now old (omega arith) holds)
-      (all-steps-closely (IsBroughtClosely old.config all) settings off old.config now asks
-      (each-response (BearsOutClosely (IsBroughtClosely old.config all) settings old.config now)
-      (λ p response has. bears-out-closely old.config all now p response has settings off)))
+      lookup-keeps (IsBroughtClosely old.config history) (comes-outlasts (BringsClosely old.config) LeadsOnClosely history)
+      (comes-loopback (BringsClosely old.config) LeadsOnClosely history) settings now 0 [] old q asks reply new none
+      (no-aliases settings q) holds
+      (all-steps-closely (IsBroughtClosely old.config history) settings off old.config now asks
+      (each-response (BearsOutClosely (IsBroughtClosely old.config history) settings old.config now)
+      (λ p response has. bears-out-closely old.config history now p response has settings off)))
       looks

@@ -27,6 +27,10 @@ pub record Asked : Type 0 where
 abbrev pub asked_at : ℕ → List Ask → List Asked
 asked_at now asks = map (λ ask. record { moment = now; ask = ask }) asks
 
+-- each question of a list is also in another one
+abbrev pub IsPartOf : List Asked → List Asked → Type 0
+IsPartOf some all = (asked : Asked) → Contains some asked → Contains all asked
+
 -- the question was asked at a moment, and the outcome was this response, which is no error
 pub record HasResponse (history : List Asked) (q : Query) (moment : ℕ) (response : DnsResponse) : Type 0 where
   pub outcome : Outcome

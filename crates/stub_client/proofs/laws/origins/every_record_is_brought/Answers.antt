@@ -2,5 +2,5 @@ use Rattle.stub_client.proofs.OriginsLaws.{brought}
 use Rattle.stub_client.proofs.laws.origins.every_record_is_brought.Goals as goal
 
 pub returns : goal.returns
-returns c = λ history settings now old q asks reply new looks none holds.
-    brought history settings now old q asks reply new looks none holds
+returns c = λ history settings now old q asks reply new looks none part holds.
+    brought history settings now old q asks reply new looks none part holds
