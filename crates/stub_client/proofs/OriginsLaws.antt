@@ -61,7 +61,7 @@ each-asked P now (ask ∷ asks) h =
     (each-asked P now asks (All-tail P (record { moment = now; ask = ask }) (asked_at now asks) h))
 
 -- what is asked at a moment is in each list that has it
-are-asked : (history : List Asked) (now : ℕ) (asks : List Ask) → IsPartOf (asked_at now asks) history
+pub are-asked : (history : List Asked) (now : ℕ) (asks : List Ask) → IsPartOf (asked_at now asks) history
     → All (λ ask. Contains history (record { moment = now; ask = ask })) asks
 are-asked history now asks part =
     each-asked (Contains history) now asks
