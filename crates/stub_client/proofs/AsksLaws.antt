@@ -22,7 +22,7 @@ is-above : (settings : LookupSettings) (q : Query) (kept : List Record) (depth :
     → IsAbove depth (step_of settings q kept depth outcome)
 is-above settings q kept depth outcome =
     outcome-cases settings q kept depth (IsAbove depth) (meaning outcome)
-    (λ response is. reply-cases settings q kept depth (IsAbove depth) response.message (λ given. tt) (λ not-given alias above. above) tt)
+    (λ response is. reply-cases settings q kept depth (IsAbove depth) response.message (λ given. tt) (λ not-given ends. tt) (λ not-given no-end alias above. above) tt)
     (λ answer. tt) (λ error failure is. tt)
 
 none : (asks : List Ask) → asks ≡ [] → length asks ≡ 0

@@ -166,7 +166,8 @@ module _ (P : Query → ℕ → Record → Type 0) (outlasts : Outlasts P) (sett
       reply-cases settings q kept depth (StepHolds P settings config now q) m
       (λ given. stripped-holds q.query_type (λ r. P q now (clamped_record config r)) settings.dnssec_ok
       (record (with_question q m) { answers = given_answers settings q (chain_of q m) kept m }) (given-hold q kept m are bears))
-      (λ not-given alias above. (refl, kept-next settings q kept m alias are, bears.along alias))
+      (λ not-given ends. tt)
+      (λ not-given no-end alias above. (refl, kept-next settings q kept m alias are, bears.along no-end alias))
       tt
 
   step-holds : (q : Query) (kept : List Record) (depth : ℕ) (outcome : Outcome) → AreKept settings q kept
@@ -205,7 +206,8 @@ module _ (P : Query → ℕ → Record → Type 0) (settings : LookupSettings) (
       reply-cases settings q [] depth (StepHolds P settings config now q) m
       (λ given. stripped-holds q.query_type (λ r. P q now (clamped_record config r)) settings.dnssec_ok
       (record (with_question q m) { answers = given_answers settings q (chain_of q m) [] m }) (close-given q m given bears))
-      (λ not-given alias above. (refl, kept-next settings q [] m alias are, bears.along not-given alias))
+      (λ not-given ends. tt)
+      (λ not-given no-end alias above. (refl, kept-next settings q [] m alias are, bears.along not-given no-end alias))
       tt
 
   close-step : (q : Query) (kept : List Record) (depth : ℕ) (outcome : Outcome) → AreKept settings q kept

@@ -1,9 +1,11 @@
+pub mod AnswerTypesLaws
 pub mod AsksLaws
 pub mod ClaimLaws
 pub mod ClaimSteps
 pub mod EntriesLaws
 pub mod LookUpLaws
 pub mod Needed
+pub mod OriginsLaws
 pub mod PassingLaws
 pub mod RecordsLaws
 pub mod RequestRows

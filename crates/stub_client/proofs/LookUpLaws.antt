@@ -72,7 +72,7 @@ is-usable : (settings : LookupSettings) (q : Query) (kept : List Record) (depth 
 is-usable settings q kept depth outcome =
     outcome-cases settings q kept depth (IsUsable depth) (meaning outcome)
     (λ response is. reply-cases settings q kept depth (IsUsable depth) response.message
-    (λ given. given-question settings q (chain_of q response.message) kept response.message) (λ not-given alias above. above) tt)
+    (λ given. given-question settings q (chain_of q response.message) kept response.message) (λ not-given ends. tt) (λ not-given no-end alias above. above) tt)
     (λ answer. tt) (λ error failure is. tt)
 
 -- ---- lookups

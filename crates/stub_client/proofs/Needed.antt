@@ -6,14 +6,16 @@ use Rattle.dns_codes.specs.declared.record_type.RecordType.TheVariants as types
 use Rattle.dns_names.specs.Name.{DomainName}
 use Rattle.dns_data.specs.declared.rdata.RData.{RData}
 use Rattle.dns_data.specs.declared.rdata.RData.TheVariants as of
+use Rattle.dns_data.specs.declared.rdata.soa.SOA.{SOA}
 use Rattle.dns_records.specs.Record.{Record}
 use Rattle.dns_messages.specs.declared.message.Message.{Message}
 use Rattle.dns_messages.specs.declared.query.Query.{Query}
-use Rattle.dns_messages.specs.declared.response_code.ResponseCode.TheVariants.{NoError}
+use Rattle.dns_messages.specs.declared.response_code.ResponseCode.TheVariants.{NoError, NXDomain}
 use Rattle.stub_lookup.specs.Error.{no_records}
 use Rattle.stub_lookup.specs.Lookup.{lookup_of, response_to}
 use Rattle.stub_lookup.specs.declared.error.DnsError.TheVariants as dns
 use Rattle.stub_lookup.specs.declared.error.NetError.TheVariants as errors
+use Rattle.stub_lookup.specs.declared.error.NoRecords.{NoRecords}
 use Rattle.stub_cache.specs.Cache.{CacheContent, Kept, current, storing}
 use Rattle.stub_cache.specs.Ttl.{TtlConfigContent, default_bounds, plain_config}
 use Rattle.stub_client.specs.Handle.{Outcome}
@@ -22,7 +24,7 @@ use Rattle.stub_client.specs.SpecialNames.{special_answer}
 use Rattle.stub_client.specs.Step.{step_of}
 use Rattle.stub_client.specs.declared.caching_client.step.LookupSettings.{LookupSettings}
 use Rattle.stub_client.specs.declared.caching_client.step.Step.{Step}
-use Rattle.stub_client.specs.declared.caching_client.step.Step.TheVariants.{Gives, Stops, Follows}
+use Rattle.stub_client.specs.declared.caching_client.step.Step.TheVariants.{Gives, Misses, Stops, Follows}
 use Rattle.stub_client.specs.declared.special_names.SpecialAnswer.TheVariants.{Loopback}
 
 -- ---- questions, records and caches
@@ -57,6 +59,34 @@ service_at name ttl target = row name ttl (of.SRV (record { priority = 0; weight
 -- a response with additional records
 abbrev with_additionals : Query → List Record → List Record → Message
 with_additionals q answers additionals = record (response_to q answers) { additionals = additionals }
+
+-- the start of authority of the zone, with a TTL of a minute and a minimum of half
+abbrev authority : SOA
+authority = record {
+  mname = in_test (codes "ns");
+  rname = in_test (codes "admin");
+  serial = 1;
+  refresh = 2;
+  retry = 3;
+  expire = 4;
+  minimum = 30;
+}
+
+abbrev zone : DomainName
+zone = record { is_fqdn = true; labels = codes "test" ∷ [] }
+
+-- a response that the name at the end of its aliases does not exist
+abbrev nonexistent : Query → List Record → Message
+nonexistent q answers = record (response_to q answers) {
+  metadata = record (response_to q answers).metadata { response_code = NXDomain };
+  authorities = row zone 60 (of.SOA authority) ∷ [];
+}
+
+abbrev nonexistence : Query → NoRecords
+nonexistence q = record (no_records q NXDomain) {
+  soa = Some (record { name = zone; dns_class = IN; ttl = 60; rdata = authority });
+  negative_ttl = Some 30;
+}
 
 abbrev dropping : LookupSettings
 dropping = record { preserve_intermediates = false; dnssec_ok = false }
@@ -150,6 +180,45 @@ module _ (buffer : Vec ℕ Global) where
       (storing (storing (empty plain) (asking host types.A) (Ok (response_to (asking host types.A) (address host 60 ∷ []))) 0)
       (asking alias types.A) (Ok (response_to (asking alias types.A) (address host 60 ∷ []))) 0)
   alias_is_outlasted = (refl, refl, refl, inr (_, _, (refl, refl, refl, inr (refl, inl (refl, refl))), inl (refl, refl)))
+
+  -- ---- aliases that end in nothing
+
+  -- An alias to a name that does not exist is not followed: that is the negative answer of the question, and is stored for it,
+  negative_end : Looks dropping 0 0 [] (empty plain) (asking alias types.A)
+      (record { question = asking alias types.A; outcome = reply (nonexistent (asking alias types.A) (alias_to alias 60 host ∷ [])) } ∷ [])
+      (negative (nonexistence (asking alias types.A)))
+      (storing (empty plain) (asking alias types.A) (Err (nonexistence (asking alias types.A))) 0)
+  negative_end = (refl, refl, refl, inr (refl, inl (refl, refl)))
+
+  -- also where aliases were kept,
+  negative_end_preserved : step_of preserving (asking alias types.A) (alias_to other 60 alias ∷ []) 1
+      (reply (nonexistent (asking alias types.A) (alias_to alias 60 host ∷ []))) ≡ Misses (nonexistence (asking alias types.A))
+  negative_end_preserved = refl
+
+  -- and however many were followed.
+  negative_end_at_seven : step_of dropping (asking alias types.A) [] 7 (reply (nonexistent (asking alias types.A) (alias_to alias 60 host ∷ [])))
+      ≡ Misses (nonexistence (asking alias types.A))
+  negative_end_at_seven = refl
+
+  -- A record that is found in any section is no such end: kept aliases lead on from it.
+  found_is_no_end : step_of preserving (asking alias types.A) (alias_to other 60 alias ∷ []) 1
+      (reply (nonexistent (asking alias types.A) (alias_to alias 60 host ∷ address host 60 ∷ [])))
+      ≡ Follows (asking host types.A) (alias_to other 60 alias ∷ alias_to alias 60 host ∷ [])
+  found_is_no_end = refl
+
+  -- ---- names
+
+  -- Names compare with their flag: a relative name has no fully qualified record, and is no alias.
+  abbrev relative : DomainName
+  relative = record host { is_fqdn = false }
+
+  relative_name : first_step (asking relative types.A) (response_to (asking relative types.A) (address host 60 ∷ []))
+      ≡ Stops (errors.Dns (dns.NoRecordsFound (no_records (asking relative types.A) NoError)))
+  relative_name = refl
+
+  relative_alias : first_step (asking relative types.A) (response_to (asking relative types.A) (alias_to host 60 other ∷ []))
+      ≡ Stops (errors.Dns (dns.NoRecordsFound (no_records (asking relative types.A) NoError)))
+  relative_alias = refl
 
   -- ---- aliases are not preserved
 

@@ -47,7 +47,7 @@ keeps-none : (settings : LookupSettings) (q : Query) (depth : ℕ) (outcome : Ou
 keeps-none settings q depth outcome off =
     outcome-cases settings q [] depth KeepsNone (meaning outcome)
     (λ response is. reply-cases settings q [] depth KeepsNone response.message (λ given. tt)
-    (λ not-given alias above. none-kept settings q response.message [] off refl) tt)
+    (λ not-given ends. tt) (λ not-given no-end alias above. none-kept settings q response.message [] off refl) tt)
     (λ answer. tt) (λ error failure is. tt)
 
 module _ (R : Query → Conclusion → Type 0) (respells : Respells R) (names : HasSpecialNames R) (Within : ℕ → Query → Type 0) where

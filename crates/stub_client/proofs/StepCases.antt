@@ -12,7 +12,7 @@ use Rattle.stub_lookup.specs.declared.error.NetError.TheVariants as errors
 use Rattle.stub_lookup.specs.declared.error.NoRecords.{NoRecords}
 use Rattle.stub_client.specs.Handle.{Outcome}
 use Rattle.stub_client.specs.Laws.{IsFailure}
-use Rattle.stub_client.specs.Step.{chain_of, given_message, is_given, kept_aliases, max_depth, next_question, nothing_found, step_along, step_on}
+use Rattle.stub_client.specs.Step.{chain_of, given_message, is_given, is_negative_end, kept_aliases, max_depth, next_question, nothing_found, step_along, step_on}
 use Rattle.stub_client.specs.declared.caching_client.step.LookupSettings.{LookupSettings}
 use Rattle.stub_client.specs.declared.caching_client.step.Step.{Step}
 use Rattle.stub_client.specs.declared.caching_client.step.Step.TheVariants.{Gives, Misses, Stops, Follows}
@@ -32,18 +32,20 @@ module _ (settings : LookupSettings) (q : Query) (kept : List Record) (depth : �
   -- the step that a response leads to, which is no error
   pub reply-cases : (m : Message)
       → (is_given q (chain_of q m) kept m ≡ true → F (Gives (given_message settings q (chain_of q m) kept m)))
-      → (is_given q (chain_of q m) kept m ≡ false → (chain_of q m).is_alias ≡ true → depth < max_depth
+      → (is_given q (chain_of q m) kept m ≡ false → is_negative_end q (chain_of q m) m ≡ true → F (Misses (nothing_found q m)))
+      → (is_given q (chain_of q m) kept m ≡ false → is_negative_end q (chain_of q m) m ≡ false → (chain_of q m).is_alias ≡ true → depth < max_depth
       → F (Follows (next_question q (chain_of q m)) (kept_aliases settings q (chain_of q m) kept m)))
       → F (Stops (errors.Dns (dns.NoRecordsFound (nothing_found q m))))
       → F (step_along settings q (chain_of q m) kept depth m)
-  reply-cases m gives follows stops =
+  reply-cases m gives misses follows stops =
       cond_both (is_given q (chain_of q m) kept m) (Gives (given_message settings q (chain_of q m) kept m)) _ F gives
-      (λ not-given. cond_both ((chain_of q m).is_alias && nat_lt depth max_depth)
+      (λ not-given. cond_both (is_negative_end q (chain_of q m) m) (Misses (nothing_found q m)) _ F (misses not-given)
+      (λ no-end. cond_both ((chain_of q m).is_alias && nat_lt depth max_depth)
       (Follows (next_question q (chain_of q m)) (kept_aliases settings q (chain_of q m) kept m))
       (Stops (errors.Dns (dns.NoRecordsFound (nothing_found q m)))) F
       (λ both. (let parts = both-true (chain_of q m).is_alias (nat_lt depth max_depth) both in
-      follows not-given parts.0 (less-true depth max_depth parts.1)))
-      (λ neither. stops))
+      follows not-given no-end parts.0 (less-true depth max_depth parts.1)))
+      (λ neither. stops)))
 
   -- the step that an outcome leads to
   pub outcome-cases : (outcome : Outcome)

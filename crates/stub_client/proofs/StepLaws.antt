@@ -12,11 +12,11 @@ use Rattle.stub_lookup.specs.declared.error.NetError.{NetError}
 use Rattle.stub_lookup.specs.declared.error.NetError.TheVariants as errors
 use Rattle.stub_lookup.specs.declared.error.NoRecords.{NoRecords}
 use Rattle.stub_client.specs.Handle.{Outcome}
-use Rattle.stub_client.specs.Step.{is_given, kept_aliases, max_depth, next_question, step_along, step_on}
+use Rattle.stub_client.specs.Step.{is_given, is_negative_end, kept_aliases, max_depth, next_question, nothing_found, step_along, step_on}
 use Rattle.stub_client.specs.declared.caching_client.chain.Chain.{Chain}
 use Rattle.stub_client.specs.declared.caching_client.step.LookupSettings.{LookupSettings}
 use Rattle.stub_client.specs.declared.caching_client.step.Step.{Step}
-use Rattle.stub_client.specs.declared.caching_client.step.Step.TheVariants.{Follows, Stops}
+use Rattle.stub_client.specs.declared.caching_client.step.Step.TheVariants.{Follows, Misses, Stops}
 
 -- ---- found records
 
@@ -53,12 +53,41 @@ second true b x y z fails passes = absurd (cc)
 second false true x y z fails passes = refl
 second false false x y z fails passes = absurd (cc)
 
+-- of four, the third
+third : {A : Type 0} (a b c : Bool) (w x y z : A) → a ≡ false → b ≡ false → c ≡ true
+    → y ≡ (if a then w else if b then x else if c then y else z)
+third true b c w x y z first next passes = absurd (cc)
+third false true c w x y z first next passes = absurd (cc)
+third false false true w x y z first next passes = refl
+third false false false w x y z first next passes = absurd (cc)
+
+-- of four, the last
+last : {A : Type 0} (a b c : Bool) (w x y z : A) → a ≡ false → b ≡ false → c ≡ false
+    → z ≡ (if a then w else if b then x else if c then y else z)
+last true b c w x y z first next fails = absurd (cc)
+last false true c w x y z first next fails = absurd (cc)
+last false false true w x y z first next fails = absurd (cc)
+last false false false w x y z first next fails = refl
+
+-- aliases end in nothing
+pub misses-along : (settings : LookupSettings) (q : Query) (chain : Chain) (kept : List Record) (depth : ℕ) (m : Message)
+    → is_given q chain kept m ≡ false → is_negative_end q chain m ≡ true
+    → Misses (nothing_found q m) ≡ step_along settings q chain kept depth m
+misses-along settings q chain kept depth m none ends = second (is_given q chain kept m) (is_negative_end q chain m) _ _ _ none ends
+
 -- an alias is followed
 pub follows-along : (settings : LookupSettings) (q : Query) (chain : Chain) (kept : List Record) (depth : ℕ) (m : Message)
-    → is_given q chain kept m ≡ false → (chain.is_alias && nat_lt depth max_depth) ≡ true
+    → is_given q chain kept m ≡ false → is_negative_end q chain m ≡ false → (chain.is_alias && nat_lt depth max_depth) ≡ true
     → Follows (next_question q chain) (kept_aliases settings q chain kept m) ≡ step_along settings q chain kept depth m
-follows-along settings q chain kept depth m none goes =
-    second (is_given q chain kept m) (chain.is_alias && nat_lt depth max_depth) _ _ _ none goes
+follows-along settings q chain kept depth m none no-end goes =
+    third (is_given q chain kept m) (is_negative_end q chain m) (chain.is_alias && nat_lt depth max_depth) _ _ _ _ none no-end goes
+
+-- no alias is followed
+pub stops-along : (settings : LookupSettings) (q : Query) (chain : Chain) (kept : List Record) (depth : ℕ) (m : Message)
+    → is_given q chain kept m ≡ false → is_negative_end q chain m ≡ false → (chain.is_alias && nat_lt depth max_depth) ≡ false
+    → Stops (errors.Dns (dns.NoRecordsFound (nothing_found q m))) ≡ step_along settings q chain kept depth m
+stops-along settings q chain kept depth m none no-end stays =
+    last (is_given q chain kept m) (is_negative_end q chain m) (chain.is_alias && nat_lt depth max_depth) _ _ _ _ none no-end stays
 
 -- an error that is a negative answer
 pub is-negative : (error : NetError) (answer : NoRecords) → negative_answer error ≡ Ok answer

@@ -1,6 +1,8 @@
+pub mod AnswerTypes
 pub mod Handle
 pub mod Laws
 pub mod Looks
+pub mod Origins
 pub mod Request
 pub mod Roads
 pub mod SpecialNames

@@ -3,6 +3,8 @@
 //! The laws are functions with an empty body. Their contracts state what holds of any lookup, by the relation that is the
 //! contract of [`CachingClient::lookup`](crate::CachingClient::lookup), and of any claim about what is returned.
 
+mod origins;
+
 ghost use Rattle.std.specs.Prelude.{◌≡◌, ◌≤◌, ◌++◌, false, List, [], ◌∷◌, length, ℕ, Err};
 ghost use Rattle.stub_lookup.specs.declared.error.NetError.{NetError};
 ghost use Rattle.stub_cache.specs.Cache.{CacheContent};
@@ -10,6 +12,11 @@ ghost use Rattle.stub_client.specs.Handle.{Ask};
 ghost use Rattle.stub_client.specs.Laws.{BearsOut, BearsOutClosely, EachReply, EveryLookup, HasNoMinimum, HoldsOfCache, HoldsOfLoopback, HoldsOfReply, IsFailure, Outlasts};
 ghost use Rattle.stub_client.specs.Roads.{AsksComeTo, CacheComesTo, HasSpecialNames, ReplyComesTo, Respells};
 ghost use Rattle.stub_client.specs.Step.{meaning};
+
+pub use origins::{
+    every_answer_has_an_asked_type, every_record_is_brought, every_record_is_brought_closely,
+    later_questions_keep, later_questions_keep_closely,
+};
 
 /// A claim about the records that are returned for a question at a moment.
 pub trait Claim {

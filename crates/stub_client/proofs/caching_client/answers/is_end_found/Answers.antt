@@ -1,6 +1,6 @@
 use Rattle.std.proofs.Common.{◌≡◌, sym, ◌∙◌}
 use Rattle.std.specs.Prelude.{◌&&◌, Bool, true}
-use Rattle.dns_names.specs.Compare.{same_labels}
+use Rattle.dns_names.specs.Compare.{same_name}
 use Rattle.dns_records.specs.Record.{Record}
 use Rattle.dns_messages.specs.Message.{all_records}
 use Rattle.dns_messages.specs.declared.query.Query.{Query}
@@ -10,7 +10,7 @@ use Rattle.stub_client.proofs.StepLaws.{any-filter, any-here, any-nowhere}
 use Rattle.stub_client.proofs.caching_client.answers.is_end_found.Goals as goal
 
 abbrev is_end : Chain → Record → Bool
-is_end chain r = same_labels r.name.labels chain.name.labels
+is_end chain r = same_name r.name chain.name
 
 abbrev is_found_end : Query → Chain → Record → Bool
 is_found_end q chain r = is_found q chain.name r && is_end chain r
