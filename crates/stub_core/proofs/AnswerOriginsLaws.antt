@@ -1,8 +1,8 @@
 -- Where each answer of a lookup comes from, if each reply to a question has records with an origin.
-use Rattle.std.proofs.Common.{◌≡◌, ◌<◌, ◌==◌, ◌||◌, ◌⊎◌, inl, inr, Bool, true, false, ℕ, List, [], ◌∷◌, ◌++◌, length, Option, Some, None, Result, Ok, Err, All, Contains, refl, sym, ap, subst, ◌∙◌, slice_index_or, arith}
+use Rattle.std.proofs.Common.{◌≡◌, ◌==◌, ◌||◌, inl, inr, Bool, true, false, ℕ, List, [], ◌∷◌, Option, Some, None, Result, Ok, Err, All, Contains, refl, sym, subst, slice_index_or, arith}
 use Rattle.std.specs.declared.net.ip_addr.IpAddr.{IpAddr}
 use Rattle.std.proofs.lemmas.Bool.Decides.{nat_tests}
-use Rattle.std.proofs.lemmas.List.Elements.{All-nil, All-cons, All-head, All-tail, All-append, All-contains_itself, All-weaker, Contains-append_right, Contains-get_or}
+use Rattle.std.proofs.lemmas.List.Elements.{All-nil, All-cons, All-head, All-tail, All-append, All-contains_itself, Contains-append_right, Contains-get_or}
 use Rattle.dns_codes.specs.RecordType.{type_number}
 use Rattle.dns_codes.specs.declared.record_type.RecordType.{RecordType}
 use Rattle.dns_codes.specs.declared.record_type.RecordType.TheVariants as types
@@ -17,14 +17,14 @@ use Rattle.stub_config.specs.declared.strategy.LookupIpStrategy.{LookupIpStrateg
 use Rattle.stub_config.specs.declared.strategy.LookupIpStrategy.TheVariants.{Ipv4Only, Ipv6Only, Ipv4AndIpv6, Ipv6AndIpv4, Ipv6thenIpv4, Ipv4thenIpv6}
 use Rattle.stub_lookup.specs.Lookup.{LookupContent, record_for}
 use Rattle.stub_lookup.specs.declared.error.NetError.TheVariants as errors
-use Rattle.stub_cache.specs.Hosts.{HostsContent, address_data, address_type, question, static_lookup}
+use Rattle.stub_cache.specs.Hosts.{address_data, address_type, question, static_lookup}
 use Rattle.stub_client.specs.AnswerTypes.{is_asked_or_alias}
 use Rattle.stub_client.specs.Handle.{IsMessage}
 use Rattle.stub_client.specs.Laws.{RecordClaim}
 use Rattle.stub_client.specs.Looks.{Reply, out_of_memory}
 use Rattle.stub_client.specs.Origins.{Asked}
-use Rattle.stub_core.specs.Attempts.{Attempts, AttemptsAll, AttemptsWithHosts, Continues, Lookups, Unless, WithHosts, is_final, no_names}
-use Rattle.stub_core.specs.Origins.{AreTyped, ByOrigins, EachAnswer, HostIsFrom, IsAnswer, NameIsFrom, ReplyIsFrom, first_of, from_hosts, from_literal, from_question, is_address_record, names_of}
+use Rattle.stub_core.specs.Attempts.{Attempts, AttemptsWithHosts, Continues, Lookups, Unless, WithHosts, is_final, no_names}
+use Rattle.stub_core.specs.Origins.{AreTyped, ByOrigins, EachAnswer, HostIsFrom, IsAnswer, NameIsFrom, first_of, from_hosts, from_literal, from_question, is_address_record, names_of}
 use Rattle.stub_core.specs.Resolver.{AnswersHost, AnswersName, LooksUp, LooksUpHost, LooksUpName, UnlessMemory, is_tried_as_name, known_type, names_for, owner_of}
 use Rattle.stub_core.specs.Strategies.{Both, ByStrategy, EndsWith, Joins, LooksUpAddresses, LooksUpIp, OrAddress, Then, fallback_record, is_out_of_memory, no_addresses}
 use Rattle.stub_core.specs.declared.resolver.settings.Settings.{Settings}

@@ -1,6 +1,6 @@
 -- Where the records that a resolver returns and keeps come from.
 use Rattle.std.proofs.Common.{◌≡◌, ◌≤◌, ◌++◌, Bool, true, false, ℕ, List, [], ◌∷◌, Option, Result, Ok, Err, All, Contains, refl, sym, subst, ◌∙◌, slice_index_or}
-use Rattle.std.specs.Prelude.{map, not}
+use Rattle.std.specs.Prelude.{not}
 use Rattle.std.specs.declared.net.ip_addr.IpAddr.{IpAddr}
 use Rattle.std.proofs.lemmas.List.{map-append}
 use Rattle.std.proofs.lemmas.List.Elements.{All-contains, All-contains_itself, All-filter, All-nil, All-weaker, Contains-append_left, Contains-append_right}

@@ -1,5 +1,5 @@
 -- Lookups whose questions are explained by the logs of their asks are explained by lookups without states.
-use Rattle.std.proofs.Common.{◌≡◌, ◌++◌, inl, inr, true, false, ℕ, List, [], ◌∷◌, Some, None, Ok, Err, refl, sym, subst, ◌∙◌}
+use Rattle.std.proofs.Common.{◌≡◌, ◌++◌, inl, inr, true, false, ℕ, List, [], ◌∷◌, Some, None, Ok, Err, refl, sym, subst}
 use Rattle.std.specs.Prelude.{Bool, Option, Result}
 use Rattle.std.specs.declared.net.ip_addr.IpAddr.{IpAddr}
 use Rattle.dns_codes.specs.declared.record_type.RecordType.{RecordType}
