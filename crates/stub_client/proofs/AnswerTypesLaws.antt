@@ -1,5 +1,5 @@
 -- The types of answers: that of the question, and aliases.
-use Rattle.std.proofs.Common.{◌≡◌, ℕ, suc, ◌-◌, ◌==◌, ◌&&◌, ◌||◌, ◌++◌, nat_le, Bool, true, false, cond, List, [], ◌∷◌, map, filter, Option, Some, None, Ok, Err, All, IfSome, refl, sym, ap, subst, ◌∙◌, ◌⊎◌, inl, inr}
+use Rattle.std.proofs.Common.{◌≡◌, ℕ, suc, ◌-◌, ◌==◌, ◌&&◌, ◌||◌, nat_le, Bool, true, false, List, [], ◌∷◌, map, filter, Option, Some, None, Ok, Err, All, IfSome, refl, sym, ap, subst, ◌⊎◌, inl, inr}
 use Rattle.std.specs.List.{find}
 use Rattle.std.proofs.lemmas.Bool.{cond_both}
 use Rattle.std.proofs.lemmas.List.Elements.{All-nil, All-cons, All-head, All-tail, All-append, All-filter, All-map, All-weaker, filter_passes}
@@ -30,8 +30,8 @@ use Rattle.stub_client.specs.AnswerTypes.{CacheHasAskedTypes, HasAskedTypes, Kep
 use Rattle.stub_client.specs.Handle.{Ask, Outcome}
 use Rattle.stub_client.specs.Laws.{EachReply}
 use Rattle.stub_client.specs.Looks.{IsAnsweredHere, Looks, Proceeds, Reply, Stores, cached_reply, given_reply, kept_of, negative}
-use Rattle.stub_client.specs.SpecialNames.{in_class, loopback_answer, loopback_data, loopback_record, name_answer, special_answer}
-use Rattle.stub_client.specs.Step.{asks_for, chain_of, given_answers, has_class, is_at_either, is_found, is_kept_alias, is_selected, kept_aliases, lowered, meaning, selected_answers, step_along, step_of, with_question}
+use Rattle.stub_client.specs.SpecialNames.{in_class, loopback_answer, loopback_data, name_answer, special_answer}
+use Rattle.stub_client.specs.Step.{asks_for, chain_of, given_answers, has_class, is_at_either, is_found, is_kept_alias, is_selected, kept_aliases, lowered, meaning, selected_answers, step_of, with_question}
 use Rattle.stub_client.specs.declared.caching_client.step.LookupSettings.{LookupSettings}
 use Rattle.stub_client.specs.declared.caching_client.step.Step.{Step}
 use Rattle.stub_client.specs.declared.caching_client.step.Step.TheVariants.{Gives, Misses, Stops, Follows}

@@ -1,5 +1,5 @@
 -- Where records come from is a claim that every lookup keeps.
-use Rattle.std.proofs.Common.{◌≡◌, ℕ, ◌+◌, ◌-◌, ◌≤◌, ◌&&◌, ◌||◌, ◌++◌, not, Bool, true, false, List, [], ◌∷◌, Ok, Err, All, Contains, refl, sym, ap, ◌∙◌, slice_index_or, arith}
+use Rattle.std.proofs.Common.{◌≡◌, ℕ, ◌+◌, ◌-◌, ◌<◌, ◌≤◌, ◌&&◌, ◌||◌, ◌++◌, not, Bool, true, false, List, [], ◌∷◌, Ok, Err, All, Contains, refl, sym, ap, ◌∙◌, slice_index_or, arith}
 use Rattle.std.proofs.lemmas.Bool.{not-true}
 use Rattle.std.proofs.lemmas.List.Elements.{All-nil, All-cons, All-head, All-tail, All-weaker, All-contains_itself, Contains-get_or}
 use Rattle.dns_codes.specs.DNSClass.{class_number}
@@ -8,19 +8,20 @@ use Rattle.dns_names.specs.Compare.{same_name}
 use Rattle.dns_names.specs.internal.Compare.{same_name-equivalence}
 use Rattle.dns_records.specs.Record.{Record, after_seconds}
 use Rattle.dns_messages.specs.Message.{all_records}
-use Rattle.dns_messages.specs.Response.{has_type, is_empty}
+use Rattle.dns_messages.specs.Response.{is_empty}
 use Rattle.dns_messages.specs.declared.message.Message.{Message}
 use Rattle.dns_messages.specs.declared.query.Query.{Query}
 use Rattle.dns_messages.specs.declared.response.DnsResponse.{DnsResponse}
 use Rattle.stub_cache.specs.Cache.{CacheContent, Kept, same_key}
 use Rattle.stub_cache.specs.Ttl.{TtlConfigContent, clamped_record}
-use Rattle.stub_cache.specs.declared.cache.entry.Entry.{Entry}
 use Rattle.stub_client.specs.Handle.{Ask}
 use Rattle.stub_client.specs.Laws.{BearsOut, BearsOutClosely, EachReply, HasNoMinimum, HoldsOfCache, HoldsOfEntry, HoldsOfKept, HoldsOfLoopback, HoldsOfReply, Outlasts, RecordClaim}
 use Rattle.stub_client.specs.Looks.{Looks, Reply}
-use Rattle.stub_client.specs.Origins.{Asked, Brings, BringsClosely, Comes, HasResponse, IsBrought, IsBroughtClosely, IsLeftOf, IsPartOf, LeadsOn, LeadsOnClosely, after_aliases, asked_at, by_alias, by_cache, by_loopback, by_response, directly, elsewhere, in_answers, is_complete}
-use Rattle.stub_client.specs.Step.{chain_of, found, is_end_found, is_found, is_given, is_negative_end, is_selected, lowered, next_question}
+use Rattle.stub_client.specs.Origins.{Asked, Brings, BringsClosely, Comes, HasResponse, IsBrought, IsBroughtClosely, IsPartOf, LeadsOn, LeadsOnClosely, after_aliases, asked_at, by_alias, by_cache, by_loopback, by_response, directly, elsewhere, in_answers, is_complete}
+use Rattle.stub_client.specs.SpecialNames.{special_answer}
+use Rattle.stub_client.specs.Step.{chain_of, found, is_end_found, is_selected, lowered}
 use Rattle.stub_client.specs.declared.caching_client.step.LookupSettings.{LookupSettings}
+use Rattle.stub_client.specs.declared.special_names.SpecialAnswer.TheVariants.{Loopback}
 use Rattle.stub_client.proofs.ClaimLaws.{holds-later, lookup-keeps}
 use Rattle.stub_client.proofs.ClaimSteps.{all-steps, all-steps-closely, no-aliases}
 use Rattle.stub_client.proofs.RecordsLaws.{each-weaker, numbers-equal}
@@ -102,6 +103,29 @@ module _ (Carries : Query → Message → Record → Type 0) (Leads : Query → 
   comes-still all part (by_loopback q now r e) = by_loopback q now r e
   comes-still all part (by_cache p q since now first r before same left) =
       by_cache p q since now first r (comes-still all part before) same left
+
+-- without questions, only the records of the local host come from anywhere
+module _ (Carries : Query → Message → Record → Type 0) (Leads : Query → Message → Type 0) where
+  abbrev IsLocal : Record → Type 0
+  IsLocal r =
+      (p : Query) × (first : Record) × (special_answer p ≡ Loopback first) × (r ≡ record first { ttl = r.ttl }) × (r.ttl ≤ first.ttl)
+
+  none-asked : (q : Query) (moment : ℕ) (response : DnsResponse) → HasResponse [] q moment response → ⊥
+  none-asked q moment response has = let less : has.asked.0 < 0 = has.asked.1 in omega arith
+
+  still-local : (first r : Record) → r ≡ record first { ttl = r.ttl } → r.ttl ≤ first.ttl → IsLocal first → IsLocal r
+  still-local first r same less h =
+      let low : first.ttl ≤ h.1.ttl = h.4 in
+      (h.0, h.1, h.2, same ∙ ap (λ (x : Record). record x { ttl = r.ttl }) h.3, omega arith)
+
+  pub only-local : {q : Query} {now : ℕ} {r : Record} → Comes Carries Leads [] q now r → IsLocal r
+  only-local (by_response q now r response has brings) = absurd (none-asked q now response has)
+  only-local (by_alias q now r response has leads rest) = absurd (none-asked q now response has)
+  only-local (by_loopback q now r e) = (q, r, e, refl, omega arith)
+  only-local (by_cache p q since now first r before same left) =
+      let past : since ≤ now = left.past in
+      let lasts : now + r.ttl ≤ since + first.ttl = left.lasts in
+      still-local first r left.same (omega arith) (only-local before)
 
 -- ---- claims that imply another
 

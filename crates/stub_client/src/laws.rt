@@ -15,7 +15,7 @@ ghost use Rattle.stub_client.specs.Step.{meaning};
 
 pub use origins::{
     every_answer_has_an_asked_type, every_record_is_brought, every_record_is_brought_closely,
-    later_questions_keep, later_questions_keep_closely,
+    later_questions_keep, later_questions_keep_closely, nothing_is_brought_without_questions,
 };
 
 /// A claim about the records that are returned for a question at a moment.

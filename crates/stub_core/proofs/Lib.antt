@@ -1,6 +1,9 @@
+pub mod AnswerOriginsLaws
 pub mod AttemptedNamesLaws
 pub mod AttemptedNamesRows
 pub mod AttemptsLaws
+pub mod OriginsLaws
 pub mod ResolverLaws
 pub mod ResolverRows
+pub mod StatelessLaws
 pub mod StrategiesLaws

@@ -1,11 +1,13 @@
 //! The core of a resolver, over any handle.
 //!
 //! - `resolver`: lookups of names and hosts, by a configuration, options and hosts
+//! - `laws`: what every lookup of a resolver keeps
 //! - `attempted_names`: the names that a lookup attempts, in order; `attempts`, `strategies`: lookups of these
 #![tactic(auto)]
 
 mod attempted_names;
 mod attempts;
+pub mod laws;
 mod resolver;
 mod strategies;
 

@@ -1,6 +1,6 @@
 //! Where the records that a lookup returns come from.
 
-ghost use Rattle.std.specs.Prelude.{◌≡◌, ◌≤◌, false, List, ℕ};
+ghost use Rattle.std.specs.Prelude.{◌≡◌, ◌≤◌, false, List, [], ℕ};
 ghost use Rattle.dns_records.specs.Record.{Record};
 ghost use Rattle.dns_messages.specs.declared.query.Query.{Query};
 ghost use Rattle.stub_cache.specs.Cache.{CacheContent};
@@ -8,6 +8,8 @@ ghost use Rattle.stub_cache.specs.Ttl.{TtlConfigContent};
 ghost use Rattle.stub_client.specs.AnswerTypes.{CacheHasAskedTypes, HasAskedTypes, ReplyHasAskedTypes};
 ghost use Rattle.stub_client.specs.Laws.{EachReply, EveryLookup, HasNoMinimum};
 ghost use Rattle.stub_client.specs.Origins.{Asked, CacheIsBrought, CacheIsBroughtClosely, IsBrought, IsBroughtClosely, IsPartOf, ReplyIsBrought, ReplyIsBroughtClosely, asked_at};
+ghost use Rattle.stub_client.specs.SpecialNames.{special_answer};
+ghost use Rattle.stub_client.specs.declared.special_names.SpecialAnswer.TheVariants.{Loopback};
 
 use dns_codes::laws::type_number_round_trips;
 
@@ -54,6 +56,14 @@ pub fn later_questions_keep_closely()
         (cache : CacheContent) → IsPartOf history all → now ≤ later
         → CacheIsBroughtClosely config history now cache
         → CacheIsBroughtClosely config all later cache }
+{}
+
+/// If nothing was asked, only records of the local host have an origin, with no more than their own TTL.
+pub fn nothing_is_brought_without_questions()
+    ensures { (config : TtlConfigContent) (q : Query) (now : ℕ) (r : Record)
+        → IsBrought config [] q now r
+        → (p : Query) × (first : Record) × (special_answer p ≡ Loopback first)
+        × (r ≡ record first { ttl = r.ttl }) × (r.ttl ≤ first.ttl) }
 {}
 
 /// If every response has only answers of the requested type and aliases, so have the reply and the cache.
