@@ -58,8 +58,8 @@ ByOrigins Brought now history old q reply new = ReplyIsFrom Brought history now 
 
 -- An answer of a lookup for some names and types has one of the types and an origin for its question; or it is a record of the
 -- hosts for one of their names; or it has the literal address that was looked up.
-pub data IsAnswer (Claim : RecordClaim) (hosts : HostsContent) (now : ℕ) (kinds : List RecordType) (names hosted : List DomainName)
-    (address : Option IpAddr) : Record → Type 0 where
+pub data IsAnswer (Claim : RecordClaim) (hosts : HostsContent) (now : ℕ) (kinds : List RecordType)
+    (names hosted : List DomainName) (address : Option IpAddr) : Record → Type 0 where
   from_question : (name : DomainName) (kind : RecordType) (r : Record) → Contains names name → Contains kinds kind
       → has_type kind r ≡ true → Claim (question name kind) now r → IsAnswer Claim hosts now kinds names hosted address r
   from_hosts : (name : DomainName) (kind : RecordType) (lookup : LookupContent) (r : Record) → Contains hosted name
@@ -91,8 +91,8 @@ is_address_record r = has_type types.A r || has_type types.AAAA r
 abbrev pub NameIsFrom : RecordClaim → Settings → ℕ → Result DomainName ParseError → RecordType → Reply → Type 0
 NameIsFrom Claim settings now name kind reply =
     EachAnswer (λ r. has_type (known_type kind) r ≡ true
-    → IsAnswer Claim settings.hosts now (known_type kind ∷ []) (names_of settings name) (first_of (names_of settings name)) None r)
-    reply
+    → IsAnswer Claim settings.hosts now (known_type kind ∷ []) (names_of settings name) (first_of (names_of settings name))
+    None r) reply
 
 -- each answer with an address comes from a question for an attempted name, or from the hosts, or is a literal address
 abbrev pub HostIsFrom : RecordClaim → Settings → ℕ → Option IpAddr → Result DomainName ParseError → Reply → Type 0
