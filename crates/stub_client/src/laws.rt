@@ -11,6 +11,10 @@ ghost use Rattle.stub_client.specs.Laws.{BearsOut, BearsOutClosely, EachReply, E
 ghost use Rattle.stub_client.specs.Roads.{AsksComeTo, CacheComesTo, HasSpecialNames, ReplyComesTo, Respells};
 ghost use Rattle.stub_client.specs.Step.{meaning};
 
+mod outcomes;
+
+pub use outcomes::{every_error_is_an_outcome, every_lookup_comes_to_its_outcomes, lookups_agree, one_question_is_enough, outcomes_are_only_added};
+
 /// A claim about the records that are returned for a question at a moment.
 pub trait Claim {
     ghost use Rattle.std.specs.Prelude.{ℕ};
