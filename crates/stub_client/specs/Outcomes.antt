@@ -51,6 +51,12 @@ pub data ComesTo (settings : LookupSettings) (asks : List Ask) : Query → Concl
   by_spelling : {p q : Query} {conclusion : Conclusion} → ComesTo settings asks p conclusion → same_key p q ≡ true
       → ComesTo settings asks q conclusion
 
+-- ---- which asks there are
+
+-- each of the asks is one of the others
+abbrev pub AreAmong : List Ask → List Ask → Type 0
+AreAmong asks others = (ask : Ask) → Contains asks ask → Contains others ask
+
 -- ---- chains of aliases
 
 -- This number of aliases, each from the outcome of one of the asks, leads from one question to another.
@@ -74,9 +80,10 @@ pub record EndsInError (asks : List Ask) (error : NetError) : Type 0 where
 
 -- ---- agreement
 
--- the outcomes of asks, in order
-abbrev pub outcomes : List Ask → List Outcome
-outcomes asks = map (λ ask. ask.outcome) asks
+-- the outcomes of the asks are the first of these, in order
+pub record AreFirst (outcomes : List Outcome) (asks : List Ask) : Type 0 where
+  pub later : List Outcome
+  pub in_order : outcomes ≡ map (λ ask. ask.outcome) asks ++ later
 
 -- ---- one question
 

@@ -6,20 +6,24 @@ ghost use Rattle.dns_messages.specs.declared.response.DnsResponse.{DnsResponse};
 ghost use Rattle.stub_lookup.specs.declared.error.NetError.{NetError};
 ghost use Rattle.stub_lookup.specs.declared.error.NetError.TheVariants.{Memory};
 ghost use Rattle.stub_cache.specs.Cache.{CacheContent};
-ghost use Rattle.stub_client.specs.Handle.{Ask};
+ghost use Rattle.stub_client.specs.Handle.{Ask, Outcome};
 ghost use Rattle.stub_client.specs.Laws.{EveryLookup, IsFailure};
 ghost use Rattle.stub_client.specs.Looks.{Looks, Reply, out_of_memory};
-ghost use Rattle.stub_client.specs.Outcomes.{AnswersAtOnce, ChainsEnd, ComesTo, EndsInError, Leads, outcomes};
+ghost use Rattle.stub_client.specs.Outcomes.{AnswersAtOnce, AreAmong, AreFirst, ChainsEnd, ComesTo, EndsInError, Leads};
 ghost use Rattle.stub_client.specs.Roads.{CacheComesTo, Conclusion, ReplyComesTo};
 ghost use Rattle.stub_client.specs.Step.{meaning};
 ghost use Rattle.stub_client.specs.declared.caching_client.step.LookupSettings.{LookupSettings};
 
 /// Where aliases are not preserved, a lookup keeps and returns what its question comes to by asking anew.
 ///
-/// The outcomes are those of the asks of the lookup and of the earlier ones that the cache is from. No chain of
-/// aliases in those of the lookup may be longer than is followed.
+/// The outcomes are those of any asks that include those of the lookup and explain what the cache has, such as those
+/// of the lookup and of all earlier ones. No chain of aliases in those of the lookup may be longer than is followed.
 pub fn every_lookup_comes_to_its_outcomes()
-    ensures { (earlier : List Ask) → EveryLookup (λ settings now old q asks reply new.
+    ensures among { (all : List Ask) → EveryLookup (λ settings now old q asks reply new.
+        settings.preserve_intermediates ≡ false → ChainsEnd settings asks → AreAmong asks all
+        → CacheComesTo (ComesTo settings all) old
+        → CacheComesTo (ComesTo settings all) new × ReplyComesTo (ComesTo settings all) q reply) }
+    ensures added { (earlier : List Ask) → EveryLookup (λ settings now old q asks reply new.
         settings.preserve_intermediates ≡ false → ChainsEnd settings asks
         → CacheComesTo (ComesTo settings earlier) old
         → CacheComesTo (ComesTo settings (asks ++ earlier)) new
@@ -28,15 +32,15 @@ pub fn every_lookup_comes_to_its_outcomes()
 
 /// With more asks, questions come to what they came to before, and so does what a cache has.
 pub fn outcomes_are_only_added()
-    ensures question { (settings : LookupSettings) (more asks : List Ask) (q : Query)
-        (conclusion : Conclusion) → ComesTo settings asks q conclusion
-        → ComesTo settings (more ++ asks) q conclusion }
-    ensures cache { (settings : LookupSettings) (more asks : List Ask) (cache : CacheContent)
-        → CacheComesTo (ComesTo settings asks) cache
-        → CacheComesTo (ComesTo settings (more ++ asks)) cache }
-    ensures chain { (settings : LookupSettings) (more asks : List Ask) (first last : Query)
-        (links : ℕ) → Leads settings asks first links last
-        → Leads settings (more ++ asks) first links last }
+    ensures question { (settings : LookupSettings) (asks more : List Ask) (q : Query)
+        (conclusion : Conclusion) → AreAmong asks more → ComesTo settings asks q conclusion
+        → ComesTo settings more q conclusion }
+    ensures cache { (settings : LookupSettings) (asks more : List Ask) (cache : CacheContent)
+        → AreAmong asks more → CacheComesTo (ComesTo settings asks) cache
+        → CacheComesTo (ComesTo settings more) cache }
+    ensures chain { (settings : LookupSettings) (asks more : List Ask) (first last : Query)
+        (links : ℕ) → AreAmong asks more → Leads settings asks first links last
+        → Leads settings more first links last }
 {}
 
 /// An error that a lookup returns, other than a negative answer or want of memory, is what its last outcome means.
@@ -46,15 +50,17 @@ pub fn every_error_is_an_outcome()
         → EndsInError asks error) }
 {}
 
-/// Lookups of a question with the same cache, settings and moment, and the same list of outcomes, agree.
+/// Lookups of a question with the same cache, settings and moment agree if they draw on the same list of outcomes.
 ///
 /// They ask the same questions, and have the same reply and the same cache, unless one of them runs out of memory.
 pub fn lookups_agree()
     ensures { (settings : LookupSettings) (now : ℕ) (old : CacheContent) (q : Query)
-        (asks others : List Ask) (reply answer : Reply) (new next : CacheContent)
+        (outcomes : List Outcome) (asks others : List Ask) (reply answer : Reply)
+        (new next : CacheContent)
         → Looks settings now 0 [] old q asks reply new
         → Looks settings now 0 [] old q others answer next
-        → outcomes asks ≡ outcomes others → reply ≢ out_of_memory → answer ≢ out_of_memory
+        → AreFirst outcomes asks → AreFirst outcomes others
+        → reply ≢ out_of_memory → answer ≢ out_of_memory
         → (asks ≡ others) × (reply ≡ answer) × (new ≡ next) }
 {}
 
