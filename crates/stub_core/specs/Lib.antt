@@ -1,5 +1,6 @@
 pub mod AttemptedNames
 pub mod Attempts
+pub mod Outcomes
 pub mod Resolver
 pub mod ResolverBuilder
 pub mod Strategies

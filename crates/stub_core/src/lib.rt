@@ -2,10 +2,12 @@
 //!
 //! - `resolver`: lookups of names and hosts, by a configuration, options and hosts
 //! - `attempted_names`: the names that a lookup attempts, in order; `attempts`, `strategies`: lookups of these
+//! - `laws`: what every lookup of a resolver keeps
 #![tactic(auto)]
 
 mod attempted_names;
 mod attempts;
+pub mod laws;
 mod resolver;
 mod strategies;
 
