@@ -133,7 +133,11 @@ module _ (settings : LookupSettings) (asks all : List Ask) (are : AreAmong asks 
         (bears depth ask.question within (step_of settings ask.question [] 0 ask.outcome) (steps _ refl))
 
     asks-come : AsksComeTo Comes Within settings asks
-    asks-come = All-weaker (Contains asks) _ bears-at asks (All-contains_itself asks)
+    asks-come =
+        All-weaker (Contains asks)
+        (λ (ask : Ask). (depth : ℕ) → Within depth ask.question
+        → StepComesTo Comes Within depth ask.question (step_of settings ask.question [] depth ask.outcome))
+        bears-at asks (All-contains_itself asks)
 
     -- A lookup keeps and returns what the outcomes come to.
     pub outcomes-come : (now : ℕ) (old : CacheContent) (q : Query) (reply : Reply) (new : CacheContent)
