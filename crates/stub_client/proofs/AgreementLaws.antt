@@ -1,8 +1,8 @@
 -- Lookups with the same cache, settings, moment and outcomes agree; and a lookup that is answered at once.
-use Rattle.std.proofs.Common.{◌≡◌, ℕ, zero, suc, ◌<◌, ◌&&◌, ◌||◌, ◌++◌, not, nat_lt, Bool, true, false, List, [], ◌∷◌, length, get_or, map, Option, Some, None, Ok, Err, refl, sym, ap, subst, ◌∙◌, inl, inr, arith}
+use Rattle.std.proofs.Common.{cond, ◌≡◌, ℕ, zero, suc, ◌<◌, ◌&&◌, ◌||◌, ◌++◌, not, nat_lt, Bool, true, false, List, [], ◌∷◌, length, get_or, map, Option, Some, None, Ok, Err, refl, sym, ap, subst, ◌∙◌, inl, inr, arith}
 use Rattle.std.specs.Prelude.{◌≢◌, Contains, if◌then◌else◌}
 use Rattle.std.specs.List.{filter, list_any}
-use Rattle.std.proofs.lemmas.Bool.{cond-true, or_left, or_right}
+use Rattle.std.proofs.lemmas.Bool.{or_left, or_right}
 use Rattle.dns_records.specs.Record.{Record}
 use Rattle.dns_messages.specs.Message.{all_records}
 use Rattle.dns_messages.specs.Response.{is_empty}
@@ -181,11 +181,17 @@ given q m h =
     and-or-true (not (is_empty (found q (chain_of q m) m))) (not (chain_of q m).is_alias)
     (is_empty-filter (is_found q (chain_of q m).name) (all_records m) ∙ any)
 
+first-of : {A : Type 0} (b : Bool) (x y : A) → b ≡ true → cond b x y ≡ x
+first-of true x y h = refl
+first-of false x y h = absurd (cc)
+
 gives-at-once : (settings : LookupSettings) (q : Query) (out : Outcome) (response : DnsResponse) → out ≡ Ok response
     → AnswersAtOnce q response.message
     → step_on settings q [] 0 out ≡ Gives (given_message settings q (chain_of q response.message) [] response.message)
 gives-at-once settings q out response is h =
-    ap (step_on settings q [] 0) is ∙ cond-true (given q response.message h)
+    ap (step_on settings q [] 0) is
+    ∙ first-of (is_given q (chain_of q response.message) [] response.message)
+    (Gives (given_message settings q (chain_of q response.message) [] response.message)) _ (given q response.message h)
 
 -- A lookup that is answered at once asks no other question.
 pub asks-no-other : (settings : LookupSettings) (now : ℕ) (old : CacheContent) (q : Query) (first : Ask) (others : List Ask)

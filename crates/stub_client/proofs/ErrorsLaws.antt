@@ -57,8 +57,8 @@ module _ (error : NetError) (failure : IsFailure error) (memory : error ≢ erro
 
   no-answer : (reply : Reply) (answer : NoRecords) → reply ≡ negative answer → reply ≡ Err error → ⊥
   no-answer reply answer is fails =
-      let stored : IsFailure (errors.Dns (dns.NoRecordsFound answer)) =
-      subst IsFailure (cc) failure in
+      let same : error ≡ errors.Dns (dns.NoRecordsFound answer) = cc in
+      let stored : IsFailure (errors.Dns (dns.NoRecordsFound answer)) = subst IsFailure same failure in
       absurd (cc)
 
   answered : (now : ℕ) (q : Query) (special : SpecialAnswer) (hit : Option Kept) (reply : Reply)

@@ -18,7 +18,10 @@ pub use origins::{
     every_answer_has_an_asked_type, every_record_is_brought, every_record_is_brought_closely,
     later_questions_keep, later_questions_keep_closely, nothing_is_brought_without_questions,
 };
-pub use outcomes::{every_error_is_an_outcome, every_lookup_comes_to_its_outcomes, lookups_agree, one_question_is_enough, outcomes_are_only_added};
+pub use outcomes::{
+    every_error_is_an_outcome, every_lookup_comes_to_its_outcomes, lookups_agree,
+    one_question_is_enough, outcomes_are_only_added,
+};
 
 /// A claim about the records that are returned for a question at a moment.
 pub trait Claim {
