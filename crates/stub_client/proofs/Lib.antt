@@ -1,11 +1,14 @@
 pub mod AnswerTypesLaws
+pub mod AgreementLaws
 pub mod AsksLaws
 pub mod ClaimLaws
 pub mod ClaimSteps
 pub mod EntriesLaws
+pub mod ErrorsLaws
 pub mod LookUpLaws
 pub mod Needed
 pub mod OriginsLaws
+pub mod OutcomesLaws
 pub mod PassingLaws
 pub mod RecordsLaws
 pub mod RequestRows

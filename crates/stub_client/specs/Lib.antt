@@ -3,6 +3,7 @@ pub mod Handle
 pub mod Laws
 pub mod Looks
 pub mod Origins
+pub mod Outcomes
 pub mod Request
 pub mod Roads
 pub mod SpecialNames

@@ -4,6 +4,7 @@
 //! contract of [`CachingClient::lookup`](crate::CachingClient::lookup), and of any claim about what is returned.
 
 mod origins;
+mod outcomes;
 
 ghost use Rattle.std.specs.Prelude.{◌≡◌, ◌≤◌, ◌++◌, false, List, [], ◌∷◌, length, ℕ, Err};
 ghost use Rattle.stub_lookup.specs.declared.error.NetError.{NetError};
@@ -16,6 +17,10 @@ ghost use Rattle.stub_client.specs.Step.{meaning};
 pub use origins::{
     every_answer_has_an_asked_type, every_record_is_brought, every_record_is_brought_closely,
     later_questions_keep, later_questions_keep_closely, nothing_is_brought_without_questions,
+};
+pub use outcomes::{
+    every_error_is_an_outcome, every_lookup_comes_to_its_outcomes, lookups_agree,
+    one_question_is_enough, outcomes_are_only_added,
 };
 
 /// A claim about the records that are returned for a question at a moment.
