@@ -1,8 +1,9 @@
-pub mod AnswerTypesLaws
 pub mod AgreementLaws
+pub mod AnswerTypesLaws
 pub mod AsksLaws
 pub mod ClaimLaws
 pub mod ClaimSteps
+pub mod ConclusionLaws
 pub mod EntriesLaws
 pub mod ErrorsLaws
 pub mod LookUpLaws
@@ -12,7 +13,6 @@ pub mod OutcomesLaws
 pub mod PassingLaws
 pub mod RecordsLaws
 pub mod RequestRows
-pub mod RoadLaws
 pub mod SpecialNamesRows
 pub mod StepCases
 pub mod StepLaws

@@ -12,12 +12,12 @@ use Rattle.stub_cache.specs.declared.cache.entry.Entry.{Entry}
 use Rattle.stub_client.specs.Handle.{Ask, Outcome}
 use Rattle.stub_client.specs.Looks.{Looks, Reply}
 use Rattle.stub_client.specs.Outcomes.{AreAmong, ChainsEnd, ComesTo, Leads, StepsTo, by_absence, by_alias, by_code, by_loopback, by_negative, by_nothing, by_records, by_spelling, no_alias, one_more}
-use Rattle.stub_client.specs.Roads.{AsksComeTo, CacheComesTo, Conclusion, HasSpecialNames, KeptComesTo, ReplyComesTo, Respells, StepComesTo}
+use Rattle.stub_client.specs.Conclusions.{AsksComeTo, CacheComesTo, Conclusion, HasSpecialNames, KeptComesTo, ReplyComesTo, Respells, StepComesTo}
 use Rattle.stub_client.specs.Step.{chain_of, given_message, is_given, is_negative_end, kept_aliases, max_depth, meaning, next_question, nothing_found, step_of, step_on}
 use Rattle.stub_client.specs.declared.caching_client.step.LookupSettings.{LookupSettings}
 use Rattle.stub_client.specs.declared.caching_client.step.Step.{Step}
 use Rattle.stub_client.specs.declared.caching_client.step.Step.TheVariants.{Gives, Misses, Stops, Follows}
-use Rattle.stub_client.proofs.RoadLaws.{lookup-comes}
+use Rattle.stub_client.proofs.ConclusionLaws.{lookup-comes}
 
 -- ---- more asks
 

@@ -1,11 +1,11 @@
 pub mod AnswerTypes
+pub mod Conclusions
 pub mod Handle
 pub mod Laws
 pub mod Looks
 pub mod Origins
 pub mod Outcomes
 pub mod Request
-pub mod Roads
 pub mod SpecialNames
 pub mod Step
 pub mod internal

@@ -11,7 +11,7 @@ use Rattle.stub_lookup.specs.declared.error.NetError.TheVariants.{Dns}
 use Rattle.stub_lookup.specs.declared.error.NoRecords.{NoRecords}
 use Rattle.stub_cache.specs.Cache.{same_key}
 use Rattle.stub_client.specs.Handle.{Ask, Outcome}
-use Rattle.stub_client.specs.Roads.{Conclusion, Finds, Lacks, Refuses, values}
+use Rattle.stub_client.specs.Conclusions.{Conclusion, Finds, Lacks, Refuses, values}
 use Rattle.stub_client.specs.SpecialNames.{special_answer}
 use Rattle.stub_client.specs.Step.{asks_for, chain_of, has_class, is_at_either, max_depth, meaning, step_of}
 use Rattle.stub_client.specs.declared.caching_client.step.LookupSettings.{LookupSettings}

@@ -11,7 +11,7 @@ ghost use Rattle.stub_lookup.specs.declared.error.NetError.{NetError};
 ghost use Rattle.stub_cache.specs.Cache.{CacheContent};
 ghost use Rattle.stub_client.specs.Handle.{Ask};
 ghost use Rattle.stub_client.specs.Laws.{BearsOut, BearsOutClosely, EachReply, EveryLookup, HasNoMinimum, HoldsOfCache, HoldsOfLoopback, HoldsOfReply, IsFailure, Outlasts};
-ghost use Rattle.stub_client.specs.Roads.{AsksComeTo, CacheComesTo, HasSpecialNames, ReplyComesTo, Respells};
+ghost use Rattle.stub_client.specs.Conclusions.{AsksComeTo, CacheComesTo, HasSpecialNames, ReplyComesTo, Respells};
 ghost use Rattle.stub_client.specs.Step.{meaning};
 
 pub use origins::{
@@ -34,10 +34,10 @@ pub trait Claim {
 }
 
 /// A claim about what questions come to.
-pub trait Road {
+pub trait Conclusions {
     ghost use Rattle.std.specs.Prelude.{ℕ};
     ghost use Rattle.dns_messages.specs.declared.query.Query.{Query};
-    ghost use Rattle.stub_client.specs.Roads.{Conclusion};
+    ghost use Rattle.stub_client.specs.Conclusions.{Conclusion};
 
     /// A question may come to this conclusion.
     ghost comes_to: { Query → Conclusion → Type 0 };
@@ -74,7 +74,7 @@ pub fn every_later_moment_keeps<C: Claim>()
 {}
 
 /// Where aliases are not preserved, every lookup comes to what the steps bear out, TTLs aside.
-pub fn every_lookup_walks<R: Road>()
+pub fn every_lookup_walks<R: Conclusions>()
     ensures { Respells R.comes_to → HasSpecialNames R.comes_to
         → EveryLookup (λ settings now old q asks reply new.
         settings.preserve_intermediates ≡ false

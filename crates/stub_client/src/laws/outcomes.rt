@@ -10,7 +10,7 @@ ghost use Rattle.stub_client.specs.Handle.{Ask, Outcome};
 ghost use Rattle.stub_client.specs.Laws.{EveryLookup, IsFailure};
 ghost use Rattle.stub_client.specs.Looks.{Looks, Reply, out_of_memory};
 ghost use Rattle.stub_client.specs.Outcomes.{AnswersAtOnce, AreAmong, AreFirst, ChainsEnd, ComesTo, EndsInError, Leads};
-ghost use Rattle.stub_client.specs.Roads.{CacheComesTo, Conclusion, ReplyComesTo};
+ghost use Rattle.stub_client.specs.Conclusions.{CacheComesTo, Conclusion, ReplyComesTo};
 ghost use Rattle.stub_client.specs.Step.{meaning};
 ghost use Rattle.stub_client.specs.declared.caching_client.step.LookupSettings.{LookupSettings};
 

@@ -12,7 +12,7 @@ use Rattle.stub_cache.specs.Ttl.{TtlConfigContent, clamped_record}
 use Rattle.stub_cache.specs.declared.cache.entry.Entry.{Entry}
 use Rattle.stub_client.specs.Handle.{Ask, Outcome}
 use Rattle.stub_client.specs.Looks.{IsAnsweredHere, Looks, Proceeds, Reply, Stores, cached_reply, given_reply, kept_of, negative}
-use Rattle.stub_client.specs.Roads.{AsksComeTo, CacheComesTo, Conclusion, Finds, Lacks, HasSpecialNames, KeptComesTo, ReplyComesTo, Respells, StepComesTo, value_of, values}
+use Rattle.stub_client.specs.Conclusions.{AsksComeTo, CacheComesTo, Conclusion, Finds, Lacks, HasSpecialNames, KeptComesTo, ReplyComesTo, Respells, StepComesTo, value_of, values}
 use Rattle.stub_client.specs.SpecialNames.{special_answer}
 use Rattle.stub_client.specs.Step.{meaning, step_of}
 use Rattle.stub_client.specs.declared.caching_client.step.LookupSettings.{LookupSettings}
