@@ -5,5 +5,6 @@ pub mod AttemptsLaws
 pub mod OriginsLaws
 pub mod ResolverLaws
 pub mod ResolverRows
+pub mod ResolvesLaws
 pub mod StatelessLaws
 pub mod StrategiesLaws
