@@ -1,5 +1,6 @@
 pub mod SuffixLaws
 pub mod StoredLaws
+pub mod IndexLaws
 pub mod ElementLaws
 pub mod ReadingLaws
 pub mod NameLaws
