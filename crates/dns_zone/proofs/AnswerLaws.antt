@@ -3,7 +3,6 @@ use Rattle.std.proofs.Common.{◌≡◌, ◌==◌, ◌<◌, ◌^◌, ◌&&◌, �
 use Rattle.std.specs.Prelude.{IfSome}
 use Rattle.dns_codes.specs.RecordType.{type_number}
 use Rattle.dns_codes.specs.DNSClass.{class_number}
-use Rattle.dns_data.specs.declared.rdata.cname.CNAME.{CNAME}
 use Rattle.dns_messages.specs.declared.query.Query.{Query}
 use Rattle.dns_messages.specs.declared.response_code.ResponseCode.{ResponseCode}
 use Rattle.dns_messages.specs.declared.response_code.ResponseCode.TheVariants.{NoError, NXDomain, NotImp, Refused}

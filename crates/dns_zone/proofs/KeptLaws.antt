@@ -1,30 +1,34 @@
 -- The sets that a zone keeps, and its rows.
-use Rattle.std.proofs.Common.{◌≡◌, ◌==◌, ◌∙◌, ℕ, Bool, true, false, not, cond, ◌&&◌, ◌||◌, List, [], ◌∷◌, ◌++◌, length, refl, sym, ap, subst, arith, Option, Some, None, unwrap_or}
+use Rattle.std.proofs.Common.{◌≡◌, ◌==◌, ◌+◌, ◌∙◌, map, Less, ℕ, Bool, true, false, not, cond, ◌&&◌, ◌||◌, List, [], ◌∷◌, ◌++◌, length, refl, sym, ap, subst, arith, Option, Some, None, unwrap_or}
 use Rattle.std.specs.Prelude.{IfSome}
-use Rattle.std.proofs.lemmas.List.{length-map}
+use Rattle.std.proofs.lemmas.List.{append_assoc, length-map}
 use Rattle.std.proofs.lemmas.Bool.Decides.{nat_tests}
-use Rattle.std.specs.Cmp.{Equal-is, eq_by_cmp_equiv}
+use Rattle.std.specs.Cmp.{Equal-is, eq_by_cmp_equiv, nat_cmp_total, ranked}
+use Rattle.std.specs.Cmp.Lexicographic.{slice_cmp}
+use Rattle.std.specs.List.Sorted.{IsStrictlySortedBy}
 use Rattle.std.specs.FinMap as rows_map
 use Rattle.std.specs.List as list
 use Rattle.std.specs.List.{list_any, AllByRecursion, IsDistinct}
-use Rattle.std.specs.Ordering.{eq_by_cmp}
+use Rattle.std.specs.Ordering.{eq_by_cmp, is_eq, nat_cmp, ordering_then}
 use Rattle.dns_codes.specs.RecordType.{type_number, type_of}
 use Rattle.dns_codes.specs.declared.record_type.RecordType.{RecordType}
 use Rattle.dns_codes.specs.declared.record_type.RecordType.TheVariants as types
 use Rattle.dns_names.specs.Compare.{same_name}
 use Rattle.dns_names.specs.Name.{DomainName}
+use Rattle.dns_names.specs.internal.Compare.{same-lower}
 use Rattle.dns_data.specs.rdata.{data_type, same_data}
 use Rattle.dns_records.specs.Record.{Record}
 use Rattle.dns_records.specs.declared.row.Row.{Row}
 use Rattle.dns_records.specs.RecordSet.{RecordSetValue, AreDistinct, record_data}
 use Rattle.dns_zone_file.specs.RecordSets.{is_set_of}
 use Rattle.dns_zone_file.specs.Parsed.{AreDistinctSets, IsParsedSet, is_singleton_type}
-use Rattle.dns_zone_file.proofs.ParsedLaws.{set_both_ways}
-use Rattle.dns_zone.specs.internal.{with_first}
 use Rattle.dns_zone.specs.Load.{is_inside, is_soa, is_apex, fault_of}
 use Rattle.dns_zone.specs.Printed.{is_start, BeginsWithStart, AreZoneSets}
 use Rattle.dns_zone.specs.Rows.{Key, key, key_cmp, ZoneContent, set_key, row_of, rows_of, rows_of_sets, rows_at, row_data, IsSoundSet, AreSoundSets, AreRowsAt, IsZone}
-use Rattle.dns_zone.proofs.FirstLaws.{IsMoved, moved, all_moved, any_moved, distinct_moved, others_before, find_moved}
+use Rattle.dns_zone.specs.Sets.{owner_code, place_cmp, set_at, set_place, type_code, AreInOrder}
+use Rattle.dns_zone.proofs.CodeLaws.{below_begins, owner_of_lower}
+use Rattle.dns_zone.proofs.FirstLaws.{others_before}
+use Rattle.dns_zone.proofs.PlaceLaws.{places_tie}
 use Rattle.dns_zone.proofs.LoadLaws.{AreFaultless, faultless, is_faultless, sound_sets}
 use Rattle.dns_zone.proofs.RowLaws.{key_total, key_antisymmetric, keys_tie, tied, rows_if, get-sets, same_lower, below_lower}
 
@@ -36,73 +40,42 @@ set_tie s t e f =
     (λ i. same_name (record { is_fqdn = e i; labels = s.name.labels }) (record { is_fqdn = f i; labels = t.name.labels }) && (type_number s.record_type == type_number t.record_type))
     ∙ keys_tie s.name.labels t.name.labels s.record_type t.record_type
 
--- no key ties with the keys of two sets
-apart_at : (s t : RecordSetValue) (q : Key) → s.name.is_fqdn ≡ true → t.name.is_fqdn ≡ true → is_set_of s.name s.record_type t ≡ false → tied q s ≡ true → tied q t ≡ true → ⊥
-apart_at s t q e f other a b =
-    let equiv = eq_by_cmp_equiv key_total in
-    let same : eq_by_cmp key_cmp q (set_key t) ≡ eq_by_cmp key_cmp (set_key s) (set_key t) = equiv.congr q (set_key s) (set_key t) a in
-    let never : true ≡ false = sym b ∙ same ∙ sym (set_tie s t e f) ∙ other in
-    absurd (cc)
+-- whether two sets are at the same key
+abbrev share_key : RecordSetValue → RecordSetValue → Bool
+share_key s t = eq_by_cmp key_cmp (set_key s) (set_key t)
 
-all_apart : (front : List RecordSetValue) (t : RecordSetValue) (q : Key) → AreSoundSets front → t.name.is_fqdn ≡ true → AllByRecursion (λ s. is_set_of s.name s.record_type t ≡ false) front → AllByRecursion (λ s. tied q s ≡ true → tied q t ≡ true → ⊥) front
-all_apart [] t q sound f others = tt
-all_apart (s ∷ front) t q sound f others = (apart_at s t q sound.0.fqdn f others.0, all_apart front t q sound.1 f others.1)
+abbrev AreApart : List RecordSetValue → Type 0
+AreApart sets = IsDistinct share_key sets
 
--- ---- the start of authority comes first
+others_distinct : (s : RecordSetValue) (ss : List RecordSetValue) → s.name.is_fqdn ≡ true → AreSoundSets ss → AllByRecursion (λ t. share_key s t ≡ false) ss → AllByRecursion (λ t. is_set_of s.name s.record_type t ≡ false) ss
+others_distinct s [] e sound others = tt
+others_distinct s (t ∷ ss) e sound others = (set_tie s t e sound.0.fqdn ∙ others.0, others_distinct s ss e sound.1 others.1)
 
-front_of : {A : Type 0} (P : A → Type 0) (front : List A) (more : List A) → AllByRecursion P (front ++ more) → AllByRecursion P front
-front_of P [] more all = tt
-front_of P (x ∷ front) more all = (all.0, front_of P front more all.1)
+others_apart : (s : RecordSetValue) (ss : List RecordSetValue) → s.name.is_fqdn ≡ true → AreSoundSets ss → AllByRecursion (λ t. is_set_of s.name s.record_type t ≡ false) ss → AllByRecursion (λ t. share_key s t ≡ false) ss
+others_apart s [] e sound others = tt
+others_apart s (t ∷ ss) e sound others = (sym (set_tie s t e sound.0.fqdn) ∙ others.0, others_apart s ss e sound.1 others.1)
 
--- rows do not depend on the place of a set
-rows_moved : (front : List RecordSetValue) (s : RecordSetValue) (back : List RecordSetValue) → AreSoundSets (front ++ s ∷ back) → AreDistinctSets (front ++ s ∷ back) → rows_of_sets (s ∷ (front ++ back)) ≡ rows_of_sets (front ++ s ∷ back)
-rows_moved front s back sound d =
-    rows_map.same_map key_total key_antisymmetric _ _ (λ q.
-    get-sets (s ∷ (front ++ back)) q
-    ∙ ap rows_if (find_moved (tied q) front s back (all_apart front s q (front_of IsSoundSet front (s ∷ back) sound) (all_moved IsSoundSet front s back sound).0.fqdn (others_before _ front s back d)))
-    ∙ sym (get-sets (front ++ s ∷ back) q))
+distinct_of_apart : (sets : List RecordSetValue) → AreSoundSets sets → AreApart sets → AreDistinctSets sets
+unfolding IsDistinct
+distinct_of_apart [] sound d = tt
+distinct_of_apart (s ∷ ss) sound d = (others_distinct s ss sound.0.fqdn sound.1 d.0, distinct_of_apart ss sound.1 d.1)
 
-faultless_moved : (apex : DomainName) (front : List RecordSetValue) (s : RecordSetValue) (back : List RecordSetValue) → AreFaultless apex (front ++ s ∷ back) → AreFaultless apex (s ∷ (front ++ back))
-faultless_moved apex front s back f = record {
-  internet = any_moved _ front s back ∙ f.internet;
-  inside = any_moved _ front s back ∙ f.inside;
-  soa = any_moved _ front s back ∙ f.soa;
-  elsewhere = any_moved _ front s back ∙ f.elsewhere;
-  short = any_moved _ front s back ∙ f.short;
-}
+apart_of_distinct : (sets : List RecordSetValue) → AreSoundSets sets → AreDistinctSets sets → AreApart sets
+unfolding IsDistinct
+apart_of_distinct [] sound d = tt
+apart_of_distinct (s ∷ ss) sound d = (others_apart s ss sound.0.fqdn sound.1 d.0, apart_of_distinct ss sound.1 d.1)
 
--- what a zone keeps of sets
-pub record AreKept (apex : DomainName) (sets kept : List RecordSetValue) : Type 0 where
-  pub sound : AreSoundSets kept
-  pub zone_sets : AreZoneSets apex kept
-  pub rows : rows_of_sets kept ≡ rows_of_sets sets
+others_in_order : (s : RecordSetValue) (ss : List RecordSetValue) → AllByRecursion (λ q. place_cmp (set_place s) q ≡ Less) (map set_place ss) → AllByRecursion (λ t. share_key s t ≡ false) ss
+others_in_order s [] after = tt
+others_in_order s (t ∷ ss) after =
+    (sym (places_tie s.name.labels t.name.labels s.record_type t.record_type) ∙ ap is_eq after.0, others_in_order s ss after.1)
 
-moved_kept : (apex : DomainName) (sets kept : List RecordSetValue) → AreSoundSets sets → AreDistinctSets sets → AreFaultless apex sets → IsMoved (is_start apex) sets kept → AreKept apex sets kept
-moved_kept apex sets kept sound d f m =
-    let sound' = subst AreSoundSets m.was sound in
-    let d' = subst AreDistinctSets m.was d in
-    let f' = subst (AreFaultless apex) m.was f in
-    subst (AreKept apex sets) (sym m.is) (subst (λ (l : List RecordSetValue). AreKept apex l (m.first ∷ (m.front ++ m.back))) (sym m.was) (record {
-      sound = all_moved IsSoundSet m.front m.first m.back sound';
-      zone_sets = record {
-        start_first = m.passes;
-        distinct = distinct_moved _ m.front m.first m.back (λ a b. set_both_ways a.name b.name a.record_type b.record_type) d';
-        faultless = is_faultless apex _ (faultless_moved apex m.front m.first m.back f');
-      };
-      rows = rows_moved m.front m.first m.back sound' d';
-    }))
+apart_of_order : (sets : List RecordSetValue) → AreInOrder sets → AreApart sets
+unfolding IsDistinct IsStrictlySortedBy
+apart_of_order [] sorted = tt
+apart_of_order (s ∷ ss) sorted = (others_in_order s ss sorted.0, apart_of_order ss sorted.1)
 
-pub kept_sets : (apex : DomainName) (sets : List RecordSetValue) → AreSoundSets sets → AreDistinctSets sets → fault_of (Some apex) sets ≡ None → AreKept apex sets (with_first (is_start apex) sets)
-kept_sets apex sets sound d e =
-    let f = faultless apex sets e in
-    moved_kept apex sets (with_first (is_start apex) sets) sound d f (moved (is_start apex) sets f.soa)
-
-pub kept_of : (origin : Option DomainName) (apex : DomainName) (sets kept : List RecordSetValue) → AllByRecursion IsParsedSet sets → AreDistinctSets sets → origin ≡ Some apex → fault_of origin sets ≡ None → kept ≡ with_first (is_start apex) sets → AreKept apex sets kept
-kept_of origin apex sets kept all d is e same =
-    subst (AreKept apex sets) (sym same)
-    (kept_sets apex sets (sound_sets origin apex sets all is e) d (ap (λ o. fault_of o sets) (sym is) ∙ e))
-
--- ---- the rows of a zone
+-- ---- the same sets in another order
 
 neither : (a b : Bool) → (a || b) ≡ false → (a ≡ false) × (b ≡ false)
 neither true b e = absurd (cc)
@@ -112,6 +85,10 @@ none_pass : {A : Type 0} (p : A → Bool) (xs : List A) → list_any p xs ≡ fa
 none_pass p [] e = tt
 none_pass p (x ∷ xs) e = let parts = neither (p x) (list_any p xs) e in (parts.0, none_pass p xs parts.1)
 
+all_fail : {A : Type 0} (p : A → Bool) (xs : List A) → AllByRecursion (λ x. p x ≡ false) xs → list_any p xs ≡ false
+all_fail p [] all = refl
+all_fail p (x ∷ xs) all = (λ i. all.0 i || list_any p xs) ∙ all_fail p xs all.1
+
 found : {A : Type 0} (P : A → Type 0) (p : A → Bool) (xs : List A) → AllByRecursion P xs → IfSome (list.find p xs) (λ x. P x × (p x ≡ true))
 found P p [] all = tt
 found P p (x ∷ xs) all = at (p x) refl (found P p xs all.1)
@@ -119,6 +96,129 @@ found P p (x ∷ xs) all = at (p x) refl (found P p xs all.1)
     at : (b : Bool) → p x ≡ b → IfSome (list.find p xs) (λ x. P x × (p x ≡ true)) → IfSome (cond b (Some x) (list.find p xs)) (λ x. P x × (p x ≡ true))
     at true is more = (all.0, is)
     at false is more = more
+
+find_behind : (s : RecordSetValue) (front back : List RecordSetValue) → AllByRecursion (λ t. share_key t s ≡ false) front → set_at (front ++ s ∷ back) (set_key s) ≡ Some s
+find_behind s [] back others = ap (λ b. cond b (Some s) (set_at back (set_key s))) ((eq_by_cmp_equiv key_total).refl (set_key s))
+find_behind s (t ∷ front) back others =
+    ap (λ b. cond b (Some t) (set_at (front ++ s ∷ back) (set_key s))) ((eq_by_cmp_equiv key_total).symm (set_key s) (set_key t) ∙ others.0)
+    ∙ find_behind s front back others.1
+
+-- lists that have the same set at each key
+abbrev pub HaveSameSets : List RecordSetValue → List RecordSetValue → Type 0
+HaveSameSets xs ys = (k : Key) → set_at xs k ≡ set_at ys k
+
+module _ (P : RecordSetValue → Type 0) (xs ys : List RecordSetValue) (all : AllByRecursion P ys) (same : HaveSameSets xs ys) (apart : AreApart xs) where
+  one_too : (s : RecordSetValue) (front back : List RecordSetValue) → xs ≡ front ++ s ∷ back → P s
+  one_too s front back e =
+      let here : set_at ys (set_key s) ≡ Some s =
+      sym (same (set_key s)) ∙ ap (λ (l : List RecordSetValue). set_at l (set_key s)) e
+      ∙ find_behind s front back (others_before share_key front s back (subst AreApart e apart)) in
+      (subst (λ (o : Option RecordSetValue). IfSome o (λ t. P t × (tied (set_key s) t ≡ true))) here (found P (tied (set_key s)) ys all)).0
+
+  each_too : (front back : List RecordSetValue) → xs ≡ front ++ back → AllByRecursion P back
+  each_too front [] e = tt
+  each_too front (s ∷ back) e = (one_too s front back e, each_too (front ++ s ∷ []) back (e ∙ sym (append_assoc front (s ∷ []) back)))
+
+  -- what holds of each set of one list holds of each of the other
+  all_too : AllByRecursion P xs
+  all_too = each_too [] xs refl
+
+none_too : (p : RecordSetValue → Bool) (xs ys : List RecordSetValue) → HaveSameSets xs ys → AreApart xs → list_any p ys ≡ false → list_any p xs ≡ false
+none_too p xs ys same apart e = all_fail p xs (all_too (λ s. p s ≡ false) xs ys (none_pass p ys e) same apart)
+
+any_too : (p : RecordSetValue → Bool) (xs ys : List RecordSetValue) → HaveSameSets xs ys → AreApart xs → AreApart ys → list_any p xs ≡ list_any p ys
+any_too p xs ys same apart_x apart_y = by (list_any p xs) (list_any p ys) refl refl
+  where
+    by : (a b : Bool) → list_any p xs ≡ a → list_any p ys ≡ b → a ≡ b
+    by true true e f = refl
+    by true false e f = sym e ∙ none_too p xs ys same apart_x f
+    by false true e f = sym (none_too p ys xs (λ k. sym (same k)) apart_y e) ∙ f
+    by false false e f = refl
+
+faultless_too : (apex : DomainName) (xs ys : List RecordSetValue) → HaveSameSets xs ys → AreApart xs → AreApart ys → AreFaultless apex ys → AreFaultless apex xs
+faultless_too apex xs ys same apart_x apart_y f = record {
+  internet = any_too _ xs ys same apart_x apart_y ∙ f.internet;
+  inside = any_too _ xs ys same apart_x apart_y ∙ f.inside;
+  soa = any_too _ xs ys same apart_x apart_y ∙ f.soa;
+  elsewhere = any_too _ xs ys same apart_x apart_y ∙ f.elsewhere;
+  short = any_too _ xs ys same apart_x apart_y ∙ f.short;
+}
+
+rows_too : (xs ys : List RecordSetValue) → HaveSameSets xs ys → rows_of_sets xs ≡ rows_of_sets ys
+rows_too xs ys same = rows_map.same_map key_total key_antisymmetric _ _ (λ q. get-sets xs q ∙ ap rows_if (same q) ∙ sym (get-sets ys q))
+
+-- ---- the start of authority comes first
+
+never_less : (p x : List ℕ) (n : ℕ) → ordering_then (slice_cmp nat_cmp (p ++ x) p) (nat_cmp n 0) ≡ Less → ⊥
+never_less [] [] n e = absurd (omega (arith, ranked n 0 Less (sym e)))
+never_less [] (c ∷ x) n e = cc
+never_less (c ∷ p) x n e =
+    never_less p x n (sym (ap (λ r. ordering_then (ordering_then r (slice_cmp nat_cmp (p ++ x) p)) (nat_cmp n 0)) ((Equal-is (nat_cmp c c)).0 ((eq_by_cmp_equiv nat_cmp_total).refl c))) ∙ e)
+
+to_true : (b : Bool) → not b ≡ false → b ≡ true
+to_true true e = refl
+to_true false e = absurd (cc)
+
+pub both_true : (a b : Bool) → (a && b) ≡ true → (a ≡ true) × (b ≡ true)
+both_true true b e = (refl, e)
+both_true false b e = absurd (cc)
+
+start_place : (apex : DomainName) (t : RecordSetValue) → is_start apex t ≡ true → set_place t ≡ (owner_code apex.labels, 0)
+start_place apex t h =
+    let parts = both_true (is_soa t) (is_apex apex t) h in
+    let owner = owner_of_lower t.name.labels apex.labels (sym (same-lower apex.labels t.name.labels parts.1)) in
+    λ i. (owner i, cond (parts.0 i) 0 (type_number t.record_type + 1))
+
+not_before_start : (apex : DomainName) (s t : RecordSetValue) → is_inside apex s ≡ true → is_start apex t ≡ true → place_cmp (set_place s) (set_place t) ≡ Less → ⊥
+not_before_start apex s t inside start e =
+    let ahead = below_begins apex.labels s.name.labels inside in
+    never_less (owner_code apex.labels) ahead.0 (type_code s.record_type)
+    (sym ((λ i. place_cmp (ahead.1 i, type_code s.record_type) (start_place apex t start i))) ∙ e)
+
+no_start_after : (apex : DomainName) (s : RecordSetValue) (ss : List RecordSetValue) → is_inside apex s ≡ true → AllByRecursion (λ q. place_cmp (set_place s) q ≡ Less) (map set_place ss) → list_any (is_start apex) ss ≡ false
+no_start_after apex s [] inside after = refl
+no_start_after apex s (t ∷ ss) inside after = by (is_start apex t) refl (no_start_after apex s ss inside after.1)
+  where
+    by : (b : Bool) → is_start apex t ≡ b → list_any (is_start apex) ss ≡ false → (is_start apex t || list_any (is_start apex) ss) ≡ false
+    by true h more = absurd (not_before_start apex s t inside h after.0)
+    by false h more = (λ i. h i || list_any (is_start apex) ss) ∙ more
+
+start_first : (apex : DomainName) (sets : List RecordSetValue) → AreInOrder sets → AllByRecursion (λ s. not (is_inside apex s) ≡ false) sets → list_any (is_start apex) sets ≡ true → BeginsWithStart apex sets
+unfolding IsStrictlySortedBy
+start_first apex [] sorted inside some = absurd (cc)
+start_first apex (s ∷ ss) sorted inside some =
+    sym (or_none (is_start apex s) (list_any (is_start apex) ss) (no_start_after apex s ss (to_true (is_inside apex s) inside.0) sorted.0)) ∙ some
+  where
+    or_none : (a b : Bool) → b ≡ false → (a || b) ≡ a
+    or_none true b e = refl
+    or_none false b e = e
+
+-- what a zone keeps of sets
+pub record AreKept (apex : DomainName) (sets kept : List RecordSetValue) : Type 0 where
+  pub sound : AreSoundSets kept
+  pub zone_sets : AreZoneSets apex kept
+  pub rows : rows_of_sets kept ≡ rows_of_sets sets
+
+pub kept_sets : (apex : DomainName) (sets kept : List RecordSetValue) → AreSoundSets sets → AreDistinctSets sets → fault_of (Some apex) sets ≡ None → HaveSameSets kept sets → AreInOrder kept → AreKept apex sets kept
+kept_sets apex sets kept sound d e same sorted =
+    let apart = apart_of_order kept sorted in
+    let sound_kept = all_too IsSoundSet kept sets sound same apart in
+    let f = faultless_too apex kept sets same apart (apart_of_distinct sets sound d) (faultless apex sets e) in
+    record {
+      sound = sound_kept;
+      zone_sets = record {
+        start_first = start_first apex kept sorted (none_pass _ kept f.inside) f.soa;
+        distinct = distinct_of_apart kept sound_kept apart;
+        faultless = is_faultless apex kept f;
+      };
+      rows = rows_too kept sets same;
+    }
+
+pub kept_of : (origin : Option DomainName) (apex : DomainName) (sets kept : List RecordSetValue) → AllByRecursion IsParsedSet sets → AreDistinctSets sets → origin ≡ Some apex → fault_of origin sets ≡ None → HaveSameSets kept sets → AreInOrder kept → AreKept apex sets kept
+kept_of origin apex sets kept all d is e same sorted =
+    kept_sets apex sets kept (sound_sets origin apex sets all is e) d (ap (λ o. fault_of o sets) (sym is) ∙ e) same sorted
+
+-- ---- the rows of a zone
 
 -- what each set of a zone is like
 pub record IsKeptSet (origin : DomainName) (s : RecordSetValue) : Type 0 where
@@ -143,10 +243,6 @@ rows_distinct : (records : List Record) → AreDistinct record_data records → 
 unfolding IsDistinct
 rows_distinct [] d = tt
 rows_distinct (r ∷ rs) d = (others_in_rows r rs d.0, rows_distinct rs d.1)
-
-to_true : (b : Bool) → not b ≡ false → b ≡ true
-to_true true e = refl
-to_true false e = absurd (cc)
 
 at_apex : (a b : Bool) → (a && not b) ≡ false → a ≡ true → b ≡ true
 at_apex true b e f = to_true b e
@@ -178,10 +274,6 @@ rows_of_key : (origin : DomainName) (sets : List RecordSetValue) → AreSoundSet
 rows_of_key origin sets sound f q =
     subst (λ (o : Option (List Row)). IfSome o (AreRowsAt origin q)) (sym (get-sets sets q))
     (rows_found origin q (list.find (tied q) sets) (found (IsKeptSet origin) (tied q) sets (each_kept origin sets sound (none_pass _ sets f.inside) (none_pass _ sets f.elsewhere))))
-
-pub both_true : (a b : Bool) → (a && b) ≡ true → (a ≡ true) × (b ≡ true)
-both_true true b e = (refl, e)
-both_true false b e = absurd (cc)
 
 number_is : (n : ℕ) → (n == 6) ≡ true → n ≡ 6
 number_is n e = grind (arith, nat_tests)

@@ -1,13 +1,17 @@
 pub mod AnswerLaws
 pub mod ChainLaws
+pub mod CodeLaws
 pub mod FirstLaws
+pub mod GatherLaws
 pub mod InsertedLaws
 pub mod KeptLaws
 pub mod LineLaws
 pub mod ListLaws
 pub mod LoadLaws
+pub mod PlaceLaws
 pub mod PrintableLaws
 pub mod PrintedLaws
 pub mod RowLaws
 pub mod SectionLaws
 pub mod ServingLaws
+pub mod SetLaws

@@ -163,7 +163,7 @@ module _ (includes : Includes) (origin : Option DomainName) (text : List ℕ) (r
   reads_ok (Ok zone) is rows f = reads_zone zone is rows f
   reads_ok (Err refusal) is rows f = tt
 
-  pub reads_refusal : (r : Result ZoneContent ZoneFault) → IfErr r (λ refusal. fault_of found records.sets ≡ Some refusal)
+  pub reads_refusal : (r : Result ZoneContent ZoneFault) → IfErr r (λ refusal. refusal ≢ fault.Memory → fault_of found records.sets ≡ Some refusal)
       → IfErr r (λ refusal. refusal ≢ fault.Memory → ReadsZone includes origin text (Err refusal))
   reads_refusal (Ok zone) f = tt
-  reads_refusal (Err refusal) f = λ other. bad_zone has (ap (λ o. fault_of o records.sets) (sym e) ∙ f)
+  reads_refusal (Err refusal) f = λ other. bad_zone has (ap (λ o. fault_of o records.sets) (sym e) ∙ f other)

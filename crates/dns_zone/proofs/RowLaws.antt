@@ -1,7 +1,7 @@
 -- The rows of sets: where a set stands, and what one more row makes of them.
 use Rattle.std.proofs.lemmas.List.{length-map}
-use Rattle.std.proofs.Common.{◌≡◌, ◌==◌, ◌≢◌, ◌<◌, ◌≤◌, ℕ, Bool, true, false, cond, ◌&&◌, ◌||◌, List, [], ◌∷◌, map, refl, sym, ap, ◌∙◌, subst, length, get_or, arith, Option, Some, None, unwrap_or}
-use Rattle.std.specs.List.{list_any, position_or_len}
+use Rattle.std.proofs.Common.{◌≡◌, ◌==◌, ◌≢◌, ℕ, Bool, true, false, cond, ◌&&◌, ◌||◌, List, [], ◌∷◌, map, refl, sym, ap, ◌∙◌, subst, length, arith, Option, Some, None, unwrap_or}
+use Rattle.std.specs.List.{list_any}
 use Rattle.std.specs.Ordering.{eq_by_cmp, nat_cmp, ordering_then}
 use Rattle.std.proofs.Common.{Ordering, Less, Equal, Greater}
 use Rattle.std.specs.Cmp.{IsTotalOrder, both_tied, then_total, on_total, nat_cmp_total, unsigned_ties}
@@ -10,10 +10,6 @@ use Rattle.std.specs.Str.{bytes_eq, str_to_ascii_lowercase}
 use Rattle.std.specs.List as list
 use Rattle.std.specs.FinMap as rows_map
 use Rattle.std.proofs.lemmas.Str.Ascii.{lowercase-lowercase}
-use Rattle.std.proofs.lemmas.List.Folds.{find_at}
-use Rattle.std.proofs.lemmas.Option.{slice_get-get_or, slice_get_past}
-use Rattle.std.specs.List.{slice_get}
-use Rattle.dns_zone.proofs.ListLaws.{All-at}
 use Rattle.std.specs.FinMap.{IsAntisymmetric, slice_cmp-IsAntisymmetric, nat_cmp-IsAntisymmetric}
 use Rattle.std.specs.FinMap.Entries.{find, put, by_order}
 use Rattle.dns_codes.specs.RecordType.{type_number}
@@ -21,7 +17,7 @@ use Rattle.dns_codes.specs.declared.record_type.RecordType.{RecordType}
 use Rattle.dns_names.specs.Compare.{lower, same_labels, at_or_below}
 use Rattle.dns_records.specs.declared.row.Row.{Row}
 use Rattle.dns_records.specs.RecordSet.{RecordSetValue}
-use Rattle.dns_zone.specs.Rows.{Key, key, key_cmp, set_key, row_of, rows_of, rows_of_sets, rows_at, some_row_below, IsSoundSet, AreSoundRows, AreSoundSets, HasNoEmptySet}
+use Rattle.dns_zone.specs.Rows.{Key, key, key_cmp, set_key, row_of, rows_of, rows_of_sets, rows_at, some_row_below, AreSoundRows, AreSoundSets, HasNoEmptySet}
 
 -- ---- the order of keys
 
@@ -74,21 +70,16 @@ find_set q (s ∷ ss) =
 pub get-sets : (sets : List RecordSetValue) (q : Key) → rows_map.get (rows_of_sets sets) q ≡ rows_if (list.find (tied q) sets)
 get-sets sets q = rows_map.get-from_entries key_total (entries_of sets) q ∙ find_set q sets
 
--- a set that stands at the place
-pub rows_there : (sets : List RecordSetValue) (owner : List (List ℕ)) (t : RecordType) (i : ℕ) (x : RecordSetValue) → i ≡ position_or_len (tied (key owner t)) sets → i < length sets → x ≡ get_or sets i x
-    → rows_at (rows_of_sets sets) owner t ≡ rows_of x.records
+-- a set is found there
+pub rows_found_at : (sets : List RecordSetValue) (owner : List (List ℕ)) (t : RecordType) (s : RecordSetValue) → Some s ≡ list.find (tied (key owner t)) sets
+    → rows_at (rows_of_sets sets) owner t ≡ rows_of s.records
 unfolding rows_if
-rows_there sets owner t i x e h is =
-    ap (λ o. unwrap_or o []) (get-sets sets (key owner t) ∙ ap rows_if (find_at (tied (key owner t)) sets ∙ ap (slice_get sets) (sym e) ∙ slice_get-get_or sets i x h ∙ ap Some (sym is)))
+rows_found_at sets owner t s is = ap (λ o. unwrap_or o []) (get-sets sets (key owner t) ∙ ap rows_if (sym is))
 
--- no set stands there
-find_none : (sets : List RecordSetValue) (q : Key) (i : ℕ) → i ≡ position_or_len (tied q) sets → length sets ≤ i → rows_if (list.find (tied q) sets) ≡ None
+-- no set is found there
+pub no_rows_at : (sets : List RecordSetValue) (owner : List (List ℕ)) (t : RecordType) → None ≡ list.find (tied (key owner t)) sets → rows_at (rows_of_sets sets) owner t ≡ []
 unfolding rows_if
-find_none sets q i e h = ap rows_if (find_at (tied q) sets ∙ ap (slice_get sets) (sym e) ∙ slice_get_past sets i h)
-
-pub rows_nowhere : (sets : List RecordSetValue) (owner : List (List ℕ)) (t : RecordType) (i : ℕ) → i ≡ position_or_len (tied (key owner t)) sets → length sets ≤ i
-    → rows_at (rows_of_sets sets) owner t ≡ []
-rows_nowhere sets owner t i e h = ap (λ o. unwrap_or o []) (get-sets sets (key owner t) ∙ find_none sets (key owner t) i e h)
+no_rows_at sets owner t is = ap (λ o. unwrap_or o []) (get-sets sets (key owner t) ∙ ap rows_if (sym is))
 
 -- ---- names above rows
 
@@ -154,9 +145,6 @@ any_owners name (s ∷ ss) = λ i. sym (below_lower name s.name.labels) i || any
 pub row_below : (sets : List RecordSetValue) (name : List (List ℕ)) → list_any (λ (s : RecordSetValue). at_or_below name s.name.labels) sets ≡ some_row_below (rows_of_sets sets) name
 unfolding keys_pass
 row_below sets name = any_owners name sets ∙ sym (any_entries (λ k. at_or_below name k.0) (entries_of sets))
-
-pub sound_there : (sets : List RecordSetValue) (i : ℕ) (x : RecordSetValue) → AreSoundSets sets → i < length sets → x ≡ get_or sets i x → AreSoundRows (rows_of x.records)
-sound_there sets i x all h is = (All-at IsSoundSet sets i x all h is).rows
 
 -- the rows at each key are sound
 sound_if : (p : RecordSetValue → Bool) (sets : List RecordSetValue) → AreSoundSets sets → AreSoundRows (unwrap_or (rows_if (list.find p sets)) [])

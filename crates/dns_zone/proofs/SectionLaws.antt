@@ -1,9 +1,9 @@
 -- Sections that are written from borrowed rows, record by record.
-use Rattle.std.proofs.Common.{◌≡◌, ℕ, ◌+◌, Bool, true, false, cond, ltb, List, [], ◌∷◌, length, drop, get_or, map, ◌<◌, ◌≤◌, Ok, refl, sym, ap, subst, ◌∙◌, arith}
+use Rattle.std.proofs.Common.{◌≡◌, ℕ, ◌+◌, Bool, true, false, cond, ltb, List, [], ◌∷◌, length, ◌≤◌, Ok, refl, sym, ap, subst, ◌∙◌, arith}
 use Rattle.std.proofs.lemmas.Bool.{ltb-false}
 use Rattle.std.proofs.lemmas.List.{append-nil}
-use Rattle.dns_wire.specs.Encoder.{EncoderState, IsAtEnd}
-use Rattle.dns_wire.specs.Encodable.{Piece, Position, position_of, after, reach, attempts_at_limit, append_pieces, Emits, AreWritable, AllBehind}
+use Rattle.dns_wire.specs.Encoder.{EncoderState}
+use Rattle.dns_wire.specs.Encodable.{Piece, Position, position_of, after, reach, attempts_at_limit, append_pieces, Emits, AreWritable}
 use Rattle.dns_wire.specs.Items.{fitting_prefix, all_pieces, attempts_after, fitting_items, fitting_pieces, append_fitting}
 use Rattle.dns_wire.proofs.ItemLaws.{Underway, all_goes_on, fitting_prefix-le}
 use Rattle.dns_records.specs.Record.{Record}

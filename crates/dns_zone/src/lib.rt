@@ -5,13 +5,14 @@
 //!
 //! - `zone`: zones; `zone::load`: the zone of a zone file; `zone::display`: the zone file of a zone; `zone::answer`: its
 //!   answers; `zone::chain`: those along alias chains; `zone::serve`: its replies;
-//! - `rows`: record sets; `road`: the transports of a message;
+//! - `sets`: record sets; `rows`: their records; `road`: the transports of a message;
 //! - `laws`: theorems about the definitions of this crate.
 #![tactic(auto)]
 
 pub mod laws;
 mod road;
 mod rows;
+mod sets;
 mod zone;
 
 pub use road::{DatagramLimit, LimitTooSmall, Road};

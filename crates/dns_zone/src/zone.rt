@@ -11,9 +11,9 @@ mod row_refs;
 mod section;
 mod serve;
 
+use crate::sets::ZoneSets;
 pub use answer::Answer;
 use dns_names::Name;
-use dns_records::RecordSet;
 use dns_zone_file::ZoneFileError;
 use std::alloc::{AllocError, AllocFailed, Global};
 use std::marker::Model;
@@ -49,7 +49,7 @@ pub enum ZoneFault {
 #[derive(Drop)]
 pub struct Zone {
     origin: Name,
-    sets: Vec<RecordSet>,
+    sets: ZoneSets,
     alloc: Global,
 }
 
@@ -65,10 +65,10 @@ impl Model for Zone {
 
     ghost coded = { Prim.hlevel (codes, rows_map.code) };
 
-    ghost view = { λ z. record { origin = z.origin; rows = rows_of_sets z.sets.items } };
+    ghost view = { λ z. record { origin = z.origin; rows = rows_of_sets z.sets } };
 
-    ghost invariant = { λ z. (z.origin.is_fqdn ≡ true) × AreSoundSets z.sets.items
-        × AreZoneSets z.origin z.sets.items };
+    ghost invariant = { λ z. (z.origin.is_fqdn ≡ true) × AreSoundSets z.sets
+        × AreZoneSets z.origin z.sets };
 }
 
 impl Zone {

@@ -7,8 +7,10 @@ pub mod LineLaws
 pub mod OctetLaws
 pub mod OutcomeLaws
 pub mod ParsedLaws
+pub mod PlaceLaws
 pub mod PrintedLaws
 pub mod RecordSetsLaws
+pub mod SetIndexLaws
 pub mod StepLaws
 pub mod ValidLaws
 pub mod ValueLaws

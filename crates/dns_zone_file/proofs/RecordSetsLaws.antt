@@ -11,7 +11,15 @@ use Rattle.dns_names.specs.Compare.{same_name}
 use Rattle.dns_data.specs.rdata.{data_type}
 use Rattle.dns_records.specs.Record.{Record}
 use Rattle.dns_records.specs.RecordSet.{RecordSetValue, with_record, accepts_record, inserted, record_data}
-use Rattle.dns_zone_file.specs.RecordSets.{is_set_of, is_set_for, single_set, inserted_in, IsNamedType, HaveNamedTypes}
+use Rattle.std.proofs.lemmas.List.Folds.{find_at}
+use Rattle.std.specs.Option.{option_map_or}
+use Rattle.dns_codes.specs.DNSClass.{class_number}
+use Rattle.dns_names.specs.Name.{DomainName}
+use Rattle.dns_zone_file.specs.RecordSets.{is_set_for, set_of, has_other_class, single_set, inserted_in, IsNamedType, HaveNamedTypes}
+use Rattle.dns_zone_file.specs.declared.set_index.SetIndex.{SetIndex}
+use Rattle.dns_zone_file.specs.internal.SetIndex.{has_key, place_of, IsIndexOf}
+use Rattle.dns_zone_file.proofs.SetIndexLaws.{only_place, index_set}
+use Rattle.dns_zone_file.proofs.PlaceLaws.{IsOnlyPlace, NonePasses, only_is_first, none_is_first, only_has, none_has, within}
 
 -- ---- lists
 
@@ -35,16 +43,36 @@ pub lent_at : {A : Type 0} (xs : List A) (i : ℕ) (r : Option (Bor A)) → is_s
 lent_at xs i None e value = sym (slice_get_past xs i (grind (arith, nat_tests)))
 lent_at xs i (Some x) e value = sym (slice_get_read xs (length xs) i x.now refl (grind (arith, nat_tests)) value)
 
+-- ---- what an index finds
+
+-- the set at the place
+pub found_set : (sets : List RecordSetValue) (owner : DomainName) (t : RecordType) (place : ℕ) → IsOnlyPlace (has_key owner (type_number t)) sets place → slice_get sets place ≡ set_of sets owner t
+found_set sets owner t place o = ap (slice_get sets) (only_is_first (has_key owner (type_number t)) sets place o) ∙ sym (find_at (has_key owner (type_number t)) sets)
+
+pub no_set : (sets : List RecordSetValue) (owner : DomainName) (t : RecordType) → NonePasses (has_key owner (type_number t)) sets → None ≡ set_of sets owner t
+no_set sets owner t none =
+    sym (slice_get_past sets (position_or_len (has_key owner (type_number t)) sets) (none_is_first (has_key owner (type_number t)) sets none))
+    ∙ sym (find_at (has_key owner (type_number t)) sets)
+
+-- its class
+pub class_found : (sets : List RecordSetValue) (r : Record) (place : ℕ) (s : RecordSetValue) → IsOnlyPlace (is_set_for r) sets place → slice_get sets place ≡ Some s → not (class_number s.dns_class == class_number r.dns_class) ≡ has_other_class sets r
+class_found sets r place s o e =
+    ap (λ (x : Option RecordSetValue). option_map_or (λ (s : RecordSetValue). not (class_number s.dns_class == class_number r.dns_class)) x false) (sym e)
+    ∙ sym (only_has (is_set_for r) (λ (s : RecordSetValue). not (class_number s.dns_class == class_number r.dns_class)) sets place o)
+
+pub no_class : (sets : List RecordSetValue) (r : Record) → NonePasses (is_set_for r) sets → false ≡ has_other_class sets r
+no_class sets r none = sym (none_has (is_set_for r) (λ (s : RecordSetValue). not (class_number s.dns_class == class_number r.dns_class)) sets none)
+
 -- ---- insertion
 
 -- in the first set of the owner and the type
-pub inserted_within : (xs : List RecordSetValue) (r : Record) (d : RecordSetValue) → position_or_len (is_set_for r) xs < length xs → set xs (position_or_len (is_set_for r) xs) (with_record (get_or xs (position_or_len (is_set_for r) xs) d) r 0) ≡ inserted_in xs r
+inserted_within : (xs : List RecordSetValue) (r : Record) (d : RecordSetValue) → position_or_len (is_set_for r) xs < length xs → set xs (position_or_len (is_set_for r) xs) (with_record (get_or xs (position_or_len (is_set_for r) xs) d) r 0) ≡ inserted_in xs r
 inserted_within [] r d h = absurd (omega arith)
 inserted_within (x ∷ xs) r d h =
     write_step (λ (s : RecordSetValue). with_record s r 0) (is_set_for r x) x xs (inserted_in xs r) (position_or_len (is_set_for r) xs) d (inserted_within xs r d) h
 
 -- or in a new set
-pub inserted_last : (xs : List RecordSetValue) (r : Record) → length xs ≤ position_or_len (is_set_for r) xs → xs ++ single_set r ∷ [] ≡ inserted_in xs r
+inserted_last : (xs : List RecordSetValue) (r : Record) → length xs ≤ position_or_len (is_set_for r) xs → xs ++ single_set r ∷ [] ≡ inserted_in xs r
 inserted_last [] r h = refl
 inserted_last (x ∷ xs) r h =
     push_step (is_set_for r x) x (single_set r) (with_record x r 0 ∷ xs) xs (inserted_in xs r) (position_or_len (is_set_for r) xs) (inserted_last xs r) h
@@ -56,7 +84,7 @@ both true b e = (refl, e)
 both false b e = absurd cc
 
 -- the set at the place has the owner of the record
-pub owner_at : (xs : List RecordSetValue) (r : Record) (d : RecordSetValue) → position_or_len (is_set_for r) xs < length xs → same_name r.name (get_or xs (position_or_len (is_set_for r) xs) d).name ≡ true
+owner_at : (xs : List RecordSetValue) (r : Record) (d : RecordSetValue) → position_or_len (is_set_for r) xs < length xs → same_name r.name (get_or xs (position_or_len (is_set_for r) xs) d).name ≡ true
 owner_at xs r d h =
     let s : RecordSetValue = get_or xs (position_or_len (is_set_for r) xs) d in
     (both (same_name r.name s.name) (type_number (data_type r.rdata) == type_number s.record_type) (passes_at_first (is_set_for r) xs d h)).0
@@ -74,7 +102,7 @@ named_at (x ∷ xs) zero d h named = named.0
 named_at (x ∷ xs) (suc i) d h named = named_at xs i d (omega arith) named.1
 
 -- and its type
-pub type_at : (xs : List RecordSetValue) (r : Record) (d : RecordSetValue) → HaveNamedTypes xs → IsNamedType (data_type r.rdata) → position_or_len (is_set_for r) xs < length xs → data_type r.rdata ≡ (get_or xs (position_or_len (is_set_for r) xs) d).record_type
+type_at : (xs : List RecordSetValue) (r : Record) (d : RecordSetValue) → HaveNamedTypes xs → IsNamedType (data_type r.rdata) → position_or_len (is_set_for r) xs < length xs → data_type r.rdata ≡ (get_or xs (position_or_len (is_set_for r) xs) d).record_type
 type_at xs r d named named' h =
     let s : RecordSetValue = get_or xs (position_or_len (is_set_for r) xs) d in
     one_type (data_type r.rdata) s.record_type named' (named_at xs (position_or_len (is_set_for r) xs) d h named)
@@ -104,9 +132,14 @@ pub record IsPlace (xs : List RecordSetValue) (r : Record) (place : ℕ) (s : Re
   pub within : place < length xs
   pub set_is : s ≡ get_or xs place s
 
-pub place_is : (r : Record) (t : RecordType) (xs ys : List RecordSetValue) (place : ℕ) → place ≡ position_or_len (is_set_of r.name t) ys → t ≡ data_type r.rdata → ys ≡ xs → place ≡ position_or_len (is_set_for r) xs
-place_is r t xs ys place e same items =
-    e ∙ ap (λ (t : RecordType). position_or_len (is_set_of r.name t) ys) same ∙ ap (λ (l : List RecordSetValue). position_or_len (is_set_for r) l) items
+pub place_found : (index : SetIndex) (xs : List RecordSetValue) (r : Record) (place : ℕ) (s : RecordSetValue) → IsIndexOf index xs → place_of index r.name (type_number (data_type r.rdata)) ≡ Some place → s ≡ get_or xs place s → IsPlace xs r place s
+place_found index xs r place s is e same =
+    let o = only_place index xs r.name (type_number (data_type r.rdata)) place is e in
+    record {
+      at = only_is_first (is_set_for r) xs place o;
+      within = within (is_set_for r) xs place o.passes;
+      set_is = same;
+    }
 
 pub owner_is : {xs : List RecordSetValue} {r : Record} {place : ℕ} {s : RecordSetValue} → IsPlace xs r place s → same_name r.name s.name ≡ true
 owner_is {xs} {r} {place} {s} p =
@@ -129,3 +162,23 @@ inserted_at {xs} {r} {place} {s} next p e =
 pub unchanged_at : {xs : List RecordSetValue} {r : Record} {place : ℕ} {s : RecordSetValue} (next : RecordSetValue) → IsPlace xs r place s → next ≡ s → set xs place next ≡ xs
 unchanged_at {xs} {r} {place} {s} next p e =
     ap (λ (x : RecordSetValue). set xs place x) (e ∙ p.set_is) ∙ set-get_or xs place s
+
+same_owner : (b : Bool) (s t : RecordSetValue) → t.name ≡ s.name → (cond b t s).name ≡ s.name
+same_owner true s t e = e
+same_owner false s t e = refl
+
+same_type : (b : Bool) (s t : RecordSetValue) → t.record_type ≡ s.record_type → (cond b t s).record_type ≡ s.record_type
+same_type true s t e = e
+same_type false s t e = refl
+
+-- the index is that of the sets after an insertion in one of them
+pub indexed_at : {index : SetIndex} {xs : List RecordSetValue} {r : Record} {place : ℕ} {s : RecordSetValue} (next : RecordSetValue) → IsPlace xs r place s → next ≡ with_record s r 0 → IsIndexOf index xs → IsIndexOf index (set xs place next)
+indexed_at {index} {xs} {r} {place} {s} next p e is =
+    let t : RecordSetValue = record s { ttl = r.ttl; serial = 0; records = inserted record_data s.records r } in
+    let name : next.name ≡ (get_or xs place s).name = ap (λ (x : RecordSetValue). x.name) e ∙ same_owner (accepts_record s r) s t refl ∙ ap (λ (x : RecordSetValue). x.name) p.set_is in
+    let type : next.record_type ≡ (get_or xs place s).record_type = ap (λ (x : RecordSetValue). x.record_type) e ∙ same_type (accepts_record s r) s t refl ∙ ap (λ (x : RecordSetValue). x.record_type) p.set_is in
+    index_set index xs place next s name type is
+
+-- a new set
+pub inserted_new : (xs : List RecordSetValue) (r : Record) → NonePasses (is_set_for r) xs → xs ++ single_set r ∷ [] ≡ inserted_in xs r
+inserted_new xs r none = inserted_last xs r (none_is_first (is_set_for r) xs none)

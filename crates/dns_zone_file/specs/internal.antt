@@ -4,3 +4,4 @@ pub mod Fields
 pub mod Entry
 pub mod Context
 pub mod Parsing
+pub mod SetIndex

@@ -2,7 +2,7 @@
 //!
 //! - `parser`: the parser of a text; `entry`: its entries, and the arguments of directives; `fields`: owner, TTL, class and
 //!   type of a record; `context`: what entries determine for those after them;
-//! - `record_sets`: record sets by owner and type;
+//! - `record_sets`: record sets by owner and type; `set_index`: their places;
 //! - `laws`: theorems about the definitions of this crate;
 //! - `error`: why a text cannot be parsed.
 #![tactic(auto)]
@@ -14,6 +14,7 @@ mod fields;
 pub mod laws;
 mod parser;
 mod record_sets;
+mod set_index;
 
 pub use error::{EntryFault, ZoneFileError};
 pub use parser::{Parser, ZoneRecords};

@@ -1,10 +1,12 @@
 //! Record sets by owner and type (RFC 2181 section 5).
 
-ghost use Rattle.std.specs.Prelude.{◌≡◌, ◌==◌, [], length, OnOk, OnErr, option_copied};
-ghost use Rattle.std.specs.List.{position_or_len};
+ghost use Rattle.std.specs.Prelude.{◌≡◌, ◌==◌, ◌∷◌, ◌++◌, [], length, None, OnOk, OnErr, option_copied};
 ghost use Rattle.dns_data.specs.rdata.{data_type};
-ghost use Rattle.dns_zone_file.specs.RecordSets.{is_set_of, set_of, inserted_in, has_other_class, IsNamedType};
+ghost use Rattle.dns_codes.specs.RecordType.{type_number};
+ghost use Rattle.dns_zone_file.specs.internal.SetIndex.{IsIndexOf, place_of};
+ghost use Rattle.dns_zone_file.specs.RecordSets.{set_of, inserted_in, has_other_class, IsNamedType};
 
+use crate::set_index::SetIndex;
 use dns_names::Name;
 use dns_records::{Record, RecordSet};
 use dns_wire::RecordType;
@@ -12,21 +14,32 @@ use std::alloc::{AllocError, Global};
 use std::marker::Model;
 
 /// Record sets, at most one for each owner and type, in the order in which their first records were inserted.
-#[derive(Drop)]
+///
+/// An index finds the set of an owner and a type, so the time that this takes hardly grows with the number of sets.
 pub struct RecordSets {
     sets: Vec<RecordSet>,
+    index: SetIndex,
+}
+
+impl Drop for RecordSets {
+    fn drop(self) {
+        let RecordSets { sets, index } = self;
+        drop(sets);
+        drop(index);
+    }
 }
 
 impl Model for RecordSets {
     ghost use Rattle.std.specs.Prelude.{List};
     ghost use Rattle.dns_records.specs.RecordSet.{RecordSetValue};
     ghost use Rattle.dns_zone_file.specs.RecordSets.{HaveNamedTypes};
+    ghost use Rattle.dns_zone_file.specs.internal.SetIndex.{IsIndexOf};
 
     ghost Value = { List RecordSetValue };
 
     ghost view = { λ s. s.sets.items };
 
-    ghost invariant = { λ s. HaveNamedTypes s.sets.items };
+    ghost invariant = { λ s. HaveNamedTypes s.sets.items × IsIndexOf s.index s.sets.items };
 }
 
 impl RecordSets {
@@ -36,6 +49,7 @@ impl RecordSets {
     {
         RecordSets {
             sets: Vec::new(alloc),
+            index: SetIndex::new(alloc),
         }
     }
 
@@ -50,7 +64,9 @@ impl RecordSets {
     pub fn into_vec(self) -> Vec<RecordSet>
         ensures { result.items ≡ self }
     {
-        self.sets
+        let RecordSets { sets, index } = self;
+        drop(index);
+        sets
     }
 
     /// Returns the number of sets.
@@ -71,22 +87,25 @@ impl RecordSets {
     pub fn get(&self, owner: &Name, record_type: RecordType) -> Option<&RecordSet>
         ensures { option_copied result ≡ set_of self.now owner.now record_type }
     {
-        self.sets
-            .get(position(self.sets.as_slice(), owner, record_type))
+        match self.index.get(owner, record_type) {
+            Some(place) => self.sets.get(place),
+            None => None,
+        }
     }
 
     /// Returns `true` if the set of a record's owner and type has another class than the record.
     pub fn has_other_class(&self, resource_record: &Record) -> bool
         ensures { result ≡ has_other_class self.now resource_record.now }
     {
-        for set in self.sets.as_slice() {
-            if is_set_of(set, &resource_record.name, resource_record.record_type())
-                && !set.dns_class().is_same(resource_record.dns_class)
-            {
-                return true;
-            }
+        match self
+            .index
+            .get(&resource_record.name, resource_record.record_type())
+        {
+            Some(place) => !self.sets[place]
+                .dns_class()
+                .is_same(resource_record.dns_class),
+            None => false,
         }
-        false
     }
 
     /// Inserts a record in the set of its owner and type, as [`RecordSet::insert`] does, or in a new set, which is the last.
@@ -97,37 +116,40 @@ impl RecordSets {
         ensures ok { OnOk result (self.new ≡ inserted_in self.old resource_record) }
         ensures err { OnErr result (self.new ≡ self.old) }
     {
-        let place = position(
-            self.sets.as_slice(),
-            &resource_record.name,
-            resource_record.record_type(),
-        );
-        if place < self.sets.len() {
-            self.sets[place].insert(resource_record, 0)?;
-            return Ok(());
+        match self
+            .index
+            .get(&resource_record.name, resource_record.record_type())
+        {
+            Some(place) => {
+                self.sets[place].insert(resource_record, 0)?;
+                Ok(())
+            }
+            None => {
+                let alloc = *self.sets.allocator();
+                let set = RecordSet::from_record(alloc, resource_record)?;
+                push_set(&mut self.sets, &mut self.index, set)
+            }
         }
-        let alloc = *self.sets.allocator();
-        self.sets
-            .push(RecordSet::from_record(alloc, resource_record)?)?;
-        Ok(())
     }
 }
 
-/// Returns `true` if a set has the records of an owner and a type.
-fn is_set_of(set: &RecordSet, owner: &Name, record_type: RecordType) -> bool
-    ensures { result ≡ is_set_of owner.now record_type set.now }
+/// Appends a set, of an owner and a type that no other set has, and enters it in the index.
+///
+/// An error leaves the sets unchanged.
+fn push_set(
+    sets: &mut Vec<RecordSet>,
+    index: &mut SetIndex,
+    set: RecordSet,
+) -> Result<(), AllocError>
+    requires indexed { IsIndexOf index.old sets.old.items }
+    requires absent { place_of index.old set.name (type_number set.record_type) ≡ None }
+    ensures ok { OnOk result (sets.new.items ≡ sets.old.items ++ set ∷ []) }
+    ensures err { OnErr result (sets.new.items ≡ sets.old.items) }
+    ensures indexed { IsIndexOf index.new sets.new.items }
 {
-    owner == set.name() && record_type.is_same(set.record_type())
-}
-
-/// Returns the index of the set of an owner and a type, or the number of sets if there is none.
-fn position(sets: &[RecordSet], owner: &Name, record_type: RecordType) -> usize
-    ensures { result ≡ position_or_len (is_set_of owner.now record_type) sets.now }
-{
-    for (i, set) in sets.iter().enumerate() {
-        if is_set_of(set, owner, record_type) {
-            return i;
-        }
-    }
-    sets.len()
+    let place = sets.len();
+    sets.reserve(1)?;
+    index.insert(*sets.allocator(), set.name(), set.record_type(), place)?;
+    sets.push_reserved(set);
+    Ok(())
 }

@@ -6,12 +6,13 @@ ghost use Rattle.dns_zone.specs.Rows.{zone_of};
 ghost use Rattle.dns_zone.specs.Answer.{answer, bare, is_no_row_type, is_refused, IsSoundAnswer};
 ghost use Rattle.dns_zone.specs.Section.{borrowed_answer};
 
+use crate::sets::ZoneSets;
 use crate::zone::Zone;
 use crate::zone::chain::answer_along;
 use crate::zone::section::Section;
 use dns_messages::{Query, ResponseCode, Sequence};
 use dns_names::Name;
-use dns_records::{Record, RecordSet};
+use dns_records::Record;
 use dns_wire::{DNSClass, RecordType};
 use std::alloc::{AllocError, Global};
 
@@ -50,7 +51,7 @@ impl Zone {
         ensures answer { borrowed_answer result ≡ answer self.now query.now }
         ensures sound { query.now.name.is_fqdn ≡ true → IsSoundAnswer (borrowed_answer result) }
     {
-        answer_from(&self.origin, self.sets.as_slice(), query)
+        answer_from(&self.origin, &self.sets, query)
     }
 }
 
@@ -88,7 +89,7 @@ fn is_without_rows(record_type: RecordType) -> bool
 }
 
 /// Returns the answer of the zone with this origin and these sets.
-fn answer_from<'a>(origin: &'a Name, sets: &'a [RecordSet], query: &'a Query) -> AnswerRef<'a>
+fn answer_from<'a>(origin: &'a Name, sets: &'a ZoneSets, query: &'a Query) -> AnswerRef<'a>
     ensures { borrowed_answer result ≡ answer (zone_of origin.now sets.now) query.now }
 {
     if is_without_rows(query.query_type) {

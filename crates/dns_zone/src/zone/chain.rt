@@ -7,12 +7,13 @@ ghost use Rattle.dns_zone.specs.Answer.{after_records, answer_at, bare, direct_a
 ghost use Rattle.dns_zone.specs.Section.{alias_records, borrowed_answer, IsLinkAt};
 
 use crate::rows::{has_row_below, records_at};
+use crate::sets::ZoneSets;
 use crate::zone::answer::AnswerRef;
 use crate::zone::section::{MAX_ALIASES, RowRef, Section, SectionTtl};
 use dns_data::RData;
 use dns_messages::{Query, ResponseCode};
 use dns_names::Name;
-use dns_records::{Record, RecordSet};
+use dns_records::Record;
 use dns_text::usage;
 use dns_wire::RecordType;
 
@@ -29,7 +30,7 @@ enum Link<'a> {
 }
 
 /// Returns what sets have at a name for a type.
-fn link_at<'a>(sets: &'a [RecordSet], owner: &Name, record_type: RecordType) -> Link<'a>
+fn link_at<'a>(sets: &'a ZoneSets, owner: &Name, record_type: RecordType) -> Link<'a>
     ensures { (origin : DomainName)
         → IsLinkAt (zone_of origin sets.now) owner.now record_type result }
 {
@@ -59,7 +60,7 @@ fn next_owner<'a>(origin: &Name, alias: &'a Record) -> Option<&'a Name>
 /// Returns the answer after aliases where a name has neither the type nor an alias.
 fn negative_answer<'a>(
     origin: &'a Name,
-    sets: &'a [RecordSet],
+    sets: &'a ZoneSets,
     aliases: Aliases<'a>,
     owner: &Name,
 ) -> AnswerRef<'a>
@@ -82,7 +83,7 @@ fn negative_answer<'a>(
 /// Returns the answer after aliases with these records of a name, or the negative answer if there are none.
 fn direct_answer<'a>(
     origin: &'a Name,
-    sets: &'a [RecordSet],
+    sets: &'a ZoneSets,
     aliases: Aliases<'a>,
     owner: &'a Name,
     records: &'a [Record],
@@ -116,7 +117,7 @@ fn positive_answer<'a>(
 /// Returns the answer to a question, along an alias chain from its name.
 pub(super) fn answer_along<'a>(
     origin: &'a Name,
-    sets: &'a [RecordSet],
+    sets: &'a ZoneSets,
     query: &'a Query,
 ) -> AnswerRef<'a>
     ensures { borrowed_answer result ≡ answer_at max_aliases (zone_of origin.now sets.now)

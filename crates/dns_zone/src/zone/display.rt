@@ -5,9 +5,10 @@ ghost use Rattle.std.specs.Fmt.{WritesOnOk};
 ghost use Rattle.dns_zone_file.specs.Printed.{record_line};
 ghost use Rattle.dns_zone.specs.Printed.{IsZoneText, owner_lines, set_lines, zone_text};
 
+use crate::sets::{Sets, ZoneSets};
 use crate::zone::Zone;
 use dns_names::Name;
-use dns_records::{Record, RecordSet};
+use dns_records::Record;
 use std::alloc::AllocError;
 use std::fmt;
 
@@ -19,7 +20,7 @@ impl Zone {
     {
         let lines = ZoneLines {
             origin: &self.origin,
-            sets: self.sets.as_slice(),
+            sets: &self.sets,
         };
         format!(in self.alloc; "{lines}")
     }
@@ -33,7 +34,7 @@ impl fmt::Display for Zone {
     {
         let lines = ZoneLines {
             origin: &self.origin,
-            sets: self.sets.as_slice(),
+            sets: &self.sets,
         };
         lines.fmt(f)
     }
@@ -43,27 +44,28 @@ impl fmt::Display for Zone {
 #[derive(Clone, Copy)]
 struct ZoneLines<'a> {
     origin: &'a Name,
-    sets: &'a [RecordSet],
+    sets: &'a ZoneSets,
 }
 
 impl fmt::Display for ZoneLines<'_> {
     ghost output = { λ lines. Some (zone_text lines.origin.now lines.sets.now) };
 
     fn fmt<W: fmt::Write>(&self, f: &mut fmt::Formatter<W>) -> fmt::Result {
-        let sets = self.sets;
-        if sets.is_empty() {
+        let mut sets = self.sets.iter();
+        let Some(start) = sets.next() else {
             return Ok(());
-        }
-        write_records(self.origin, sets[0].as_slice(), f)?;
-        write_sets(&sets[1..], f)
+        };
+        write_records(self.origin, start.as_slice(), f)?;
+        write_sets(sets, f)
     }
 }
 
 /// Writes the records of sets, each on a line.
-fn write_sets<W: fmt::Write>(sets: &[RecordSet], f: &mut fmt::Formatter<W>) -> fmt::Result
-    ensures { WritesOnOk W.write_str_gives f.old result (flat_map set_lines sets.now) f.new }
+fn write_sets<W: fmt::Write>(sets: Sets<'_>, f: &mut fmt::Formatter<W>) -> fmt::Result
+    ensures { WritesOnOk W.write_str_gives f.old result (flat_map set_lines sets.entry) f.new }
 {
-    for set in sets {
+    let mut sets = sets;
+    while let Some(set) = sets.next() {
         write_records(set.name(), set.as_slice(), f)?;
     }
     Ok(())

@@ -1,7 +1,7 @@
 //! Zones of zone files (RFC 1035 section 5.2).
 
 ghost use Rattle.std.specs.Prelude.{◌≡◌, ◌≢◌, ◌&&◌, not, true, option_copied, IfOk, IfErr, IfSome, Ok, Err, Some, None};
-ghost use Rattle.std.specs.List.{list_any, position_or_len, AllByRecursion};
+ghost use Rattle.std.specs.List.{list_any, AllByRecursion};
 ghost use Rattle.dns_names.specs.Print.{AreOctets};
 ghost use Rattle.dns_zone_file.specs.Parsed.{IsParsedSet, AreDistinctSets};
 ghost use Rattle.dns_zone_file.specs.Parsing.{HasRecords};
@@ -10,8 +10,8 @@ ghost use Rattle.dns_zone_file.specs.internal.Parsing.{includes_view};
 ghost use Rattle.dns_zone.specs.Load.{ReadsZone, zone_origin, is_internet, is_inside, is_soa, is_apex, has_long_data, fault_at, fault_of};
 ghost use Rattle.dns_zone.specs.Printed.{is_start, IsPrintable};
 ghost use Rattle.dns_zone.specs.Rows.{HasNoEmptySet, IsZone, rows_of_sets};
-ghost use Rattle.dns_zone.specs.internal.{with_first};
 
+use crate::sets::ZoneSets;
 use crate::zone::{Zone, ZoneFault};
 use dns_names::Name;
 use dns_records::RecordSet;
@@ -140,7 +140,8 @@ fn zone_of(alloc: Global, origin: Option<Name>, sets: RecordSets) -> Result<Zone
     ensures origin { IfOk result (λ zone. origin ≡ Some zone.origin) }
     ensures rows { IfOk result (λ zone. zone.rows ≡ rows_of_sets sets) }
     ensures faultless { IfOk result (λ _. fault_of origin sets ≡ None) }
-    ensures refused { IfErr result (λ fault. fault_of origin sets ≡ Some fault) }
+    ensures refused { IfErr result (λ fault. fault ≢ ZoneFault.Memory
+        → fault_of origin sets ≡ Some fault) }
     ensures well_formed { IfOk result IsZone }
     ensures filled { IfOk result (λ zone. HasNoEmptySet zone.rows) }
 {
@@ -150,41 +151,12 @@ fn zone_of(alloc: Global, origin: Option<Name>, sets: RecordSets) -> Result<Zone
     let Some(origin) = origin else {
         unreachable!();
     };
-    let sets = with_start_first(&origin, sets.into_vec());
+    let sets = ZoneSets::from_vec(alloc, sets.into_vec())?;
     Ok(Zone {
         origin,
         sets,
         alloc,
     })
-}
-
-/// Moves the set of the origin's SOA record before the others, without taking memory.
-fn with_start_first(origin: &Name, sets: Vec<RecordSet>) -> Vec<RecordSet>
-    ensures { result.items ≡ with_first (is_start origin.now) sets.items }
-{
-    let mut sets = sets;
-    let place = start_position(origin, sets.as_slice());
-    if place >= sets.len() {
-        return sets;
-    }
-    let start = sets.remove(place);
-    match sets.insert(0, start) {
-        Ok(()) => sets,
-        // The place of the set that was removed is free.
-        Err(_) => unreachable!(),
-    }
-}
-
-/// Returns the index of the set of the origin's SOA record, or the number of sets if there is none.
-fn start_position(origin: &Name, sets: &[RecordSet]) -> usize
-    ensures { result ≡ position_or_len (is_start origin.now) sets.now }
-{
-    for (i, set) in sets.iter().enumerate() {
-        if is_start(origin, set) {
-            return i;
-        }
-    }
-    sets.len()
 }
 
 /// Returns the first fault of record sets, by kind. Without an origin nothing is outside, and the SOA record is missing.

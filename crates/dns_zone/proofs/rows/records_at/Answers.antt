@@ -1,10 +1,15 @@
-use Rattle.std.proofs.Common.{sym, ap, ◌∙◌, arith}
-use Rattle.dns_zone.specs.Rows.{rows_of}
-use Rattle.dns_zone.proofs.RowLaws.{rows_there, rows_nowhere}
+use Rattle.std.proofs.Common.{◌∙◌, ap, sym, subst}
+use Rattle.dns_zone.specs.Rows.{AreSoundRows, rows_of}
+use Rattle.dns_zone.proofs.RowLaws.{rows_found_at, no_rows_at, sound_rows_at}
 use Rattle.dns_zone.proofs.rows.records_at.Goals as goal
 
-pub returns-then-place-sets-clause-rows : goal.returns-then-place-sets-clause-rows
-returns-then-place-sets-clause-rows c = ap rows_of c.as_slice.ensures ∙ sym (rows_there c.args.sets.now c.args.name.now.labels c.args.record_type c.position-place.result c.index-sets-place.result c.position-place.ensures (omega arith) c.index-sets-place.is)
+pub returns-in-Some-clause-rows : goal.returns-in-Some-clause-rows
+returns-in-Some-clause-rows c = ap rows_of c.as_slice.ensures ∙ sym (rows_found_at c.args.sets.now c.args.name.now.labels c.args.record_type c.in-Some.set.now c.in-Some.ensures)
 
-pub returns-clause-rows : goal.returns-clause-rows
-returns-clause-rows c = sym (rows_nowhere c.args.sets.now c.args.name.now.labels c.args.record_type c.position-place.result c.position-place.ensures (omega arith))
+pub returns-in-Some-clause-sound : goal.returns-in-Some-clause-sound
+returns-in-Some-clause-sound c = λ sound.
+    subst AreSoundRows (rows_found_at c.args.sets.now c.args.name.now.labels c.args.record_type c.in-Some.set.now c.in-Some.ensures ∙ ap rows_of (sym c.as_slice.ensures))
+    (sound_rows_at c.args.sets.now sound c.args.name.now.labels c.args.record_type)
+
+pub returns-in-None-clause-rows : goal.returns-in-None-clause-rows
+returns-in-None-clause-rows c = sym (no_rows_at c.args.sets.now c.args.name.now.labels c.args.record_type c.in-None.ensures)

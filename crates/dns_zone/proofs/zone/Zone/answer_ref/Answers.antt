@@ -1,6 +1,5 @@
 use Rattle.std.proofs.Common.{sym, subst}
 use Rattle.dns_zone.specs.Answer.{IsSoundAnswer}
-use Rattle.dns_zone.specs.Rows.{AreSoundSets}
 use Rattle.dns_zone.proofs.AnswerLaws.{sound_answer}
 use Rattle.dns_zone.proofs.RowLaws.{sound_rows_at}
 use Rattle.dns_zone.proofs.zone.Zone.answer_ref.Goals as goal
@@ -8,4 +7,4 @@ use Rattle.dns_zone.proofs.zone.Zone.answer_ref.Goals as goal
 pub returns-clause-sound : goal.returns-clause-sound
 returns-clause-sound c = λ fqdn.
     subst IsSoundAnswer (sym c.answer_from.ensures)
-    (sound_answer _ c.self.invariant.0 (sound_rows_at _ (subst AreSoundSets (sym c.as_slice.ensures.value) c.self.invariant.1)) c.args.query.now fqdn)
+    (sound_answer _ c.self.invariant.0 (sound_rows_at _ c.self.invariant.1) c.args.query.now fqdn)

@@ -1,7 +1,7 @@
-use Rattle.std.proofs.Common.{◌≡◌, ◌-◌, ◌+◌, ◌∷◌, ◌++◌, ◌∙◌, List, [], sym, ap, arith, Option, Some, length, slice_set}
+use Rattle.std.proofs.Common.{◌-◌, ◌+◌, ◌∙◌, ap, arith, Option, Some, slice_set}
 use Rattle.dns_names.specs.Name.{DomainName}
 use Rattle.dns_zone.specs.Answer.{after_records, answer_at, max_aliases, record_of, rest_at}
-use Rattle.dns_zone.specs.Rows.{row_of, zone_of, ZoneContent}
+use Rattle.dns_zone.specs.Rows.{row_of, zone_of}
 use Rattle.dns_zone.specs.Section.{alias_records}
 use Rattle.dns_zone.proofs.ChainLaws.{ends_along, breaks_along, follows_along, one_more_alias}
 use Rattle.dns_zone.proofs.zone.chain.answer_along.Goals as goal

@@ -1,39 +1,56 @@
-use Rattle.std.proofs.Common.{◌∙◌, sym, ap, subst, arith, List, [], ◌∷◌, ◌++◌}
+use Rattle.std.proofs.Common.{◌≡◌, ◌∙◌, sym, ap, subst, List, [], ◌∷◌, ◌++◌, None, Some, arith, rules}
+use Rattle.std.proofs.lemmas.Result.{on_ok_weaker}
 use Rattle.dns_wire.proofs.StoredLaws.{on_err}
+use Rattle.dns_codes.specs.RecordType.{type_number}
+use Rattle.dns_data.specs.rdata.{data_type}
 use Rattle.dns_records.specs.RecordSet.{RecordSetValue}
-use Rattle.dns_zone_file.specs.RecordSets.{inserted_in, HaveNamedTypes}
-use Rattle.dns_zone_file.proofs.RecordSetsLaws.{IsPlace, place_is, owner_is, type_is, inserted_at, unchanged_at, inserted_last, named_after}
+use Rattle.dns_zone_file.specs.RecordSets.{is_set_for, inserted_in, HaveNamedTypes}
+use Rattle.dns_zone_file.specs.internal.SetIndex.{place_of}
+use Rattle.dns_zone_file.proofs.PlaceLaws.{within}
+use Rattle.dns_zone_file.proofs.SetIndexLaws.{only_place, no_place}
+use Rattle.dns_zone_file.proofs.RecordSetsLaws.{IsPlace, place_found, owner_is, type_is, inserted_at, indexed_at, unchanged_at, inserted_new, named_after}
 use Rattle.dns_zone_file.proofs.record_sets.RecordSets.insert.Goals as goal
+
+pub index_mut-requires : goal.index_mut-requires
+index_mut-requires c =
+    let at : place_of c.self.inside.index c.args.resource_record.name (type_number (data_type c.args.resource_record.rdata)) ≡ Some c.in-Some.place = search rules in
+    let only = only_place c.self.inside.index c.self.inside.sets.items c.args.resource_record.name (type_number (data_type c.args.resource_record.rdata)) c.in-Some.place c.self.invariant.1 at in
+    omega (arith, within (is_set_for c.args.resource_record) c.self.inside.sets.items c.in-Some.place only.passes)
 
 pub insert-requires-clause-owner : goal.insert-requires-clause-owner
 insert-requires-clause-owner c =
-    let p : IsPlace c.self.inside.sets.items c.args.resource_record c.position-place.result c.index_mut.result.now = record { at = place_is c.args.resource_record c.record_type.result c.self.inside.sets.items c.as_slice.result.now c.position-place.result c.position-place.ensures c.record_type.ensures c.as_slice.ensures.value; within = omega arith; set_is = c.index_mut.ensures.value } in
+    let p : IsPlace c.self.inside.sets.items c.args.resource_record c.in-Some.place c.index_mut.result.now = place_found c.self.inside.index c.self.inside.sets.items c.args.resource_record c.in-Some.place c.index_mut.result.now c.self.invariant.1 (search rules) c.index_mut.ensures.value in
     owner_is p
 
 pub insert-requires-clause-of_type : goal.insert-requires-clause-of_type
 insert-requires-clause-of_type c =
-    let p : IsPlace c.self.inside.sets.items c.args.resource_record c.position-place.result c.index_mut.result.now = record { at = place_is c.args.resource_record c.record_type.result c.self.inside.sets.items c.as_slice.result.now c.position-place.result c.position-place.ensures c.record_type.ensures c.as_slice.ensures.value; within = omega arith; set_is = c.index_mut.ensures.value } in
-    type_is p c.self.invariant c.requires
+    let p : IsPlace c.self.inside.sets.items c.args.resource_record c.in-Some.place c.index_mut.result.now = place_found c.self.inside.index c.self.inside.sets.items c.args.resource_record c.in-Some.place c.index_mut.result.now c.self.invariant.1 (search rules) c.index_mut.ensures.value in
+    type_is p c.self.invariant.0 c.requires
 
-pub returns-in_err-insert-clause-err : goal.returns-in_err-insert-clause-err
-returns-in_err-insert-clause-err c =
-    let p : IsPlace c.self.inside.sets.items c.args.resource_record c.position-place.result c.index_mut.result.now = record { at = place_is c.args.resource_record c.record_type.result c.self.inside.sets.items c.as_slice.result.now c.position-place.result c.position-place.ensures c.record_type.ensures c.as_slice.ensures.value; within = omega arith; set_is = c.index_mut.ensures.value } in
-    on_err c.from_residual.result (unchanged_at c.insert.new.self p c.in_err-insert.ensures.err ∙ c.self.view_is)
+pub returns-in_err-insert-in-Some-clause-err : goal.returns-in_err-insert-in-Some-clause-err
+returns-in_err-insert-in-Some-clause-err c =
+    let p : IsPlace c.self.inside.sets.items c.args.resource_record c.in-Some.place c.index_mut.result.now = place_found c.self.inside.index c.self.inside.sets.items c.args.resource_record c.in-Some.place c.index_mut.result.now c.self.invariant.1 (search rules) c.index_mut.ensures.value in
+    on_err c.from_residual.result (unchanged_at c.insert.new.self p c.in_err-insert-in-Some.ensures.err ∙ c.self.view_is)
 
-pub invariant_of-self-then-place-len : goal.invariant_of-self-then-place-len
-invariant_of-self-then-place-len c =
-    let p : IsPlace c.self.inside.sets.items c.args.resource_record c.position-place.result c.index_mut.result.now = record { at = place_is c.args.resource_record c.record_type.result c.self.inside.sets.items c.as_slice.result.now c.position-place.result c.position-place.ensures c.record_type.ensures c.as_slice.ensures.value; within = omega arith; set_is = c.index_mut.ensures.value } in
-    subst HaveNamedTypes (sym (inserted_at c.insert.new.self p c.in_ok-insert.ensures.ok)) (named_after c.self.inside.sets.items c.args.resource_record c.self.invariant c.requires)
+pub invariant_of-self-in-Some : goal.invariant_of-self-in-Some
+invariant_of-self-in-Some c =
+    let p : IsPlace c.self.inside.sets.items c.args.resource_record c.in-Some.place c.index_mut.result.now = place_found c.self.inside.index c.self.inside.sets.items c.args.resource_record c.in-Some.place c.index_mut.result.now c.self.invariant.1 (search rules) c.index_mut.ensures.value in (
+      subst HaveNamedTypes (sym (inserted_at c.insert.new.self p c.in_ok-insert-in-Some.ensures.ok)) (named_after c.self.inside.sets.items c.args.resource_record c.self.invariant.0 c.requires),
+      indexed_at c.insert.new.self p c.in_ok-insert-in-Some.ensures.ok c.self.invariant.1,
+    )
 
-pub returns-then-place-len-clause-ok : goal.returns-then-place-len-clause-ok
-returns-then-place-len-clause-ok c =
-    let p : IsPlace c.self.inside.sets.items c.args.resource_record c.position-place.result c.index_mut.result.now = record { at = place_is c.args.resource_record c.record_type.result c.self.inside.sets.items c.as_slice.result.now c.position-place.result c.position-place.ensures c.record_type.ensures c.as_slice.ensures.value; within = omega arith; set_is = c.index_mut.ensures.value } in
-    inserted_at c.insert.new.self p c.in_ok-insert.ensures.ok ∙ ap (λ (l : List RecordSetValue). inserted_in l c.args.resource_record) c.self.view_is
+pub returns-in_ok-insert-in-Some-clause-ok : goal.returns-in_ok-insert-in-Some-clause-ok
+returns-in_ok-insert-in-Some-clause-ok c =
+    let p : IsPlace c.self.inside.sets.items c.args.resource_record c.in-Some.place c.index_mut.result.now = place_found c.self.inside.index c.self.inside.sets.items c.args.resource_record c.in-Some.place c.index_mut.result.now c.self.invariant.1 (search rules) c.index_mut.ensures.value in
+    inserted_at c.insert.new.self p c.in_ok-insert-in-Some.ensures.ok ∙ ap (λ (l : List RecordSetValue). inserted_in l c.args.resource_record) c.self.view_is
 
-pub returns-clause-ok : goal.returns-clause-ok
-returns-clause-ok c =
-    let at = place_is c.args.resource_record c.record_type.result c.self.inside.sets.items c.as_slice.result.now c.position-place.result c.position-place.ensures c.record_type.ensures c.as_slice.ensures.value in
-    c.in_ok-push.ensures.items
-    ∙ ap (λ (s : RecordSetValue). c.self.inside.sets.items ++ s ∷ []) c.in_ok-from_record.ensures
-    ∙ inserted_last c.self.inside.sets.items c.args.resource_record (omega arith)
-    ∙ ap (λ (l : List RecordSetValue). inserted_in l c.args.resource_record) c.self.view_is
+pub returns-in_ok-set-in-None-clause-ok : goal.returns-in_ok-set-in-None-clause-ok
+returns-in_ok-set-in-None-clause-ok c =
+    let at : place_of c.self.inside.index c.args.resource_record.name (type_number (data_type c.args.resource_record.rdata)) ≡ None = search rules in
+    let new = inserted_new c.self.inside.sets.items c.args.resource_record (no_place c.self.inside.index c.self.inside.sets.items c.args.resource_record.name (type_number (data_type c.args.resource_record.rdata)) c.self.invariant.1 at) in
+    let whole : c.push_set.new.sets.items ≡ c.self.inside.sets.items ++ c.in_ok-set-in-None.set ∷ [] → c.push_set.new.sets.items ≡ inserted_in c.args.self.now c.args.resource_record = λ pushed.
+    pushed
+    ∙ ap (λ (s : RecordSetValue). c.self.inside.sets.items ++ s ∷ []) c.in_ok-set-in-None.ensures
+    ∙ new
+    ∙ ap (λ (l : List RecordSetValue). inserted_in l c.args.resource_record) c.self.view_is in
+    on_ok_weaker c.push_set.result whole c.push_set.ensures.ok

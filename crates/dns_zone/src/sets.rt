@@ -1,0 +1,128 @@
+//! The record sets of a zone, by owner in canonical order (RFC 4034 section 6.1) and by type.
+
+ghost use Rattle.std.specs.Prelude.{◌≡◌, [], List, None, Some, IfOk, OnOk, OnErr, option_copied, if◌then◌else◌};
+ghost use Rattle.std.specs.List.{list_any};
+ghost use Rattle.std.specs.Ordering.{eq_by_cmp};
+ghost use Rattle.dns_names.specs.Compare.{at_or_below};
+ghost use Rattle.dns_zone.specs.Rows.{Key, key, key_cmp, set_key};
+ghost use Rattle.dns_zone.specs.Sets.{set_at, AreInOrder};
+
+mod key;
+
+use crate::sets::key::{SetKey, first_key, set_key};
+use dns_names::Name;
+use dns_records::RecordSet;
+use dns_wire::RecordType;
+use std::alloc::{AllocError, Global};
+use std::collections::{BTreeMap, btree_map};
+use std::marker::Model;
+use std::ops::Bound;
+
+/// An iterator over sets, in order.
+pub type Sets<'a> = btree_map::Values<'a, SetKey, RecordSet>;
+
+/// Record sets, at most one for each owner, up to ASCII case, and type (RFC 2181 section 5).
+///
+/// A set is found in logarithmic time. Whether an owner is fully qualified makes no difference.
+#[derive(Drop)]
+pub struct ZoneSets {
+    map: BTreeMap<SetKey, RecordSet>,
+}
+
+impl Model for ZoneSets {
+    ghost use Rattle.std.specs.Prelude.{List};
+    ghost use Rattle.std.specs.BTreeMap.{values};
+    ghost use Rattle.dns_records.specs.RecordSet.{RecordSetValue};
+    ghost use Rattle.dns_zone.specs.Sets.{HaveTheirKeys};
+
+    ghost Value = { List RecordSetValue };
+
+    ghost view = { λ z. values z.map };
+
+    ghost invariant = { λ z. HaveTheirKeys z.map.entries };
+}
+
+impl ZoneSets {
+    /// Creates an empty collection.
+    pub fn new(alloc: Global) -> ZoneSets
+        ensures { result ≡ [] }
+    {
+        ZoneSets {
+            map: BTreeMap::new(alloc),
+        }
+    }
+
+    /// Creates a collection of these sets. Of sets with the same owner and type it has the first.
+    pub fn from_vec(alloc: Global, sets: Vec<RecordSet>) -> Result<ZoneSets, AllocError>
+        ensures sets { IfOk result (λ kept. (k : Key) → set_at kept k ≡ set_at sets.items k) }
+        ensures ordered { IfOk result AreInOrder }
+    {
+        let mut sets = sets;
+        let mut kept = ZoneSets::new(alloc);
+        while let Some(set) = sets.pop() {
+            kept.insert(set)?;
+        }
+        kept.order();
+        Ok(kept)
+    }
+
+    /// Proves that the sets are in order; nothing is computed.
+    fn order(&self)
+        ensures { AreInOrder self.now }
+    {
+        self.map.len();
+    }
+
+    /// Returns the set of an owner and a type.
+    pub fn get(&self, owner: &Name, record_type: RecordType) -> Option<&RecordSet>
+        ensures { option_copied result ≡ set_at self.now (key owner.now.labels record_type) }
+    {
+        self.map.get(&set_key(owner, record_type))
+    }
+
+    /// Returns `true` if the owner of some set is at or below the name.
+    pub fn has_set_below(&self, name: &Name) -> bool
+        ensures { result ≡ list_any (λ s. at_or_below name.now.labels s.name.labels) self.now }
+    {
+        // The names at or below a name are contiguous in the order and begin with that name.
+        let start = first_key(name);
+        match self
+            .map
+            .range((Bound::Included(&start), Bound::Unbounded))
+            .next()
+        {
+            Some((next, _)) => next.0.as_slice().starts_with(start.0.as_slice()),
+            None => false,
+        }
+    }
+
+    /// Inserts a set in the place of that with its owner and type, which is returned. An error leaves the sets unchanged.
+    pub fn insert(&mut self, set: RecordSet) -> Result<Option<RecordSet>, AllocError>
+        ensures old { IfOk result (λ old. old ≡ set_at self.old (set_key set)) }
+        ensures ok { OnOk result ((k : Key) → set_at self.new k
+            ≡ (if eq_by_cmp key_cmp k (set_key set) then Some set else set_at self.old k)) }
+        ensures err { OnErr result (self.new ≡ self.old) }
+        ensures ordered { AreInOrder self.new }
+    {
+        let key = set_key(set.name(), set.record_type());
+        Ok(self.map.insert(key, set)?)
+    }
+
+    /// Removes the set of an owner and a type, and returns it.
+    pub fn remove(&mut self, owner: &Name, record_type: RecordType) -> Option<RecordSet>
+        ensures value { result ≡ set_at self.old (key owner.now.labels record_type) }
+        ensures others { (k : Key) → set_at self.new k
+            ≡ (if eq_by_cmp key_cmp k (key owner.now.labels record_type) then None
+            else set_at self.old k) }
+        ensures ordered { AreInOrder self.new }
+    {
+        self.map.remove(&set_key(owner, record_type))
+    }
+
+    /// Iterates over the sets, in order. A set of `SOA` records comes before the others of its owner.
+    pub fn iter(&self) -> Sets<'_>
+        ensures { result ≡ self.now }
+    {
+        self.map.values()
+    }
+}
