@@ -1,8 +1,8 @@
 pub mod BoundsLaws
 pub mod ClampingLaws
+pub mod EntriesLaws
 pub mod EvictionLaws
-pub mod FileLaws
-pub mod HostsLaws
+pub mod KeyLaws
 pub mod LifetimeLaws
-pub mod LinesLaws
-pub mod WordsLaws
+pub mod StayingLaws
+pub mod TableLaws

@@ -1,4 +1,4 @@
-pub mod Hosts
-pub mod HostsFile
+pub mod Key
+pub mod Table
 pub mod Ttl
 pub mod TtlEquality

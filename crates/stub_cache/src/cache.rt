@@ -1,39 +1,43 @@
 //! The cache of responses.
 
-ghost use Rattle.std.specs.Prelude.{◌≡◌, ◌≤◌, ◌^◌, [], IfOk, OnOk, OnErr, Ok, Err, option_copied};
-ghost use Rattle.std.specs.List.{find};
+ghost use Rattle.std.specs.Prelude.{◌≡◌, ◌≤◌, ◌^◌, [], IfOk, OnOk, OnErr, Ok, Err};
 
 mod ageing;
 mod clamping;
 mod entry;
-mod eviction;
+mod key;
+mod table;
 
 use crate::ttl::TtlConfig;
 use clamping::{clamp_message, positive_lifetime};
 use dns_messages::{Message, Query};
 use dns_wire::RecordType;
 use entry::Entry;
-use eviction::{make_room, remove_entries};
 use std::alloc::{AllocError, Global};
 use std::marker::Model;
 use stub_lookup::{Moment, NetError, NoRecords};
+use table::EntryTable;
 
 /// A cache of responses and of negative answers (RFC 1034 section 5.3.3, RFC 2308 section 5).
 ///
 /// Each entry has a deadline, after which it is not returned. What is returned has the TTLs that are left.
 #[derive(Drop)]
 pub struct ResponseCache {
-    entries: Vec<Entry>,
+    table: EntryTable,
     capacity: u64,
     config: TtlConfig,
 }
 
 impl Model for ResponseCache {
+    ghost use Rattle.std.specs.Prelude.{None};
     ghost use Rattle.stub_cache.specs.Cache.{CacheContent};
+    ghost use Rattle.stub_cache.specs.internal.Table.{IsIndexed, entries_of};
 
     ghost Value = { CacheContent };
 
-    ghost view = { λ c. record { entries = c.entries.items; capacity = c.capacity; config = c.config } };
+    ghost view = { λ c. record { entries = entries_of c.table; capacity = c.capacity; config = c.config } };
+
+    ghost invariant = { λ c. IsIndexed None c.table };
 }
 
 impl ResponseCache {
@@ -44,8 +48,22 @@ impl ResponseCache {
     pub fn new(alloc: Global, capacity: u64, ttl_config: TtlConfig) -> ResponseCache
         ensures { result ≡ record { entries = []; capacity = capacity; config = ttl_config } }
     {
+        ResponseCache::with_stamp_limit(alloc, capacity, ttl_config, u64::MAX)
+    }
+
+    /// Creates an empty cache as [`new`](ResponseCache::new) does, with a limit of the stamps by which it keeps its
+    /// entries in order. When it has given out this many, the next insertion numbers the entries anew. The limit has no
+    /// effect on what the cache stores or returns; a low one is for tests.
+    pub fn with_stamp_limit(
+        alloc: Global,
+        capacity: u64,
+        ttl_config: TtlConfig,
+        stamp_limit: u64,
+    ) -> ResponseCache
+        ensures { result ≡ record { entries = []; capacity = capacity; config = ttl_config } }
+    {
         ResponseCache {
-            entries: Vec::new(alloc),
+            table: EntryTable::new(alloc, stamp_limit),
             capacity,
             config: ttl_config,
         }
@@ -116,14 +134,10 @@ impl ResponseCache {
         }) }
         ensures memory { OnErr result (self.new ≡ self.old) }
     {
-        let capacity = self.capacity;
-        if capacity == 0 {
+        if self.capacity == 0 {
             return Ok(());
         }
-        self.entries.reserve(1)?;
-        make_room(&mut self.entries, capacity, &entry.question);
-        self.entries.push(entry)?;
-        Ok(())
+        self.table.insert(self.capacity, entry)
     }
 
     /// Returns a copy of what is stored for a question, if it is current at a moment. Its TTLs are reduced by the seconds
@@ -135,7 +149,7 @@ impl ResponseCache {
     ) -> Result<Option<Result<Message, NoRecords>>, AllocError>
         ensures { IfOk result (λ found. found ≡ current self.now.entries query.now now) }
     {
-        match find_current(self.entries.as_slice(), query, now) {
+        match self.table.find_current(query, now) {
             Some(entry) => Ok(Some(entry.reply_at(now)?)),
             None => Ok(None),
         }
@@ -155,27 +169,13 @@ impl ResponseCache {
     pub fn clear(&mut self)
         ensures { self.new ≡ record self.old { entries = [] } }
     {
-        self.entries.clear();
+        self.table.clear();
     }
 
     /// Removes the entry for a question, if there is one.
     pub fn clear_query(&mut self, query: &Query)
         ensures { self.new ≡ record self.old { entries = cleared_of query.now self.old.entries } }
     {
-        remove_entries(&mut self.entries, query);
+        self.table.clear_query(query);
     }
-}
-
-ghost use Rattle.stub_cache.specs.Cache.{is_current};
-
-/// Returns the first entry for a question that is current at a moment.
-fn find_current<'a>(entries: &'a [Entry], query: &Query, now: Moment) -> Option<&'a Entry>
-    ensures { option_copied result ≡ find (is_current query.now now) entries.now }
-{
-    for entry in entries {
-        if entry.is_current(query, now) {
-            return Some(entry);
-        }
-    }
-    None
 }

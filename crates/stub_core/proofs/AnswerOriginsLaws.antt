@@ -17,7 +17,7 @@ use Rattle.stub_config.specs.declared.strategy.LookupIpStrategy.{LookupIpStrateg
 use Rattle.stub_config.specs.declared.strategy.LookupIpStrategy.TheVariants.{Ipv4Only, Ipv6Only, Ipv4AndIpv6, Ipv6AndIpv4, Ipv6thenIpv4, Ipv4thenIpv6}
 use Rattle.stub_lookup.specs.Lookup.{LookupContent, record_for}
 use Rattle.stub_lookup.specs.declared.error.NetError.TheVariants as errors
-use Rattle.stub_cache.specs.Hosts.{address_data, address_type, question, static_lookup}
+use Rattle.stub_hosts.specs.Hosts.{address_data, address_type, question, static_lookup}
 use Rattle.stub_client.specs.AnswerTypes.{is_asked_or_alias}
 use Rattle.stub_client.specs.Handle.{IsMessage}
 use Rattle.stub_client.specs.Laws.{RecordClaim}

@@ -6,7 +6,7 @@ use Rattle.dns_names.specs.Name.{DomainName}
 use Rattle.dns_messages.specs.declared.query.Query.{Query}
 use Rattle.stub_config.specs.declared.request_options.DnsRequestOptions.{DnsRequestOptions}
 use Rattle.stub_lookup.specs.Lookup.{LookupContent}
-use Rattle.stub_cache.specs.Hosts.{question}
+use Rattle.stub_hosts.specs.Hosts.{question}
 use Rattle.stub_core.specs.Attempts.{Attempts, Continues, Lookups, Unless, is_final}
 use Rattle.stub_client.specs.Handle.{Behavior}
 use Rattle.stub_client.specs.Looks.{Answers, Reply, out_of_memory}

@@ -16,7 +16,7 @@ use Rattle.dns_messages.specs.declared.query.Query.{Query}
 use Rattle.dns_messages.specs.declared.response.DnsResponse.{DnsResponse}
 use Rattle.stub_config.specs.declared.request_options.DnsRequestOptions.{DnsRequestOptions}
 use Rattle.stub_cache.specs.Cache.{CacheContent, is_about}
-use Rattle.stub_cache.specs.Hosts.{question}
+use Rattle.stub_hosts.specs.Hosts.{question}
 use Rattle.stub_cache.specs.Ttl.{TtlConfigContent}
 use Rattle.stub_cache.specs.declared.cache.entry.Entry.{Entry}
 use Rattle.stub_client.specs.AnswerTypes.{HasAskedTypes, KeptHasAskedTypes}

@@ -8,7 +8,7 @@ use Rattle.stub_config.specs.Options.{default_options}
 use Rattle.stub_config.specs.declared.config.ResolverConfig.{ResolverConfig}
 use Rattle.stub_config.specs.declared.strategy.ResolveHosts.TheVariants.{Always, Auto, Never}
 use Rattle.stub_lookup.specs.declared.error.NetError.TheVariants as errors
-use Rattle.stub_cache.specs.Hosts.{HostsContent}
+use Rattle.stub_hosts.specs.Hosts.{HostsContent}
 use Rattle.stub_core.specs.Resolver.{is_tried_as_name, known_type, request_options, tries_literals, without_name}
 use Rattle.stub_core.specs.ResolverBuilder.{default_settings, is_unsupported, no_hosts, used_hosts}
 use Rattle.stub_core.specs.declared.resolver.settings.Settings.{Settings}

@@ -10,7 +10,7 @@ use Rattle.dns_messages.specs.declared.query.Query.{Query}
 use Rattle.stub_config.specs.declared.request_options.DnsRequestOptions.{DnsRequestOptions}
 use Rattle.stub_lookup.specs.declared.error.NetError.{NetError}
 use Rattle.stub_cache.specs.Cache.{CacheContent, is_about}
-use Rattle.stub_cache.specs.Hosts.{question}
+use Rattle.stub_hosts.specs.Hosts.{question}
 use Rattle.stub_cache.specs.declared.cache.entry.Entry.{Entry}
 use Rattle.stub_client.specs.Handle.{Ask, Behavior, Led, request_for}
 use Rattle.stub_client.specs.Looks.{Answers, Looks, Reply, lookup_settings}

@@ -11,7 +11,7 @@ use Rattle.dns_messages.specs.declared.query.Query.{Query}
 use Rattle.stub_config.specs.declared.strategy.LookupIpStrategy.{LookupIpStrategy}
 use Rattle.stub_config.specs.declared.strategy.LookupIpStrategy.TheVariants.{Ipv4Only, Ipv6Only, Ipv4AndIpv6, Ipv6AndIpv4, Ipv6thenIpv4, Ipv4thenIpv6}
 use Rattle.stub_lookup.specs.Lookup.{LookupContent}
-use Rattle.stub_cache.specs.Hosts.{HostsContent, address_data, question, static_lookup}
+use Rattle.stub_hosts.specs.Hosts.{HostsContent, address_data, question, static_lookup}
 use Rattle.stub_client.specs.Handle.{Ask}
 use Rattle.stub_client.specs.Looks.{Reply}
 use Rattle.stub_core.specs.Attempts.{Attempts, AttemptsAll, AttemptsWithHosts, Continues, Lookups, Unless, WithHosts, is_final}

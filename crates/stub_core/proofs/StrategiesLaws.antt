@@ -6,7 +6,7 @@ use Rattle.stub_config.specs.declared.request_options.DnsRequestOptions.{DnsRequ
 use Rattle.stub_config.specs.declared.strategy.LookupIpStrategy.{LookupIpStrategy}
 use Rattle.stub_lookup.specs.declared.error.NetError.{NetError}
 use Rattle.stub_lookup.specs.declared.error.NetError.TheVariants as errors
-use Rattle.stub_cache.specs.Hosts.{HostsContent, question}
+use Rattle.stub_hosts.specs.Hosts.{HostsContent, question}
 use Rattle.stub_core.specs.Attempts.{Lookups, WithHosts, is_final}
 use Rattle.stub_client.specs.Handle.{Behavior}
 use Rattle.stub_client.specs.Looks.{Answers, Reply}

@@ -6,7 +6,7 @@ use Rattle.dns_messages.specs.Response.{is_empty}
 use Rattle.dns_messages.specs.declared.query.Query.{Query}
 use Rattle.stub_lookup.specs.Lookup.{LookupContent}
 use Rattle.stub_lookup.specs.declared.error.NetError.TheVariants as errors
-use Rattle.stub_cache.specs.Hosts.{HostsContent, question, static_lookup}
+use Rattle.stub_hosts.specs.Hosts.{HostsContent, question, static_lookup}
 use Rattle.stub_client.specs.Handle.{IsMessage}
 use Rattle.stub_client.specs.Looks.{Reply, out_of_memory}
 

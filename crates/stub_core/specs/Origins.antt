@@ -11,7 +11,7 @@ use Rattle.dns_messages.specs.declared.query.Query.{Query}
 use Rattle.dns_messages.specs.declared.response.DnsResponse.{DnsResponse}
 use Rattle.stub_lookup.specs.Lookup.{LookupContent}
 use Rattle.stub_cache.specs.Cache.{CacheContent}
-use Rattle.stub_cache.specs.Hosts.{HostsContent, address_data, question, static_lookup}
+use Rattle.stub_hosts.specs.Hosts.{HostsContent, address_data, question, static_lookup}
 use Rattle.stub_cache.specs.Ttl.{TtlConfigContent}
 use Rattle.stub_client.specs.AnswerTypes.{CacheHasAskedTypes, HasAskedTypes, ReplyHasAskedTypes}
 use Rattle.stub_client.specs.Handle.{Ask, Behavior, Led}

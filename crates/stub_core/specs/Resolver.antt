@@ -12,7 +12,7 @@ use Rattle.stub_config.specs.declared.request_options.DnsRequestOptions.{DnsRequ
 use Rattle.stub_lookup.specs.Error.{error_of_name}
 use Rattle.stub_lookup.specs.Lookup.{LookupContent, lookup_of, max_ttl, record_for}
 use Rattle.stub_cache.specs.Cache.{cleared_of}
-use Rattle.stub_cache.specs.Hosts.{address_data, address_type, question}
+use Rattle.stub_hosts.specs.Hosts.{address_data, address_type, question}
 use Rattle.stub_cache.specs.declared.cache.entry.Entry.{Entry}
 use Rattle.stub_core.specs.AttemptedNames.{attempted_names}
 use Rattle.stub_core.specs.Attempts.{AttemptsWithHosts, Lookups}

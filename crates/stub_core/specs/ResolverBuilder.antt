@@ -9,7 +9,7 @@ use Rattle.stub_config.specs.declared.strategy.ResolveHosts.TheVariants.{Never}
 use Rattle.stub_lookup.specs.declared.error.NetError.{NetError}
 use Rattle.stub_lookup.specs.declared.error.NetError.TheVariants.{Unsupported}
 use Rattle.stub_cache.specs.Cache.{CacheContent}
-use Rattle.stub_cache.specs.Hosts.{HostsContent}
+use Rattle.stub_hosts.specs.Hosts.{HostsContent}
 use Rattle.stub_cache.specs.Ttl.{are_reversed, bounds_of_options, plain_config}
 use Rattle.stub_cache.specs.Ttl.{TtlConfigContent}
 use Rattle.stub_core.specs.declared.resolver.Resolver.{Resolver}

@@ -11,7 +11,7 @@ use Rattle.stub_config.specs.declared.strategy.LookupIpStrategy.{LookupIpStrateg
 use Rattle.stub_config.specs.declared.strategy.LookupIpStrategy.TheVariants.{Ipv4Only, Ipv6Only, Ipv4AndIpv6, Ipv6AndIpv4, Ipv6thenIpv4, Ipv4thenIpv6}
 use Rattle.stub_lookup.specs.Lookup.{LookupContent, joined, lookup_of, max_ttl}
 use Rattle.stub_lookup.specs.declared.error.NetError.TheVariants as errors
-use Rattle.stub_cache.specs.Hosts.{HostsContent, question}
+use Rattle.stub_hosts.specs.Hosts.{HostsContent, question}
 use Rattle.stub_core.specs.Attempts.{AttemptsAll, Continues, Lookups, WithHosts, is_final}
 use Rattle.stub_client.specs.Looks.{Reply, out_of_memory}
 

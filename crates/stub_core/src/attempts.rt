@@ -5,15 +5,15 @@ ghost use Rattle.std.specs.Vec.Iter.{into_iter_items};
 ghost use Rattle.stub_core.specs.Attempts.{Attempts, AttemptsAll, AttemptsWithHosts, WithHosts, is_final, no_names};
 ghost use Rattle.stub_client.specs.Handle.{IsMessage};
 ghost use Rattle.stub_client.specs.Looks.{Answers};
-ghost use Rattle.stub_cache.specs.Hosts.{question};
+ghost use Rattle.stub_hosts.specs.Hosts.{question};
 
 use dns_messages::Query;
 use dns_names::Name;
 use dns_wire::RecordType;
 use std::vec;
-use stub_cache::Hosts;
 use stub_client::{CachingClient, DnsHandle};
 use stub_config::DnsRequestOptions;
+use stub_hosts::Hosts;
 use stub_lookup::{Lookup, Moment, NetError};
 
 /// Looks up records of a type for names, in order, up to the first name whose response has answers.

@@ -16,9 +16,9 @@ use dns_text::IntoName;
 use dns_wire::RecordType;
 use settings::Settings;
 use std::alloc::Global;
-use stub_cache::Hosts;
 use stub_client::{CachingClient, DnsHandle};
 use stub_config::{ResolverConfig, ResolverOpts};
+use stub_hosts::Hosts;
 use stub_lookup::{Lookup, Moment, NetError};
 
 /// The maximum number of questions that a lookup asks for a name: eight for each of two types of addresses.

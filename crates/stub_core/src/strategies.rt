@@ -16,9 +16,9 @@ use dns_names::Name;
 use one_name::look_up_addresses;
 use std::alloc::{AllocError, Global};
 use std::vec;
-use stub_cache::Hosts;
 use stub_client::{CachingClient, DnsHandle};
 use stub_config::{DnsRequestOptions, LookupIpStrategy};
+use stub_hosts::Hosts;
 use stub_lookup::{Lookup, LookupIp, MAX_TTL, Moment, NetError};
 
 /// Looks up the addresses of names, in order, up to the first that has answers. The hosts are asked for each name and

@@ -4,13 +4,13 @@ use Rattle.std.proofs.lemmas.Bool.{le-ltb}
 use Rattle.std.proofs.lemmas.Option.{slice_get_within}
 use Rattle.std.proofs.Math.Seq.{take-nil}
 use Rattle.std.specs.Io.KnownBytes.{Appends}
-use Rattle.stub_cache.specs.declared.hosts.file.HostsFault.{HostsFault}
+use Rattle.stub_hosts.specs.declared.hosts.file.HostsFault.{HostsFault}
 use Rattle.stub_core.specs.ResolverBuilder.{is_unsupported}
 use Rattle.dns_zone.specs.Rows.{ZoneContent}
 use Rattle.stub_config.specs.config.{config_of_servers}
 use Rattle.stub_config.specs.declared.config.ResolverConfig.{ResolverConfig}
 use Rattle.stub_config.specs.declared.options.ResolverOpts.{ResolverOpts}
-use Rattle.stub_cache.specs.Hosts.{HostsContent}
+use Rattle.stub_hosts.specs.Hosts.{HostsContent}
 use Rattle.stub_run.specs.declared.event.Event.{Event}
 use Rattle.stub_run.specs.declared.world.World.{World}
 use Rattle.stub_run.specs.World.{BeginsWith, IsFirst}

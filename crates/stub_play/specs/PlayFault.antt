@@ -3,7 +3,7 @@ use Rattle.std.specs.Prelude.{ℕ, List, ◌++◌, codes, Option, Some, None}
 use Rattle.std.specs.Fmt.{decimal}
 use Rattle.dns_zone.specs.declared.zone.ZoneFault.TheVariants as zones
 use Rattle.dns_zone_file.specs.Error.{line_of}
-use Rattle.stub_cache.specs.declared.hosts.file.HostsFault.TheVariants as hosts
+use Rattle.stub_hosts.specs.declared.hosts.file.HostsFault.TheVariants as hosts
 use Rattle.stub_play.specs.declared.script_text.ScriptFault.{ScriptFault}
 use Rattle.stub_play.specs.declared.script_text.ScriptFault.TheVariants as scripts
 use Rattle.stub_play.specs.declared.plays.fault.PlayFault.{PlayFault}

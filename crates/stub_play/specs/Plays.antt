@@ -9,9 +9,9 @@ use Rattle.dns_zone.specs.declared.zone.ZoneFault.TheVariants as zones
 use Rattle.stub_config.specs.Options.{default_options}
 use Rattle.stub_config.specs.config.{config_of_servers}
 use Rattle.stub_config.specs.declared.options.ResolverOpts.{ResolverOpts}
-use Rattle.stub_cache.specs.Hosts.{HostsContent, with_hosts}
-use Rattle.stub_cache.specs.HostsFile.{Host, ReadsLines, lines_of as hosts_lines}
-use Rattle.stub_cache.specs.declared.hosts.file.HostsFault.{HostsFault}
+use Rattle.stub_hosts.specs.Hosts.{HostsContent, with_hosts}
+use Rattle.stub_hosts.specs.HostsFile.{Host, ReadsLines, lines_of as hosts_lines}
+use Rattle.stub_hosts.specs.declared.hosts.file.HostsFault.{HostsFault}
 use Rattle.stub_core.specs.ResolverBuilder.{no_hosts}
 use Rattle.stub_run.specs.declared.event.Event.{Event}
 use Rattle.stub_run.specs.declared.report.Report.{Report}

@@ -17,8 +17,8 @@ pub use fault::PlayFault;
 pub use input::PlayInput;
 use std::alloc::{AllocError, Global};
 use std::io;
-use stub_cache::{Hosts, HostsFault};
 use stub_config::{ResolverConfig, ResolverOpts};
+use stub_hosts::{Hosts, HostsFault};
 use stub_run::{Event, Report, Stopped, World, run};
 
 /// Plays a script: lets its events happen in a world over the zone, and writes what each led to.

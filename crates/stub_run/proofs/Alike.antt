@@ -17,7 +17,7 @@ use Rattle.stub_lookup.specs.Lookup.{LookupContent}
 use Rattle.stub_lookup.specs.declared.error.NetError.{NetError}
 use Rattle.stub_lookup.specs.declared.error.NetError.TheVariants as errors
 use Rattle.stub_cache.specs.Cache.{CacheContent}
-use Rattle.stub_cache.specs.Hosts.{HostsContent, address_data, question, static_lookup}
+use Rattle.stub_hosts.specs.Hosts.{HostsContent, address_data, question, static_lookup}
 use Rattle.stub_core.specs.Attempts.{Attempts, AttemptsAll, AttemptsWithHosts, Continues, Lookups, Unless, WithHosts, is_final}
 use Rattle.stub_client.specs.Handle.{Ask, Behavior, Led, Outcome, request_for}
 use Rattle.stub_client.specs.Looks.{Answers, Looks, Reply, lookup_settings}

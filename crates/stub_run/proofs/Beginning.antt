@@ -3,7 +3,7 @@ use Rattle.std.proofs.Common.{◌≡◌, false, ℕ, List, [], refl, sym, ap, su
 use Rattle.dns_zone.specs.Rows.{ZoneContent}
 use Rattle.stub_config.specs.declared.config.ResolverConfig.{ResolverConfig}
 use Rattle.stub_config.specs.declared.options.ResolverOpts.{ResolverOpts}
-use Rattle.stub_cache.specs.Hosts.{HostsContent}
+use Rattle.stub_hosts.specs.Hosts.{HostsContent}
 use Rattle.stub_core.specs.ResolverBuilder.{Builds, default_settings, empty_cache, with_options, with_used_hosts}
 use Rattle.stub_core.specs.declared.resolver.builder.ResolverBuilder.{ResolverBuilder}
 use Rattle.stub_core.specs.declared.resolver.settings.Settings.{Settings}

@@ -3,7 +3,7 @@ use Rattle.std.specs.Prelude.{◌≡◌, false, List, ℕ}
 use Rattle.dns_zone.specs.Rows.{ZoneContent}
 use Rattle.stub_config.specs.declared.config.ResolverConfig.{ResolverConfig}
 use Rattle.stub_config.specs.declared.options.ResolverOpts.{ResolverOpts}
-use Rattle.stub_cache.specs.Hosts.{HostsContent}
+use Rattle.stub_hosts.specs.Hosts.{HostsContent}
 use Rattle.stub_core.specs.ResolverBuilder.{empty_cache, with_used_hosts}
 use Rattle.stub_link.specs.Asks.{IsIn, first_asks}
 use Rattle.stub_run.specs.Alike.{AreAlike}

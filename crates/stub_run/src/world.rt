@@ -7,9 +7,9 @@ ghost use Rattle.stub_run.specs.World.{BeginsWith, IsFirst};
 
 use dns_zone::{DatagramLimit, Zone};
 use std::alloc::Global;
-use stub_cache::Hosts;
 use stub_config::{ResolverConfig, ResolverOpts};
 use stub_core::Resolver;
+use stub_hosts::Hosts;
 use stub_link::{ScriptedLink, WireHandle};
 use stub_lookup::NetError;
 

@@ -1,7 +1,7 @@
 //! Entries of a cache.
 
 ghost use Rattle.std.specs.Prelude.{◌≡◌, ◌≤◌, ◌-◌, ◌^◌, IfOk, Ok, Err};
-ghost use Rattle.stub_cache.specs.Cache.{aged, entry_of, is_about, is_current};
+ghost use Rattle.stub_cache.specs.Cache.{aged, entry_of};
 ghost use Rattle.stub_cache.specs.Ttl.{aged_answer, aged_message};
 
 use super::ageing::{age_answer, age_message};
@@ -67,21 +67,20 @@ impl Entry {
         }
     }
 
-    /// Returns `true` if the entry is for a question with the same name, ignoring ASCII case, and the same numbers of its
-    /// type and class.
-    pub fn is_about(&self, query: &Query) -> bool
-        ensures { result ≡ is_about query.now self.now }
+    /// Clones the entry. Fails if memory runs out.
+    pub fn clone(&self) -> Result<Entry, AllocError>
+        ensures { IfOk result (λ copy. copy ≡ self.now) }
     {
-        self.question.name == query.name
-            && self.question.query_type.is_same(query.query_type)
-            && self.question.query_class.is_same(query.query_class)
-    }
-
-    /// Returns `true` if the entry is for a question and is current at a moment.
-    pub fn is_current(&self, query: &Query, now: Moment) -> bool
-        ensures { result ≡ is_current query.now now self.now }
-    {
-        self.is_about(query) && now <= self.deadline
+        let kept = match &self.kept {
+            Ok(message) => Ok(message.clone()?),
+            Err(answer) => Err(answer.clone()?),
+        };
+        Ok(Entry {
+            question: self.question.clone()?,
+            kept,
+            moment: self.moment,
+            deadline: self.deadline,
+        })
     }
 
     /// Returns a copy of the response or the negative answer, with the TTLs that are left at a moment.

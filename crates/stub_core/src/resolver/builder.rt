@@ -5,9 +5,10 @@ ghost use Rattle.std.specs.Prelude.{◌≡◌, true, false, IsErrOf, IsOkAnd};
 use super::Resolver;
 use super::settings::Settings;
 use std::alloc::Global;
-use stub_cache::{Hosts, ResponseCache};
+use stub_cache::ResponseCache;
 use stub_client::{CachingClient, DnsHandle};
 use stub_config::{ResolverConfig, ResolverOpts};
+use stub_hosts::Hosts;
 use stub_lookup::NetError;
 
 /// Builds a [`Resolver`] over a handle from a configuration, options and hosts.

@@ -1,7 +1,7 @@
 //! Lookups of literal addresses.
 
 ghost use Rattle.std.specs.Prelude.{◌≡◌, ◌≢◌, ◌≤◌, ◌^◌, ◌⊎◌, IfOk};
-ghost use Rattle.stub_cache.specs.Hosts.{address_data, address_type};
+ghost use Rattle.stub_hosts.specs.Hosts.{address_data, address_type};
 ghost use Rattle.stub_client.specs.Looks.{out_of_memory};
 ghost use Rattle.stub_core.specs.Resolver.{literal, without_name};
 

@@ -5,8 +5,9 @@ ghost use Rattle.std.specs.Prelude.{◌≡◌, IfOk};
 use crate::attempted_names::names_to_attempt;
 use dns_names::Name;
 use std::alloc::{AllocError, Global};
-use stub_cache::{Hosts, TtlBoundsError, TtlConfig};
+use stub_cache::{TtlBoundsError, TtlConfig};
 use stub_config::{DnsRequestOptions, ResolveHosts, ResolverConfig, ResolverOpts};
+use stub_hosts::Hosts;
 use stub_lookup::NetError;
 
 /// The greatest `ndots` with which a literal address is not looked up as a name: an IPv4 address has four labels.

@@ -4,15 +4,15 @@ ghost use Rattle.std.specs.Prelude.{◌≡◌, ◌≤◌, ◌^◌, Ok};
 ghost use Rattle.stub_core.specs.Attempts.{WithHosts};
 ghost use Rattle.stub_client.specs.Looks.{Answers};
 ghost use Rattle.stub_core.specs.Strategies.{Both, Joins, LooksUpAddresses, Then, is_out_of_memory};
-ghost use Rattle.stub_cache.specs.Hosts.{question};
+ghost use Rattle.stub_hosts.specs.Hosts.{question};
 
 use crate::attempts::{ask_with_hosts, is_final};
 use dns_messages::Query;
 use dns_names::Name;
 use dns_wire::RecordType;
-use stub_cache::Hosts;
 use stub_client::{CachingClient, DnsHandle};
 use stub_config::{DnsRequestOptions, LookupIpStrategy};
+use stub_hosts::Hosts;
 use stub_lookup::{Lookup, Moment, NetError};
 
 /// Looks up the addresses of a name, of the types and in the order of a strategy.

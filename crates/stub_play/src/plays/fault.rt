@@ -7,7 +7,7 @@ use crate::script_text::ScriptFault;
 use dns_zone::ZoneFault;
 use std::alloc::AllocError;
 use std::{fmt, io};
-use stub_cache::HostsFault;
+use stub_hosts::HostsFault;
 
 /// Why a run ended early.
 #[derive(Debug, Drop)]

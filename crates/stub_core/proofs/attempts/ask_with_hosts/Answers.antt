@@ -1,5 +1,5 @@
 use Rattle.std.proofs.lemmas.Result.{err_from_is_err_and}
-use Rattle.stub_cache.specs.Hosts.{static_lookup}
+use Rattle.stub_hosts.specs.Hosts.{static_lookup}
 use Rattle.stub_client.specs.Looks.{Answers}
 use Rattle.stub_core.proofs.AttemptsLaws.{asked-without-memory, host-without-memory}
 use Rattle.stub_core.proofs.attempts.ask_with_hosts.Goals as goal

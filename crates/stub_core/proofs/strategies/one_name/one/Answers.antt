@@ -2,7 +2,7 @@ use Rattle.std.proofs.Common.{◌≡◌, ap, subst, ◌∙◌}
 use Rattle.std.proofs.lemmas.Result.{err_from_is_err_and}
 use Rattle.dns_names.specs.Name.{DomainName}
 use Rattle.dns_messages.specs.declared.query.Query.{Query}
-use Rattle.stub_cache.specs.Hosts.{question, static_lookup}
+use Rattle.stub_hosts.specs.Hosts.{question, static_lookup}
 use Rattle.stub_core.specs.Attempts.{WithHosts}
 use Rattle.stub_client.specs.Looks.{Answers}
 use Rattle.stub_core.proofs.AttemptsLaws.{asked-without-memory, host-without-memory}

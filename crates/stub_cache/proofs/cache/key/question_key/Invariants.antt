@@ -1,0 +1,7 @@
+use Rattle.std.proofs.Common.{◌≡◌, ◌++◌}
+use Rattle.stub_cache.specs.internal.Key.{key_of, labels_key}
+use Rattle.stub_cache.proofs.cache.key.question_key.Given as goal
+
+-- the labels that are left complete the key
+abbrev pub invariant-loop-label : goal.invariant-loop-label
+invariant-loop-label l = l.key.items ++ labels_key l.label-iterator ≡ key_of l.query

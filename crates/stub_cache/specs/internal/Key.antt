@@ -1,0 +1,23 @@
+-- Keys of questions, which tell the questions that have the same entry.
+use Rattle.std.specs.Prelude.{ℕ, Bool, List, ◌∷◌, length, if◌then◌else◌}
+use Rattle.std.specs.List.{flat_map}
+use Rattle.std.specs.Str.{str_to_ascii_lowercase}
+use Rattle.dns_codes.specs.RecordType.{type_number}
+use Rattle.dns_codes.specs.DNSClass.{class_number}
+use Rattle.dns_messages.specs.declared.query.Query.{Query}
+
+-- the length of a label, and its bytes with ASCII letters in lower case
+abbrev pub label_key : List ℕ → List ℕ
+label_key label = length label ∷ str_to_ascii_lowercase label
+
+-- the labels of a name, one after another
+abbrev pub labels_key : List (List ℕ) → List ℕ
+labels_key = flat_map label_key
+
+-- 1 for a fully qualified name, or else 0
+abbrev pub flag_key : Bool → ℕ
+flag_key is_fqdn = if is_fqdn then 1 else 0
+
+-- the numbers of the type and the class of a question, the flag of its name, and the labels
+abbrev pub key_of : Query → List ℕ
+key_of q = type_number q.query_type ∷ class_number q.query_class ∷ flag_key q.name.is_fqdn ∷ labels_key q.name.labels

@@ -1,0 +1,7 @@
+pub mod EntryLaws
+pub mod FileLaws
+pub mod HostKeyLaws
+pub mod HostsLaws
+pub mod LinesLaws
+pub mod PointerLaws
+pub mod WordsLaws

@@ -1,0 +1,3 @@
+pub mod Hosts
+pub mod HostsFile
+pub mod internal

@@ -1,0 +1,3 @@
+pub mod HostKeys
+pub mod Hosts
+pub mod HostsFile
