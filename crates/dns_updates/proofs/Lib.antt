@@ -1,2 +1,6 @@
+pub mod Walks
+pub mod SetLaws
+pub mod CodeLaws
+pub mod ChangeLaws
 pub mod UpdateLaws
 mod UpdateRows

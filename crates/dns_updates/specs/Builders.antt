@@ -1,7 +1,8 @@
 -- The updates that builders make (RFC 2136 sections 2.4 and 2.5), what each is to change, and for which sets.
-use Rattle.std.specs.Prelude.{◌≡◌, ◌≢◌, ◌&&◌, ◌||◌, ◌++◌, not, map, if◌then◌else◌, Bool, true, false, List, [], ◌∷◌, ℕ, Some, None}
+use Rattle.std.specs.Prelude.{◌≡◌, ◌≢◌, ◌==◌, ◌&&◌, ◌||◌, ◌++◌, not, map, if◌then◌else◌, Bool, true, false, List, [], ◌∷◌, ℕ, Some, None}
 use Rattle.std.specs.List.{filter, fold, AllByRecursion}
 use Rattle.std.specs.FinMap as rows_map
+use Rattle.dns_codes.specs.RecordType.{type_number}
 use Rattle.dns_codes.specs.declared.record_type.RecordType.{RecordType}
 use Rattle.dns_codes.specs.declared.record_type.RecordType.TheVariants as types
 use Rattle.dns_codes.specs.declared.dns_class.DNSClass.{DNSClass}
@@ -12,7 +13,7 @@ use Rattle.dns_data.specs.declared.rdata.RData.{RData}
 use Rattle.dns_data.specs.declared.rdata.RData.TheVariants as of
 use Rattle.dns_records.specs.declared.row.Row.{Row}
 use Rattle.dns_records.specs.Record.{Record}
-use Rattle.dns_records.specs.Rows.{Rows, rows_at, type_of_record, row_of, rows_of, set_key, with_set, HasNoEmptySet}
+use Rattle.dns_records.specs.Rows.{Key, Rows, key, rows_at, type_of_record, row_of, rows_of, set_key, with_set, HasNoEmptySet}
 use Rattle.dns_messages.specs.declared.message_type.MessageType.TheVariants as kinds
 use Rattle.dns_messages.specs.declared.op_code.OpCode.TheVariants as ops
 use Rattle.dns_messages.specs.declared.header.Metadata.{Metadata}
@@ -21,7 +22,7 @@ use Rattle.dns_messages.specs.declared.query.Query.{Query}
 use Rattle.dns_messages.specs.declared.message.Message.{Message}
 use Rattle.dns_messages.specs.Header.{new_metadata}
 use Rattle.dns_updates.specs.Records.{is_type, is_in_zone, has_data, is_meta_type, has_set, is_among, same_data_set}
-use Rattle.dns_updates.specs.Change.{with_row, without_name, without_set}
+use Rattle.dns_updates.specs.Change.{with_row}
 use Rattle.dns_records.specs.RecordSet.{RecordSetValue, AreDistinct, record_data, each_of_class, each_with_ttl}
 
 -- ---- messages
@@ -127,18 +128,33 @@ abbrev pub swapped : Rows → RecordSetValue → RecordSetValue → Rows
 swapped rows current new =
     if is_current rows current then with_set rows (set_key new) (rows_of new.records) else rows
 
--- without the rows that have data of the set
-abbrev pub deleted_rows : Rows → RecordSetValue → Rows
-deleted_rows rows s =
-    with_set rows (set_key s) (filter (λ row. not (is_among (data_of s.records) row.rdata)) (present rows s))
+-- whether a key is that of the SOA or the NS at an origin
+abbrev pub is_apex_key : DomainName → Key → Bool
+is_apex_key origin k =
+    same_labels origin.labels k.0 && ((k.1 == type_number types.SOA) || (k.1 == type_number types.NS))
 
--- without the rows of a name and a type, except SOA and NS at the origin
-abbrev pub deleted_set : DomainName → Rows → DomainName → RecordType → Rows
-deleted_set = without_set
+-- The rows without those of a name, ignoring ASCII case, and of a type: none is left, except SOA and NS at the origin. All
+-- others stay.
+pub record IsWithoutSet (origin owner : DomainName) (t : RecordType) (old new : Rows) : Type 0 where
+  pub apex : is_apex_key origin (key owner.labels t) ≡ true
+      → rows_map.get new (key owner.labels t) ≡ rows_map.get old (key owner.labels t)
+  pub deleted : is_apex_key origin (key owner.labels t) ≡ false → rows_map.get new (key owner.labels t) ≡ None
+  pub others : (k : Key) → k ≢ key owner.labels t → rows_map.get new k ≡ rows_map.get old k
 
--- without the rows of a name, except SOA and NS at the origin
-abbrev pub deleted_name : DomainName → Rows → DomainName → Rows
-deleted_name = without_name
+-- The rows without those of a name, ignoring ASCII case: none of any type is left, except SOA and NS at the origin. All
+-- others stay.
+pub record IsWithoutName (origin owner : DomainName) (old new : Rows) : Type 0 where
+  pub apex : (k : Key) → is_apex_key origin k ≡ true → rows_map.get new k ≡ rows_map.get old k
+  pub deleted : (k : Key) → same_labels owner.labels k.0 ≡ true → is_apex_key origin k ≡ false
+      → rows_map.get new k ≡ None
+  pub others : (k : Key) → same_labels owner.labels k.0 ≡ false → rows_map.get new k ≡ rows_map.get old k
+
+-- The rows without those that have data of a set, at its owner and type: the rows there with other data stay, in their
+-- order, and so do all other rows. No key is left with an empty set.
+pub record IsWithoutRows (s : RecordSetValue) (old new : Rows) : Type 0 where
+  pub remaining : present new s ≡ filter (λ row. not (is_among (data_of s.records) row.rdata)) (present old s)
+  pub others : (k : Key) → k ≢ set_key s → rows_map.get new k ≡ rows_map.get old k
+  pub filled : HasNoEmptySet new
 
 -- ---- for which sets and rows
 

@@ -1,9 +1,10 @@
 -- What updates ask of records and of the rows of a zone (RFC 2136 sections 2.4 and 2.5).
-use Rattle.std.specs.Prelude.{◌==◌, ◌&&◌, ◌||◌, nat_le, not, Bool, true, false, List, ℕ}
+use Rattle.std.specs.Prelude.{◌≡◌, ◌≢◌, ◌==◌, ◌&&◌, ◌||◌, nat_le, not, Bool, true, false, List, ℕ, None}
 use Rattle.std.specs.List.{list_any, list_all}
 use Rattle.std.specs.FinMap as rows_map
 use Rattle.dns_codes.specs.RecordType.{type_number}
 use Rattle.dns_codes.specs.declared.record_type.RecordType.{RecordType}
+use Rattle.dns_codes.specs.declared.record_type.RecordType.TheVariants as types
 use Rattle.dns_codes.specs.declared.dns_class.DNSClass.{DNSClass}
 use Rattle.dns_codes.specs.declared.dns_class.DNSClass.TheVariants as classes
 use Rattle.dns_names.specs.Name.{DomainName}
@@ -11,7 +12,7 @@ use Rattle.dns_names.specs.Compare.{same_labels, at_or_below}
 use Rattle.dns_data.specs.declared.rdata.RData.{RData}
 use Rattle.dns_data.specs.rdata.{same_data, is_update_data}
 use Rattle.dns_records.specs.Record.{Record}
-use Rattle.dns_records.specs.Rows.{Rows, key, type_of_record}
+use Rattle.dns_records.specs.Rows.{Key, Rows, key, type_of_record}
 
 -- ---- records
 
@@ -61,6 +62,15 @@ has_rows rows owner = list_any (λ k. same_labels owner.labels k.0) (rows_map.ke
 abbrev pub has_rows_but : Rows → DomainName → RecordType → Bool
 has_rows_but rows owner t =
     list_any (λ k. same_labels owner.labels k.0 && not (type_number t == k.1)) (rows_map.keys rows)
+
+-- the key of the CNAME rows at the owner of a key
+abbrev pub alias_key : Key → Key
+alias_key k = (k.0, type_number types.CNAME)
+
+-- no name has rows of another type beside a CNAME (RFC 1034 section 3.6.2)
+abbrev pub AreAliasesAlone : Rows → Type 0
+AreAliasesAlone rows = (k : Key) → rows_map.contains_key rows (alias_key k) ≡ true
+    → k.1 ≢ type_number types.CNAME → rows_map.get rows k ≡ None
 
 -- ---- sets of data
 

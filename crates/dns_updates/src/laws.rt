@@ -1,6 +1,7 @@
 //! Theorems about updates and their builders (RFC 2136).
 
 ghost use Rattle.std.specs.Prelude.{◌≡◌, ◌≢◌, ◌&&◌, Bool, ℕ, [], true, false, not};
+ghost use Rattle.std.specs.List.{AllByRecursion};
 ghost use Rattle.dns_codes.specs.declared.dns_class.DNSClass.{DNSClass};
 ghost use Rattle.dns_codes.specs.declared.dns_class.DNSClass.TheVariants.{IN};
 ghost use Rattle.dns_codes.specs.declared.record_type.RecordType.TheVariants as types;
@@ -9,11 +10,12 @@ ghost use Rattle.dns_names.specs.Compare.{same_labels};
 ghost use Rattle.dns_records.specs.Record.{Record};
 ghost use Rattle.dns_records.specs.RecordSet.{RecordSetValue};
 ghost use Rattle.dns_records.specs.Rows.{Rows, HasNoEmptySet, type_of_record};
+ghost use Rattle.dns_messages.specs.declared.message.Message.{Message};
 ghost use Rattle.dns_messages.specs.declared.response_code.ResponseCode.TheVariants.{NoError, YXRRSet, NXRRSet};
-ghost use Rattle.dns_updates.specs.Records.{is_type, is_in_zone, is_transfer_type};
-ghost use Rattle.dns_updates.specs.Code.{fault_if, update_code};
+ghost use Rattle.dns_updates.specs.Records.{AreAliasesAlone, is_type, is_in_zone, is_transfer_type};
+ghost use Rattle.dns_updates.specs.Code.{fault_if, prescan_code, update_code};
 ghost use Rattle.dns_updates.specs.Change.{update_change};
-ghost use Rattle.dns_updates.specs.Builders.{IsSetFor, AreRowsFor, is_present, is_current, created, appended, swapped, deleted_rows, deleted_set, deleted_name, create_message, append_message, compare_and_swap_message, delete_by_rdata_message, delete_rrset_message, delete_all_message};
+ghost use Rattle.dns_updates.specs.Builders.{IsSetFor, AreRowsFor, is_present, is_current, created, appended, swapped, IsWithoutRows, IsWithoutSet, IsWithoutName, create_message, append_message, compare_and_swap_message, delete_by_rdata_message, delete_rrset_message, delete_all_message};
 
 use dns_names::laws::{equal_labels_have_equal_lowercase, zone_of_ignores_case};
 
@@ -76,8 +78,7 @@ pub fn records_are_deleted_by_data()
         → update_code origin rows (delete_by_rdata_message id s origin e) ≡ NoError }
     ensures change { (id : ℕ) (origin : DomainName) (rows : Rows) (s : RecordSetValue) (e : Bool)
         → IsSetFor origin s → HasNoEmptySet rows
-        → update_change origin rows (delete_by_rdata_message id s origin e)
-        ≡ deleted_rows rows s }
+        → IsWithoutRows s rows (update_change origin rows (delete_by_rdata_message id s origin e)) }
 {
     equal_labels_have_equal_lowercase();
     zone_of_ignores_case();
@@ -92,8 +93,8 @@ pub fn sets_are_deleted()
         → update_code origin rows (delete_rrset_message id r origin e) ≡ NoError }
     ensures change { (id : ℕ) (origin : DomainName) (rows : Rows) (r : Record) (e : Bool)
         → is_type types.ANY (type_of_record r) ≡ false
-        → update_change origin rows (delete_rrset_message id r origin e)
-        ≡ deleted_set origin rows r.name (type_of_record r) }
+        → IsWithoutSet origin r.name (type_of_record r) rows
+        (update_change origin rows (delete_rrset_message id r origin e)) }
 {
     equal_labels_have_equal_lowercase();
     zone_of_ignores_case();
@@ -106,9 +107,30 @@ pub fn names_are_deleted()
         → update_code origin rows (delete_all_message id owner origin c e) ≡ NoError }
     ensures change { (id : ℕ) (origin : DomainName) (rows : Rows) (owner : DomainName)
         (c : DNSClass) (e : Bool)
-        → update_change origin rows (delete_all_message id owner origin c e)
-        ≡ deleted_name origin rows owner }
+        → IsWithoutName origin owner rows
+        (update_change origin rows (delete_all_message id owner origin c e)) }
 {
     equal_labels_have_equal_lowercase();
     zone_of_ignores_case();
+}
+
+/// Each update of a message that is answered with NoError passes the prescan (RFC 2136 section 3.4.1).
+pub fn accepted_updates_pass_the_prescan()
+    ensures { (origin : DomainName) (rows : Rows) (m : Message)
+        → update_code origin rows m ≡ NoError
+        → AllByRecursion (λ r. prescan_code origin r ≡ NoError) m.authorities }
+{}
+
+/// An update leaves no owner and type with an empty set, if there was none before.
+pub fn updates_leave_no_empty_set()
+    ensures { (origin : DomainName) (rows : Rows) (m : Message) → HasNoEmptySet rows
+        → HasNoEmptySet (update_change origin rows m) }
+{}
+
+/// An update adds no rows beside a CNAME, and no CNAME beside rows (RFC 2136 section 3.4.2.2).
+pub fn updates_leave_aliases_alone()
+    ensures { (origin : DomainName) (rows : Rows) (m : Message) → AreAliasesAlone rows
+        → AreAliasesAlone (update_change origin rows m) }
+{
+    equal_labels_have_equal_lowercase();
 }

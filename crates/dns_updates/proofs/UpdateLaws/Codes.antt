@@ -47,3 +47,10 @@ all_constant p false x (y ∷ ys) all = ap (λ c. c && list_all p (y ∷ ys)) al
 
 pub number_itself : (n : ℕ) → (n == n) ≡ true
 number_itself n = grind (arith, nat_tests)
+
+pub number_same : (m n : ℕ) → (m == n) ≡ true → m ≡ n
+number_same m n e = grind (arith, nat_tests)
+
+pub and_both : (a b : Bool) → (a && b) ≡ true → (a ≡ true) × (b ≡ true)
+and_both true b e = (refl, e)
+and_both false b e = absurd (cc)

@@ -1,5 +1,5 @@
 -- The updates of builders: the code with which each is answered, and what it changes.
-use Rattle.std.proofs.Common.{◌≡◌, ◌≢◌, ◌==◌, ℕ, Bool, true, false, cond, not, ◌&&◌, List, [], ◌∷◌, map, refl, sym, ap, ◌∙◌, is_some, Option, Some, None, unwrap_or}
+use Rattle.std.proofs.Common.{◌≡◌, ◌≢◌, ◌==◌, ℕ, Bool, true, false, cond, not, ◌&&◌, List, [], ◌∷◌, map, refl, sym, ap, ◌∙◌, subst, is_some, Option, Some, None, unwrap_or}
 use Rattle.std.specs.List.{fold, list_all, AllByRecursion}
 use Rattle.std.specs.FinMap as rows_map
 use Rattle.dns_codes.specs.RecordType.{type_number}
@@ -17,9 +17,10 @@ use Rattle.dns_updates.specs.Records.{is_type, is_in_class, is_in_zone, is_trans
 use Rattle.dns_updates.specs.Code.{prerequisite_code, test_code, prescan_code, sets_code, has_required, is_required_with, fault_if, first_fault, first_fault_of, update_code}
 use Rattle.dns_updates.specs.Change.{without_name, without_set, change, update_change}
 use Rattle.dns_records.specs.RecordSet.{RecordSetValue, each_with_ttl}
-use Rattle.dns_updates.specs.Builders.{IsRecordOf, IsSetFor, AreRowsFor, present, is_present, is_current, created, appended, swapped, deleted_rows, deleted_set, deleted_name, as_deletions, empty_record, create_message, append_message, compare_and_swap_message, delete_by_rdata_message, delete_rrset_message, delete_all_message}
+use Rattle.dns_updates.specs.Builders.{IsRecordOf, IsSetFor, AreRowsFor, present, is_present, is_current, created, appended, swapped, IsWithoutRows, IsWithoutSet, IsWithoutName, as_deletions, empty_record, create_message, append_message, compare_and_swap_message, delete_by_rdata_message, delete_rrset_message, delete_all_message}
 use Rattle.dns_updates.proofs.UpdateLaws.Maps.{set_at, with_set_full, set_at_with_set, with_set_twice, fold_at}
 use Rattle.dns_updates.proofs.UpdateLaws.Lists.{add, delete, remaining, all_map, filter_all, fold_add, fold_rows, fold_delete, fold_append, none_remain_equal, data_of_untimed}
+use Rattle.dns_updates.proofs.UpdateLaws.Deletions.{without_rows, is_without_set, is_without_name}
 use Rattle.dns_updates.proofs.UpdateLaws.Codes.{no_fault, no_fault_append, last_fault, code_of_parts, all_constant, number_itself}
 use Rattle.dns_updates.proofs.UpdateLaws.Sets.{plain_type, NoAlias, keeps_no_alias, Alike, InZoneAlike, zone_passes, record_key, owner_in_zone, addition, addition_passes, deletion, deletion_passes}
 
@@ -121,8 +122,10 @@ module _ (alike : Alike) (inside : InZoneAlike) (origin : DomainName) where
       code_of_parts _ NoError NoError _ (zone_passes alike origin s.dns_class h.in_class) (no_fault (prescan_code origin) (as_deletions s.records) (deletions_pass s h))
 
   pub delete_by_rdata_change : (id : ℕ) (rows : Rows) (s : RecordSetValue) (e : Bool) → IsSetFor origin s → HasNoEmptySet rows
-      → update_change origin rows (delete_by_rdata_message id s origin e) ≡ deleted_rows rows s
-  delete_by_rdata_change id rows s e h filled = deletions s h rows (filled (set_key s))
+      → IsWithoutRows s rows (update_change origin rows (delete_by_rdata_message id s origin e))
+  delete_by_rdata_change id rows s e h filled =
+      let P : Rows → Type 0 = λ new. IsWithoutRows s rows new in
+      subst P (sym (deletions s h rows (filled (set_key s)))) (without_rows s rows filled)
 
   pub delete_rrset_code : (id : ℕ) (rows : Rows) (r : Record) (e : Bool) → is_in_zone origin r.name ≡ true → r.dns_class ≡ classes.IN → is_transfer_type (type_of_record r) ≡ false
       → update_code origin rows (delete_rrset_message id r origin e) ≡ NoError
@@ -131,8 +134,11 @@ module _ (alike : Alike) (inside : InZoneAlike) (origin : DomainName) where
       (λ i. first_fault (first_fault (fault_if (not (zone i)) NotZone) (fault_if (transfer i) FormErr)) NoError)
 
   pub delete_rrset_change : (id : ℕ) (rows : Rows) (r : Record) (e : Bool) → is_type types.ANY (type_of_record r) ≡ false
-      → update_change origin rows (delete_rrset_message id r origin e) ≡ deleted_set origin rows r.name (type_of_record r)
-  delete_rrset_change id rows r e any = ap (λ b. cond b (without_name origin rows r.name) (without_set origin rows r.name (type_of_record r))) any
+      → IsWithoutSet origin r.name (type_of_record r) rows (update_change origin rows (delete_rrset_message id r origin e))
+  delete_rrset_change id rows r e any =
+      let P : Rows → Type 0 = λ new. IsWithoutSet origin r.name (type_of_record r) rows new in
+      subst P (sym (ap (λ b. cond b (without_name origin rows r.name) (without_set origin rows r.name (type_of_record r))) any))
+      (is_without_set alike origin rows r.name (type_of_record r))
 
   pub delete_all_code : (id : ℕ) (rows : Rows) (owner : DomainName) (c : DNSClass) (e : Bool) → is_in_zone origin owner ≡ true → c ≡ classes.IN
       → update_code origin rows (delete_all_message id owner origin c e) ≡ NoError
@@ -141,8 +147,8 @@ module _ (alike : Alike) (inside : InZoneAlike) (origin : DomainName) where
       (λ i. first_fault (first_fault (fault_if (not (zone i)) NotZone) NoError) NoError)
 
   pub delete_all_change : (id : ℕ) (rows : Rows) (owner : DomainName) (c : DNSClass) (e : Bool)
-      → update_change origin rows (delete_all_message id owner origin c e) ≡ deleted_name origin rows owner
-  delete_all_change id rows owner c e = refl
+      → IsWithoutName origin owner rows (update_change origin rows (delete_all_message id owner origin c e))
+  delete_all_change id rows owner c e = is_without_name alike origin rows owner
 
   -- ---- compare and swap
 

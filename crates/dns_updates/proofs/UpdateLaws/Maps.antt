@@ -56,7 +56,15 @@ unfolding filled
 get_with_set rows k [] q = rows_map.get-remove key_total rows k q
 get_with_set rows k (x ∷ xs) q = rows_map.get-insert key_total rows k (x ∷ xs) q
 
-unwrap_filled : (s : List Row) → unwrap_or (filled s) [] ≡ s
+pub filled_more : (x : Row) (xs : List Row) → filled (x ∷ xs) ≡ Some (x ∷ xs)
+unfolding filled
+filled_more x xs = refl
+
+pub filled_empty : filled [] ≡ None
+unfolding filled
+filled_empty = refl
+
+pub unwrap_filled : (s : List Row) → unwrap_or (filled s) [] ≡ s
 unfolding filled
 unwrap_filled [] = refl
 unwrap_filled (x ∷ xs) = refl
@@ -80,6 +88,13 @@ set_at_with_set rows k s = ap (λ o. unwrap_or o []) (get_set rows k s) ∙ unwr
 
 pub with_set_full : (rows : Rows) (k : Key) (s : List Row) → rows_map.get (with_set rows k s) k ≢ Some []
 with_set_full rows k s e = filled_full s (sym (get_set rows k s) ∙ e)
+
+pub filled_left : (rows : Rows) (k : Key) (s : List Row) → ((q : Key) → rows_map.get rows q ≢ Some []) → (q : Key) → rows_map.get (with_set rows k s) q ≢ Some []
+filled_left rows k s h q e = by (eq_by_cmp key_cmp q k) (sym (get_with_set rows k s q) ∙ e)
+  where
+    by : (b : Bool) → cond b (filled s) (rows_map.get rows q) ≡ Some [] → ⊥
+    by true f = filled_full s f
+    by false f = h q f
 
 pub get_other : (rows : Rows) (k : Key) (s : List Row) (q : Key) → eq_by_cmp key_cmp q k ≡ false → rows_map.get (with_set rows k s) q ≡ rows_map.get rows q
 get_other rows k s q e = get_with_set rows k s q ∙ ap (λ b. cond b (filled s) (rows_map.get rows q)) e

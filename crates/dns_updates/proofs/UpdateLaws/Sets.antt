@@ -1,6 +1,8 @@
 -- Updates of one set: the records of a set pass, and change its rows alone.
 use Rattle.std.proofs.Common.{◌≡◌, ◌==◌, ◌↔◌, ℕ, Bool, true, false, cond, not, ◌&&◌, ◌||◌, List, [], ◌∷◌, refl, sym, ap, ◌∙◌, is_some}
 use Rattle.std.specs.Ordering.{eq_by_cmp}
+use Rattle.std.specs.Str.{str_to_ascii_lowercase}
+use Rattle.std.proofs.lemmas.Str.Ascii.{lowercase-lowercase}
 use Rattle.std.specs.FinMap as rows_map
 use Rattle.dns_codes.specs.RecordType.{type_number}
 use Rattle.dns_codes.specs.declared.record_type.RecordType.{RecordType}
@@ -73,6 +75,14 @@ Alike = (a b : List (List ℕ)) → (same_labels a b ≡ true) ↔ (lower a ≡ 
 
 abbrev pub InZoneAlike : Type 0
 InZoneAlike = (o p a b : List (List ℕ)) → lower o ≡ lower p → lower a ≡ lower b → at_or_below o a ≡ at_or_below p b
+
+pub label_twice : (l : List ℕ) → str_to_ascii_lowercase (str_to_ascii_lowercase l) ≡ str_to_ascii_lowercase l
+label_twice [] = refl
+label_twice (c ∷ cs) = λ i. lowercase-lowercase c i ∷ label_twice cs i
+
+pub lower_twice : (labels : List (List ℕ)) → lower (lower labels) ≡ lower labels
+lower_twice [] = refl
+lower_twice (l ∷ labels) = λ i. label_twice l i ∷ lower_twice labels i
 
 pub zone_passes : Alike → (origin : DomainName) (c : DNSClass) → c ≡ classes.IN → zone_code origin (record { name = origin; query_type = types.SOA; query_class = c } ∷ []) ≡ NoError
 zone_passes alike origin c e =

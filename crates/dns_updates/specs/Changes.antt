@@ -1,0 +1,21 @@
+-- The changes of an update, as sets that stand in place of those of the zone.
+use Rattle.std.specs.Prelude.{◌==◌, ◌&&◌, not, Bool, List, [], ◌∷◌}
+use Rattle.dns_codes.specs.RecordType.{type_number}
+use Rattle.dns_codes.specs.declared.record_type.RecordType.{RecordType}
+use Rattle.dns_names.specs.Name.{DomainName}
+use Rattle.dns_records.specs.Rows.{Key, Rows, key, rows_of, with_set}
+use Rattle.dns_updates.specs.Records.{has_set}
+use Rattle.dns_updates.specs.declared.changes.changed_set.ChangedSet.{ChangedSet}
+
+-- the key of a changed set
+abbrev pub changed_key : ChangedSet → Key
+changed_key s = key s.name.labels s.record_type
+
+-- the rows with each changed set in place of the one at its key; an empty set is removed
+abbrev pub overlay : Rows → List ChangedSet → Rows
+overlay rows [] = rows
+overlay rows (s ∷ more) = with_set (overlay rows more) (changed_key s) (rows_of s.records)
+
+-- whether a name has rows of a type that is not another one
+abbrev pub is_other_set : Rows → DomainName → RecordType → RecordType → Bool
+is_other_set rows owner t other = not (type_number t == type_number other) && has_set rows owner other

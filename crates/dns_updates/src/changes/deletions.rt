@@ -1,0 +1,146 @@
+//! Deletions (RFC 2136 sections 3.4.2.3 and 3.4.2.4).
+
+ghost use Rattle.std.specs.Prelude.{◌≡◌, ◌==◌, ◌&&◌, length, OnOk};
+ghost use Rattle.std.specs.List.{fold};
+ghost use Rattle.dns_codes.specs.RecordType.{type_number};
+ghost use Rattle.dns_codes.specs.declared.dns_class.DNSClass.TheVariants.{ANY};
+ghost use Rattle.dns_codes.specs.declared.record_type.RecordType.TheVariants as types;
+ghost use Rattle.dns_records.specs.Rows.{Rows, set_of};
+ghost use Rattle.dns_updates.specs.Records.{is_of_type, is_origin};
+ghost use Rattle.dns_updates.specs.Change.{change_of_class, is_kept_set, keeps_rows, without_name, without_row, without_set};
+ghost use Rattle.dns_updates.specs.Changes.{overlay};
+
+use crate::changes::changed_set::ChangedSet;
+use crate::changes::current::{current_records, current_types};
+use crate::changes::edits::remove_data;
+use crate::changes::store::{store_records, take_records};
+use crate::record_tests::is_of_type;
+use crate::zone_rows::ZoneRows;
+use dns_names::Name;
+use dns_records::Record;
+use dns_wire::RecordType;
+use std::alloc::{AllocError, Global};
+
+/// Deletes the sets of a name, or that of a type.
+pub fn delete_sets<Z: ZoneRows>(
+    alloc: Global,
+    zone: &Z,
+    origin: &Name,
+    sets: &mut Vec<ChangedSet>,
+    update: &Record,
+) -> Result<(), AllocError>
+    ensures { OnOk result (overlay (Z.rows zone.now) sets.new.items
+        ≡ change_of_class origin.now (overlay (Z.rows zone.now) sets.old.items) ANY update.now) }
+{
+    let owner = &update.name;
+    if is_of_type(RecordType::ANY, update) {
+        delete_name(alloc, zone, origin, sets, owner)?;
+        return Ok(());
+    }
+    delete_set(alloc, origin, sets, owner, update.record_type())?;
+    Ok(())
+}
+
+/// Deletes the sets of a name.
+fn delete_name<Z: ZoneRows>(
+    alloc: Global,
+    zone: &Z,
+    origin: &Name,
+    sets: &mut Vec<ChangedSet>,
+    owner: &Name,
+) -> Result<(), AllocError>
+    ensures { OnOk result (overlay (Z.rows zone.now) sets.new.items
+        ≡ without_name origin.now (overlay (Z.rows zone.now) sets.old.items) owner.now) }
+{
+    let found = current_types(alloc, zone, sets.as_slice(), owner)?;
+    delete_types(alloc, origin, sets, owner, found.as_slice())?;
+    Ok(())
+}
+
+/// Deletes the sets of a name and of some types.
+fn delete_types(
+    alloc: Global,
+    origin: &Name,
+    sets: &mut Vec<ChangedSet>,
+    owner: &Name,
+    found: &[RecordType],
+) -> Result<(), AllocError>
+    ensures { OnOk result ((rows : Rows) → overlay rows sets.new.items
+        ≡ fold (λ left t. without_set origin.now left owner.now t)
+        (overlay rows sets.old.items) found.now) }
+{
+    for record_type in found {
+        delete_set(alloc, origin, sets, owner, *record_type)?;
+    }
+    Ok(())
+}
+
+/// Deletes the set of a name and a type.
+fn delete_set(
+    alloc: Global,
+    origin: &Name,
+    sets: &mut Vec<ChangedSet>,
+    owner: &Name,
+    record_type: RecordType,
+) -> Result<(), AllocError>
+    ensures { OnOk result ((rows : Rows) → overlay rows sets.new.items
+        ≡ without_set origin.now (overlay rows sets.old.items) owner.now record_type) }
+{
+    if is_kept_set(origin, owner, record_type) {
+        return Ok(());
+    }
+    store_records(sets, owner, record_type, Vec::new(alloc))?;
+    Ok(())
+}
+
+/// Returns `true` for a set that deletions of sets keep: SOA and NS at the origin.
+fn is_kept_set(origin: &Name, owner: &Name, record_type: RecordType) -> bool
+    ensures { result ≡ is_kept_set origin.now owner.now (type_number record_type) }
+{
+    origin.eq_ignore_root(owner)
+        && (record_type.is_same(RecordType::SOA) || record_type.is_same(RecordType::NS))
+}
+
+/// Deletes the rows with the data of a record from those of its owner and type, unless they are kept.
+pub fn delete_row<Z: ZoneRows>(
+    alloc: Global,
+    zone: &Z,
+    origin: &Name,
+    sets: &mut Vec<ChangedSet>,
+    update: &Record,
+) -> Result<(), AllocError>
+    ensures { OnOk result (overlay (Z.rows zone.now) sets.new.items
+        ≡ without_row origin.now (overlay (Z.rows zone.now) sets.old.items) update.now) }
+{
+    if keeps_rows(zone, origin, sets.as_slice(), update) {
+        return Ok(());
+    }
+    let owner = &update.name;
+    let record_type = update.record_type();
+    let mut records = take_records(alloc, zone, sets, owner, record_type)?;
+    remove_data(&mut records, &update.rdata);
+    store_records(sets, owner, record_type, records)?;
+    Ok(())
+}
+
+/// Returns `true` if deletions of rows keep a record's set: an SOA, and the last NS at the origin.
+fn keeps_rows<Z: ZoneRows>(zone: &Z, origin: &Name, sets: &[ChangedSet], update: &Record) -> bool
+    ensures { result ≡ keeps_rows origin.now (overlay (Z.rows zone.now) sets.now) update.now }
+{
+    is_of_type(RecordType::SOA, update) || is_last_name_server(zone, origin, sets, update)
+}
+
+/// Returns `true` for the last NS at the origin.
+fn is_last_name_server<Z: ZoneRows>(
+    zone: &Z,
+    origin: &Name,
+    sets: &[ChangedSet],
+    update: &Record,
+) -> bool
+    ensures { result ≡ (is_of_type types.NS update.now && (is_origin origin.now update.now.name
+        && (length (set_of (overlay (Z.rows zone.now) sets.now) update.now) == 1))) }
+{
+    is_of_type(RecordType::NS, update)
+        && origin.eq_ignore_root(&update.name)
+        && current_records(zone, sets, &update.name, update.record_type()).len() == 1
+}
