@@ -7,7 +7,8 @@
 //!
 //! - `program`: the program's run; `row`: a row, its verdict and the operations; `tally`: the counts;
 //! - `notation`: how a row writes long texts, and texts of several lines; `hex`: bytes in text;
-//! - `parts`: the parts of an input; `answer`: answers as text; `fault`: why a row has no answer.
+//! - `parts`: the parts of an input; `answer`: answers as text; `fault`: why a row has no answer;
+//! - `random`: numbers that look random.
 #![tactic(auto)]
 
 mod answer;
@@ -16,6 +17,7 @@ mod hex;
 mod notation;
 mod parts;
 mod program;
+mod random;
 mod row;
 mod tally;
 
@@ -25,4 +27,5 @@ pub use hex::{bytes_of, digits_of, hex_of};
 pub use notation::Notation;
 pub use parts::{parsed, split, two_words, word_and_rest};
 pub use program::run;
+pub use random::Random;
 pub use row::Operations;

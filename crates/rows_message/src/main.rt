@@ -3,10 +3,11 @@
 //! - `operation`: the operations by their words; `header`, `question`, `message`: messages and their parts;
 //! - `pieces`: parts of messages by themselves; `rebuilt`: messages that are made from others, and responses;
 //! - `damaged`: messages of which bytes are missing or changed;
-//! - `record_set`, `answer_sets`, `update`: sets of records, and updates.
+//! - `record_set`, `answer_sets`, `update`, `changes`: sets of records, updates, and what they change.
 #![tactic(auto)]
 
 mod answer_sets;
+mod changes;
 mod damaged;
 mod header;
 mod message;

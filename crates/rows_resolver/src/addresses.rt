@@ -10,9 +10,9 @@ use rows::{Answer, RowFault, split, two_words};
 use rows_text::{names_of, strategy_of};
 use std::alloc::Global;
 use std::net::IpAddr;
-use stub_cache::Hosts;
 use stub_config::DnsRequestOptions;
 use stub_core::lookup_ip_names;
+use stub_hosts::Hosts;
 
 /// `addresses STRATEGY ADDRESS NAMES || HOSTS || OUTCOMES`: the lookup of the addresses of names, with hosts and an address that
 /// is returned where no name has one, or `-`; behind bars the questions that were asked, and how many outcomes are left.

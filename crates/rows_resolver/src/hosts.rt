@@ -8,7 +8,7 @@ use rows::{Answer, RowFault, bytes_of, shown, split, text, two_words};
 use rows_text::{lookup_text, name_of, question_of, type_of};
 use std::alloc::Global;
 use std::fmt::Write;
-use stub_cache::{Hosts, HostsFault};
+use stub_hosts::{Hosts, HostsFault};
 use stub_lookup::Lookup;
 
 /// `hosts QUESTION, .. || TEXT`: what the hosts of a file have for each of the questions, parted by ` / `. A fault of the
@@ -74,7 +74,7 @@ fn push_found(
 }
 
 /// What hosts have for a question.
-fn found(alloc: Global, hosts: &Hosts, question: &str) -> Answer {
+pub(crate) fn found(alloc: Global, hosts: &Hosts, question: &str) -> Answer {
     let query = question_of(alloc, question)?;
     match hosts.lookup_static_host(&query, NOW)? {
         Some(lookup) => lookup_text(alloc, &lookup),

@@ -8,9 +8,9 @@ use dns_wire::RecordType;
 use rows::{Answer, split, two_words};
 use rows_text::{names_of, reply_text, type_of};
 use std::alloc::Global;
-use stub_cache::Hosts;
 use stub_config::DnsRequestOptions;
 use stub_core::{lookup_names, lookup_names_with_hosts};
+use stub_hosts::Hosts;
 
 /// `lookup-names TYPE NAMES || OUTCOMES`: a lookup of names, which commas part; behind bars the questions that it asked, and how
 /// many outcomes are left.

@@ -10,8 +10,8 @@ use rows_text::{
     error_text, name_of, reply_text, resolver_config_of, set_resolver_options, type_of,
 };
 use std::alloc::Global;
-use stub_cache::Hosts;
 use stub_core::{DnsHandle, ListHandle, Resolver, ResolverBuilder};
+use stub_hosts::Hosts;
 use stub_lookup::{Lookup, NetError};
 
 /// `resolver|set-hosts SETTINGS || LOOKUP || HOSTS || OUTCOMES`: a lookup of a resolver with hosts, which are set before it is built

@@ -3,7 +3,7 @@
 use dns_zone::ZoneFault;
 use rows::{Answer, RowFault, parsed, shown, two_words};
 use std::alloc::Global;
-use stub_cache::HostsFault;
+use stub_hosts::HostsFault;
 use stub_lookup::LinkFault;
 use stub_play::{Ending, PlayFault, ScriptFault};
 

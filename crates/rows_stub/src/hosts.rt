@@ -2,7 +2,7 @@
 
 use rows::RowFault;
 use std::alloc::Global;
-use stub_cache::{Hosts, HostsFault};
+use stub_hosts::{Hosts, HostsFault};
 
 /// The hosts of a file's text, read at 0; `-` has none.
 pub(crate) fn hosts_of(alloc: Global, text: &str) -> Result<Hosts, RowFault> {

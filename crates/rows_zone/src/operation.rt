@@ -1,6 +1,8 @@
 //! The operations, by their words.
 
-use crate::answer::answered;
+use crate::answer::{all_answered, answered};
+use crate::compare::compare;
+use crate::framing::{failing_frames, frames, write_frames};
 use crate::serve::{limit, serve, served_size};
 use crate::zone::{fault, zone, zone_at, zone_fault, zone_with};
 use crate::zone_file::{zone_file, zone_file_at, zone_file_repeated, zone_file_with};
@@ -20,9 +22,14 @@ pub(crate) fn answer(alloc: Global, word: &str, input: &str) -> Answer {
         "zone-file-with" => zone_file_with(alloc, input),
         "zone-file-repeated" => zone_file_repeated(alloc, input),
         "answer" => answered(alloc, input),
+        "answers" => all_answered(alloc, input),
+        "compare" => compare(alloc, input),
         "limit" => limit(alloc, input),
         "serve" => serve(alloc, input),
         "served-size" => served_size(alloc, input),
+        "frames" => frames(alloc, input),
+        "failing-frames" => failing_frames(alloc, input),
+        "write-frames" => write_frames(alloc, input),
         _ => Err(RowFault::UnknownOperation),
     }
 }
