@@ -14,10 +14,10 @@ use std::net::Ipv4Addr;
 use stub_cache::{ResponseCache, TtlConfig};
 use stub_lookup::Moment;
 
-/// The capacity of each cache: that of a resolver by default.
+/// The capacity of a cache, unless a size is given: that of a resolver by default.
 const CAPACITY: u64 = 8_192;
 
-/// The number of entries among which a question is looked for.
+/// The number of entries among which a question is looked for, unless a size is given.
 const ENTRIES: u64 = 1_024;
 
 /// The TTL of the addresses, in seconds.
@@ -25,7 +25,7 @@ const TTL: u32 = 300;
 
 /// Inserts the responses to two questions by turns, so that each replaces an earlier one.
 pub(crate) fn insert_responses(alloc: Global, count: u64) -> Result<u64> {
-    let mut cache = cache_of_hosts(alloc, 0)?;
+    let mut cache = cache_of_hosts(alloc, CAPACITY, 0)?;
     insert_by_turns(alloc, &mut cache, count)?;
     sum_of_two(alloc, &cache)
 }
@@ -45,36 +45,39 @@ fn sum_of_two(alloc: Global, cache: &ResponseCache) -> Result<u64> {
     Ok(first.wrapping_add(second))
 }
 
-/// Gets the responses to two of 1,024 questions by turns.
-pub(crate) fn get_responses(alloc: Global, count: u64) -> Result<u64> {
-    get_by_turns(alloc, count, (0, ENTRIES - 1))
+/// Gets the responses to the first and the last of the questions by turns.
+pub(crate) fn get_responses(alloc: Global, count: u64, size: Option<u64>) -> Result<u64> {
+    let entries = size.unwrap_or(ENTRIES);
+    get_by_turns(alloc, count, entries, (0, entries.saturating_sub(1)))
 }
 
-/// Gets nothing for two questions by turns, among 1,024 others.
-pub(crate) fn get_nothing(alloc: Global, count: u64) -> Result<u64> {
-    get_by_turns(alloc, count, (ENTRIES, ENTRIES + 1))
+/// Gets nothing for two questions by turns, among others.
+pub(crate) fn get_nothing(alloc: Global, count: u64, size: Option<u64>) -> Result<u64> {
+    let entries = size.unwrap_or(ENTRIES);
+    get_by_turns(alloc, count, entries, (entries, entries.wrapping_add(1)))
 }
 
 /// Inserts the responses to new questions into a full cache.
-pub(crate) fn replace_responses(alloc: Global, count: u64) -> Result<u64> {
-    let mut cache = cache_of_hosts(alloc, CAPACITY)?;
-    let last = insert_new(alloc, &mut cache, count)?;
+pub(crate) fn replace_responses(alloc: Global, count: u64, size: Option<u64>) -> Result<u64> {
+    let capacity = size.unwrap_or(CAPACITY);
+    let mut cache = cache_of_hosts(alloc, capacity, capacity)?;
+    let last = insert_new(alloc, &mut cache, capacity, count)?;
     ttl_of_host(alloc, &cache, last)
 }
 
 /// Inserts the responses to the questions for hosts that a full cache does not have, and returns the last of these.
-fn insert_new(alloc: Global, cache: &mut ResponseCache, count: u64) -> Result<u64> {
-    let mut last = CAPACITY;
+fn insert_new(alloc: Global, cache: &mut ResponseCache, capacity: u64, count: u64) -> Result<u64> {
+    let mut last = capacity;
     for turn in 0..count {
-        last = CAPACITY.wrapping_add(turn);
+        last = capacity.wrapping_add(turn);
         insert(alloc, cache, last, moment_of(turn))?;
     }
     Ok(last)
 }
 
-/// Gets what a cache of 1,024 entries has for two hosts by turns. The checksum counts the lookups and sums the TTLs.
-fn get_by_turns(alloc: Global, count: u64, hosts: (u64, u64)) -> Result<u64> {
-    let cache = cache_of_hosts(alloc, ENTRIES)?;
+/// Gets what a cache of so many entries has for two hosts by turns. The checksum counts the lookups and sums the TTLs.
+fn get_by_turns(alloc: Global, count: u64, entries: u64, hosts: (u64, u64)) -> Result<u64> {
+    let cache = cache_of_hosts(alloc, entries.max(CAPACITY), entries)?;
     let questions = (question_for(alloc, hosts.0)?, question_for(alloc, hosts.1)?);
     get_repeatedly(&cache, &questions, count)
 }
@@ -130,8 +133,8 @@ fn sum_of_ttls(records: &[Record]) -> u64 {
 }
 
 /// A cache with the responses to the questions for the first hosts, each from the moment 0.
-fn cache_of_hosts(alloc: Global, count: u64) -> Result<Box<ResponseCache>> {
-    let cache = ResponseCache::new(alloc, CAPACITY, TtlConfig::default(alloc));
+fn cache_of_hosts(alloc: Global, capacity: u64, count: u64) -> Result<Box<ResponseCache>> {
+    let cache = ResponseCache::new(alloc, capacity, TtlConfig::default(alloc));
     let mut cache = Box::new(alloc, cache)?;
     for host in 0..count {
         insert(alloc, &mut cache, host, 0)?;

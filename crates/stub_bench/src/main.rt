@@ -1,10 +1,11 @@
-//! `stub_bench WHAT COUNT`: repeats an operation on fixed inputs so often, and prints a checksum of what it gave, so that
-//! it can be timed from outside. `all` stands for every operation, one after another, but `cache-full`, whose cache takes long
+//! `stub_bench WHAT COUNT [SIZE]`: repeats an operation on fixed inputs so often, and prints a checksum of what it gave, so that
+//! it can be timed from outside. SIZE is the number of owners in a zone, of entries in a cache, or of names or addresses in hosts. `all` stands for every operation, one after another, but `cache-full`, whose cache takes long
 //! to fill.
 #![tactic(auto)]
 
 mod cache;
 mod data;
+mod hosts;
 mod message;
 mod operation;
 mod zone;
@@ -17,7 +18,7 @@ use std::env;
 use std::process::ExitCode;
 
 /// What may be repeated.
-const WHAT: [&str; 21] = [
+const WHAT: [&str; 24] = [
     "all",
     "name-read",
     "name-write",
@@ -38,6 +39,9 @@ const WHAT: [&str; 21] = [
     "cache-insert",
     "cache-hit",
     "cache-miss",
+    "hosts-read",
+    "hosts-read-addresses",
+    "hosts-read-names",
     "cache-full",
 ];
 
@@ -56,7 +60,7 @@ fn repeat_wanted<R: Print + AllocGlobal>(rt: &R, matches: &ArgMatches<'_>) -> Re
     else {
         bail!("WHAT and COUNT are needed");
     };
-    repeat_all(rt, what, count)?;
+    repeat_all(rt, what, count, matches.get_one::<u64>("SIZE"))?;
     Ok(ExitCode::SUCCESS)
 }
 
@@ -73,7 +77,8 @@ fn bench_command<'a>(alloc: Global) -> Result<Command<'a>, AllocError> {
     );
     command
         .arg(operation_argument(alloc))?
-        .arg(count_argument(alloc))
+        .arg(count_argument(alloc))?
+        .arg(size_argument(alloc))
 }
 
 /// The argument that names the operation.
@@ -92,12 +97,24 @@ fn count_argument<'a>(alloc: Global) -> Arg<'a> {
         .help("How often it is repeated")
 }
 
+/// The argument that says how large the input is.
+fn size_argument<'a>(alloc: Global) -> Arg<'a> {
+    Arg::new(alloc, "SIZE")
+        .value_parser(value_parser!(u64))
+        .help("How many owners, entries or hosts there are")
+}
+
 /// Repeats the operations that are meant, and prints their checksums.
-fn repeat_all<R: Print + AllocGlobal>(rt: &R, what: &str, count: u64) -> Result<()> {
+fn repeat_all<R: Print + AllocGlobal>(
+    rt: &R,
+    what: &str,
+    count: u64,
+    size: Option<u64>,
+) -> Result<()> {
     for operation in Operation::ALL {
         let name = operation.name();
         if what == name || (what == "all" && name != "cache-full") {
-            let checksum = operation.repeat(rt.alloc(), count)?;
+            let checksum = operation.repeat(rt.alloc(), count, size)?;
             println!(rt; "{name} {checksum}")?;
         }
     }

@@ -4,6 +4,7 @@ ghost use Rattle.std.specs.Prelude.{◌≡◌, []};
 
 use crate::cache::{get_nothing, get_responses, insert_responses, replace_responses};
 use crate::data::{parse_data, print_data, read_data, write_data};
+use crate::hosts::{read_addresses, read_hosts, read_names as read_host_names};
 use crate::message::{read_messages, write_messages};
 use crate::zone::{read_zones, serve_addresses, serve_aliases, serve_chains, serve_missing};
 use anyhow::Result;
@@ -36,7 +37,7 @@ pub(crate) enum Operation {
     MessageRead,
     /// Encodes this reply.
     MessageWrite,
-    /// Reads a zone file of 10,008 records and an SOA record.
+    /// Reads a zone file of 10,008 records and an SOA record, or of as many owners as are asked for.
     ZoneRead,
     /// Serves a question for the addresses of a name in that zone.
     ServeA,
@@ -48,11 +49,17 @@ pub(crate) enum Operation {
     ServeNxdomain,
     /// Inserts a response into a cache, in place of an earlier one.
     CacheInsert,
-    /// Gets a response from a cache of 1,024 entries.
+    /// Gets a response from a cache of 1,024 entries, or of as many as are asked for.
     CacheHit,
-    /// Gets nothing from a cache of 1,024 entries.
+    /// Gets nothing from such a cache.
     CacheMiss,
-    /// Inserts a response into a full cache of 8,192 entries.
+    /// Reads a hosts file of 1,000 names, or as many as are asked for, each with an address of its own.
+    HostsRead,
+    /// Reads a hosts file of a name with 1,000 addresses, or as many as are asked for.
+    HostsReadAddresses,
+    /// Reads a hosts file of an address with 1,000 names, or as many as are asked for.
+    HostsReadNames,
+    /// Inserts a response into a full cache of 8,192 entries, or of as many as are asked for.
     CacheFull,
 }
 
@@ -78,7 +85,7 @@ const BYTES: &[u8; 29] = b"\x03com\x00\x07example\xC0\x00\x03www\xC0\x05\x01a\xC
 
 impl Operation {
     /// All of them.
-    pub(crate) const ALL: [Operation; 20] = [
+    pub(crate) const ALL: [Operation; 23] = [
         Operation::NameRead,
         Operation::NameWrite,
         Operation::NameParse,
@@ -98,6 +105,9 @@ impl Operation {
         Operation::CacheInsert,
         Operation::CacheHit,
         Operation::CacheMiss,
+        Operation::HostsRead,
+        Operation::HostsReadAddresses,
+        Operation::HostsReadNames,
         Operation::CacheFull,
     ];
 
@@ -123,12 +133,15 @@ impl Operation {
             Operation::CacheInsert => "cache-insert",
             Operation::CacheHit => "cache-hit",
             Operation::CacheMiss => "cache-miss",
+            Operation::HostsRead => "hosts-read",
+            Operation::HostsReadAddresses => "hosts-read-addresses",
+            Operation::HostsReadNames => "hosts-read-names",
             Operation::CacheFull => "cache-full",
         }
     }
 
-    /// Repeats it so often. The checksum is a sum of lengths, places and outcomes.
-    pub(crate) fn repeat(self, alloc: Global, count: u64) -> Result<u64> {
+    /// Repeats it so often, in the size that is asked for, if it has one. The checksum is a sum of lengths, places and outcomes.
+    pub(crate) fn repeat(self, alloc: Global, count: u64, size: Option<u64>) -> Result<u64> {
         match self {
             Operation::NameRead => read_names(alloc, count),
             Operation::NameWrite => write_names(alloc, count),
@@ -141,15 +154,18 @@ impl Operation {
             Operation::DataPrint => print_data(alloc, count),
             Operation::MessageRead => read_messages(alloc, count),
             Operation::MessageWrite => write_messages(alloc, count),
-            Operation::ZoneRead => read_zones(alloc, count),
-            Operation::ServeA => serve_addresses(alloc, count),
-            Operation::ServeCname => serve_aliases(alloc, count),
-            Operation::ServeChain => serve_chains(alloc, count),
-            Operation::ServeNxdomain => serve_missing(alloc, count),
+            Operation::ZoneRead => read_zones(alloc, count, size),
+            Operation::ServeA => serve_addresses(alloc, count, size),
+            Operation::ServeCname => serve_aliases(alloc, count, size),
+            Operation::ServeChain => serve_chains(alloc, count, size),
+            Operation::ServeNxdomain => serve_missing(alloc, count, size),
             Operation::CacheInsert => insert_responses(alloc, count),
-            Operation::CacheHit => get_responses(alloc, count),
-            Operation::CacheMiss => get_nothing(alloc, count),
-            Operation::CacheFull => replace_responses(alloc, count),
+            Operation::CacheHit => get_responses(alloc, count, size),
+            Operation::CacheMiss => get_nothing(alloc, count, size),
+            Operation::HostsRead => read_hosts(alloc, count, size),
+            Operation::HostsReadAddresses => read_addresses(alloc, count, size),
+            Operation::HostsReadNames => read_host_names(alloc, count, size),
+            Operation::CacheFull => replace_responses(alloc, count, size),
         }
     }
 }

@@ -1,5 +1,5 @@
-//! The operations on zones: reading a zone file of an SOA record and 10,008 others, which 5,008 owners have, and serving
-//! questions over that zone.
+//! The operations on zones: reading a zone file of an SOA record and 10,008 others, which 5,008 owners have, or so many owners as
+//! are asked for and eight, and serving questions over that zone.
 
 use anyhow::Result;
 use dns_zone::{DatagramLimit, Road, Zone};
@@ -9,8 +9,11 @@ use std::fmt::Write;
 /// The start of the zone file.
 const HEAD: &str = "$ORIGIN example.com.\n$TTL 3600\n@ SOA ns host 1 3600 600 86400 300\n";
 
-/// How many groups of four owners the zone has.
+/// How many groups of four owners the zone has, unless a size is given.
 const GROUPS: u32 = 1_250;
+
+/// The most groups: their numbers have 16 bits.
+const MAX_GROUPS: u64 = 65_536;
 
 /// The header of a query with one question.
 const HEADER: &[u8] = b"\x00\x07\x01\x00\x00\x01\x00\x00\x00\x00\x00\x00";
@@ -19,8 +22,8 @@ const HEADER: &[u8] = b"\x00\x07\x01\x00\x00\x01\x00\x00\x00\x00\x00\x00";
 const QUESTION: &[u8] = b"\x07example\x03com\x00\x00\x01\x00\x01";
 
 /// Reads the zone file.
-pub(crate) fn read_zones(alloc: Global, count: u64) -> Result<u64> {
-    let text = zone_text(alloc)?;
+pub(crate) fn read_zones(alloc: Global, count: u64, size: Option<u64>) -> Result<u64> {
+    let text = zone_text(alloc, groups_of(size))?;
     let mut checksum = 0_u64;
     for _ in 0..count {
         let zone = Zone::from_text(alloc, text.as_str(), &[], None)?;
@@ -30,30 +33,46 @@ pub(crate) fn read_zones(alloc: Global, count: u64) -> Result<u64> {
 }
 
 /// Serves questions for the addresses of the first and the last owner that has two, by turns.
-pub(crate) fn serve_addresses(alloc: Global, count: u64) -> Result<u64> {
-    serve(alloc, b"\x02a0", b"\x05a1249", count)
+pub(crate) fn serve_addresses(alloc: Global, count: u64, size: Option<u64>) -> Result<u64> {
+    serve(alloc, 'a', count, groups_of(size))
 }
 
 /// Serves questions for the addresses of the first and the last alias, by turns.
-pub(crate) fn serve_aliases(alloc: Global, count: u64) -> Result<u64> {
-    serve(alloc, b"\x02c0", b"\x05c1249", count)
+pub(crate) fn serve_aliases(alloc: Global, count: u64, size: Option<u64>) -> Result<u64> {
+    serve(alloc, 'c', count, groups_of(size))
 }
 
 /// Serves questions for the addresses of the first name of a chain of seven aliases.
-pub(crate) fn serve_chains(alloc: Global, count: u64) -> Result<u64> {
-    serve(alloc, b"\x02e0", b"\x02e0", count)
+pub(crate) fn serve_chains(alloc: Global, count: u64, size: Option<u64>) -> Result<u64> {
+    serve_over(alloc, "e0", "e0", count, groups_of(size))
 }
 
 /// Serves questions for the addresses of two names that do not exist, by turns.
-pub(crate) fn serve_missing(alloc: Global, count: u64) -> Result<u64> {
-    serve(alloc, b"\x02n0", b"\x05n1249", count)
+pub(crate) fn serve_missing(alloc: Global, count: u64, size: Option<u64>) -> Result<u64> {
+    serve(alloc, 'n', count, groups_of(size))
+}
+
+/// How many groups a zone of so many owners has.
+fn groups_of(size: Option<u64>) -> u32 {
+    match size {
+        None => GROUPS,
+        Some(owners) => (owners / 4).min(MAX_GROUPS) as u32,
+    }
+}
+
+/// Serves questions for the addresses of the names of a letter in the first and the last group, by turns.
+fn serve(alloc: Global, letter: char, count: u64, groups: u32) -> Result<u64> {
+    let last = groups.saturating_sub(1);
+    let odd = format!(in alloc; "{letter}{last}")?;
+    let even = format!(in alloc; "{letter}0")?;
+    serve_over(alloc, even.as_str(), odd.as_str(), count, groups)
 }
 
 /// Serves questions for the addresses of two names below the origin, by turns. The checksum is the length of the replies.
-fn serve(alloc: Global, even: &[u8], odd: &[u8], count: u64) -> Result<u64> {
+fn serve_over(alloc: Global, even: &str, odd: &str, count: u64, groups: u32) -> Result<u64> {
     let even = request(alloc, even)?;
     let odd = request(alloc, odd)?;
-    let text = zone_text(alloc)?;
+    let text = zone_text(alloc, groups)?;
     let mut zone = Box::new(alloc, Zone::from_text(alloc, text.as_str(), &[], None)?)?;
     serve_by_turns(&mut zone, even.as_slice(), odd.as_slice(), count)
 }
@@ -78,18 +97,19 @@ fn reply_len(zone: &mut Zone, request: &[u8]) -> Result<u64> {
 }
 
 /// A request for the addresses of a name below the origin.
-fn request(alloc: Global, label: &[u8]) -> Result<Vec<u8>, AllocError> {
+fn request(alloc: Global, label: &str) -> Result<Vec<u8>> {
     let mut bytes = Vec::new(alloc);
     bytes.extend_from_slice(HEADER)?;
-    bytes.extend_from_slice(label)?;
+    bytes.push(u8::try_from(label.len())?)?;
+    bytes.extend_from_slice(label.as_bytes())?;
     bytes.extend_from_slice(QUESTION)?;
     Ok(bytes)
 }
 
 /// The zone file.
-fn zone_text(alloc: Global) -> Result<String, AllocError> {
+fn zone_text(alloc: Global, groups: u32) -> Result<String, AllocError> {
     let mut text = String::from_str(alloc, HEAD)?;
-    for group in 0..GROUPS {
+    for group in 0..groups {
         push_owners(&mut text, group)?;
     }
     push_chain(&mut text)?;
@@ -111,7 +131,7 @@ fn push_owners(text: &mut String, group: u32) -> Result<(), AllocError> {
     writeln!(text, "a{group} A 10.0.{high}.{low}")?;
     writeln!(text, " A 10.1.{high}.{low}")?;
     writeln!(text, "b{group} A 10.2.{high}.{low}")?;
-    writeln!(text, " AAAA 2001:db8::{group}")?;
+    writeln!(text, " AAAA 2001:db8::{group:x}")?;
     writeln!(text, "c{group} CNAME a{group}")?;
     writeln!(text, "d{group} A 10.3.{high}.{low}")?;
     writeln!(text, " MX 10 a{group}")?;
