@@ -57,6 +57,12 @@ room labels rest front key label e last fits =
     ap length (ap owner_code last ∙ code_of_last front label) ∙ length-append (label_code label) (owner_code front) in
     omega (arith, all, more, label_length label, code_length labels, fits)
 
+-- the bytes of an owner fit with one more
+pub fits : (labels rest : List (List ℕ)) (key : List ℕ) → owner_code labels ≡ key ++ owner_code rest → name_len labels ≤ 255 → length key ≤ 254
+fits labels rest key e most =
+    let all : length (owner_code labels) ≡ length key + length (owner_code rest) = ap length e ∙ length-append key (owner_code rest) in
+    omega (arith, all, code_length labels, most)
+
 pub further : (labels rest front : List (List ℕ)) (key new label : List ℕ) → owner_code labels ≡ key ++ owner_code rest → rest ≡ front ++ label ∷ []
     → new ≡ key ++ label_code label → owner_code labels ≡ new ++ owner_code front
 further labels rest front key new label e last is =

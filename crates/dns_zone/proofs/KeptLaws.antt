@@ -41,10 +41,10 @@ set_tie s t e f =
     ∙ keys_tie s.name.labels t.name.labels s.record_type t.record_type
 
 -- whether two sets are at the same key
-abbrev share_key : RecordSetValue → RecordSetValue → Bool
+abbrev pub share_key : RecordSetValue → RecordSetValue → Bool
 share_key s t = eq_by_cmp key_cmp (set_key s) (set_key t)
 
-abbrev AreApart : List RecordSetValue → Type 0
+abbrev pub AreApart : List RecordSetValue → Type 0
 AreApart sets = IsDistinct share_key sets
 
 others_distinct : (s : RecordSetValue) (ss : List RecordSetValue) → s.name.is_fqdn ≡ true → AreSoundSets ss → AllByRecursion (λ t. share_key s t ≡ false) ss → AllByRecursion (λ t. is_set_of s.name s.record_type t ≡ false) ss
@@ -55,7 +55,7 @@ others_apart : (s : RecordSetValue) (ss : List RecordSetValue) → s.name.is_fqd
 others_apart s [] e sound others = tt
 others_apart s (t ∷ ss) e sound others = (sym (set_tie s t e sound.0.fqdn) ∙ others.0, others_apart s ss e sound.1 others.1)
 
-distinct_of_apart : (sets : List RecordSetValue) → AreSoundSets sets → AreApart sets → AreDistinctSets sets
+pub distinct_of_apart : (sets : List RecordSetValue) → AreSoundSets sets → AreApart sets → AreDistinctSets sets
 unfolding IsDistinct
 distinct_of_apart [] sound d = tt
 distinct_of_apart (s ∷ ss) sound d = (others_distinct s ss sound.0.fqdn sound.1 d.0, distinct_of_apart ss sound.1 d.1)
@@ -70,7 +70,7 @@ others_in_order s [] after = tt
 others_in_order s (t ∷ ss) after =
     (sym (places_tie s.name.labels t.name.labels s.record_type t.record_type) ∙ ap is_eq after.0, others_in_order s ss after.1)
 
-apart_of_order : (sets : List RecordSetValue) → AreInOrder sets → AreApart sets
+pub apart_of_order : (sets : List RecordSetValue) → AreInOrder sets → AreApart sets
 unfolding IsDistinct IsStrictlySortedBy
 apart_of_order [] sorted = tt
 apart_of_order (s ∷ ss) sorted = (others_in_order s ss sorted.0, apart_of_order ss sorted.1)
@@ -81,11 +81,11 @@ neither : (a b : Bool) → (a || b) ≡ false → (a ≡ false) × (b ≡ false)
 neither true b e = absurd (cc)
 neither false b e = (refl, e)
 
-none_pass : {A : Type 0} (p : A → Bool) (xs : List A) → list_any p xs ≡ false → AllByRecursion (λ x. p x ≡ false) xs
+pub none_pass : {A : Type 0} (p : A → Bool) (xs : List A) → list_any p xs ≡ false → AllByRecursion (λ x. p x ≡ false) xs
 none_pass p [] e = tt
 none_pass p (x ∷ xs) e = let parts = neither (p x) (list_any p xs) e in (parts.0, none_pass p xs parts.1)
 
-all_fail : {A : Type 0} (p : A → Bool) (xs : List A) → AllByRecursion (λ x. p x ≡ false) xs → list_any p xs ≡ false
+pub all_fail : {A : Type 0} (p : A → Bool) (xs : List A) → AllByRecursion (λ x. p x ≡ false) xs → list_any p xs ≡ false
 all_fail p [] all = refl
 all_fail p (x ∷ xs) all = (λ i. all.0 i || list_any p xs) ∙ all_fail p xs all.1
 
@@ -97,7 +97,7 @@ found P p (x ∷ xs) all = at (p x) refl (found P p xs all.1)
     at true is more = (all.0, is)
     at false is more = more
 
-find_behind : (s : RecordSetValue) (front back : List RecordSetValue) → AllByRecursion (λ t. share_key t s ≡ false) front → set_at (front ++ s ∷ back) (set_key s) ≡ Some s
+pub find_behind : (s : RecordSetValue) (front back : List RecordSetValue) → AllByRecursion (λ t. share_key t s ≡ false) front → set_at (front ++ s ∷ back) (set_key s) ≡ Some s
 find_behind s [] back others = ap (λ b. cond b (Some s) (set_at back (set_key s))) ((eq_by_cmp_equiv key_total).refl (set_key s))
 find_behind s (t ∷ front) back others =
     ap (λ b. cond b (Some t) (set_at (front ++ s ∷ back) (set_key s))) ((eq_by_cmp_equiv key_total).symm (set_key s) (set_key t) ∙ others.0)
@@ -183,7 +183,7 @@ no_start_after apex s (t ∷ ss) inside after = by (is_start apex t) refl (no_st
     by true h more = absurd (not_before_start apex s t inside h after.0)
     by false h more = (λ i. h i || list_any (is_start apex) ss) ∙ more
 
-start_first : (apex : DomainName) (sets : List RecordSetValue) → AreInOrder sets → AllByRecursion (λ s. not (is_inside apex s) ≡ false) sets → list_any (is_start apex) sets ≡ true → BeginsWithStart apex sets
+pub start_first : (apex : DomainName) (sets : List RecordSetValue) → AreInOrder sets → AllByRecursion (λ s. not (is_inside apex s) ≡ false) sets → list_any (is_start apex) sets ≡ true → BeginsWithStart apex sets
 unfolding IsStrictlySortedBy
 start_first apex [] sorted inside some = absurd (cc)
 start_first apex (s ∷ ss) sorted inside some =

@@ -1,6 +1,8 @@
 pub mod AnswerLaws
+pub mod AppliedLaws
 pub mod ChainLaws
 pub mod CodeLaws
+pub mod FaultLaws
 pub mod FirstLaws
 pub mod GatherLaws
 pub mod InsertedLaws
@@ -8,6 +10,7 @@ pub mod KeptLaws
 pub mod LineLaws
 pub mod ListLaws
 pub mod LoadLaws
+pub mod OwnerLaws
 pub mod PlaceLaws
 pub mod PrintableLaws
 pub mod PrintedLaws
@@ -15,3 +18,6 @@ pub mod RowLaws
 pub mod SectionLaws
 pub mod ServingLaws
 pub mod SetLaws
+pub mod StoreLaws
+pub mod UpdatedLaws
+pub mod WholeLaws

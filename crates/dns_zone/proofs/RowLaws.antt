@@ -1,6 +1,6 @@
 -- The rows of sets: where a set stands, and what one more row makes of them.
 use Rattle.std.proofs.lemmas.List.{length-map}
-use Rattle.std.proofs.Common.{◌≡◌, ◌==◌, ◌≢◌, ℕ, Bool, true, false, cond, ◌&&◌, ◌||◌, List, [], ◌∷◌, map, refl, sym, ap, ◌∙◌, subst, length, arith, Option, Some, None, unwrap_or}
+use Rattle.std.proofs.Common.{◌≡◌, ◌==◌, ◌≢◌, ℕ, Bool, true, false, cond, ◌&&◌, ◌||◌, List, [], ◌∷◌, map, refl, sym, ap, ◌∙◌, subst, length, arith, Option, Some, None, unwrap_or, is_some}
 use Rattle.std.specs.List.{list_any}
 use Rattle.std.specs.Ordering.{eq_by_cmp, nat_cmp, ordering_then}
 use Rattle.std.proofs.Common.{Ordering, Less, Equal, Greater}
@@ -60,6 +60,11 @@ entries_of sets = map (λ (s : RecordSetValue). (set_key s, rows_of s.records)) 
 unfoldable pub rows_if : Option RecordSetValue → Option (List Row)
 rows_if None = None
 rows_if (Some s) = Some (rows_of s.records)
+
+pub is_some_rows : (o : Option RecordSetValue) → is_some (rows_if o) ≡ is_some o
+unfolding rows_if
+is_some_rows None = refl
+is_some_rows (Some s) = refl
 
 find_set : (q : Key) (sets : List RecordSetValue) → find key_cmp q (entries_of sets) ≡ rows_if (list.find (tied q) sets)
 unfolding rows_if

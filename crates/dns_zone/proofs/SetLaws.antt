@@ -41,7 +41,7 @@ Entry = Stored × RecordSetValue
 
 -- ---- look-ups
 
-one_tie : (k p : Stored) (a : List (List ℕ)) (t : RecordType) (s : RecordSetValue) → place_of k ≡ place a t → place_of p ≡ set_place s
+pub one_tie : (k p : Stored) (a : List (List ℕ)) (t : RecordType) (s : RecordSetValue) → place_of k ≡ place a t → place_of p ≡ set_place s
     → is_at (stored_cmp k) p ≡ tied (key a t) s
 one_tie k p a t s e f = (λ i. eq_by_cmp place_cmp (e i) (f i)) ∙ places_tie a s.name.labels t s.record_type
 
@@ -148,7 +148,7 @@ removed_at es new k a t q all e is none = by (eq_by_cmp key_cmp q (key a t)) ref
 
 -- ---- names below a name
 
-then_equal : (r s : Ordering) → r ≡ Equal → ordering_then r s ≡ s
+pub then_equal : (r s : Ordering) → r ≡ Equal → ordering_then r s ≡ s
 then_equal Less s e = absurd (cc)
 then_equal Equal s e = refl
 then_equal Greater s e = absurd (cc)
@@ -167,7 +167,7 @@ numbers_tie : (c d : ℕ) → nat_cmp c d ≡ Equal → c ≡ d
 numbers_tie c d e = ranked c d Equal (sym e)
 
 -- what lies between a front and a list that begins with it begins with it
-between : (p y x : List ℕ) → is_gt (slice_cmp nat_cmp p y) ≡ false → is_gt (slice_cmp nat_cmp y (p ++ x)) ≡ false → (z : List ℕ) × (y ≡ p ++ z)
+pub between : (p y x : List ℕ) → is_gt (slice_cmp nat_cmp p y) ≡ false → is_gt (slice_cmp nat_cmp y (p ++ x)) ≡ false → (z : List ℕ) × (y ≡ p ++ z)
 between [] y x g h = (y, refl)
 between (c ∷ p) [] x g h = absurd (cc)
 between (c ∷ p) (d ∷ y) x g h = by (nat_cmp c d) refl (between p y x)
@@ -187,7 +187,7 @@ between (c ∷ p) (d ∷ y) x g h = by (nat_cmp c d) refl (between p y x)
         absurd (cc)
 
 -- a key is from the first key of a name on where its bytes are
-from_start : (r : Ordering) (n : ℕ) → is_le (ordering_then r (nat_cmp 0 n)) ≡ not (is_gt r)
+pub from_start : (r : Ordering) (n : ℕ) → is_le (ordering_then r (nat_cmp 0 n)) ≡ not (is_gt r)
 from_start Less n = refl
 from_start Equal n = by (nat_cmp 0 n) (nat_cmp_total) refl
   where
@@ -232,7 +232,7 @@ none_after name x (y ∷ es) e all after g other = by (below name y.1) refl (non
         absurd (cc)
     by false h more = (λ i. h i || list_any (below name) (values_of es)) ∙ more
 
-not_true : (b : Bool) → not b ≡ true → b ≡ false
+pub not_true : (b : Bool) → not b ≡ true → b ≡ false
 not_true true e = absurd (cc)
 not_true false e = refl
 

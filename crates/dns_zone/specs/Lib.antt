@@ -5,3 +5,4 @@ pub mod Load
 pub mod Printed
 pub mod Section
 pub mod Serving
+pub mod internal

@@ -20,6 +20,8 @@ use Rattle.dns_messages.specs.Header.{peeked_metadata}
 use Rattle.dns_messages.specs.Message.{payload_of}
 use Rattle.dns_messages.specs.Cut.{cut, cut_form}
 use Rattle.dns_messages.specs.Grammar.{ReadsMessage}
+use Rattle.dns_updates.specs.Change.{update_change}
+use Rattle.dns_updates.specs.Code.{update_code}
 
 abbrev pub is_query : Option Metadata → Bool
 is_query (Some m) = elim m.message_type [ kinds.Query ↦ true | kinds.Response ↦ false ]
@@ -29,11 +31,11 @@ is_query None = false
 abbrev pub has_query_header : List ℕ → Bool
 has_query_header bytes = is_query (peeked_metadata bytes)
 
--- AA is set if the zone decides whether the records exist
-abbrev pub has_authority : ResponseCode → Bool
-has_authority NoError = true
-has_authority NXDomain = true
-has_authority code = false
+-- AA is set if the zone decides whether the records of a query exist (RFC 1035 section 4.1.1)
+abbrev pub has_authority : OpCode → ResponseCode → Bool
+has_authority ops.Query NoError = true
+has_authority ops.Query NXDomain = true
+has_authority op code = false
 
 -- id, opcode, RD and CD are the request's
 abbrev pub reply_metadata : Metadata → ResponseCode → Metadata
@@ -41,7 +43,7 @@ reply_metadata m code = record {
   id = m.id;
   message_type = kinds.Response;
   op_code = m.op_code;
-  authoritative = has_authority code;
+  authoritative = has_authority m.op_code code;
   truncation = false;
   recursion_desired = m.recursion_desired;
   recursion_available = false;
@@ -86,6 +88,7 @@ reply_to_queries zone m queries = bare_reply m FormErr
 
 abbrev pub reply_by_code : ZoneContent → Message → OpCode → Message
 reply_by_code zone m ops.Query = reply_to_queries zone m m.queries
+reply_by_code zone m ops.Update = bare_reply m (update_code zone.origin zone.rows m)
 reply_by_code zone m other = bare_reply m NotImp
 
 -- the whole reply to a request
@@ -120,14 +123,29 @@ pub record IsReplyTo (zone : ZoneContent) (road : Road) (m : Message) (out : Lis
   pub decodes : ReadsMessage out (sent_reply zone road m)
   pub within : length out ≤ reply_limit road m
 
--- the bytes are a query, and out is its reply
-pub record AreServed (zone : ZoneContent) (road : Road) (bytes out : List ℕ) : Type 0 where
+-- the zone after an update with this response code: only NoError changes its rows
+abbrev pub zone_by_code : ZoneContent → Message → ResponseCode → ZoneContent
+zone_by_code zone m NoError = record zone { rows = update_change zone.origin zone.rows m }
+zone_by_code zone m fault = zone
+
+abbrev pub zone_by_op : ZoneContent → Message → OpCode → ZoneContent
+zone_by_op zone m ops.Update = zone_by_code zone m (update_code zone.origin zone.rows m)
+zone_by_op zone m other = zone
+
+-- the zone after a request: only an update changes it (RFC 2136 section 3)
+abbrev pub zone_after : ZoneContent → Message → ZoneContent
+zone_after zone m = zone_by_op zone m m.metadata.op_code
+
+-- the bytes are a query, out is its reply, and after is the zone that it leaves
+pub record AreServed (zone : ZoneContent) (road : Road) (bytes out : List ℕ) (after : ZoneContent) : Type 0 where
   pub request : Message
   pub reads : ReadsMessage bytes request
   pub asks : request.metadata.message_type ≡ kinds.Query
   pub replied : IsReplyTo zone road request out
+  pub after_is : after ≡ zone_after zone request
 
--- Every query has a reply. Only bytes that do not decode, and responses, have none.
-abbrev pub Serves : ZoneContent → Road → List ℕ → Option (List ℕ) → Type 0
-Serves zone road bytes None = (m : Message) → ReadsMessage bytes m → m.metadata.message_type ≡ kinds.Response
-Serves zone road bytes (Some out) = AreServed zone road bytes out
+-- Every query has a reply. Only bytes that do not decode, and responses, have none, and leave the zone unchanged.
+abbrev pub Serves : ZoneContent → Road → List ℕ → Option (List ℕ) → ZoneContent → Type 0
+Serves zone road bytes None after =
+    (after ≡ zone) × ((m : Message) → ReadsMessage bytes m → m.metadata.message_type ≡ kinds.Response)
+Serves zone road bytes (Some out) after = AreServed zone road bytes out after

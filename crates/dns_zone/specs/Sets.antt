@@ -1,5 +1,5 @@
 -- The record sets of a zone, and the order in which they are kept.
-use Rattle.std.specs.Prelude.{◌≡◌, ◌+◌, ◌==◌, ◌++◌, cond, nat_lt, map, flat_map, reverse, find, List, [], ◌∷◌, ℕ, Option}
+use Rattle.std.specs.Prelude.{◌≡◌, ◌+◌, ◌==◌, ◌++◌, cond, nat_lt, map, flat_map, reverse, find, List, [], ◌∷◌, ℕ, Option, Some, None}
 use Rattle.std.specs.Char.{to_ascii_lowercase}
 use Rattle.std.specs.Cmp.Lexicographic.{slice_cmp}
 use Rattle.std.specs.List.{AllByRecursion}
@@ -9,12 +9,18 @@ use Rattle.std.specs.declared.cmp.Ordering.{Ordering}
 use Rattle.arrayvec.specs.ArrayVec.{ArrayVec}
 use Rattle.dns_codes.specs.RecordType.{type_number}
 use Rattle.dns_codes.specs.declared.record_type.RecordType.{RecordType}
+use Rattle.dns_records.specs.Record.{Record}
 use Rattle.dns_records.specs.RecordSet.{RecordSetValue}
 use Rattle.dns_zone.specs.Rows.{Key, key_cmp, set_key}
 
 -- the set at a key, if there is one
 abbrev pub set_at : List RecordSetValue → Key → Option RecordSetValue
 set_at sets k = find (λ s. eq_by_cmp key_cmp k (set_key s)) sets
+
+-- the set with other records, if there is one
+abbrev pub with_records : List Record → Option RecordSetValue → Option RecordSetValue
+with_records records None = None
+with_records records (Some s) = Some (record s { records = records })
 
 -- ---- the order of sets
 

@@ -2,11 +2,18 @@
 
 ghost use Rattle.std.specs.Prelude.{◌≡◌, false, ℕ, List, [], None, Ok};
 ghost use Rattle.dns_codes.specs.declared.record_type.RecordType.TheVariants as types;
+ghost use Rattle.dns_codes.specs.declared.dns_class.DNSClass.TheVariants.{IN};
+ghost use Rattle.dns_messages.specs.declared.message.Message.{Message};
 ghost use Rattle.dns_messages.specs.declared.query.Query.{Query};
+ghost use Rattle.dns_messages.specs.declared.response_code.ResponseCode.TheVariants.{NoError};
+ghost use Rattle.dns_messages.specs.Sound.{IsSound};
+ghost use Rattle.dns_updates.specs.Change.{update_change};
+ghost use Rattle.dns_updates.specs.Code.{update_code};
+ghost use Rattle.std.specs.List.{AllByRecursion};
 ghost use Rattle.dns_zone.specs.Answer.{answer, direct_answer, is_refused, IsChain};
 ghost use Rattle.dns_zone.specs.Load.{ReadsZone};
 ghost use Rattle.dns_zone.specs.Printed.{IsZoneText, IsPrintable};
-ghost use Rattle.dns_zone.specs.Rows.{ZoneContent, rows_at};
+ghost use Rattle.dns_zone.specs.Rows.{ZoneContent, rows_at, IsSoundRowData, IsZone};
 
 /// Without an alias at the name in a question, the answer has the rows of its type, or is negative.
 pub fn names_without_alias_are_answered_directly()
@@ -27,4 +34,19 @@ pub fn answers_are_alias_chains()
 pub fn printed_zones_parse_back()
     ensures { (zone : ZoneContent) (text : List ℕ) → IsZoneText zone text → IsPrintable zone
         → ReadsZone [] None text (Ok zone) }
+{}
+
+/// An update that is answered with NoError keeps a zone well formed: its additions are rows that can be encoded, at or below
+/// the origin, and its deletions keep the SOA record.
+pub fn updates_keep_zones_well_formed()
+    ensures { (zone : ZoneContent) (m : Message) → IsZone zone → IsSound m
+        → update_code zone.origin zone.rows m ≡ NoError
+        → IsZone (record zone { rows = update_change zone.origin zone.rows m }) }
+{}
+
+/// Each addition of an update that is answered with NoError has data that can be encoded in a section.
+pub fn accepted_additions_have_sound_data()
+    ensures { (zone : ZoneContent) (m : Message) → IsSound m
+        → update_code zone.origin zone.rows m ≡ NoError
+        → AllByRecursion (λ r. r.dns_class ≡ IN → IsSoundRowData r.rdata) m.authorities }
 {}

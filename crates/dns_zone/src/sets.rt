@@ -1,17 +1,19 @@
 //! The record sets of a zone, by owner in canonical order (RFC 4034 section 6.1) and by type.
 
-ghost use Rattle.std.specs.Prelude.{◌≡◌, [], List, None, Some, IfOk, OnOk, OnErr, option_copied, if◌then◌else◌};
-ghost use Rattle.std.specs.List.{list_any};
+ghost use Rattle.std.specs.Prelude.{◌≡◌, [], List, None, Some, IfOk, OnOk, OnErr, option_copied, is_some, map, if◌then◌else◌};
+ghost use Rattle.std.specs.List.{filter, list_any};
 ghost use Rattle.std.specs.Ordering.{eq_by_cmp};
-ghost use Rattle.dns_names.specs.Compare.{at_or_below};
+ghost use Rattle.dns_names.specs.Compare.{at_or_below, same_labels};
 ghost use Rattle.dns_zone.specs.Rows.{Key, key, key_cmp, set_key};
-ghost use Rattle.dns_zone.specs.Sets.{set_at, AreInOrder};
+ghost use Rattle.dns_zone.specs.Sets.{set_at, with_records, AreInOrder};
 
 mod key;
+mod store;
+mod zone_rows;
 
-use crate::sets::key::{SetKey, first_key, set_key};
+use crate::sets::key::{SetKey, end_key, first_key, set_key};
 use dns_names::Name;
-use dns_records::RecordSet;
+use dns_records::{Record, RecordSet};
 use dns_wire::RecordType;
 use std::alloc::{AllocError, Global};
 use std::collections::{BTreeMap, btree_map};
@@ -80,6 +82,13 @@ impl ZoneSets {
         self.map.get(&set_key(owner, record_type))
     }
 
+    /// Returns `true` if there is a set of an owner and a type.
+    pub fn contains(&self, owner: &Name, record_type: RecordType) -> bool
+        ensures { result ≡ is_some (set_at self.now (key owner.now.labels record_type)) }
+    {
+        self.map.contains_key(&set_key(owner, record_type))
+    }
+
     /// Returns `true` if the owner of some set is at or below the name.
     pub fn has_set_below(&self, name: &Name) -> bool
         ensures { result ≡ list_any (λ s. at_or_below name.now.labels s.name.labels) self.now }
@@ -93,6 +102,50 @@ impl ZoneSets {
         {
             Some((next, _)) => next.0.as_slice().starts_with(start.0.as_slice()),
             None => false,
+        }
+    }
+
+    /// Returns `true` if some set has the owner.
+    pub fn has_set_of(&self, owner: &Name) -> bool
+        ensures { result ≡ list_any (λ s. same_labels owner.now.labels s.name.labels) self.now }
+    {
+        let (start, end) = (first_key(owner), end_key(owner));
+        match self
+            .map
+            .range((Bound::Included(&start), Bound::Excluded(&end)))
+            .next()
+        {
+            Some(_) => true,
+            None => false,
+        }
+    }
+
+    /// Returns the types of the sets of an owner.
+    pub fn types_of(&self, alloc: Global, owner: &Name) -> Result<Vec<RecordType>, AllocError>
+        ensures { IfOk result (λ found. found.items ≡ map (λ s. s.record_type)
+            (filter (λ s. same_labels owner.now.labels s.name.labels) self.now)) }
+    {
+        let (start, end) = (first_key(owner), end_key(owner));
+        let mut found = Vec::new(alloc);
+        let mut sets = self
+            .map
+            .range((Bound::Included(&start), Bound::Excluded(&end)));
+        while let Some((_, set)) = sets.next() {
+            found.push(set.record_type())?;
+        }
+        Ok(found)
+    }
+
+    /// Replaces the records of the set of an owner and a type, if there is one.
+    pub fn set_records(&mut self, owner: &Name, record_type: RecordType, records: Vec<Record>)
+        ensures sets { (k : Key) → set_at self.new k
+            ≡ (if eq_by_cmp key_cmp k (key owner.now.labels record_type)
+            then with_records records.items (set_at self.old k)
+            else set_at self.old k) }
+        ensures ordered { AreInOrder self.new }
+    {
+        if let Some(set) = self.map.get_mut(&set_key(owner, record_type)) {
+            set.set_records(records);
         }
     }
 

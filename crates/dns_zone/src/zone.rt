@@ -1,6 +1,7 @@
 //! Zones (RFC 1034 section 4.2).
 
 ghost use Rattle.std.specs.Prelude.{◌≡◌};
+ghost use Rattle.dns_zone.specs.Rows.{IsZone};
 
 mod answer;
 mod chain;
@@ -10,6 +11,7 @@ mod reply;
 mod row_refs;
 mod section;
 mod serve;
+mod update;
 
 use crate::sets::ZoneSets;
 pub use answer::Answer;
@@ -74,9 +76,17 @@ impl Model for Zone {
 impl Zone {
     /// Returns the origin, spelled as in the zone file.
     pub fn origin(&self) -> &Name
-        ensures { result.now ≡ self.now.origin }
+        ensures origin { result.now ≡ self.now.origin }
+        ensures well_formed { IsZone self.now }
     {
         &self.origin
+    }
+
+    /// Proves that the zone is well formed; nothing is computed.
+    fn well_formed(&self)
+        ensures { IsZone self.now }
+    {
+        let _origin = self.origin();
     }
 }
 

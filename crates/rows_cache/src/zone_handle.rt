@@ -1,6 +1,6 @@
 //! A handle that answers from a zone.
 
-ghost use Rattle.std.specs.Prelude.{◌≡◌};
+ghost use Rattle.std.specs.Prelude.{◌≡◌, length};
 
 use dns_messages::{DnsResponse, Message, OpCode, Query};
 use dns_zone::{Answer as ZoneAnswer, Zone};
@@ -33,17 +33,20 @@ impl DnsHandle for ZoneHandle {
     ghost gives = { λ old request now outcome new. new ≡ old };
 
     fn send(&mut self, request: DnsRequest, _now: Moment) -> Result<DnsResponse, NetError> {
-        match request.message().queries.as_slice().first() {
-            Some(query) => self.respond(query),
-            None => Err(NetError::Unsupported),
+        let request = request.message();
+        match request.queries.as_slice() {
+            [query] => self.respond(request, query),
+            _ => Err(NetError::Unsupported),
         }
     }
 }
 
 impl ZoneHandle {
-    /// The response of the zone to a question.
-    fn respond(&self, query: &Query) -> Result<DnsResponse, NetError> {
-        let message = self.reply(query)?;
+    /// The response of the zone to a request with this question.
+    fn respond(&self, request: &Message, query: &Query) -> Result<DnsResponse, NetError>
+        requires { length request.now.queries ≡ 1 }
+    {
+        let message = self.reply(request, query)?;
         match DnsResponse::from_message(self.alloc, message) {
             Ok(response) => Ok(response),
             Err(_) => Err(NetError::Unsupported),
@@ -51,9 +54,11 @@ impl ZoneHandle {
     }
 
     /// The message of the response.
-    fn reply(&self, query: &Query) -> Result<Message, AllocError> {
+    fn reply(&self, request: &Message, query: &Query) -> Result<Message, AllocError>
+        requires { length request.now.queries ≡ 1 }
+    {
         let mut message = response_to(self.alloc, query)?;
-        set_answer(&mut message, self.zone.answer(query)?);
+        set_answer(&mut message, self.zone.answer(request)?);
         Ok(message)
     }
 }

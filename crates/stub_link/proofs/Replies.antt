@@ -17,7 +17,7 @@ use Rattle.dns_messages.specs.Grammar.{ReadsMessage}
 use Rattle.dns_messages.specs.Question.{same_question}
 use Rattle.dns_zone.specs.declared.road.Road.TheVariants.{Datagram}
 use Rattle.dns_zone.specs.Rows.{ZoneContent}
-use Rattle.dns_zone.specs.Serving.{Serves, query_reply, reply, reply_by_code, reply_limit, reply_to_queries, sent_reply}
+use Rattle.dns_zone.specs.Serving.{Serves, query_reply, reply, reply_by_code, reply_limit, reply_to_queries, sent_reply, zone_after, zone_by_op}
 use Rattle.stub_lookup.specs.declared.error.NetError.TheVariants as net
 use Rattle.stub_client.specs.Handle.{Outcome}
 use Rattle.stub_link.specs.declared.link.LinkError.{LinkError}
@@ -66,10 +66,14 @@ OneWay = (bytes : List ℕ) (a b : Message) → ReadsMessage bytes a → ReadsMe
 abbrev pub reply-over : ScriptedLink → Message → Message
 reply-over link m = sent_reply link.zone (Datagram link.limit) m
 
+-- the link has these datagrams under way, and its zone is unchanged
+abbrev pub Stays : ScriptedLink → List (List ℕ) → ScriptedLink → Type 0
+Stays old waiting new = Becomes old old.zone waiting new
+
 -- Nothing is under way again. The reply was taken, or there was no memory for it.
 pub data Ends (m : Message) (old : ScriptedLink) (outcome : Outcome) (new : ScriptedLink) : Type 0 where
-  at_taken : (response : DnsResponse) → Becomes old [] new → response.message ≡ reply-over old m → outcome ≡ accepted response → Ends m old outcome new
-  at_wanting : Becomes old [] new → outcome ≡ Err net.Memory → Ends m old outcome new
+  at_taken : (response : DnsResponse) → Stays old [] new → response.message ≡ reply-over old m → outcome ≡ accepted response → Ends m old outcome new
+  at_wanting : Stays old [] new → outcome ≡ Err net.Memory → Ends m old outcome new
 
 -- a link that ran out of memory is not the one that is left
 refused : (mid new : ScriptedLink) → mid.out_of_memory ≡ true → new ≡ mid → new.out_of_memory ≡ false → ⊥
@@ -77,20 +81,27 @@ refused mid new h e lives = true≢false (sym h ∙ sym (ap (λ (l : ScriptedLin
 
 -- a datagram is the reply
 took-ends : (one_way : OneWay) (m : Message) (q : Query) (old mid new : ScriptedLink) (bytes : List ℕ) (dropped total : ℕ) (next : ℕ → Outcome → ScriptedLink → ℕ → Type 0) (outcome : Outcome)
-    → IsQueryFor m q → ReadsMessage bytes (reply-over old m) → Becomes old [] mid → Took m.metadata.id q bytes mid dropped next outcome new total → Ends m old outcome new × (total ≡ dropped)
+    → IsQueryFor m q → ReadsMessage bytes (reply-over old m) → Stays old [] mid → Took m.metadata.id q bytes mid dropped next outcome new total → Ends m old outcome new × (total ≡ dropped)
 took-ends one_way m q old mid new bytes dropped total next outcome a reads b t =
     elim t [
-      | inl u ↦ (at_taken u.0 (subst (Becomes old []) (sym u.4) b) (one_way bytes (u.0).message (reply-over old m) (u.1).message reads) u.3, u.5)
+      | inl u ↦ (at_taken u.0 (subst (Stays old []) (sym u.4) b) (one_way bytes (u.0).message (reply-over old m) (u.1).message reads) u.3, u.5)
       | inr u ↦ elim u [
         | inl v ↦ absurd (true≢false (sym (reply-matches old.zone old.limit m q a) ∙ v.0 (reply-over old m) reads))
-        | inr v ↦ (at_wanting (subst (Becomes old []) (sym v.2) b) v.1, v.3)
+        | inr v ↦ (at_wanting (subst (Stays old []) (sym v.2) b) v.1, v.3)
       ]
     ]
 
 -- a datagram that decodes to a query is served
-replied : OneWay → (m : Message) (old : ScriptedLink) (bytes out : List ℕ) → ReadsMessage bytes m → Serves old.zone (Datagram old.limit) bytes (Some out) → ReadsMessage out (reply-over old m)
-replied one_way m old bytes out reads s =
+replied : OneWay → (m : Message) (old : ScriptedLink) (bytes out : List ℕ) (after : ZoneContent) → ReadsMessage bytes m → Serves old.zone (Datagram old.limit) bytes (Some out) after → ReadsMessage out (reply-over old m)
+replied one_way m old bytes out after reads s =
     subst (λ (n : Message). ReadsMessage out (reply-over old n)) (one_way bytes s.request m s.reads reads) s.replied.decodes
+
+-- a query leaves the zone unchanged
+stays : OneWay → (m : Message) (q : Query) (old mid : ScriptedLink) (bytes out : List ℕ) → IsQueryFor m q → ReadsMessage bytes m → Brings (bytes ∷ []) old (Some out) mid → Stays old [] mid
+stays one_way m q old mid bytes out a reads brings =
+    let same : mid.zone ≡ zone_after old.zone m = (brings.0).after_is ∙ ap (zone_after old.zone) (one_way bytes (brings.0).request m (brings.0).reads reads) in
+    let kept : zone_after old.zone m ≡ old.zone = ap (zone_by_op old.zone m) a.op_code in
+    record (brings.1) { zone_is = same ∙ kept }
 
 -- the request was under way
 heard-ends : (one_way : OneWay) (m : Message) (q : Query) (old mid new : ScriptedLink) (bytes : List ℕ) (came : Result (Option (List ℕ)) LinkError) (dropped total : ℕ) (next : ℕ → Outcome → ScriptedLink → ℕ → Type 0) (outcome : Outcome)
@@ -99,10 +110,10 @@ heard-ends one_way m q old mid new bytes (Err Failed) dropped total next outcome
 heard-ends one_way m q old mid new bytes (Err Memory) dropped total next outcome a lives reads w r h = absurd (refused mid new r h.1 lives)
 heard-ends one_way m q old mid new bytes (Ok None) dropped total next outcome a lives reads w r h =
     let brings : Brings (bytes ∷ []) old None mid = subst (λ (ws : List (List ℕ)). Brings ws old None mid) w r in
-    absurd (let wrong : kinds.Query ≡ kinds.Response = sym a.kind ∙ brings.0 m reads in cc wrong)
+    absurd (let wrong : kinds.Query ≡ kinds.Response = sym a.kind ∙ (brings.0).1 m reads in cc wrong)
 heard-ends one_way m q old mid new bytes (Ok (Some out)) dropped total next outcome a lives reads w r h =
     let brings : Brings (bytes ∷ []) old (Some out) mid = subst (λ (ws : List (List ℕ)). Brings ws old (Some out) mid) w r in
-    took-ends one_way m q old mid new out dropped total next outcome a (replied one_way m old bytes out reads brings.0) brings.1 h
+    took-ends one_way m q old mid new out dropped total next outcome a (replied one_way m old bytes out mid.zone reads brings.0) (stays one_way m q old mid bytes out a reads brings) h
 
 waits-end-at-once : (one_way : OneWay) (m : Message) (q : Query) (left : ℕ) (old new : ScriptedLink) (bytes : List ℕ) (dropped total : ℕ) (outcome : Outcome)
     → IsQueryFor m q → new.out_of_memory ≡ false → ReadsMessage bytes m → waiting_of old ≡ bytes ∷ [] → Waits Receives (suc left) m.metadata.id q old dropped outcome new total → Ends m old outcome new × (total ≡ dropped)
@@ -110,14 +121,14 @@ unfolding Waits
 waits-end-at-once one_way m q left old new bytes dropped total outcome a lives reads w h =
     heard-ends one_way m q old h.1 new bytes h.0 dropped total (λ more. Waits Receives left m.metadata.id q h.1 more) outcome a lives reads w h.2 h.3
 
-becomes-then : (old mid new : ScriptedLink) (ws vs : List (List ℕ)) → Becomes old ws mid → Becomes mid vs new → Becomes old vs new
-becomes-then old mid new ws vs a b = record { zone = b.zone ∙ a.zone; limit = b.limit ∙ a.limit; waiting_is = b.waiting_is; memory = b.memory ∙ a.memory }
+stays-then : (old mid new : ScriptedLink) (ws vs : List (List ℕ)) → Stays old ws mid → Stays mid vs new → Stays old vs new
+stays-then old mid new ws vs a b = record { zone_is = b.zone_is ∙ a.zone_is; limit = b.limit ∙ a.limit; waiting_is = b.waiting_is; memory = b.memory ∙ a.memory }
 
-ends-before : (m : Message) (old mid new : ScriptedLink) (ws : List (List ℕ)) (outcome : Outcome) → Becomes old ws mid → Ends m mid outcome new → Ends m old outcome new
-ends-before m old mid new ws outcome b (at_wanting c h) = at_wanting (becomes-then old mid new ws [] b c) h
+ends-before : (m : Message) (old mid new : ScriptedLink) (ws : List (List ℕ)) (outcome : Outcome) → Stays old ws mid → Ends m mid outcome new → Ends m old outcome new
+ends-before m old mid new ws outcome b (at_wanting c h) = at_wanting (stays-then old mid new ws [] b c) h
 ends-before m old mid new ws outcome b (at_taken response c is h) =
-    let same : reply-over mid m ≡ reply-over old m = λ i. sent_reply (b.zone i) (Datagram (b.limit i)) m in
-    at_taken response (becomes-then old mid new ws [] b c) (is ∙ same) h
+    let same : reply-over mid m ≡ reply-over old m = λ i. sent_reply (b.zone_is i) (Datagram (b.limit i)) m in
+    at_taken response (stays-then old mid new ws [] b c) (is ∙ same) h
 
 -- what is left after an exchange, if the link did not run out of memory
 pub record Exchanged (m : Message) (old : Line ScriptedLink) (outcome : Outcome) (new : Line ScriptedLink) : Type 0 where

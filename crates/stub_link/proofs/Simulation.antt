@@ -14,10 +14,10 @@ use Rattle.stub_client.specs.declared.request.DnsRequest.{DnsRequest}
 use Rattle.stub_link.specs.declared.link.scripted.ScriptedLink.{ScriptedLink}
 use Rattle.stub_link.specs.declared.wire_handle.WireHandle.{WireHandle}
 use Rattle.stub_link.specs.Asks.{AskState, AsksUnder, AsksZone, Deliveries, Hears, Honest, IsAccepted, IsAskedRequest, IsIn, IsRefusedRequest, Shows, Takes, WaitsFor, count_fault, draw, receive_by, reply_to, send, with_datagram}
-use Rattle.stub_link.specs.ScriptedLink.{Becomes, Receives, Sends, waiting_of}
+use Rattle.stub_link.specs.ScriptedLink.{Receives, Sends, waiting_of}
 use Rattle.stub_link.specs.WireHandle.{Asks, AsksBy, AsksFor, DrawsNone, IsAsked, IsRefused, Line, accepted, faults_after, line_of, matches, one_more, with_id}
 use Rattle.stub_link.proofs.MemoryLaws.{asks-out}
-use Rattle.stub_link.proofs.Replies.{Ends, Exchanged, IsQueryFor, OneWay, at_taken, at_wanting, query-under, reply-matches, reply-over, sent-ends}
+use Rattle.stub_link.proofs.Replies.{Ends, Exchanged, IsQueryFor, OneWay, Stays, at_taken, at_wanting, query-under, reply-matches, reply-over, sent-ends}
 
 abbrev Wire : Type 0
 Wire = WireHandle ScriptedLink
@@ -92,11 +92,11 @@ none-moves : (old new : Wire) (state : AskState) → memory_is old state → Sho
 none-moves old new state memory s d = same-line old new state state.sent memory s d.line (d.sent ∙ s.sent)
 
 -- a request was sent, and its reply received
-exchanged-moves : (old new : Wire) (state : AskState) (m : Message) (id : ℕ) (q : Query) → memory_is old state → Shows old state → new.sent.items ≡ old.sent.items ++ (id, q) ∷ [] → Becomes old.link [] new.link
+exchanged-moves : (old new : Wire) (state : AskState) (m : Message) (id : ℕ) (q : Query) → memory_is old state → Shows old state → new.sent.items ≡ old.sent.items ++ (id, q) ∷ [] → Stays old.link [] new.link
     → new.dropped ≡ old.dropped → new.questions ≡ one_more old.questions → Moves new state (exchanged m (draw id q state))
 exchanged-moves old new state m id q memory s drawn b dropped questions = record {
   memory = b.memory ∙ memory;
-  zone = b.zone ∙ s.zone;
+  zone = b.zone_is ∙ s.zone;
   limit = b.limit ∙ s.limit;
   waiting = b.waiting_is;
   deliveries = refl;

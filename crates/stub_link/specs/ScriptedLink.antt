@@ -21,22 +21,22 @@ limit_of link = link.limit
 abbrev pub is_out_of_memory : ScriptedLink → Bool
 is_out_of_memory link = link.out_of_memory
 
--- The link becomes new, with these datagrams under way; nothing else changes.
-pub record Becomes (old : ScriptedLink) (waiting : List (List ℕ)) (new : ScriptedLink) : Type 0 where
-  pub zone : new.zone ≡ old.zone
+-- The link becomes new, with this zone and these datagrams under way; nothing else changes.
+pub record Becomes (old : ScriptedLink) (zone : ZoneContent) (waiting : List (List ℕ)) (new : ScriptedLink) : Type 0 where
+  pub zone_is : new.zone ≡ zone
   pub limit : new.limit ≡ old.limit
   pub waiting_is : waiting_of new ≡ waiting
   pub memory : new.out_of_memory ≡ old.out_of_memory
 
 abbrev pub Sends : ScriptedLink → List ℕ → Result (Unit {0}) LinkError → ScriptedLink → Type 0
-Sends old bytes (Ok done) new = Becomes old (waiting_of old ++ bytes ∷ []) new
+Sends old bytes (Ok done) new = Becomes old old.zone (waiting_of old ++ bytes ∷ []) new
 Sends old bytes (Err Failed) new = ⊥
 Sends old bytes (Err Memory) new = new.out_of_memory ≡ true
 
--- the oldest datagram reaches the server, whose reply comes
+-- the oldest datagram reaches the server, whose reply comes, and whose zone it may change
 abbrev pub Brings : List (List ℕ) → ScriptedLink → Option (List ℕ) → ScriptedLink → Type 0
-Brings [] old came new = (came ≡ None) × Becomes old [] new
-Brings (bytes ∷ waiting) old came new = Serves old.zone (Datagram old.limit) bytes came × Becomes old waiting new
+Brings [] old came new = (came ≡ None) × Becomes old old.zone [] new
+Brings (bytes ∷ waiting) old came new = Serves old.zone (Datagram old.limit) bytes came new.zone × Becomes old new.zone waiting new
 
 abbrev pub Receives : ScriptedLink → Result (Option (List ℕ)) LinkError → ScriptedLink → Type 0
 Receives old (Ok came) new = Brings (waiting_of old) old came new

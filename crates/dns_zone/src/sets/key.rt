@@ -1,14 +1,15 @@
 //! The keys of record sets, whose order compares bytes alone.
 
-ghost use Rattle.std.specs.Prelude.{◌≡◌, ◌+◌, ◌≤◌, ◌++◌, length};
+ghost use Rattle.std.specs.Prelude.{◌≡◌, ◌+◌, ◌≤◌, ◌++◌, [], ◌∷◌, length};
 ghost use Rattle.dns_zone.specs.Sets.{byte_code, label_code, owner_code, type_code};
 
 use arrayvec::ArrayVec;
 use dns_names::Name;
 use dns_wire::RecordType;
 
-/// The greatest length of the bytes of an owner: that of an encoded name without the root.
-const MAX_OWNER_LENGTH: usize = Name::MAX_LENGTH - 1;
+/// The greatest length of the bytes in a key: those of an owner take at most that of an encoded name without the root, and
+/// the end of its keys one more.
+const MAX_OWNER_LENGTH: usize = Name::MAX_LENGTH;
 
 /// An owner as bytes. Their order is the canonical order of names (RFC 4034 section 6.1), and the bytes of a name begin with
 /// those of each name above it.
@@ -33,6 +34,17 @@ pub fn first_key(name: &Name) -> SetKey
     (owner_key(name), 0)
 }
 
+/// Returns a key that is greater than each of a name, and less than each of the names below it.
+pub fn end_key(name: &Name) -> SetKey
+    ensures owner { result.0.items ≡ owner_code name.now.labels ++ 0 ∷ [] }
+    ensures of_type { result.1 ≡ 0 }
+{
+    let mut end = owner_key(name);
+    // No label begins with a byte as small as that which ends one.
+    end.push(0);
+    (end, 0)
+}
+
 /// Returns the number of a type in a key, by which `SOA` comes first.
 fn type_code(record_type: RecordType) -> u32
     ensures { result ≡ type_code record_type }
@@ -45,7 +57,8 @@ fn type_code(record_type: RecordType) -> u32
 
 /// Returns an owner as bytes.
 fn owner_key(owner: &Name) -> OwnerKey
-    ensures { result.items ≡ owner_code owner.now.labels }
+    ensures bytes { result.items ≡ owner_code owner.now.labels }
+    ensures most { length result.items ≤ 254 }
 {
     prove!(owner.encoded_len() <= Name::MAX_LENGTH);
     let mut key = ArrayVec::new();

@@ -1,7 +1,8 @@
 //! The answer of a zone to a question (RFC 1034 section 4.3.2, RFC 2308 sections 2 and 3).
 
-ghost use Rattle.std.specs.Prelude.{◌≡◌, [], true, IfOk, IsOk};
+ghost use Rattle.std.specs.Prelude.{◌≡◌, [], ◌∷◌, length, true, IfOk, IsOk};
 ghost use Rattle.dns_codes.specs.RecordType.{type_number};
+ghost use Rattle.dns_messages.specs.declared.query.Query.{Query};
 ghost use Rattle.dns_zone.specs.Rows.{zone_of};
 ghost use Rattle.dns_zone.specs.Answer.{answer, bare, is_no_row_type, is_refused, IsSoundAnswer};
 ghost use Rattle.dns_zone.specs.Section.{borrowed_answer};
@@ -10,7 +11,7 @@ use crate::sets::ZoneSets;
 use crate::zone::Zone;
 use crate::zone::chain::answer_along;
 use crate::zone::section::Section;
-use dns_messages::{Query, ResponseCode, Sequence};
+use dns_messages::{Message, Query, ResponseCode, Sequence};
 use dns_names::Name;
 use dns_records::Record;
 use dns_wire::{DNSClass, RecordType};
@@ -35,10 +36,26 @@ pub(crate) struct AnswerRef<'a> {
 }
 
 impl Zone {
-    /// Returns the answer to a question, along an alias chain of at most seven links (RFC 1034 section 3.6.2). An alias is
-    /// not followed to a name outside the zone, or to a special-use name (RFC 6761). A question that is refused takes no
-    /// memory.
-    pub fn answer(&self, query: &Query) -> Result<Answer, AllocError>
+    /// Returns the answer to the question of a request, along an alias chain of at most seven links (RFC 1034 section 3.6.2).
+    /// An alias is not followed to a name outside the zone, or to a special-use name (RFC 6761). A question that is refused
+    /// takes no memory.
+    pub fn answer(&self, request: &Message) -> Result<Answer, AllocError>
+        requires { length request.now.queries ≡ 1 }
+        ensures answer { IfOk result (λ a. (q : Query) → request.now.queries ≡ q ∷ []
+            → a ≡ answer self.now q) }
+        ensures sound { IfOk result (λ a. (q : Query) → request.now.queries ≡ q ∷ []
+            → q.name.is_fqdn ≡ true → IsSoundAnswer a) }
+        ensures refused { (q : Query) → request.now.queries ≡ q ∷ []
+            → is_refused self.now q ≡ true → IsOk result }
+    {
+        let [query] = request.queries.as_slice() else {
+            unreachable!();
+        };
+        self.answer_to(query)
+    }
+
+    /// Returns the answer to a question.
+    fn answer_to(&self, query: &Query) -> Result<Answer, AllocError>
         ensures answer { IfOk result (λ a. a ≡ answer self.now query.now) }
         ensures sound { IfOk result (λ a. query.now.name.is_fqdn ≡ true → IsSoundAnswer a) }
         ensures refused { is_refused self.now query.now ≡ true → IsOk result }

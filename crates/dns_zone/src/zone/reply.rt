@@ -8,7 +8,9 @@ ghost use Rattle.dns_zone.specs.Section.{borrowed_answer};
 ghost use Rattle.dns_zone.specs.Serving.{bare_reply, borrowed_reply, has_authority, reply_edns, reply_metadata};
 
 use crate::zone::answer::AnswerRef;
-use dns_messages::{Edns, Message, MessageType, Metadata, Query, ResponseCode, emit_message_parts};
+use dns_messages::{
+    Edns, Message, MessageType, Metadata, OpCode, Query, ResponseCode, emit_message_parts,
+};
 use dns_records::Record;
 use dns_wire::{BinEncoder, EncodeError};
 use std::alloc::Global;
@@ -86,11 +88,12 @@ impl<'a> ReplyRef<'a> {
     }
 }
 
-/// Returns `true` if the server has authority in a reply with this code.
-fn is_authoritative(code: ResponseCode) -> bool
-    ensures { result ≡ has_authority code }
+/// Returns `true` if the server has authority in a reply with this code to a request with this opcode.
+fn is_authoritative(op_code: OpCode, code: ResponseCode) -> bool
+    ensures { result ≡ has_authority op_code code }
 {
-    matches!(code, ResponseCode::NoError | ResponseCode::NXDomain)
+    matches!(op_code, OpCode::Query)
+        && matches!(code, ResponseCode::NoError | ResponseCode::NXDomain)
 }
 
 /// Returns the header of the reply with this code to a request.
@@ -101,7 +104,7 @@ fn metadata_of_reply(request: Metadata, code: ResponseCode) -> Metadata
         id: request.id,
         message_type: MessageType::Response,
         op_code: request.op_code,
-        authoritative: is_authoritative(code),
+        authoritative: is_authoritative(request.op_code, code),
         truncation: false,
         recursion_desired: request.recursion_desired,
         recursion_available: false,

@@ -1,6 +1,7 @@
 //! The server of a zone: requests and their replies (RFC 1035 sections 4.1 and 4.2).
 
-ghost use Rattle.std.specs.Prelude.{◌≡◌, ◌≤◌, IfOk};
+ghost use Rattle.std.specs.Prelude.{◌≡◌, ◌≤◌, IfOk, OnOk, OnErr};
+ghost use Rattle.dns_messages.specs.declared.op_code.OpCode.TheVariants as ops;
 ghost use Rattle.dns_zone.specs.Serving.{borrowed_reply, reply_limit, has_query_header as is_query_header};
 
 use crate::road::Road;
@@ -14,7 +15,8 @@ use dns_wire::{DecodeError, EncodeError};
 use std::alloc::AllocError;
 
 impl Zone {
-    ghost use Rattle.dns_zone.specs.Serving.{Serves, IsReplyTo, bare_reply, reply};
+    ghost use Rattle.dns_zone.specs.Serving.{Serves, IsReplyTo, bare_reply, reply, zone_after};
+    ghost use Rattle.dns_zone.specs.Rows.{IsZone};
     ghost use Rattle.dns_messages.specs.Cut.{front_reach};
     ghost use Rattle.dns_messages.specs.Sound.{IsSound};
     ghost use Rattle.std.specs.Prelude.{false, None, Ok, option_map};
@@ -31,15 +33,26 @@ impl Zone {
         )
     }
 
-    /// Returns the whole reply to a query, without taking memory.
+    /// Returns the whole reply to a request, without taking memory.
     fn reply_to<'a>(&'a self, request: &'a Message) -> ReplyRef<'a>
         ensures reply { borrowed_reply result ≡ reply self.now request.now }
         ensures sound { IsSound request.now → IsSound (borrowed_reply result) }
         ensures short { front_reach (borrowed_reply result) ≤ 512 }
     {
-        let OpCode::Query = request.metadata.op_code else {
-            return self.bare_reply(request, ResponseCode::NotImp);
-        };
+        match request.metadata.op_code {
+            OpCode::Query => self.reply_to_query(request),
+            OpCode::Update => self.bare_reply(request, self.update_code(request)),
+            _ => self.bare_reply(request, ResponseCode::NotImp),
+        }
+    }
+
+    /// Returns the whole reply to a request with opcode Query, without taking memory.
+    fn reply_to_query<'a>(&'a self, request: &'a Message) -> ReplyRef<'a>
+        requires { request.now.metadata.op_code ≡ ops.Query }
+        ensures reply { borrowed_reply result ≡ reply self.now request.now }
+        ensures sound { IsSound request.now → IsSound (borrowed_reply result) }
+        ensures short { front_reach (borrowed_reply result) ≤ 512 }
+    {
         let queries = request.queries.as_slice();
         let [query] = queries else {
             return self.bare_reply(request, ResponseCode::FormErr);
@@ -64,13 +77,18 @@ impl Zone {
 
     /// Serves a message: returns its reply, or `None` if the bytes do not decode or are a response. Bytes that do not begin
     /// with the header of a query are dropped before memory is taken.
+    ///
+    /// Only an update with the response code `NoError` changes the zone (RFC 2136 section 3). Its reply is encoded before the
+    /// change, so that an error leaves the zone unchanged.
     pub fn serve(&mut self, bytes: &[u8], road: Road) -> Result<Option<Vec<u8>>, AllocError>
-        ensures reply { IfOk result (λ reply.
-            Serves self.old road bytes.now (option_map (λ out. out.items) reply)) }
-        ensures same { self.new ≡ self.old }
+        ensures reply { IfOk result (λ reply. Serves self.old road bytes.now
+            (option_map (λ out. out.items) reply) self.new) }
+        ensures err { OnErr result (self.new ≡ self.old) }
+        ensures well_formed { IsZone self.new }
         ensures header { is_query_header bytes.now ≡ false → result ≡ Ok None }
     {
         messages_decode_unambiguously();
+        self.well_formed();
         if !has_query_header(bytes) {
             return Ok(None);
         }
@@ -82,7 +100,23 @@ impl Zone {
                 _ => return Ok(None),
             },
         };
-        Ok(Some(self.reply_bytes(&request, road)?))
+        let reply = self.reply_bytes(&request, road)?;
+        self.take(&request)?;
+        Ok(Some(reply))
+    }
+
+    /// Applies a request that is an update.
+    fn take(&mut self, request: &Message) -> Result<(), AllocError>
+        requires { IsSound request.now }
+        ensures ok { OnOk result (self.new ≡ zone_after self.old request.now) }
+        ensures err { OnErr result (self.new ≡ self.old) }
+        ensures well_formed { IsZone self.new }
+    {
+        self.well_formed();
+        if let OpCode::Update = request.metadata.op_code {
+            self.apply(request)?;
+        }
+        Ok(())
     }
 }
 

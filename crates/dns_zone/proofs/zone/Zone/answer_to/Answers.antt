@@ -1,6 +1,6 @@
 use Rattle.std.proofs.Common.{◌≡◌, Result, Ok, Err, sym, subst}
 use Rattle.std.specs.Prelude.{IfOk}
-use Rattle.dns_zone.proofs.zone.Zone.answer.Goals as goal
+use Rattle.dns_zone.proofs.zone.Zone.answer_to.Goals as goal
 
 -- what holds of a value under a premise holds of its copy
 copied : {X E : Type 0} (P : Type 0) (S : X → Type 0) (x : X) (r : Result X E) → IfOk r (λ copy. copy ≡ x) → (P → S x) → IfOk r (λ copy. P → S copy)
