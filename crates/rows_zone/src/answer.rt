@@ -1,23 +1,36 @@
 //! Answers of a zone.
 
-use dns_messages::Query;
+ghost use Rattle.std.specs.Prelude.{◌≡◌, length, IfOk};
+
+use dns_messages::Message;
 use dns_zone::{Answer as ZoneAnswer, Zone};
-use rows::{Answer, named, split};
+use rows::{Answer, RowFault, named, split};
 use rows_text::{push_section, question_of};
 use std::alloc::Global;
 
 /// `answer QUESTION || TEXT`: the answer of the zone that the text spells.
 pub(crate) fn answered(alloc: Global, input: &str) -> Answer {
     let (question, text) = split(input, " || ", "a question and a zone")?;
-    answered_by(alloc, &question_of(alloc, question)?, text)
+    answered_by(alloc, &request_of(alloc, question)?, text)
 }
 
-/// The answer of the zone that a text spells to a question.
-fn answered_by(alloc: Global, query: &Query, text: &str) -> Answer {
+/// The answer of the zone that a text spells to the question of a request.
+fn answered_by(alloc: Global, request: &Message, text: &str) -> Answer
+    requires { length request.now.queries ≡ 1 }
+{
     match Zone::from_text(alloc, text, &[], None) {
-        Ok(zone) => answer_text(alloc, &zone.answer(query)?),
+        Ok(zone) => answer_text(alloc, &zone.answer(request)?),
         Err(fault) => named(alloc, fault),
     }
+}
+
+/// A request with the question that a text spells.
+fn request_of(alloc: Global, question: &str) -> Result<Message, RowFault>
+    ensures { IfOk result (λ m. length m.queries ≡ 1) }
+{
+    let mut request = Message::query(alloc, 0);
+    request.add_query(question_of(alloc, question)?)?;
+    Ok(request)
 }
 
 /// `answers QUESTION, .. || TEXT`: the answers of the zone that the text spells, parted by ` / `.
@@ -43,8 +56,7 @@ fn answers_text(alloc: Global, zone: &Zone, questions: &str) -> Answer {
 
 /// The answer of a zone to a question, in one line.
 pub(crate) fn answer_of(alloc: Global, zone: &Zone, question: &str) -> Answer {
-    let query = question_of(alloc, question)?;
-    answer_text(alloc, &zone.answer(&query)?)
+    answer_text(alloc, &zone.answer(&request_of(alloc, question)?)?)
 }
 
 /// An answer in one line: its code and, each behind a bar, its answers and its authorities.

@@ -3,12 +3,13 @@
 //! - `operation`: the operations by their words;
 //! - `zone_file`, `includes`: zone files, and the texts that they include;
 //! - `zone`, `answer`, `serve`: zones, their answers and their replies;
-//! - `framing`: frames of streams;
+//! - `updating`, `building`: updates of zones, and those that the builders make; `framing`: frames of streams;
 //! - `compare`: a zone's answers beside those of a plain list; `listed_zone`, `listed_names`: that list; `random_zone`: random
 //!   zones and questions.
 #![tactic(auto)]
 
 mod answer;
+mod building;
 mod compare;
 mod framing;
 mod includes;
@@ -17,6 +18,7 @@ mod listed_zone;
 mod operation;
 mod random_zone;
 mod serve;
+mod updating;
 mod zone;
 mod zone_file;
 

@@ -1,9 +1,11 @@
 //! The operations, by their words.
 
 use crate::answer::{all_answered, answered};
+use crate::building::build;
 use crate::compare::compare;
 use crate::framing::{failing_frames, frames, write_frames};
 use crate::serve::{limit, serve, served_size};
+use crate::updating::{apply, update};
 use crate::zone::{fault, zone, zone_at, zone_fault, zone_with};
 use crate::zone_file::{zone_file, zone_file_at, zone_file_repeated, zone_file_with};
 use rows::{Answer, RowFault};
@@ -27,6 +29,9 @@ pub(crate) fn answer(alloc: Global, word: &str, input: &str) -> Answer {
         "limit" => limit(alloc, input),
         "serve" => serve(alloc, input),
         "served-size" => served_size(alloc, input),
+        "update" => update(alloc, input),
+        "apply" => apply(alloc, input),
+        "build" => build(alloc, input),
         "frames" => frames(alloc, input),
         "failing-frames" => failing_frames(alloc, input),
         "write-frames" => write_frames(alloc, input),

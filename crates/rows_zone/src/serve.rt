@@ -1,6 +1,7 @@
 //! Requests and their replies.
 
-use dns_zone::{DatagramLimit, Road, Zone};
+use crate::updating::zone_of;
+use dns_zone::{DatagramLimit, Road};
 use rows::{Answer, RowFault, bytes_of, digits_of, named, parsed, shown, split, text, two_words};
 use std::alloc::Global;
 
@@ -46,14 +47,12 @@ fn replied(alloc: Global, input: &str) -> Result<Option<Vec<u8>>, RowFault> {
         return Err(RowFault::Lacks("a road"));
     };
     let bytes = bytes_of(alloc, digits)?;
-    let Ok(mut zone) = Zone::from_text(alloc, text, &[], None) else {
-        return Err(RowFault::Lacks("a zone"));
-    };
+    let mut zone = zone_of(alloc, text)?;
     Ok(zone.serve(bytes.as_slice(), road)?)
 }
 
 /// The road that a word means.
-fn road_of(word: &str) -> Option<Road> {
+pub(crate) fn road_of(word: &str) -> Option<Road> {
     if word == "stream" {
         return Some(Road::Stream);
     }
