@@ -1,6 +1,6 @@
 //! `stub_bench WHAT COUNT [SIZE]`: repeats an operation on fixed inputs so often, and prints a checksum of what it gave, so that
-//! it can be timed from outside. SIZE is the number of owners in a zone, of entries in a cache, or of names or addresses in hosts. `all` stands for every operation, one after another, but `cache-full`, whose cache takes long
-//! to fill.
+//! it can be timed from outside. SIZE is the number of owners in a zone, of entries in a cache, or of names or addresses in hosts.
+//! `all` stands for every operation, one after another, but `cache-full`, whose cache takes long to fill.
 #![tactic(auto)]
 
 mod cache;
@@ -8,6 +8,7 @@ mod data;
 mod hosts;
 mod message;
 mod operation;
+mod update;
 mod zone;
 
 use anyhow::{Result, bail};
@@ -18,7 +19,7 @@ use std::env;
 use std::process::ExitCode;
 
 /// What may be repeated.
-const WHAT: [&str; 24] = [
+const WHAT: [&str; 26] = [
     "all",
     "name-read",
     "name-write",
@@ -36,6 +37,8 @@ const WHAT: [&str; 24] = [
     "serve-cname",
     "serve-chain",
     "serve-nxdomain",
+    "update-add",
+    "update-swap",
     "cache-insert",
     "cache-hit",
     "cache-miss",

@@ -6,6 +6,7 @@ use crate::cache::{get_nothing, get_responses, insert_responses, replace_respons
 use crate::data::{parse_data, print_data, read_data, write_data};
 use crate::hosts::{read_addresses, read_hosts, read_names as read_host_names};
 use crate::message::{read_messages, write_messages};
+use crate::update::{add_and_delete, swap};
 use crate::zone::{read_zones, serve_addresses, serve_aliases, serve_chains, serve_missing};
 use anyhow::Result;
 use dns_names::Name;
@@ -47,6 +48,10 @@ pub(crate) enum Operation {
     ServeChain,
     /// Serves a question for a name that is not in that zone.
     ServeNxdomain,
+    /// Serves an update that adds an address of a new owner to that zone, and one that deletes it, by turns.
+    UpdateAdd,
+    /// Serves an update that swaps the address of an owner in that zone for another one, and one that swaps it back.
+    UpdateSwap,
     /// Inserts a response into a cache, in place of an earlier one.
     CacheInsert,
     /// Gets a response from a cache of 1,024 entries, or of as many as are asked for.
@@ -85,7 +90,7 @@ const BYTES: &[u8; 29] = b"\x03com\x00\x07example\xC0\x00\x03www\xC0\x05\x01a\xC
 
 impl Operation {
     /// All of them.
-    pub(crate) const ALL: [Operation; 23] = [
+    pub(crate) const ALL: [Operation; 25] = [
         Operation::NameRead,
         Operation::NameWrite,
         Operation::NameParse,
@@ -102,6 +107,8 @@ impl Operation {
         Operation::ServeCname,
         Operation::ServeChain,
         Operation::ServeNxdomain,
+        Operation::UpdateAdd,
+        Operation::UpdateSwap,
         Operation::CacheInsert,
         Operation::CacheHit,
         Operation::CacheMiss,
@@ -130,6 +137,8 @@ impl Operation {
             Operation::ServeCname => "serve-cname",
             Operation::ServeChain => "serve-chain",
             Operation::ServeNxdomain => "serve-nxdomain",
+            Operation::UpdateAdd => "update-add",
+            Operation::UpdateSwap => "update-swap",
             Operation::CacheInsert => "cache-insert",
             Operation::CacheHit => "cache-hit",
             Operation::CacheMiss => "cache-miss",
@@ -159,6 +168,8 @@ impl Operation {
             Operation::ServeCname => serve_aliases(alloc, count, size),
             Operation::ServeChain => serve_chains(alloc, count, size),
             Operation::ServeNxdomain => serve_missing(alloc, count, size),
+            Operation::UpdateAdd => add_and_delete(alloc, count, size),
+            Operation::UpdateSwap => swap(alloc, count, size),
             Operation::CacheInsert => insert_responses(alloc, count),
             Operation::CacheHit => get_responses(alloc, count, size),
             Operation::CacheMiss => get_nothing(alloc, count, size),

@@ -53,7 +53,7 @@ pub(crate) fn serve_missing(alloc: Global, count: u64, size: Option<u64>) -> Res
 }
 
 /// How many groups a zone of so many owners has.
-fn groups_of(size: Option<u64>) -> u32 {
+pub(crate) fn groups_of(size: Option<u64>) -> u32 {
     match size {
         None => GROUPS,
         Some(owners) => (owners / 4).min(MAX_GROUPS) as u32,
@@ -72,9 +72,20 @@ fn serve(alloc: Global, letter: char, count: u64, groups: u32) -> Result<u64> {
 fn serve_over(alloc: Global, even: &str, odd: &str, count: u64, groups: u32) -> Result<u64> {
     let even = request(alloc, even)?;
     let odd = request(alloc, odd)?;
+    serve_requests(alloc, even.as_slice(), odd.as_slice(), count, groups)
+}
+
+/// Serves two requests by turns over the zone of so many groups. The checksum is the length of the replies.
+pub(crate) fn serve_requests(
+    alloc: Global,
+    even: &[u8],
+    odd: &[u8],
+    count: u64,
+    groups: u32,
+) -> Result<u64> {
     let text = zone_text(alloc, groups)?;
     let mut zone = Box::new(alloc, Zone::from_text(alloc, text.as_str(), &[], None)?)?;
-    serve_by_turns(&mut zone, even.as_slice(), odd.as_slice(), count)
+    serve_by_turns(&mut zone, even, odd, count)
 }
 
 /// Serves two requests by turns.
