@@ -101,7 +101,8 @@ stays : OneWay → (m : Message) (q : Query) (old mid : ScriptedLink) (bytes out
 stays one_way m q old mid bytes out a reads brings =
     let same : mid.zone ≡ zone_after old.zone m = (brings.0).after_is ∙ ap (zone_after old.zone) (one_way bytes (brings.0).request m (brings.0).reads reads) in
     let kept : zone_after old.zone m ≡ old.zone = ap (zone_by_op old.zone m) a.op_code in
-    record (brings.1) { zone_is = same ∙ kept }
+    let b : Becomes old mid.zone [] mid = brings.1 in
+    record { zone_is = same ∙ kept; limit = b.limit; waiting_is = b.waiting_is; memory = b.memory }
 
 -- the request was under way
 heard-ends : (one_way : OneWay) (m : Message) (q : Query) (old mid new : ScriptedLink) (bytes : List ℕ) (came : Result (Option (List ℕ)) LinkError) (dropped total : ℕ) (next : ℕ → Outcome → ScriptedLink → ℕ → Type 0) (outcome : Outcome)
