@@ -2,6 +2,7 @@ pub mod AnswerOriginsLaws
 pub mod AttemptedNamesLaws
 pub mod AttemptedNamesRows
 pub mod AttemptsLaws
+pub mod OrdinaryLaws
 pub mod OriginsLaws
 pub mod ResolverLaws
 pub mod ResolverRows

@@ -3,7 +3,7 @@ use Rattle.std.proofs.Common.{◌≡◌, ◌≤◌, ◌++◌, Bool, true, false,
 use Rattle.std.specs.Prelude.{not}
 use Rattle.std.specs.declared.net.ip_addr.IpAddr.{IpAddr}
 use Rattle.std.proofs.lemmas.List.{map-append}
-use Rattle.std.proofs.lemmas.List.Elements.{All-contains, All-contains_itself, All-filter, All-nil, All-weaker, Contains-append_left, Contains-append_right}
+use Rattle.std.proofs.lemmas.List.Elements.{All-append, All-contains, All-contains_itself, All-filter, All-nil, All-weaker, Contains-append_left, Contains-append_right}
 use Rattle.dns_codes.specs.RecordType.{type_number, type_of}
 use Rattle.dns_codes.specs.declared.record_type.RecordType.{RecordType}
 use Rattle.dns_codes.specs.declared.record_type.RecordType.TheVariants as types
@@ -24,7 +24,9 @@ use Rattle.stub_client.specs.Handle.{Ask, Behavior, Led}
 use Rattle.stub_client.specs.Laws.{EachReply, HasNoMinimum, HoldsOfCache, HoldsOfEntry, HoldsOfReply, RecordClaim}
 use Rattle.stub_client.specs.Looks.{Answers, Looks, Reply, lookup_settings}
 use Rattle.stub_client.specs.Origins.{Asked, Comes, IsBrought, IsBroughtClosely, IsPartOf, asked_at}
+use Rattle.stub_client.specs.SpecialNames.{special_answer}
 use Rattle.stub_client.specs.Step.{meaning}
+use Rattle.stub_client.specs.declared.special_names.SpecialAnswer.TheVariants.{Ordinary}
 use Rattle.stub_client.specs.declared.caching_client.CachingClient.{CachingClient}
 use Rattle.stub_client.proofs.AnswerTypesLaws.{lookup-fits}
 use Rattle.stub_client.proofs.OriginsLaws.{are-asked, brought, brought-closely, cache-still}
@@ -34,6 +36,7 @@ use Rattle.stub_core.specs.Origins.{AreTyped, ByOrigins, CacheIsFrom, ComesFrom,
 use Rattle.stub_core.specs.Resolver.{LooksUp, LooksUpHost, asks_of, cleared_lookup, cleared_names, names_for, request_options}
 use Rattle.stub_core.specs.declared.resolver.Resolver.{Resolver}
 use Rattle.stub_core.specs.declared.resolver.settings.Settings.{Settings}
+use Rattle.stub_core.proofs.OrdinaryLaws.{ordinary-asks}
 use Rattle.stub_core.proofs.AnswerOriginsLaws.{host-is-from, name-is-from}
 use Rattle.stub_core.proofs.StatelessLaws.{EachExplained, Explained, looks_up-by, looks_up_host-by}
 
@@ -81,6 +84,7 @@ module _ {H : Type 0} (gives : Behavior H) (options : DnsRequestOptions) (now : 
       Led gives options now old.handle asks new.handle
       × (new.preserve_intermediates ≡ old.preserve_intermediates)
       × (new.cache.config ≡ old.cache.config)
+      × All (λ ask. special_answer ask.question ≡ Ordinary) asks
 
   -- a history has the asks
   abbrev Fits : List Ask → List Asked → Type 0
@@ -92,7 +96,7 @@ module _ {H : Type 0} (gives : Behavior H) (options : DnsRequestOptions) (now : 
       (client.preserve_intermediates ≡ aliases) × (client.cache.config ≡ config) × CacheIsFrom Brought all now client.cache
 
   path-none : (client : CachingClient H) → Path client [] client
-  path-none client = (refl, refl, refl)
+  path-none client = (refl, refl, refl, All-nil (λ ask. special_answer ask.question ≡ Ordinary))
 
   led-both : (old mid new : H) (asks more : List Ask) → Led gives options now old asks mid → Led gives options now mid more new
       → Led gives options now old (asks ++ more) new
@@ -101,8 +105,12 @@ module _ {H : Type 0} (gives : Behavior H) (options : DnsRequestOptions) (now : 
 
   path-both : (old mid new : CachingClient H) (asks more : List Ask) → Path old asks mid → Path mid more new
       → Path old (asks ++ more) new
-  path-both old mid new asks more h k =
-      (led-both old.handle mid.handle new.handle asks more h.0 k.0, k.1 ∙ h.1, k.2 ∙ h.2)
+  path-both old mid new asks more h k = (
+    led-both old.handle mid.handle new.handle asks more h.0 k.0,
+    k.1 ∙ h.1,
+    k.2 ∙ h.2,
+    All-append (λ ask. special_answer ask.question ≡ Ordinary) asks more h.3 k.3,
+  )
 
   abbrev AsksClient : Lookups (CachingClient H) Query
   AsksClient old q reply new = Answers gives options now old q reply new
@@ -112,7 +120,7 @@ module _ {H : Type 0} (gives : Behavior H) (options : DnsRequestOptions) (now : 
   question-by old new q reply h =
       let bounds = settings-stay (lookup_settings old options) now 0 [] old.cache q h.asks reply new.cache h.looks in (
         h.asks,
-        (h.led, h.settings, bounds.1),
+        (h.led, h.settings, bounds.1, ordinary-asks (lookup_settings old options) now 0 [] old.cache q h.asks reply new.cache h.looks),
         λ all fits good.
             let looks : Looks (record { preserve_intermediates = aliases; dnssec_ok = options.edns_set_dnssec_ok }) now 0 []
             old.cache q h.asks reply new.cache =
@@ -157,6 +165,7 @@ module _ {H : Type 0} (gives : Behavior H) (now : ℕ) (old new : Resolver H) (B
   explained Answered leads f h = record {
     asks = h.0;
     led = h.1.0;
+    ordinary = h.1.3;
     aliases = h.1.1;
     config = h.1.2;
     comes = λ history part holds.

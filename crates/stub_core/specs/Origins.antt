@@ -18,7 +18,9 @@ use Rattle.stub_client.specs.Handle.{Ask, Behavior, Led}
 use Rattle.stub_client.specs.Laws.{HasNoMinimum, HoldsOfCache, HoldsOfReply, RecordClaim}
 use Rattle.stub_client.specs.Looks.{Reply}
 use Rattle.stub_client.specs.Origins.{Asked, IsPartOf, asked_at}
+use Rattle.stub_client.specs.SpecialNames.{special_answer}
 use Rattle.stub_client.specs.Step.{meaning}
+use Rattle.stub_client.specs.declared.special_names.SpecialAnswer.TheVariants.{Ordinary}
 use Rattle.stub_core.specs.Attempts.{Lookups}
 use Rattle.stub_core.specs.Resolver.{known_type, names_for, request_options}
 use Rattle.stub_core.specs.declared.resolver.Resolver.{Resolver}
@@ -103,12 +105,13 @@ HostIsFrom Claim settings now address name reply =
 
 -- ---- lookups of a resolver
 
--- A lookup of a resolver asks these questions with these outcomes. In any history that has them and brought what the cache has,
--- the answers have an origin, and so has what the cache has afterwards.
+-- A lookup of a resolver asks these questions with these outcomes, none of them for a special-use name. In any history that has them and
+-- brought what the cache has, the answers have an origin, and so has what the cache has afterwards.
 pub record ComesFrom {H : Type 0} (Brought : List Asked → RecordClaim) (gives : Behavior H) (now : ℕ) (old new : Resolver H)
     (Answers : List Asked → Type 0) : Type 0 where
   pub asks : List Ask
   pub led : Led gives (request_options old.settings.options) now old.client.handle asks new.client.handle
+  pub ordinary : All (λ ask. special_answer ask.question ≡ Ordinary) asks
   pub aliases : new.client.preserve_intermediates ≡ old.client.preserve_intermediates
   pub config : new.client.cache.config ≡ old.client.cache.config
   pub comes : (history : List Asked) → IsPartOf (asked_at now asks) history → CacheIsFrom Brought history now old.client.cache
