@@ -1,8 +1,14 @@
 pub mod Asking
+pub mod Calling
+pub mod Carrying
+pub mod Delivering
+pub mod HistoryLaws
 pub mod MemoryLaws
-pub mod Replies
+pub mod OutcomeLaws
+pub mod Receiving
 pub mod ReplyHeaders
+pub mod Scripts
 pub mod Requests
-pub mod Sending
-pub mod Simulation
+pub mod SoundReplies
+pub mod SoundRequests
 pub mod Waiting

@@ -1,4 +1,12 @@
 pub mod Link
+pub mod Request
+pub mod Reply
+pub mod Wait
+pub mod Ask
+pub mod Update
+pub mod LinkState
+pub mod History
+pub mod AskState
 pub mod ScriptedLink
+pub mod SoundQuestion
 pub mod WireHandle
-pub mod Asks

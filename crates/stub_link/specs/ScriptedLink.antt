@@ -1,44 +1,172 @@
--- The scripted link. Under the honest script, each datagram is delivered once, at the next receive, which brings its reply.
-use Rattle.std.specs.Prelude.{◌≡◌, List, [], ◌∷◌, ◌++◌, ℕ, map, Bool, true, Option, None, Result, Ok, Err}
-use Rattle.dns_zone.specs.declared.road.Road.TheVariants.{Datagram}
-use Rattle.dns_zone.specs.Rows.{ZoneContent}
-use Rattle.dns_zone.specs.Serving.{Serves}
+-- The scripted link with its bytes, and the states without bytes that it is in.
+use Rattle.std.specs.Prelude.{◌≡◌, ◌≤◌, length, List, [], ◌∷◌, ℕ, map, reverse, Bool, true, false, Option, Some, None, Result, Ok, Err, OnOk, OnErr, option_map}
+use Rattle.std.specs.Global.{Vec}
+use Rattle.std.specs.declared.alloc.AllocError.{AllocError}
+use Rattle.dns_messages.specs.declared.message_type.MessageType.TheVariants as kinds
+use Rattle.dns_messages.specs.declared.message.Message.{Message}
+use Rattle.dns_messages.specs.Grammar.{ReadsMessage}
 use Rattle.stub_link.specs.declared.link.LinkError.{LinkError}
 use Rattle.stub_link.specs.declared.link.LinkError.TheVariants.{Failed, Memory}
+use Rattle.stub_link.specs.declared.link.script.Script.{Script}
+use Rattle.stub_link.specs.declared.link.script.Script.TheVariants as script
+use Rattle.stub_link.specs.declared.link.server.Server.{Server}
 use Rattle.stub_link.specs.declared.link.scripted.ScriptedLink.{ScriptedLink}
+use Rattle.stub_link.specs.LinkState.{Course, Honest, Listed, LinkState, ServerReply, Received, begins_with_fail, end_event, message_of, receive_by, receive_listed, without_first, Receives as ReceivesMessage, Sends as SendsMessage, Streams as StreamsMessage}
 
--- the datagrams under way, the oldest first
-abbrev pub waiting_of : ScriptedLink → List (List ℕ)
-waiting_of link = map (λ bytes. bytes.items) link.waiting.items
+-- ---- bytes and messages
 
--- the zone of the server, the limit of its datagrams, and whether memory ran out
-abbrev pub zone_of : ScriptedLink → ZoneContent
-zone_of link = link.zone
+-- the bytes of a request, to which the server replies
+pub record IsRequest (bytes : List ℕ) (m : Message) : Type 0 where
+  pub decodes : ReadsMessage bytes m
+  pub kind : m.metadata.message_type ≡ kinds.Query
 
-abbrev pub limit_of : ScriptedLink → ℕ
-limit_of link = link.limit
+-- two lists whose items are related one by one
+abbrev pub AreRelated : {A B : Type 0} → (A → B → Type 0) → List A → List B → Type 0
+AreRelated R [] [] = Unit {0}
+AreRelated R (x ∷ xs) (y ∷ ys) = R x y × AreRelated R xs ys
+AreRelated R xs ys = ⊥
+
+abbrev pub bytes_of : Vec (Vec ℕ) → List (List ℕ)
+bytes_of v = map (λ bytes. bytes.items) v.items
+
+abbrev pub places_of : Vec (Option (Vec ℕ)) → List (Option (List ℕ))
+places_of v = map (option_map (λ bytes. bytes.items)) v.items
+
+-- the place of an update
+abbrev pub IsPlace : Option (List ℕ) → Option Message → Type 0
+IsPlace (Some bytes) (Some m) = IsRequest bytes m
+IsPlace None None = Unit {0}
+IsPlace bytes m = ⊥
+
+abbrev pub named_place : Option (Option (List ℕ)) → Option (List ℕ)
+named_place (Some bytes) = bytes
+named_place None = None
+
+-- ---- the server
+
+-- the server has the zone, the limit and the replies of a state
+pub record IsServerOf (server : Server) (state : LinkState) : Type 0 where
+  pub zone : server.zone ≡ state.zone
+  pub limit : server.limit ≡ state.limit
+  pub replies : AreRelated (λ bytes r. ReadsMessage bytes (message_of state.limit r)) (reverse (bytes_of server.replies)) state.replies
+
+-- ---- the link
+
+abbrev pub IsCourse : ScriptedLink → Course → Type 0
+IsCourse link (Honest under_way) =
+    (link.is_honest ≡ true) × AreRelated IsRequest (bytes_of link.under_way) under_way × (link.events.items ≡ [])
+IsCourse link (Listed events) = (link.is_honest ≡ false) × (link.under_way.items ≡ []) × (reverse link.events.items ≡ events)
+
+-- the server, and what was sent
+pub record HasSent (link : ScriptedLink) (state : LinkState) : Type 0 where
+  pub server : IsServerOf link.server state
+  pub datagrams : AreRelated IsRequest (reverse (bytes_of link.datagrams)) state.datagrams
+  pub updates : AreRelated IsPlace (places_of link.updates) state.updates
+
+-- The link is in a state.
+pub record Shows (link : ScriptedLink) (state : LinkState) : Type 0 where
+  pub sent : HasSent link state
+  pub course : IsCourse link state.course
+  pub is_update : link.is_update ≡ state.is_update
+
+-- Out of memory, nothing else is known.
+pub record IsAt (link : ScriptedLink) (state : LinkState) : Type 0 where
+  pub memory : link.out_of_memory ≡ state.out_of_memory
+  pub shows : link.out_of_memory ≡ false → Shows link state
 
 abbrev pub is_out_of_memory : ScriptedLink → Bool
 is_out_of_memory link = link.out_of_memory
 
--- The link becomes new, with this zone and these datagrams under way; nothing else changes.
-pub record Becomes (old : ScriptedLink) (zone : ZoneContent) (waiting : List (List ℕ)) (new : ScriptedLink) : Type 0 where
-  pub zone_is : new.zone ≡ zone
-  pub limit : new.limit ≡ old.limit
-  pub waiting_is : waiting_of new ≡ waiting
-  pub memory : new.out_of_memory ≡ old.out_of_memory
+-- ---- calls
 
-abbrev pub Sends : ScriptedLink → List ℕ → Result (Unit {0}) LinkError → ScriptedLink → Type 0
-Sends old bytes (Ok done) new = Becomes old old.zone (waiting_of old ++ bytes ∷ []) new
-Sends old bytes (Err Failed) new = ⊥
-Sends old bytes (Err Memory) new = new.out_of_memory ≡ true
+-- a call leads to a state in which the link is
+abbrev pub LeadsTo : ScriptedLink → (LinkState → Type 0) → Type 0
+LeadsTo new leads = (after : LinkState) × IsAt new after × leads after
 
--- the oldest datagram reaches the server, whose reply comes, and whose zone it may change
-abbrev pub Brings : List (List ℕ) → ScriptedLink → Option (List ℕ) → ScriptedLink → Type 0
-Brings [] old came new = (came ≡ None) × Becomes old old.zone [] new
-Brings (bytes ∷ waiting) old came new = Serves old.zone (Datagram old.limit) bytes came new.zone × Becomes old new.zone waiting new
+-- once out of memory, always; and only a call that reports it runs out of memory
+pub record KeepsMemory {X : Type 0} (old : ScriptedLink) (result : Result X LinkError) (new : ScriptedLink) : Type 0 where
+  pub stays : old.out_of_memory ≡ true → new.out_of_memory ≡ true
+  pub reported : old.out_of_memory ≡ false → new.out_of_memory ≡ true → result ≡ Err Memory
 
-abbrev pub Receives : ScriptedLink → Result (Option (List ℕ)) LinkError → ScriptedLink → Type 0
-Receives old (Ok came) new = Brings (waiting_of old) old came new
-Receives old (Err Failed) new = ⊥
-Receives old (Err Memory) new = new.out_of_memory ≡ true
+-- a script that is copied when its event begins
+abbrev pub IsListed : Script → Type 0
+IsListed (script.Listed events) = Unit {0}
+IsListed script.Honest = ⊥
+
+-- an event begins, at any moment; there may be no memory for its script
+pub record IsBegun (old : ScriptedLink) (result : Result (Unit {0}) AllocError) (new : ScriptedLink)
+    (begin : ℕ → LinkState → LinkState) : Type 0 where
+  pub begins : OnOk result ((moment : ℕ) (state : LinkState) → IsAt old state → IsAt new (begin moment state))
+  pub refused : OnErr result (new.out_of_memory ≡ true)
+  pub failures : new.failures ≡ old.failures
+
+-- an event ends; the server may run out of memory
+pub record IsEnded (old : ScriptedLink) (result : Result (Unit {0}) AllocError) (new : ScriptedLink) : Type 0 where
+  pub ends : OnOk result ((state : LinkState) → IsAt old state → IsAt new (end_event state))
+  pub refused : OnErr result (new.out_of_memory ≡ true)
+  pub failures : new.failures ≡ old.failures
+
+-- what arrives over a stream, for a message
+abbrev pub IsStreamReply : Message → Option (Vec ℕ) → Type 0
+IsStreamReply m (Some bytes) = ReadsMessage bytes.items m
+IsStreamReply m None = ⊥
+
+-- A request is sent as its message is, from each state in which the link is.
+pub record Sends (old : ScriptedLink) (bytes : List ℕ) (result : Result (Unit {0}) LinkError) (new : ScriptedLink) : Type 0 where
+  pub memory : KeepsMemory old result new
+  pub states : (state : LinkState) (m : Message) → IsAt old state → old.out_of_memory ≡ false → IsRequest bytes m
+      → LeadsTo new (λ after. SendsMessage state m result after)
+
+-- the bytes of a datagram that comes, and its message
+abbrev pub IsReceived : Result (Option (List ℕ)) LinkError → Result (Option Message) LinkError → Type 0
+IsReceived (Ok (Some bytes)) (Ok (Some m)) = ReadsMessage bytes m
+IsReceived (Ok None) (Ok None) = Unit {0}
+IsReceived (Err error) (Err other) = error ≡ other
+IsReceived received other = ⊥
+
+abbrev pub UnlessMemory : {X : Type 0} → Result X LinkError → Type 0 → Type 0
+UnlessMemory (Err Memory) P = Unit {0}
+UnlessMemory (Err Failed) P = P
+UnlessMemory (Ok x) P = P
+
+-- a receive by a listed script, whose next event is last
+pub record ReceivesListed (old : ScriptedLink) (received : Result (Option (List ℕ)) LinkError) (new : ScriptedLink) (state : LinkState)
+    : Type 0 where
+  pub received_is : IsReceived received (receive_listed (reverse old.events.items) state).datagram
+  pub sent : HasSent new (receive_listed (reverse old.events.items) state).state
+  pub course : (receive_listed (reverse old.events.items) state).state.course ≡ Listed (reverse new.events.items)
+
+-- a receive by the honest script
+pub record ReceivesHonestly (old : ScriptedLink) (received : Option (List ℕ)) (new : ScriptedLink) (state : LinkState)
+    (under_way : List Message) : Type 0 where
+  pub received_is : IsReceived (Ok received) (receive_by (Honest under_way) state).datagram
+  pub sent : HasSent new (receive_by (Honest under_way) state).state
+  pub rest : List Message
+  pub course : (receive_by (Honest under_way) state).state.course ≡ Honest rest
+  pub under_way_is : AreRelated IsRequest (bytes_of new.under_way) rest
+
+-- `Fail` is used up if it is in front
+pub record TakesFail (old : ScriptedLink) (failed : Bool) (new : ScriptedLink) : Type 0 where
+  pub front : failed ≡ begins_with_fail (Listed (reverse old.events.items))
+  pub taken : failed ≡ true → Listed (reverse new.events.items) ≡ without_first (Listed (reverse old.events.items))
+  pub kept : failed ≡ false → new.events.items ≡ old.events.items
+  pub rest : new ≡ record old { events = new.events }
+
+-- A receive brings the bytes of a message that a receive without bytes brings.
+pub record Receives (old : ScriptedLink) (received : Result (Option (List ℕ)) LinkError) (new : ScriptedLink) : Type 0 where
+  pub memory : KeepsMemory old received new
+  pub states : (state : LinkState) → IsAt old state → old.out_of_memory ≡ false
+      → (datagram : Result (Option Message) LinkError) × IsReceived received datagram
+      × LeadsTo new (λ after. ReceivesMessage state datagram after)
+
+-- the bytes of a reply over a stream, and its message
+abbrev pub IsStreamed : Result (List ℕ) LinkError → Result Message LinkError → Type 0
+IsStreamed (Ok bytes) (Ok m) = ReadsMessage bytes m
+IsStreamed (Err error) (Err other) = error ≡ other
+IsStreamed result other = ⊥
+
+-- A request over a stream, of at most 65,535 bytes, has the bytes of the reply to its message.
+pub record Streams (old : ScriptedLink) (bytes : List ℕ) (result : Result (List ℕ) LinkError) (new : ScriptedLink) : Type 0 where
+  pub memory : KeepsMemory old result new
+  pub states : (state : LinkState) (m : Message) → IsAt old state → old.out_of_memory ≡ false → IsRequest bytes m → length bytes ≤ 65535
+      → (answer : Result Message LinkError) × IsStreamed result answer × LeadsTo new (λ after. StreamsMessage state m answer after)

@@ -1,11 +1,14 @@
-//! Links: what carries datagrams between the asker and the server.
+//! Links: what carries requests and their replies between the asker and the server.
 
 ghost use Rattle.std.specs.Prelude.{◌≡◌, ◌≤◌, Err};
-ghost use Rattle.stub_link.specs.Link.{Rises, datagram_of};
+ghost use Rattle.stub_link.specs.Link.{Rises, datagram_of, stream_reply_of};
 
+mod script;
 mod scripted;
+mod server;
 
-pub use scripted::{Script, ScriptedLink};
+pub use script::{LinkEvent, Script};
+pub use scripted::ScriptedLink;
 use std::alloc::AllocError;
 
 /// Why a call of a link failed.
@@ -27,7 +30,9 @@ impl From<AllocError> for LinkError {
     }
 }
 
-/// Carries datagrams.
+/// Carries datagrams, and asks over streams.
+///
+/// [`LinkError::Failed`] is the error of a call only if [`failures`](Link::failures) rises in it.
 pub trait Link {
     ghost use Rattle.std.specs.Prelude.{Option, Result, List, ℕ};
     ghost use Rattle.stub_link.specs.declared.link.LinkError.{LinkError};
@@ -37,6 +42,9 @@ pub trait Link {
 
     /// From a state, a receive may have this result and lead to that state.
     ghost receives: { Self → Result (Option (List ℕ)) LinkError → Self → Type 0 };
+
+    /// From a state, asking bytes over a stream may have this result and lead to that state.
+    ghost streams: { Self → List ℕ → Result (List ℕ) LinkError → Self → Type 0 };
 
     /// The number of calls that failed.
     ghost failure_count: { Self → ℕ };
@@ -51,6 +59,13 @@ pub trait Link {
     /// Receives the next datagram, if there is one.
     fn next_datagram(&mut self) -> Result<Option<Vec<u8>>, LinkError>
         ensures receives { receives self.old (datagram_of result) self.new }
+        ensures kept { failure_count self.old ≤ failure_count self.new }
+        ensures fails { result ≡ Err LinkError.Failed
+            → Rises (failure_count self.old) (failure_count self.new) };
+
+    /// Sends a message over a stream, and returns the message that is received over it (RFC 7766 section 5).
+    fn ask_stream(&mut self, bytes: &[u8]) -> Result<Vec<u8>, LinkError>
+        ensures streams { streams self.old bytes.now (stream_reply_of result) self.new }
         ensures kept { failure_count self.old ≤ failure_count self.new }
         ensures fails { result ≡ Err LinkError.Failed
             → Rises (failure_count self.old) (failure_count self.new) };

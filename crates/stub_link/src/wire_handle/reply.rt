@@ -1,7 +1,14 @@
-//! Which datagrams are the reply to a question (RFC 5452 sections 3 and 9).
+//! Which messages are the reply to a request (RFC 5452 sections 3 and 9).
+//!
+//! A request is known by its id, and by its question if it is a query; an update has none.
 
-ghost use Rattle.std.specs.Prelude.{◌≡◌, true, IfOk, OnErr};
-ghost use Rattle.stub_link.specs.WireHandle.{FailsByLink, FindsReply, Waits, accepted, has_reply_header, is_reply_header, matches};
+ghost use Rattle.std.specs.Prelude.{◌≡◌, ◌≤◌, true, IfOk, OnErr, Some};
+ghost use Rattle.std.specs.Option.{option_copied};
+ghost use Rattle.dns_messages.specs.Header.{peeked_metadata};
+ghost use Rattle.stub_link.specs.Link.{calls_of, wire};
+ghost use Rattle.stub_link.specs.Reply.{has_reply_header, is_reply_code, is_reply_header, matches, repeats};
+ghost use Rattle.stub_link.specs.Wait.{Wait};
+ghost use Rattle.stub_link.specs.WireHandle.{FailsByLink, FindsReply};
 
 use crate::link::{Link, LinkError};
 use dns_messages::laws::{headers_are_peeked, messages_decode_unambiguously};
@@ -10,20 +17,21 @@ use dns_wire::DecodeError;
 use std::alloc::{AllocError, Global};
 use stub_lookup::{LinkFault, NetError};
 
-/// The maximum number of datagrams that are received for a question.
+/// The maximum number of datagrams that are received for a request.
 const MAX_RECEIVES: u8 = 16;
 
-/// Receives datagrams up to the reply, at most sixteen.
+/// Receives datagrams up to the reply, at most sixteen. All others are dropped and counted.
 pub(crate) fn wait<L: Link>(
     alloc: Global,
     link: &mut L,
     id: u16,
-    query: &Query,
+    question: Option<&Query>,
     dropped: &mut u64,
 ) -> Result<DnsResponse, NetError>
-    ensures waits { Waits L.receives 16 id query.now link.old dropped.old
-        result link.new dropped.new }
+    ensures waits { Wait wire (calls_of L.sends L.receives L.streams) 16 id (option_copied question.entry)
+        link.old dropped.old result link.new dropped.new }
     ensures failed { FailsByLink result (L.failure_count link.old) (L.failure_count link.new) }
+    ensures kept { L.failure_count link.old ≤ L.failure_count link.new }
 {
     for _received in 0..MAX_RECEIVES {
         match link.next_datagram() {
@@ -31,9 +39,9 @@ pub(crate) fn wait<L: Link>(
             // The link ran out of memory.
             Err(LinkError::Memory) => return Err(NetError::Memory),
             Ok(None) => return Err(NetError::Link(LinkFault::Quiet)),
-            Ok(Some(bytes)) => match reply_in(alloc, id, query, bytes) {
+            Ok(Some(bytes)) => match reply_in(alloc, id, question, bytes) {
                 Err(error) => return Err(NetError::from(error)),
-                Ok(Some(response)) => return accept(response),
+                Ok(Some(response)) => return Ok(response),
                 Ok(None) => *dropped = dropped.saturating_add(1),
             },
         }
@@ -46,20 +54,22 @@ pub(crate) fn wait<L: Link>(
 fn reply_in(
     alloc: Global,
     id: u16,
-    query: &Query,
+    question: Option<&Query>,
     bytes: Vec<u8>,
 ) -> Result<Option<DnsResponse>, AllocError>
-    ensures found { IfOk result (λ found. FindsReply id query.now bytes.items found) }
-    ensures headed { OnErr result (has_reply_header id bytes.items ≡ true) }
+    ensures found { IfOk result
+        (λ found. FindsReply id (option_copied question.entry) bytes.items found) }
+    ensures headed { OnErr result (has_reply_header id (option_copied question.entry)
+        (peeked_metadata bytes.items) ≡ true) }
 {
     messages_decode_unambiguously();
     headers_are_peeked();
-    if !has_reply_header(id, bytes.as_slice()) {
+    if !has_reply_header(id, question, bytes.as_slice()) {
         return Ok(None);
     }
     match DnsResponse::from_buffer(alloc, bytes) {
         Ok(response) => {
-            if is_reply(id, query, response.message()) {
+            if is_reply(id, question, response.message()) {
                 Ok(Some(response))
             } else {
                 Ok(None)
@@ -75,43 +85,53 @@ fn reply_in(
     }
 }
 
-/// Returns `true` if a datagram has the header of a reply under an id.
-fn has_reply_header(id: u16, bytes: &[u8]) -> bool
-    ensures { result ≡ has_reply_header id bytes.now }
+/// Returns `true` if a datagram has the header of a reply.
+fn has_reply_header(id: u16, question: Option<&Query>, bytes: &[u8]) -> bool
+    ensures { result
+        ≡ has_reply_header id (option_copied question.entry) (peeked_metadata bytes.now) }
 {
     match Metadata::peek(bytes) {
-        Some(header) => is_reply_header(id, header),
+        Some(header) => is_reply_header(id, question, header),
         None => false,
     }
 }
 
-/// Returns `true` if a header is that of a reply under an id: a response to a query (RFC 5452 section 3).
-fn is_reply_header(id: u16, header: Metadata) -> bool
-    ensures { result ≡ is_reply_header id header }
+/// Returns `true` if a header is that of a reply: a response with the opcode and the id of the request (RFC 5452 section 3).
+fn is_reply_header(id: u16, question: Option<&Query>, header: Metadata) -> bool
+    ensures { result ≡ is_reply_header id (option_copied question.entry) header }
 {
     header.message_type == MessageType::Response
-        && header.op_code == OpCode::Query
+        && is_reply_code(question, header.op_code)
         && header.id == id
 }
 
-/// Returns `true` if a message is a reply to a question under an id (RFC 5452 section 3).
-fn is_reply(id: u16, query: &Query, message: &Message) -> bool
-    ensures { result ≡ matches id query.now message.now }
+/// Returns `true` if an opcode is that of the replies to a request.
+fn is_reply_code(question: Option<&Query>, op_code: OpCode) -> bool
+    ensures { result ≡ is_reply_code (option_copied question.entry) op_code }
 {
-    is_reply_header(id, message.metadata)
-        && match message.queries.as_slice() {
-            [asked] => query.asks_same(asked),
-            _ => false,
+    match question {
+        Some(_) => matches!(op_code, OpCode::Query),
+        None => matches!(op_code, OpCode::Update),
+    }
+}
+
+/// Returns `true` if a message is the reply to a request (RFC 5452 section 3).
+pub(crate) fn is_reply(id: u16, question: Option<&Query>, message: &Message) -> bool
+    ensures { result ≡ matches id (option_copied question.entry) message.now }
+{
+    is_reply_header(id, question, message.metadata)
+        && match question {
+            None => true,
+            Some(query) => repeats(query, message.queries.as_slice()),
         }
 }
 
-/// Returns a whole reply. A truncated one is not used (RFC 2181 section 9).
-fn accept(response: DnsResponse) -> Result<DnsResponse, NetError>
-    ensures { result ≡ accepted response }
+/// Returns `true` if a question is the only one of a message.
+fn repeats(query: &Query, queries: &[Query]) -> bool
+    ensures { result ≡ repeats (Some query.now) queries.now }
 {
-    if response.message().metadata.truncation {
-        Err(NetError::Link(LinkFault::Truncated))
-    } else {
-        Ok(response)
+    match queries {
+        [asked] => query.asks_same(asked),
+        _ => false,
     }
 }

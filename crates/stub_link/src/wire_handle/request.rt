@@ -1,11 +1,10 @@
-//! Which requests can be sent, and their datagrams.
+//! Which requests can be asked, and the datagrams of requests.
 
 ghost use Rattle.std.specs.Prelude.{◌≡◌, IfOk, IfSome, None};
 ghost use Rattle.std.specs.Option.{option_copied};
-ghost use Rattle.dns_messages.specs.Cut.{cut_form};
-ghost use Rattle.dns_messages.specs.Grammar.{ReadsMessage};
 ghost use Rattle.dns_messages.specs.declared.query.Query.{Query};
-ghost use Rattle.stub_link.specs.WireHandle.{AsksFor};
+ghost use Rattle.stub_link.specs.Link.{Encodes};
+ghost use Rattle.stub_link.specs.Request.{IsQuestion, IsWhole};
 
 use dns_messages::laws::messages_within_the_limit_are_not_cut;
 use dns_messages::{Message, MessageType, OpCode, Query};
@@ -16,10 +15,10 @@ use std::alloc::{AllocError, Global};
 /// The maximum size of a message, in bytes (RFC 1035 section 4.2.2).
 const MAX_MESSAGE_LEN: u16 = 65_535;
 
-/// Returns the question of a request that can be sent: a sound query with one question, which is not cut.
+/// Returns the question of a request that can be asked: a sound query with one question, which is sent whole.
 pub(crate) fn question_of(request: &Message) -> Option<&Query>
-    ensures some { IfSome (option_copied result) (λ q. AsksFor request.now q) }
-    ensures none { result ≡ None → (q : Query) → ¬ AsksFor request.now q }
+    ensures some { IfSome (option_copied result) (λ q. IsQuestion request.now q) }
+    ensures none { result ≡ None → (q : Query) → ¬ IsQuestion request.now q }
 {
     let is_query = request.metadata.message_type == MessageType::Query
         && request.metadata.op_code == OpCode::Query;
@@ -35,9 +34,8 @@ pub(crate) fn question_of(request: &Message) -> Option<&Query>
 
 /// Returns the datagram of a request, which has all of it.
 pub(crate) fn request_bytes(alloc: Global, request: &Message) -> Result<Vec<u8>, AllocError>
-    requires { (q : Query) × AsksFor request.now q }
-    ensures form { IfOk result (λ bytes. bytes.items ≡ cut_form 65535 request.now) }
-    ensures decodes { IfOk result (λ bytes. ReadsMessage bytes.items request.now) }
+    requires { IsWhole request.now }
+    ensures { IfOk result (λ bytes. Encodes request.now bytes.items) }
 {
     messages_within_the_limit_are_not_cut();
     match request.to_vec(alloc) {

@@ -6,5 +6,5 @@ use Rattle.stub_link.proofs.wire_handle.WireHandleDnsHandle.send.Goals as goal
 
 pub returns : goal.returns
 returns g c =
-    asks-counted g.L.Link.sends g.L.Link.receives g.L.Link.failure_count c.args.request c.args._now c.into_parts-message.result.0 c.args.self.now c.ask-outcome.result c.ask-outcome.new.self c.count_fault.new.self
-    (ap (λ (p : Message × DnsRequestOptions). p.0) c.into_parts-message.ensures) c.ask-outcome.ensures.ids c.ask-outcome.ensures.asked c.ask-outcome.ensures.faults c.ask-outcome.ensures.failed c.count_fault.ensures
+    asks-counted g.L.Link.sends g.L.Link.receives g.L.Link.streams g.L.Link.failure_count c.args.request c.args._now c.into_parts-message.result.0 c.args.self.now c.ask-outcome.result c.ask-outcome.new.self c.count_fault.new.self
+    (ap (λ (p : Message × DnsRequestOptions). p.0) c.into_parts-message.ensures) c.ask-outcome.ensures.asked c.ask-outcome.ensures.failed c.count_fault.ensures
