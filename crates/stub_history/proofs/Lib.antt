@@ -1,0 +1,17 @@
+pub mod StandLaws
+pub mod AnswerRowLaws
+pub mod FreshLaws
+pub mod ChainLaws
+pub mod EndLaws
+pub mod CloseLaws
+pub mod ServeLaws
+pub mod ReceiveLaws
+pub mod WholeLaws
+pub mod EventLaws
+pub mod WaitLaws
+pub mod AskLaws
+pub mod FaithfulLaws
+pub mod AskedTypeLaws
+pub mod LaterLaws
+pub mod OutLaws
+pub mod LedLaws

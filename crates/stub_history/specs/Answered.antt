@@ -1,0 +1,67 @@
+-- Outcomes of questions that hold what a zone answers by rows that stood.
+use Rattle.std.specs.Prelude.{◌≡◌, ◌==◌, ◌&&◌, ◌||◌, nat_le, nat_lt, not, Bool, All, List, [], ℕ, Ok}
+use Rattle.dns_codes.specs.RecordType.{type_number}
+use Rattle.dns_codes.specs.declared.record_type.RecordType.{RecordType}
+use Rattle.dns_names.specs.Name.{DomainName}
+use Rattle.dns_records.specs.Rows.{Rows}
+use Rattle.dns_messages.specs.declared.message.Message.{Message}
+use Rattle.dns_messages.specs.declared.query.Query.{Query}
+use Rattle.dns_messages.specs.declared.response.DnsResponse.{DnsResponse}
+use Rattle.dns_zone.specs.Answer.{answer}
+use Rattle.dns_zone.specs.Rows.{IsZone, ZoneContent}
+use Rattle.stub_cache.specs.Ttl.{TtlConfigContent, bounds_of, positive_range}
+use Rattle.stub_client.specs.Origins.{Asked}
+use Rattle.stub_client.specs.SpecialNames.{special_answer}
+use Rattle.stub_client.specs.declared.special_names.SpecialAnswer.TheVariants.{Ordinary}
+use Rattle.stub_link.specs.LinkState.{Version}
+use Rattle.stub_history.specs.Stands.{StandAt}
+
+-- ---- plain types
+
+-- Whether claims are made of a type: it is a data type (RFC 6895 section 3.1), 1 to 127 or above 255, and none of CNAME, SOA, SIG, SRV and
+-- OPT.
+abbrev pub is_plain_number : ℕ → Bool
+is_plain_number number =
+    ((nat_le 1 number && nat_le number 127) || nat_lt 255 number)
+    && not ((number == 5) || ((number == 6) || ((number == 24) || ((number == 33) || (number == 41)))))
+
+abbrev pub is_plain : RecordType → Bool
+is_plain kind = is_plain_number (type_number kind)
+
+-- the greatest TTL that is kept for records of a type
+abbrev pub greatest_ttl : TtlConfigContent → RecordType → ℕ
+greatest_ttl config kind = (positive_range (bounds_of config kind)).greatest
+
+-- ---- zones
+
+abbrev pub zone_with : DomainName → Rows → ZoneContent
+zone_with origin rows = record { origin = origin; rows = rows }
+
+-- each version of the rows is a zone with this origin
+abbrev pub AreZones : DomainName → List Version → Type 0
+AreZones origin history = All (λ version. IsZone (zone_with origin version.rows)) history
+
+-- ---- answers
+
+-- A message holds exactly the answer of a zone to a question: its code, answers and authorities, and no additional record.
+pub record HoldsAnswer (zone : ZoneContent) (q : Query) (m : Message) : Type 0 where
+  pub code : m.metadata.response_code ≡ (answer zone q).code
+  pub answers : m.answers ≡ (answer zone q).answers
+  pub authorities : m.authorities ≡ (answer zone q).authorities
+  pub additionals : m.additionals ≡ []
+
+-- a message holds the answer of a zone with this origin, by rows that stand at a moment
+pub record HoldsAnswerAt (origin : DomainName) (history : List Version) (moment : ℕ) (q : Query) (m : Message) : Type 0 where
+  pub rows : Rows
+  pub stand : StandAt history moment rows
+  pub holds : HoldsAnswer (zone_with origin rows) q m
+
+-- If the outcome of a question is a response, this holds what the zone answers by rows that stood when the question was asked.
+abbrev pub IsAnsweredBy : DomainName → List Version → Asked → Type 0
+IsAnsweredBy origin history asked =
+    (response : DnsResponse) → asked.ask.outcome ≡ Ok response
+    → HoldsAnswerAt origin history asked.moment asked.ask.question response.message
+
+-- no question for a special-use name was sent
+abbrev pub AreOrdinary : List Asked → Type 0
+AreOrdinary asked = All (λ a. special_answer a.ask.question ≡ Ordinary) asked

@@ -1,0 +1,3 @@
+pub mod Stands
+pub mod Answered
+pub mod Faithful
