@@ -1,0 +1,11 @@
+pub mod Spelling
+pub mod WalkLaws
+pub mod WalkRows
+pub mod CourseLaws
+pub mod ReadLaws
+pub mod StepLaws
+pub mod ComingLaws
+pub mod MoreLaws
+pub mod ResolverLaws
+pub mod AgreementLaws
+pub mod FaultLaws

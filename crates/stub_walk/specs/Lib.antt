@@ -1,0 +1,3 @@
+pub mod Walk
+pub mod Answered
+pub mod Agreement
