@@ -10,6 +10,8 @@ use Rattle.dns_names.specs.declared.error.ParseError.{ParseError}
 use Rattle.dns_text.specs.Address.{IsTextOf}
 use Rattle.dns_data.specs.declared.rdata.RData.{RData}
 use Rattle.dns_messages.specs.declared.query.Query.{Query}
+use Rattle.dns_messages.specs.declared.message.Message.{Message}
+use Rattle.dns_messages.specs.declared.response_code.ResponseCode.{ResponseCode}
 use Rattle.stub_config.specs.declared.request_options.DnsRequestOptions.{DnsRequestOptions}
 use Rattle.stub_config.specs.declared.strategy.LookupIpStrategy.{LookupIpStrategy}
 use Rattle.stub_config.specs.declared.strategy.LookupIpStrategy.TheVariants.{Ipv4Only, Ipv6Only, Ipv4AndIpv6, Ipv6AndIpv4, Ipv6thenIpv4, Ipv4thenIpv6}
@@ -21,14 +23,15 @@ use Rattle.stub_hosts.specs.Hosts.{HostsContent, address_data, question, static_
 use Rattle.stub_core.specs.Attempts.{Attempts, AttemptsAll, AttemptsWithHosts, Continues, Lookups, Unless, WithHosts, is_final}
 use Rattle.stub_client.specs.Handle.{Ask, Behavior, Led, Outcome, request_for}
 use Rattle.stub_client.specs.Looks.{Answers, Looks, Reply, lookup_settings}
-use Rattle.stub_core.specs.Resolver.{AnswersHost, AnswersName, LooksUp, LooksUpHost, LooksUpName, ResolvesHost, ResolvesName, UnlessMemory, cleared_lookup, is_tried_as_name, known_type, names_for, request_options, with_entries}
+use Rattle.stub_core.specs.Resolver.{AnswersHost, AnswersName, LooksUp, LooksUpHost, LooksUpName, ResolvesHost, ResolvesName, UnlessMemory, cleared_lookup, is_tried_as_name, known_type, names_for, request_options, with_entries, with_handle}
 use Rattle.stub_core.specs.Strategies.{Both, ByStrategy, Joins, LooksUpAddresses, LooksUpIp, Then, is_out_of_memory, no_addresses}
 use Rattle.stub_client.specs.declared.caching_client.CachingClient.{CachingClient}
 use Rattle.stub_client.specs.declared.request.DnsRequest.{DnsRequest}
 use Rattle.stub_core.specs.declared.resolver.Resolver.{Resolver}
 use Rattle.stub_core.specs.declared.resolver.settings.Settings.{Settings}
+use Rattle.stub_link.specs.Request.{IsUpdate}
 use Rattle.stub_run.specs.Alike.{AreAlike, AreAlikeClients}
-use Rattle.stub_run.specs.Run.{Clears, Replies}
+use Rattle.stub_run.specs.Run.{Clears, Replies, Updates}
 use Rattle.stub_run.specs.declared.event.Event.{Event}
 use Rattle.stub_run.specs.declared.event.Event.TheVariants as event
 use Rattle.stub_run.specs.declared.report.EventReply.{EventReply}
@@ -348,16 +351,45 @@ module _ {H S : Type 0} (is_in : H → S → Type 0) (gives : Behavior H) (other
   clears-alike name kind old new (Err (errors.Link e)) state alike h = absurd h
   clears-alike name kind old new (Err errors.Unsupported) state alike h = absurd h
 
+-- what a handle does with an update
+abbrev pub Sending : Type 0 → Type 1
+Sending H = H → Message → Result ResponseCode NetError → H → Type 0
+
+-- an update that one handle sends, the other sends as well
+abbrev pub CarriesUpdates : {H S : Type 0} → (H → S → Type 0) → Sending H → Sending S → Type 0
+CarriesUpdates {H} {S} is_in sends others =
+    (old new : H) (state : S) (update : Message) (reply : Result ResponseCode NetError) → is_in old state → IsUpdate update
+    → sends old update reply new → (after : S) × is_in new after × others state update reply after
+
+module _ {H S : Type 0} (is_in : H → S → Type 0) (gives : Behavior H) (others : Behavior S) (sends : Sending H)
+    (other_sends : Sending S) (carries : Carries is_in gives others) (carries_updates : CarriesUpdates is_in sends other_sends) where
+  -- an update is carried along
+  updates-alike : (update : Message) (old new : Resolver H) (reply : Result ResponseCode NetError) (state : Resolver S)
+      → AreAlike is_in old state → Updates sends update old reply new
+      → (after : Resolver S) × AreAlike is_in new after × Updates other_sends update state reply after
+  updates-alike update old new reply state alike h =
+      let led = carries_updates old.client.handle new.client.handle state.client.handle update reply alike.client.handle h.sound
+      h.sent in
+      let after : Resolver S = with_handle state led.0 in
+      let same : AreAlike is_in (with_handle old new.client.handle) after = record {
+        settings = alike.settings;
+        client = record { handle = led.1; cache = alike.client.cache; aliases = alike.client.aliases };
+      } in (
+        after,
+        subst (λ (resolver : Resolver H). AreAlike is_in resolver after) (sym h.rest) same,
+        record { sound = h.sound; sent = led.2; rest = refl },
+      )
+
   -- the reply to an event is carried along
   pub replies-alike : (old new : Resolver H) (e : Event) (reply : EventReply) (state : Resolver S) → AreAlike is_in old state
-      → Replies gives old e reply new
-      → (after : Resolver S) × AreAlike is_in new after × Replies others state e reply after
+      → Replies gives sends old e reply new
+      → (after : Resolver S) × AreAlike is_in new after × Replies others other_sends state e reply after
   replies-alike old new (event.Lookup at name kind script) (replies.Lookup found) state alike h =
-      resolves-name-alike at (Ok name) kind old new found state alike h
+      resolves-name-alike is_in gives others carries at (Ok name) kind old new found state alike h
   replies-alike old new (event.LookupIp at host script) (replies.LookupIp found) state alike h =
-      resolves-host-alike at (IsTextOf (string_bytes host)) (name_of_text (string_bytes host)) old new found state alike h
+      resolves-host-alike is_in gives others carries at (IsTextOf (string_bytes host)) (name_of_text (string_bytes host)) old new found state alike h
   replies-alike old new (event.Clear at name kind script) (replies.Cleared done) state alike h =
-      clears-alike name kind old new done state alike h
+      clears-alike is_in gives others carries name kind old new done state alike h
   replies-alike old new (event.ClearAll at script) (replies.Cleared done) state alike h =
       let after : Resolver S = record state { client = with_entries state.client [] } in
       let cleared : AreAlike is_in (record old { client = with_entries old.client [] }) after = record {
@@ -369,16 +401,25 @@ module _ {H S : Type 0} (is_in : H → S → Type 0) (gives : Behavior H) (other
         };
       } in
       (after, subst (λ (resolver : Resolver H). AreAlike is_in resolver after) (sym h.1) cleared, (h.0, refl))
+  replies-alike old new (event.Update at update script) (replies.Update reply) state alike h =
+      updates-alike update old new reply state alike h
   replies-alike old new e reply state alike h = absurd h
 
--- ---- what every question keeps
+-- ---- what every question and update keeps
 
 -- a handle keeps this, whatever it is asked
 abbrev pub Keeps : {H : Type 0} → (H → Type 0) → Behavior H → Type 0
 Keeps {H} holds gives =
     (old new : H) (request : DnsRequest) (now : ℕ) (outcome : Outcome) → holds old → gives old request now outcome new → holds new
 
-module _ {H : Type 0} (holds : H → Type 0) (gives : Behavior H) (keeps : Keeps holds gives) where
+-- a handle keeps this, whatever update it sends
+abbrev pub KeepsUpdates : {H : Type 0} → (H → Type 0) → Sending H → Type 0
+KeepsUpdates {H} holds sends =
+    (old new : H) (update : Message) (reply : Result ResponseCode NetError) → holds old → IsUpdate update → sends old update reply new
+    → holds new
+
+module _ {H : Type 0} (holds : H → Type 0) (gives : Behavior H) (sends : Sending H) (keeps : Keeps holds gives)
+    (keeps_updates : KeepsUpdates holds sends) where
   -- a handle without states: all that is known of it is what holds
   abbrev IsHeld : H → Unit {0} → Type 0
   IsHeld handle none = holds handle
@@ -386,8 +427,15 @@ module _ {H : Type 0} (holds : H → Type 0) (gives : Behavior H) (keeps : Keeps
   abbrev Anything : Unit {0} → DnsRequest → ℕ → Outcome → Unit {0} → Type 0
   Anything old request now outcome new = Unit {0}
 
+  abbrev AnyUpdate : Unit {0} → Message → Result ResponseCode NetError → Unit {0} → Type 0
+  AnyUpdate old update reply new = Unit {0}
+
   held : Carries IsHeld gives Anything
   held old new none request now outcome holds_before given = (tt, keeps old new request now outcome holds_before given, tt)
+
+  held_updates : CarriesUpdates IsHeld sends AnyUpdate
+  held_updates old new none update reply holds_before sound sent =
+      (tt, keeps_updates old new update reply holds_before sound sent, tt)
 
   abbrev without_state : Resolver H → Resolver (Unit {0})
   without_state resolver = record {
@@ -409,7 +457,8 @@ module _ {H : Type 0} (holds : H → Type 0) (gives : Behavior H) (keeps : Keeps
 
   -- an event keeps it
   pub replies-keep : (old new : Resolver H) (e : Event) (reply : EventReply) → holds old.client.handle
-      → Replies gives old e reply new → holds new.client.handle
+      → Replies gives sends old e reply new → holds new.client.handle
   replies-keep old new e reply h resolves =
-      let led = replies-alike IsHeld gives Anything held old new e reply (without_state old) (is-alike old h) resolves in
+      let led = replies-alike IsHeld gives Anything sends AnyUpdate held held_updates old new e reply (without_state old)
+      (is-alike old h) resolves in
       led.1.client.handle

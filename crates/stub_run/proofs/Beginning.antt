@@ -1,5 +1,5 @@
 -- A world begins: nothing has happened to its link, its handle and its resolver.
-use Rattle.std.proofs.Common.{◌≡◌, false, ℕ, List, [], refl, sym, ap, subst, ◌∙◌}
+use Rattle.std.proofs.Common.{◌≡◌, Bool, true, false, Result, Ok, Err, ℕ, List, [], refl, sym, ap, subst, ◌∙◌}
 use Rattle.dns_zone.specs.Rows.{ZoneContent}
 use Rattle.stub_config.specs.declared.config.ResolverConfig.{ResolverConfig}
 use Rattle.stub_config.specs.declared.options.ResolverOpts.{ResolverOpts}
@@ -7,53 +7,46 @@ use Rattle.stub_hosts.specs.Hosts.{HostsContent}
 use Rattle.stub_core.specs.ResolverBuilder.{Builds, default_settings, empty_cache, with_options, with_used_hosts}
 use Rattle.stub_core.specs.declared.resolver.builder.ResolverBuilder.{ResolverBuilder}
 use Rattle.stub_core.specs.declared.resolver.settings.Settings.{Settings}
-use Rattle.stub_link.specs.Asks.{IsIn, first_asks}
-use Rattle.stub_link.specs.ScriptedLink.{waiting_of}
-use Rattle.stub_link.specs.WireHandle.{Line, line_of}
+use Rattle.stub_link.specs.Ask.{Asker}
+use Rattle.stub_link.specs.AskState.{first_asks}
+use Rattle.stub_link.specs.LinkState.{first_link_state}
+use Rattle.stub_link.specs.ScriptedLink.{IsAt}
+use Rattle.stub_link.specs.WireHandle.{IsIn, asker_of}
 use Rattle.stub_link.specs.declared.link.scripted.ScriptedLink.{ScriptedLink}
 use Rattle.stub_run.specs.Run.{RunState}
 use Rattle.stub_run.specs.World.{BeginsWith, IsFirst}
 use Rattle.stub_run.specs.declared.world.World.{World}
 use Rattle.stub_run.proofs.Happening.{Handle, WireResolver}
 
--- ---- the link and the handle
+-- ---- the handle
 
--- a link to a server of a zone, on which nothing has happened
-pub record IsFresh (zone : ZoneContent) (limit : ℕ) (link : ScriptedLink) : Type 0 where
-  pub zone_is : link.zone ≡ zone
-  pub limit_is : link.limit ≡ limit
-  pub waiting : waiting_of link ≡ []
-  pub memory : link.out_of_memory ≡ false
-
--- a handle over such a link that has asked nothing
+-- a handle over a link to a server of the zone, which has asked nothing
 pub record HasAskedNothing (zone : ZoneContent) (limit : ℕ) (ids : List ℕ) (handle : Handle) : Type 0 where
   pub link : ScriptedLink
-  pub fresh : IsFresh zone limit link
-  pub line : line_of handle ≡ record { link = link; dropped = 0; questions = 0 }
-  pub ids_are : handle.ids.items ≡ ids
-  pub sent : handle.sent.items ≡ []
-  pub faults : handle.faults ≡ 0
+  pub at_first : IsAt link (first_link_state zone limit)
+  pub asker : asker_of handle ≡ record { link = link; ids = ids; sent = []; dropped = 0; faults = 0; questions = 0 }
 
 is-in-first : (zone : ZoneContent) (limit : ℕ) (ids : List ℕ) (handle : Handle) → HasAskedNothing zone limit ids handle
     → IsIn handle (first_asks zone limit ids)
-is-in-first zone limit ids handle h =
-    let same : handle.link ≡ h.link = ap (λ (line : Line ScriptedLink). line.link) h.line in
-    record {
-      memory = ap (λ (link : ScriptedLink). link.out_of_memory) same ∙ h.fresh.memory;
-      shows = λ quiet. record {
-        zone = ap (λ (link : ScriptedLink). link.zone) same ∙ h.fresh.zone_is;
-        limit = ap (λ (link : ScriptedLink). link.limit) same ∙ h.fresh.limit_is;
-        waiting = ap (λ (link : ScriptedLink). waiting_of link) same ∙ h.fresh.waiting;
-        deliveries = refl;
-        ids = h.ids_are;
-        sent = h.sent;
-        dropped = ap (λ (line : Line ScriptedLink). line.dropped) h.line;
-        faults = h.faults;
-        questions = ap (λ (line : Line ScriptedLink). line.questions) h.line;
-      };
-    }
+is-in-first zone limit ids handle h = record {
+  link = subst (λ (l : ScriptedLink). IsAt l (first_link_state zone limit)) (sym (ap (λ (a : Asker ScriptedLink). a.link) h.asker)) h.at_first;
+  shows = λ quiet. record {
+    ids = ap (λ (a : Asker ScriptedLink). a.ids) h.asker;
+    sent = ap (λ (a : Asker ScriptedLink). a.sent) h.asker;
+    dropped = ap (λ (a : Asker ScriptedLink). a.dropped) h.asker;
+    faults = ap (λ (a : Asker ScriptedLink). a.faults) h.asker;
+    questions = ap (λ (a : Asker ScriptedLink). a.questions) h.asker;
+  };
+}
 
 -- ---- the resolver
+
+pub is-false : (b : Bool) → (b ≡ true → ⊥) → b ≡ false
+is-false true h = absurd (h refl)
+is-false false h = refl
+
+pub ok-is-no-error : {A E : Type 0} (x : A) (e : E) → ◌≡◌ {A = Result A E} (Ok x) (Err e) → ⊥
+ok-is-no-error x e h = absurd (cc)
 
 abbrev pub Builder : Type 0
 Builder = ResolverBuilder Handle

@@ -1,4 +1,17 @@
 pub mod Alike
 pub mod Beginning
+pub mod Counting
+pub mod DistinctIds
+pub mod FreshRuns
+pub mod Growing
 pub mod Happening
+pub mod HeadlineLaws
+pub mod Histories
+pub mod OutOfMemory
+pub mod Reporting
+pub mod Requests
+pub mod RunLaws
 pub mod Running
+pub mod SoundQuestionLaws
+pub mod SupportedLaws
+pub mod ZoneQuestions

@@ -10,7 +10,7 @@ use Rattle.stub_run.specs.declared.report.EventReport.{EventReport}
 use Rattle.stub_run.specs.declared.report.Report.{Report}
 use Rattle.stub_run.specs.declared.runs.Progress.{Progress}
 use Rattle.stub_run.specs.declared.world.World.{World}
-use Rattle.stub_run.proofs.Happening.{IsInState, WireResolver}
+use Rattle.stub_run.proofs.Happening.{IsInState, Leads, WireResolver}
 
 -- ---- moments
 
@@ -23,24 +23,28 @@ moment-in-order last (e ∷ events) (suc i) d h within = moment-in-order (moment
 
 -- ---- runs
 
-Runs-push : (first : RunState) (events : List Event) (reports : List EventReport) (mid : RunState) (e : Event) (report : EventReport)
-    (after : RunState) → Runs first events reports mid → Step mid e report after
-    → Runs first (events ++ e ∷ []) (reports ++ report ∷ []) after
-Runs-push first [] [] mid e report after h step = (after, subst (λ (state : RunState). Step state e report after) h step, refl)
-Runs-push first [] (r ∷ reports) mid e report after h step = absurd h
-Runs-push first (x ∷ events) [] mid e report after h step = absurd h
-Runs-push first (x ∷ events) (r ∷ reports) mid e report after h step =
-    (h.0, h.1, Runs-push h.0 events reports mid e report after h.2 step)
+Runs-push : (first : RunState) (events : List Event) (reports : List EventReport) (states : List RunState) (mid : RunState) (e : Event)
+    (report : EventReport) (after : RunState) → Runs first events reports states mid → Step mid e report after
+    → Runs first (events ++ e ∷ []) (reports ++ report ∷ []) (states ++ after ∷ []) after
+Runs-push first [] [] [] mid e report after h step = (subst (λ (state : RunState). Step state e report after) h step, refl)
+Runs-push first [] [] (s ∷ states) mid e report after h step = absurd h
+Runs-push first [] (r ∷ reports) states mid e report after h step = absurd h
+Runs-push first (x ∷ events) [] states mid e report after h step = absurd h
+Runs-push first (x ∷ events) (r ∷ reports) [] mid e report after h step = absurd h
+Runs-push first (x ∷ events) (r ∷ reports) (s ∷ states) mid e report after h step =
+    (h.0, Runs-push s events reports states mid e report after h.1 step)
 
 -- Events with these reports led a resolver to a state that is not out of memory.
 pub record HasRun (first : RunState) (events : List Event) (reports : List EventReport) (resolver : WireResolver) : Type 0 where
+  pub states : List RunState
   pub state : RunState
   pub alike : AreAlike IsInState resolver state
-  pub memory : (asks_of state).out_of_memory ≡ false
-  pub runs : Runs first events reports state
+  pub memory : (asks_of state).link.out_of_memory ≡ false
+  pub runs : Runs first events reports states state
 
 pub has-begun : (world : World) (first : RunState) → BeginsWith world first → HasRun first [] [] world.resolver
-has-begun world first begins = record { state = first; alike = begins.alike; memory = begins.memory; runs = refl }
+has-begun world first begins =
+    record { states = []; state = first; alike = begins.alike; memory = begins.memory; runs = refl }
 
 -- a resolver that is in the same states
 abbrev pub IsInSame : WireResolver → WireResolver → Type 0
@@ -49,24 +53,19 @@ IsInSame old new = (state : RunState) → AreAlike IsInState old state → AreAl
 pub has-run-same : (first : RunState) (events : List Event) (reports : List EventReport) (old new : WireResolver) → IsInSame old new
     → HasRun first events reports old → HasRun first events reports new
 has-run-same first events reports old new same run =
-    record { state = run.state; alike = same run.state run.alike; memory = run.memory; runs = run.runs }
-
--- what an event leads to, from each state that a resolver is in
-abbrev pub Leads : WireResolver → Event → EventReport → WireResolver → Type 0
-Leads old e report new =
-    (state : RunState) → AreAlike IsInState old state → (asks_of state).out_of_memory ≡ false
-    → (after : RunState) × AreAlike IsInState new after × Step state e report after
+    record { states = run.states; state = run.state; alike = same run.state run.alike; memory = run.memory; runs = run.runs }
 
 pub has-run-more : (first : RunState) (events : List Event) (reports : List EventReport) (old : WireResolver) (e : Event)
     (report : EventReport) (new : WireResolver) → Leads old e report new → HasRun first events reports old
     → HasRun first (events ++ e ∷ []) (reports ++ report ∷ []) new
 has-run-more first events reports old e report new leads run =
-    let led = leads run.state run.alike run.memory in
+    let led = leads run.state run.alike in
     record {
+      states = run.states ++ led.0 ∷ [];
       state = led.0;
       alike = led.1;
       memory = led.2.memory;
-      runs = Runs-push first events reports run.state e report led.0 run.runs led.2;
+      runs = Runs-push first events reports run.states run.state e report led.0 run.runs led.2;
     }
 
 -- ---- reports
@@ -81,10 +80,11 @@ abbrev pub is-report-of : (first : RunState) (events : List Event) (reports : Li
     → HasRun first events reports resolver → Tells reports resolver report → IsReportOf first events report
 is-report-of first events reports resolver report run tells =
     let handle = run.alike.client.handle in
-    let shown = handle.shows (handle.memory ∙ run.memory) in
+    let shown = handle.shows (handle.link.memory ∙ run.memory) in
     record {
+      states = run.states;
       last = run.state;
-      runs = subst (λ (rs : List EventReport). Runs first events rs run.state) (sym tells.events) run.runs;
+      runs = subst (λ (rs : List EventReport). Runs first events rs run.states run.state) (sym tells.events) run.runs;
       sent = tells.sent ∙ shown.sent;
       dropped = tells.dropped ∙ shown.dropped;
     }

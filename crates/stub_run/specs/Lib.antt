@@ -1,4 +1,9 @@
 pub mod Alike
+pub mod Counts
 pub mod Event
+pub mod Headline
+pub mod History
+pub mod Ids
 pub mod Run
 pub mod World
+pub mod Questions

@@ -1,19 +1,21 @@
--- Runs: what events lead to, one after another, by the definitions of the zone's server, of a question over the link, and of a
--- resolver.
+-- Runs: what events lead to, one after another, by the definitions of the zone's server, of questions and updates over the link, and
+-- of a resolver.
 use Rattle.std.specs.Prelude.{◌≡◌, ◌≤◌, ◌⊎◌, ◌^◌, true, false, string_bytes, List, [], ◌∷◌, ℕ, slice_get, take, Option, Some, None, Result, Ok, Err}
 use Rattle.dns_codes.specs.declared.record_type.RecordType.{RecordType}
 use Rattle.dns_names.specs.Name.{DomainName}
 use Rattle.dns_names.specs.Parse.{name_of_text}
 use Rattle.dns_text.specs.Address.{IsTextOf}
+use Rattle.dns_messages.specs.declared.message.Message.{Message}
+use Rattle.dns_messages.specs.declared.response_code.ResponseCode.{ResponseCode}
 use Rattle.stub_lookup.specs.declared.error.NetError.{NetError}
 use Rattle.stub_lookup.specs.declared.error.NetError.TheVariants as net
 use Rattle.stub_client.specs.Handle.{Outcome}
 use Rattle.stub_core.specs.Resolver.{ResolvesHost, ResolvesName, cleared_lookup, with_entries, with_handle}
 use Rattle.stub_client.specs.declared.request.DnsRequest.{DnsRequest}
 use Rattle.stub_core.specs.declared.resolver.Resolver.{Resolver}
-use Rattle.stub_link.specs.Asks.{AskState, AsksZone, begin}
-use Rattle.stub_link.specs.declared.link.scripted.Script.{Script}
-use Rattle.stub_run.specs.Event.{moment_of, script_of}
+use Rattle.stub_link.specs.AskState.{AskState, AskZone, UpdateZone, begin, begin_with_update, end}
+use Rattle.stub_link.specs.Request.{IsUpdate}
+use Rattle.stub_run.specs.Event.{TakesMemory, moment_of}
 use Rattle.stub_run.specs.declared.event.Event.{Event}
 use Rattle.stub_run.specs.declared.event.Event.TheVariants as event
 use Rattle.stub_run.specs.declared.report.EventReply.{EventReply}
@@ -39,9 +41,20 @@ RunState = Resolver AskState
 abbrev pub asks_of : RunState → AskState
 asks_of state = state.client.handle
 
--- an event begins
-abbrev pub begin_event : Script → RunState → RunState
-begin_event script state = with_handle state (begin script (asks_of state))
+-- An event begins at its moment with its script: what it asks is counted anew, and an update has a place among the updates.
+abbrev pub begin_asks : Event → AskState → AskState
+begin_asks (event.Lookup at name kind script) asks = begin at script asks
+begin_asks (event.LookupIp at host script) asks = begin at script asks
+begin_asks (event.Clear at name kind script) asks = begin at script asks
+begin_asks (event.ClearAll at script) asks = begin at script asks
+begin_asks (event.Update at update script) asks = begin_with_update at script asks
+
+abbrev pub begin_event : Event → RunState → RunState
+begin_event e state = with_handle state (begin_asks e (asks_of state))
+
+-- An event ends: what its script has not delivered yet is delivered.
+abbrev pub end_event : RunState → RunState
+end_event state = with_handle state (end (asks_of state))
 
 -- ---- one event
 
@@ -52,48 +65,65 @@ Clears name kind old (Ok done) new =
 Clears name kind old (Err net.Memory) new = new ≡ old
 Clears name kind old (Err error) new = ⊥
 
--- what a resolver replies to an event, over a handle of which `gives` is the behavior
-abbrev pub Replies : {H : Type 0} → (H → DnsRequest → ℕ → Outcome → H → Type 0) → Resolver H → Event → EventReply → Resolver H
-    → Type 0
-Replies gives old (event.Lookup at name kind script) (replies.Lookup found) new =
-    ResolvesName gives at (Ok name) kind old found new
-Replies gives old (event.LookupIp at host script) (replies.LookupIp found) new =
-    ResolvesHost gives at (IsTextOf (string_bytes host)) (name_of_text (string_bytes host)) old found new
-Replies gives old (event.Clear at name kind script) (replies.Cleared done) new = Clears name kind old done new
-Replies gives old (event.ClearAll at script) (replies.Cleared done) new =
-    (done ≡ Ok tt) × (new ≡ record old { client = with_entries old.client [] })
-Replies gives old e reply new = ⊥
+-- A sound update is sent by the handle alone: settings and cache stay.
+pub record Updates {H : Type 0} (sends : H → Message → Result ResponseCode NetError → H → Type 0) (update : Message) (old : Resolver H)
+    (reply : Result ResponseCode NetError) (new : Resolver H) : Type 0 where
+  pub sound : IsUpdate update
+  pub sent : sends old.client.handle update reply new.client.handle
+  pub rest : new ≡ with_handle old new.client.handle
 
--- An event, its report and the state afterwards. The link and the server have not run out of memory.
+-- what a resolver replies to an event, over a handle that asks questions by `gives` and updates by `sends`
+abbrev pub Replies : {H : Type 0} → (H → DnsRequest → ℕ → Outcome → H → Type 0)
+    → (H → Message → Result ResponseCode NetError → H → Type 0) → Resolver H → Event → EventReply → Resolver H → Type 0
+Replies gives sends old (event.Lookup at name kind script) (replies.Lookup found) new =
+    ResolvesName gives at (Ok name) kind old found new
+Replies gives sends old (event.LookupIp at host script) (replies.LookupIp found) new =
+    ResolvesHost gives at (IsTextOf (string_bytes host)) (name_of_text (string_bytes host)) old found new
+Replies gives sends old (event.Clear at name kind script) (replies.Cleared done) new = Clears name kind old done new
+Replies gives sends old (event.ClearAll at script) (replies.Cleared done) new =
+    (done ≡ Ok tt) × (new ≡ record old { client = with_entries old.client [] })
+Replies gives sends old (event.Update at update script) (replies.Update reply) new = Updates sends update old reply new
+Replies gives sends old e reply new = ⊥
+
+-- what a resolver replies that asks the zone's server
+abbrev pub RepliesByZone : RunState → Event → EventReply → RunState → Type 0
+RepliesByZone old e reply new =
+    Replies (λ asks request now outcome after. AskZone asks request now outcome after)
+    (λ asks update reply after. UpdateZone asks update reply after) old e reply new
+
+-- An event, its report and the state afterwards: it begins, the resolver replies, and it ends. The link and the server have not run out
+-- of memory.
 pub record Step (old : RunState) (e : Event) (report : EventReport) (new : RunState) : Type 0 where
-  pub replies : Replies (λ asks request now outcome after. AsksZone asks request now outcome after) (begin_event (script_of e) old) e
-      report.reply new
+  pub mid : RunState
+  pub replies : RepliesByZone (begin_event e old) e report.reply mid
+  pub ends : new ≡ end_event mid
   pub faults : report.faults ≡ (asks_of new).faults
   pub questions : report.questions ≡ (asks_of new).questions
-  pub memory : (asks_of new).out_of_memory ≡ false
+  pub memory : (asks_of new).link.out_of_memory ≡ false
 
 -- ---- runs
 
--- event by event
-abbrev pub Runs : RunState → List Event → List EventReport → RunState → Type 0
-Runs old [] [] new = new ≡ old
-Runs old (e ∷ events) (report ∷ reports) new = (mid : RunState) × Step old e report mid × Runs mid events reports new
-Runs old events reports new = ⊥
+-- Runs old events reports states new: event by event, with the report of each and the state after it, from the old state to the new one.
+abbrev pub Runs : RunState → List Event → List EventReport → List RunState → RunState → Type 0
+Runs old [] [] [] new = new ≡ old
+Runs old (e ∷ events) (report ∷ reports) (state ∷ states) new = Step old e report state × Runs state events reports states new
+Runs old events reports states new = ⊥
 
 -- a report of events from a state on, with the ids that were drawn and the datagrams that were dropped by then
 pub record IsReportOf (first : RunState) (events : List Event) (report : Report) : Type 0 where
+  pub states : List RunState
   pub last : RunState
-  pub runs : Runs first events report.events.items last
+  pub runs : Runs first events report.events.items states last
   pub sent : report.sent.items ≡ (asks_of last).sent
   pub dropped : report.dropped ≡ (asks_of last).dropped
 
--- an event during which the link or its server runs out of memory
-pub record RunsOut (old : RunState) (e : Event) : Type 0 where
-  pub reply : EventReply
-  pub new : RunState
-  pub replies : Replies (λ asks request now outcome after. AsksZone asks request now outcome after) (begin_event (script_of e) old) e
-      reply new
-  pub memory : (asks_of new).out_of_memory ≡ true
+-- An event during which the link or its server runs out of memory: as the event begins, if that takes memory; as the resolver asks; or
+-- as the event ends.
+pub data RunsOut (old : RunState) (e : Event) : Type 0 where
+  at_begin : TakesMemory e → RunsOut old e
+  at_ask : (reply : EventReply) (new : RunState) → RepliesByZone (begin_event e old) e reply new
+      → (asks_of new).link.out_of_memory ≡ true → RunsOut old e
+  at_end : (reply : EventReply) (new : RunState) → RepliesByZone (begin_event e old) e reply new → RunsOut old e
 
 -- After so many events a run stops: before any event, or at the next one.
 abbrev pub StopsAt : ℕ → List Event → RunState → Type 0

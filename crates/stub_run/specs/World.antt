@@ -5,7 +5,8 @@ use Rattle.stub_config.specs.declared.config.ResolverConfig.{ResolverConfig}
 use Rattle.stub_config.specs.declared.options.ResolverOpts.{ResolverOpts}
 use Rattle.stub_hosts.specs.Hosts.{HostsContent}
 use Rattle.stub_core.specs.ResolverBuilder.{empty_cache, with_used_hosts}
-use Rattle.stub_link.specs.Asks.{IsIn, first_asks}
+use Rattle.stub_link.specs.AskState.{first_asks}
+use Rattle.stub_link.specs.WireHandle.{IsIn}
 use Rattle.stub_run.specs.Alike.{AreAlike}
 use Rattle.stub_run.specs.Run.{RunState, asks_of}
 use Rattle.stub_run.specs.declared.world.World.{World}
@@ -21,4 +22,4 @@ pub record IsFirst (zone : ZoneContent) (limit : ℕ) (ids : List ℕ) (config :
 -- a world in which a run begins with this state
 pub record BeginsWith (world : World) (state : RunState) : Type 0 where
   pub alike : AreAlike (λ handle asks. IsIn handle asks) world.resolver state
-  pub memory : (asks_of state).out_of_memory ≡ false
+  pub memory : (asks_of state).link.out_of_memory ≡ false

@@ -1,10 +1,13 @@
 //! Events: what happens in a run, and when.
 
-ghost use Rattle.std.specs.Prelude.{◌≡◌};
+ghost use Rattle.std.specs.Prelude.{◌≡◌, IfSome};
+ghost use Rattle.std.specs.Option.{option_copied};
+ghost use Rattle.stub_link.specs.Request.{IsUpdate};
 
+use dns_messages::Message;
 use dns_names::Name;
 use dns_wire::RecordType;
-use stub_link::Script;
+use stub_link::{Script, UpdateEvent};
 use stub_lookup::Moment;
 
 /// Something that happens in a run at a moment, in seconds, while the link follows a script.
@@ -35,10 +38,16 @@ pub enum Event {
         at: Moment,
         script: Script,
     },
+    /// An update of the zone, sent under its own id (RFC 2136 section 2).
+    Update {
+        at: Moment,
+        update: UpdateEvent,
+        script: Script,
+    },
 }
 
 impl Event {
-    ghost use Rattle.stub_run.specs.Event.{moment_of, script_of};
+    ghost use Rattle.stub_run.specs.Event.{moment_of, script_of, update_of};
 
     /// Returns when the event happens.
     pub fn at(&self) -> Moment
@@ -48,19 +57,35 @@ impl Event {
             Event::Lookup { at, .. }
             | Event::LookupIp { at, .. }
             | Event::Clear { at, .. }
-            | Event::ClearAll { at, .. } => *at,
+            | Event::ClearAll { at, .. }
+            | Event::Update { at, .. } => *at,
         }
     }
 
     /// Returns what the link does during the event.
-    pub fn script(&self) -> Script
-        ensures { result ≡ script_of self.now }
+    pub fn script(&self) -> &Script
+        ensures { result.now ≡ script_of self.now }
     {
         match self {
             Event::Lookup { script, .. }
             | Event::LookupIp { script, .. }
             | Event::Clear { script, .. }
-            | Event::ClearAll { script, .. } => *script,
+            | Event::ClearAll { script, .. }
+            | Event::Update { script, .. } => script,
+        }
+    }
+
+    /// Returns the message of an update, or `None` if the event is not one.
+    pub fn update(&self) -> Option<&Message>
+        ensures message { option_copied result ≡ update_of self.now }
+        ensures sound { IfSome (update_of self.now) IsUpdate }
+    {
+        match self {
+            Event::Update { update, .. } => Some(update.message()),
+            Event::Lookup { .. }
+            | Event::LookupIp { .. }
+            | Event::Clear { .. }
+            | Event::ClearAll { .. } => None,
         }
     }
 }

@@ -1,6 +1,6 @@
 //! Reports of runs.
 
-use dns_messages::Query;
+use dns_messages::{Query, ResponseCode};
 use stub_lookup::{Lookup, LookupIp, NetError};
 
 /// The reply to an event.
@@ -12,6 +12,8 @@ pub enum EventReply {
     LookupIp(Result<LookupIp, NetError>),
     /// Whether entries were removed from the cache. The only error is [`NetError::Memory`].
     Cleared(Result<(), NetError>),
+    /// The response code of the reply to an update.
+    Update(Result<ResponseCode, NetError>),
 }
 
 /// The report of an event.

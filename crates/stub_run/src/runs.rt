@@ -1,20 +1,25 @@
 //! Runs: events in a world, one after another.
 
-ghost use Rattle.std.specs.Prelude.{◌≡◌, ◌≤◌, ◌<◌, ◌+◌, ◌++◌, ◌∷◌, ◌↔◌, ◌^◌, ◌*◌, ◌-◌, min, IfOk, OnOk, IfSome, IsTrue, true, false, [], ℕ, length, take, vec_len, vec_capacity, Err, None};
-ghost use Rattle.stub_link.specs.Asks.{IsIn};
-ghost use Rattle.stub_link.specs.ScriptedLink.{Receives, Sends};
-ghost use Rattle.stub_link.specs.WireHandle.{Asks};
+ghost use Rattle.std.specs.Prelude.{◌≡◌, ◌≤◌, ◌<◌, ◌+◌, ◌++◌, ◌∷◌, ◌↔◌, ◌^◌, ◌*◌, ◌-◌, min, IfOk, OnOk, OnErr, IfSome, IsTrue, true, false, [], ℕ, length, take, vec_len, vec_capacity, Err, None};
+ghost use Rattle.stub_link.specs.Request.{IsUpdate};
+ghost use Rattle.stub_link.specs.ScriptedLink.{Receives, Sends, Streams};
+ghost use Rattle.stub_link.specs.WireHandle.{Asks, IsIn, SendsUpdate};
 ghost use Rattle.stub_run.specs.Alike.{AreAlike};
-ghost use Rattle.stub_run.specs.Event.{moment_of};
-ghost use Rattle.stub_run.specs.Run.{InOrder, IsReportBefore, IsReportOf, Replies, RunState, Runs, RunsOut, Step, asks_of, memory_report};
+ghost use Rattle.stub_run.specs.Event.{TakesMemory, moment_of, update_of};
+ghost use Rattle.stub_history.specs.Faithful.{HasNoReuse};
+ghost use Rattle.stub_run.specs.Headline.{AreFresh, HasNoLeastTtl, HaveChainBounds, IsMadeOf, WorldContent, report_in, reported};
+ghost use Rattle.stub_run.specs.Run.{InOrder, IsReportBefore, IsReportOf, Replies, RunState, Runs, RunsOut, Step, asks_of, begin_event, end_event, memory_report};
 ghost use Rattle.stub_run.specs.World.{BeginsWith};
 
 use crate::event::Event;
+use crate::laws::every_record_stood;
 use crate::report::{EventReply, EventReport, Report, Stopped};
 use crate::world::World;
 use std::alloc::AllocError;
 use stub_core::Resolver;
-use stub_link::laws::handles_over_the_scripted_link_ask_the_zone;
+use stub_link::laws::{
+    handles_over_the_scripted_link_ask_the_zone, handles_over_the_scripted_link_update_the_zone,
+};
 use stub_link::{ScriptedLink, WireHandle};
 
 /// A resolver that asks over a link to a zone's server.
@@ -30,12 +35,36 @@ const MAX_MOMENT: u64 = 1 << 62;
 /// [`Stopped::Memory`] if there is no memory for the reports and the ids, or if the link or its server runs out of memory;
 /// it has the report of the events before. If memory runs out elsewhere, the reply to the event is
 /// [`NetError::Memory`](stub_lookup::NetError::Memory), and the run goes on.
+///
+/// Whatever the link loses, repeats, delays or reorders, every record of the type that was asked for stood in the zone, was
+/// reached by aliases that stood there, and its TTL counts from such a moment (`fresh`). If aliases are left out, the TTLs of
+/// these aliases bound it, too (`chain_bound`). Both also hold of the report of a run that stopped for memory.
 pub fn run(world: World, events: &[Event]) -> Result<Report, Stopped>
     ensures moments { (result ≡ Err Stopped.Moments) ↔ ¬ InOrder 0 events.now }
     ensures run { IfOk result (λ report. (state : RunState) → BeginsWith world state
         → IsReportOf state events.now report) }
     ensures stopped { IfSome (memory_report result) (λ report. (state : RunState)
         → BeginsWith world state → IsReportBefore state events.now report) }
+    ensures fresh { IfSome (report_in result) (λ report. (content : WorldContent)
+        → IsMadeOf world content → HasNoReuse report.sent.items → HasNoLeastTtl content
+        → AreFresh content (reported events.now report) report.events.items) }
+    ensures chain_bound { IfSome (report_in result) (λ report. (content : WorldContent)
+        → IsMadeOf world content → HasNoReuse report.sent.items → HasNoLeastTtl content
+        → content.options.preserve_intermediates ≡ false
+        → HaveChainBounds content (reported events.now report) report.events.items) }
+{
+    every_record_stood();
+    run_events(world, events)
+}
+
+/// Runs the events in a world, in order.
+fn run_events(world: World, events: &[Event]) -> Result<Report, Stopped>
+    ensures moments { (result ≡ Err Stopped.Moments) ↔ ¬ InOrder 0 events.now }
+    ensures run { IfOk result (λ report. (state : RunState) → BeginsWith world state
+        → IsReportOf state events.now report) }
+    ensures stopped { IfSome (memory_report result) (λ report. (state : RunState)
+        → BeginsWith world state → IsReportBefore state events.now report) }
+    ensures order { IfSome (report_in result) (λ report. InOrder 0 events.now) }
 {
     if !is_in_order(events) {
         return Err(Stopped::Moments);
@@ -124,7 +153,6 @@ fn happen(resolver: &mut WireResolver, event: &Event) -> Option<EventReport>
     requires { moment_of event.now ≤ 2 ^ 62 }
     ensures step { IfSome result (λ report. (state : RunState)
         → AreAlike (λ handle asks. IsIn handle asks) resolver.old state
-        → (asks_of state).out_of_memory ≡ false
         → (after : RunState) × AreAlike (λ handle asks. IsIn handle asks) resolver.new after
         × Step state event.now report after) }
     ensures stop { result ≡ None → (state : RunState)
@@ -134,23 +162,74 @@ fn happen(resolver: &mut WireResolver, event: &Event) -> Option<EventReport>
         resolver.new.client.handle.sent.items ≡ resolver.old.client.handle.sent.items }
 {
     handles_over_the_scripted_link_ask_the_zone();
-    resolver.handle_mut().reset_counts();
+    handles_over_the_scripted_link_update_the_zone();
+    if begin(resolver, event).is_err() {
+        // There was no memory for the script or the place of the update.
+        return None;
+    }
     let reply = reply_to(resolver, event);
+    if end(resolver).is_err() {
+        // The server ran out of memory.
+        return None;
+    }
+    event_report(resolver, reply)
+}
+
+/// Begins an event: nothing is counted yet, the link follows its script, and an update has a place among the updates.
+fn begin(resolver: &mut WireResolver, event: &Event) -> Result<(), AllocError>
+    ensures begins { OnOk result ((state : RunState)
+        → AreAlike (λ handle asks. IsIn handle asks) resolver.old state
+        → AreAlike (λ handle asks. IsIn handle asks) resolver.new (begin_event event.now state)) }
+    ensures refused { OnErr result (TakesMemory event.now) }
+    ensures sound { IfSome (update_of event.now) IsUpdate }
+    ensures sent { resolver.new.client.handle.sent.items ≡ resolver.old.client.handle.sent.items }
+{
     let handle = resolver.handle_mut();
-    let is_complete = !handle.link().is_out_of_memory();
+    handle.reset_counts();
+    match event.update() {
+        Some(_) => handle.link_mut().begin_update(event.script()),
+        None => handle.link_mut().begin_event(event.script()),
+    }
+}
+
+/// Ends an event: what its script has not delivered yet is delivered.
+fn end(resolver: &mut WireResolver) -> Result<(), AllocError>
+    ensures ends { OnOk result ((state : RunState)
+        → AreAlike (λ handle asks. IsIn handle asks) resolver.old state
+        → AreAlike (λ handle asks. IsIn handle asks) resolver.new (end_event state)) }
+    ensures sent { resolver.new.client.handle.sent.items ≡ resolver.old.client.handle.sent.items }
+{
+    resolver.handle_mut().link_mut().end_event()
+}
+
+/// Returns the report of an event with a reply, or `None` if the link or its server ran out of memory.
+fn event_report(resolver: &WireResolver, reply: EventReply) -> Option<EventReport>
+    ensures report { IfSome result (λ report. (report ≡ record {
+      reply = reply;
+      faults = resolver.now.client.handle.faults;
+      questions = resolver.now.client.handle.questions;
+    }) × (resolver.now.client.handle.link.out_of_memory ≡ false)) }
+    ensures none { result ≡ None → resolver.now.client.handle.link.out_of_memory ≡ true }
+{
+    let handle = resolver.handle();
+    if handle.link().is_out_of_memory() {
+        return None;
+    }
     let counts = handle.counts();
-    let report = EventReport {
+    Some(EventReport {
         reply,
         faults: counts.faults,
         questions: counts.questions,
-    };
-    is_complete.then_some(report)
+    })
 }
 
 /// Returns the reply of a resolver to an event.
 fn reply_to(resolver: &mut WireResolver, event: &Event) -> EventReply
-    requires { moment_of event.now ≤ 2 ^ 62 }
-    ensures { Replies (Asks Sends Receives (λ _. 0)) resolver.old event.now result resolver.new }
+    requires moment { moment_of event.now ≤ 2 ^ 62 }
+    requires sound { IfSome (update_of event.now) IsUpdate }
+    ensures { Replies (Asks Sends Receives Streams (λ link. link.failures))
+        (SendsUpdate Sends Receives Streams (λ link. link.failures)) resolver.old event.now result
+        resolver.new }
 {
     match event {
         Event::Lookup {
@@ -168,6 +247,9 @@ fn reply_to(resolver: &mut WireResolver, event: &Event) -> EventReply
         Event::ClearAll { .. } => {
             resolver.clear_cache();
             EventReply::Cleared(Ok(()))
+        }
+        Event::Update { update, .. } => {
+            EventReply::Update(resolver.handle_mut().send_update(update))
         }
     }
 }

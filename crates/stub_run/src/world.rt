@@ -1,7 +1,8 @@
 //! Worlds: a zone's server, a link to it, and a resolver that asks over it.
 
-ghost use Rattle.std.specs.Prelude.{◌≡◌, true, false, IsErrOf, IsOkAnd};
+ghost use Rattle.std.specs.Prelude.{◌≡◌, true, false, IfOk, IsErrOf, IsOkAnd};
 ghost use Rattle.stub_core.specs.ResolverBuilder.{is_unsupported};
+ghost use Rattle.stub_run.specs.Headline.{IsMadeOf};
 ghost use Rattle.stub_run.specs.Run.{RunState};
 ghost use Rattle.stub_run.specs.World.{BeginsWith, IsFirst};
 
@@ -40,7 +41,17 @@ impl World {
         ensures supported { is_unsupported options ≡ false → IsOkAnd result (λ world.
             (state : RunState) × IsFirst zone limit ids.items config options hosts state
             × BeginsWith world state) }
+        ensures content { IfOk result (λ world. IsMadeOf world (record {
+          zone = zone;
+          limit = limit;
+          ids = ids.items;
+          config = config;
+          options = options;
+          hosts = hosts;
+        })) }
     {
+        // Tells the prover that the zone is well formed.
+        let _origin = zone.origin();
         let link = ScriptedLink::new(alloc, zone, limit);
         let handle = WireHandle::new(alloc, link, ids);
         let builder = Resolver::builder_with_config(alloc, config, handle);

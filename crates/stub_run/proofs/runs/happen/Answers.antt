@@ -1,84 +1,55 @@
-use Rattle.std.proofs.Common.{◌≡◌, Bool, true, false, not, IfSome, Option, None, sym, ap, subst, ◌∙◌, refl}
-use Rattle.std.specs.Bool.{then_some}
-use Rattle.stub_core.specs.Resolver.{with_handle}
-use Rattle.stub_link.specs.declared.wire_handle.AskCounts.{AskCounts}
-use Rattle.stub_link.specs.declared.link.scripted.ScriptedLink.{ScriptedLink}
-use Rattle.stub_run.specs.Alike.{AreAlike}
-use Rattle.stub_run.specs.Run.{RunState, Step}
-use Rattle.stub_run.specs.declared.report.EventReport.{EventReport}
-use Rattle.stub_run.proofs.Happening.{Happens, IsInState, WireResolver, happens, happens-alike, happens-front, happens-out}
+use Rattle.std.proofs.Common.{◌≡◌, true, false, sym, ◌∙◌}
+use Rattle.stub_run.specs.Event.{TakesMemory}
+use Rattle.stub_run.specs.Run.{at_begin}
+use Rattle.stub_run.proofs.Happening.{Begins, Ends, Happens, front-same, happened, happens-front, happens-out, happens-step, happens-unended, if-err, if-ok, if-some}
 use Rattle.stub_run.proofs.runs.happen.Goals as goal
 
--- a report, if the event is complete
-if-complete : (complete : Bool) (report : EventReport) (Holds : EventReport → Type 0) → (complete ≡ true → Holds report)
-    → IfSome (then_some complete report) Holds
-if-complete true report Holds h = h refl
-if-complete false report Holds h = tt
+-- no memory as the event begins
+pub returns-then-is_err : goal.returns-then-is_err
+returns-then-is_err c = record {
+  step = tt;
+  stop = λ none state alike.
+      at_begin (if-err c.begin.result (TakesMemory c.args.event.now) (sym c.is_err.ensures.value ∙ c.if-is_err.true) c.begin.ensures.refused);
+  front = front-same c.args.resolver.now c.begin.new.resolver c.begin.ensures.sent;
+}
 
-not-false : (b : Bool) → not b ≡ true → b ≡ false
-not-false true h = sym h
-not-false false h = refl
-
-pub returns-clause-step : goal.returns-clause-step
-returns-clause-step c =
+-- no memory as the event ends
+pub returns-then-is_err-2 : goal.returns-then-is_err-2
+returns-then-is_err-2 c =
     let old = c.args.resolver.now in
+    let begun = c.begin.new.resolver in
+    let replied = c.reply_to-reply.new.resolver in
     let e = c.args.event.now in
-    let last = c.handle_mut-handle.result.now in
-    let replied = c.reply_to-reply.new.resolver in
-    let new : WireResolver = with_handle replied last in
-    let report : EventReport = record {
-      reply = c.reply_to-reply.result;
-      faults = c.counts-counts.result.faults;
-      questions = c.counts-counts.result.questions;
-    } in
-    let happened : Happens old e c.reply_to-reply.result new = happens old replied c.handle_mut.result.now c.reset_counts.new.self last e c.reply_to-reply.result
-    c.handles_over_the_scripted_link_ask_the_zone.ensures c.handle_mut.ensures.value c.reset_counts.ensures c.reply_to-reply.ensures c.handle_mut-handle.ensures.value in
-    let Leads = λ (told : EventReport). (state : RunState) → AreAlike IsInState old state → state.client.handle.out_of_memory ≡ false
-    → (after : RunState) × AreAlike IsInState new after × Step state e told after in
-    let complete : not c.is_out_of_memory-is_complete.result ≡ true → Leads report = λ h.
-    let quiet : last.link.out_of_memory ≡ false =
-    ap (λ (link : ScriptedLink). link.out_of_memory) (sym c.link.ensures) ∙ sym c.is_out_of_memory-is_complete.ensures
-    ∙ not-false c.is_out_of_memory-is_complete.result h in
-    λ state alike memory. happens-alike old new e report happened quiet
-    (ap (λ (counts : AskCounts). counts.faults) c.counts-counts.ensures)
-    (ap (λ (counts : AskCounts). counts.questions) c.counts-counts.ensures) state alike in
-    subst (λ (result : Option EventReport). IfSome result Leads) (sym c.then_some.ensures)
-    (if-complete (not c.is_out_of_memory-is_complete.result) report Leads complete)
+    let reply = c.reply_to-reply.result in
+    let happens : Happens old e reply begun replied = happened old begun replied e reply
+    c.handles_over_the_scripted_link_ask_the_zone.ensures c.handles_over_the_scripted_link_update_the_zone.ensures
+    (if-ok c.begin.result (Begins old e begun) (sym c.is_err.ensures.value ∙ c.if-is_err.false) c.begin.ensures.begins)
+    c.reply_to-reply.ensures in
+    record {
+      step = tt;
+      stop = λ none. happens-unended old begun replied e reply happens;
+      front = happens-front old begun replied c.end.new.resolver e reply happens c.begin.ensures.sent c.end.ensures.sent;
+    }
 
--- no report, if the event is not complete
-if-none : (complete : Bool) (report : EventReport) → then_some complete report ≡ None → complete ≡ false
-if-none true report h = cc
-if-none false report h = refl
-
-not-true : (b : Bool) → not b ≡ false → b ≡ true
-not-true true h = refl
-not-true false h = sym h
-
-pub returns-clause-stop : goal.returns-clause-stop
-returns-clause-stop c = λ none state alike.
+pub returns : goal.returns
+returns c =
     let old = c.args.resolver.now in
+    let begun = c.begin.new.resolver in
+    let replied = c.reply_to-reply.new.resolver in
+    let ended = c.end.new.resolver in
     let e = c.args.event.now in
-    let last = c.handle_mut-handle.result.now in
-    let replied = c.reply_to-reply.new.resolver in
-    let new : WireResolver = with_handle replied last in
-    let report : EventReport = record {
-      reply = c.reply_to-reply.result;
-      faults = c.counts-counts.result.faults;
-      questions = c.counts-counts.result.questions;
-    } in
-    let happened : Happens old e c.reply_to-reply.result new = happens old replied c.handle_mut.result.now c.reset_counts.new.self last e c.reply_to-reply.result
-    c.handles_over_the_scripted_link_ask_the_zone.ensures c.handle_mut.ensures.value c.reset_counts.ensures c.reply_to-reply.ensures c.handle_mut-handle.ensures.value in
-    let incomplete = if-none (not c.is_out_of_memory-is_complete.result) report (sym c.then_some.ensures ∙ none) in
-    let out : last.link.out_of_memory ≡ true =
-    ap (λ (link : ScriptedLink). link.out_of_memory) (sym c.link.ensures) ∙ sym c.is_out_of_memory-is_complete.ensures
-    ∙ not-true c.is_out_of_memory-is_complete.result incomplete in
-    happens-out old new e c.reply_to-reply.result happened out state alike
-
-pub returns-clause-front : goal.returns-clause-front
-returns-clause-front c =
-    let old = c.args.resolver.now in
-    let last = c.handle_mut-handle.result.now in
-    let replied = c.reply_to-reply.new.resolver in
-    happens-front old (with_handle replied last) c.args.event.now c.reply_to-reply.result
-    (happens old replied c.handle_mut.result.now c.reset_counts.new.self last c.args.event.now c.reply_to-reply.result
-    c.handles_over_the_scripted_link_ask_the_zone.ensures c.handle_mut.ensures.value c.reset_counts.ensures c.reply_to-reply.ensures c.handle_mut-handle.ensures.value)
+    let reply = c.reply_to-reply.result in
+    let happens : Happens old e reply begun replied = happened old begun replied e reply
+    c.handles_over_the_scripted_link_ask_the_zone.ensures c.handles_over_the_scripted_link_update_the_zone.ensures
+    (if-ok c.begin.result (Begins old e begun) (sym c.is_err.ensures.value ∙ c.if-is_err.false) c.begin.ensures.begins)
+    c.reply_to-reply.ensures in
+    let ends : Ends replied ended =
+    if-ok c.end.result (Ends replied ended) (sym c.is_err-2.ensures.value ∙ c.if-is_err-2.false) c.end.ensures.ends in
+    record {
+      step = if-some _ _ c.event_report.result
+          (λ report reports. happens-step old begun replied ended e reply report happens ends
+          (record { is = reports.0; quiet = reports.1 }))
+          c.event_report.ensures.report;
+      stop = λ none. happens-out old begun replied ended e reply happens ends (c.event_report.ensures.none none);
+      front = happens-front old begun replied ended e reply happens c.begin.ensures.sent c.end.ensures.sent;
+    }

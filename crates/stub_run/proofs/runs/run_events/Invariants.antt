@@ -2,7 +2,7 @@ use Rattle.std.proofs.Common.{◌≡◌, ◌≤◌, length, take, vec_capacity, 
 use Rattle.stub_run.specs.Run.{RunState}
 use Rattle.stub_run.specs.World.{BeginsWith}
 use Rattle.stub_run.proofs.Running.{HasRun}
-use Rattle.stub_run.proofs.runs.run.Given as goal
+use Rattle.stub_run.proofs.runs.run_events.Given as goal
 
 -- from each state that the world begins with, the events so far led to these reports, and there is room for all reports
 abbrev pub invariant-loop-event : goal.invariant-loop-event

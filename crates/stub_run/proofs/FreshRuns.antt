@@ -1,0 +1,107 @@
+-- Every record that a run returns is fresh, and has the chain bound.
+use Rattle.std.proofs.Common.{◌≡◌, ℕ, ◌≤◌, ◌++◌, List, [], ◌∷◌, Bool, false, All, refl, sym, ap, subst, ◌∙◌}
+use Rattle.std.proofs.lemmas.List.Elements.{All-nil, All-take}
+use Rattle.std.proofs.Math.Seq.{take-append_seam}
+use Rattle.dns_codes.specs.RecordType.{type_number, type_of}
+use Rattle.dns_names.specs.Name.{DomainName}
+use Rattle.dns_records.specs.Record.{Record}
+use Rattle.dns_messages.specs.declared.message.Message.{Message}
+use Rattle.dns_messages.specs.declared.query.Query.{Query}
+use Rattle.dns_zone.specs.Answer.{IsChain, answer}
+use Rattle.dns_zone.specs.Rows.{IsZone, ZoneContent}
+use Rattle.stub_cache.specs.Cache.{CacheContent}
+use Rattle.stub_cache.specs.Ttl.{TtlConfigContent}
+use Rattle.stub_client.specs.Origins.{Asked, Brings as BringsRecord, BringsClosely, Comes, IsBrought, IsBroughtClosely, LeadsOn, LeadsOnClosely}
+use Rattle.stub_client.specs.SpecialNames.{special_answer}
+use Rattle.stub_client.specs.declared.special_names.SpecialAnswer.TheVariants.{Ordinary}
+use Rattle.stub_core.specs.Origins.{CacheIsFrom, HasNoMinima}
+use Rattle.stub_core.specs.ResolverBuilder.{empty_cache}
+use Rattle.stub_core.specs.declared.resolver.settings.Settings.{Settings}
+use Rattle.stub_core.proofs.OriginsLaws.{Brings, brings-all, brings-closely, from-empty}
+use Rattle.stub_link.specs.AskState.{AskState, first_asks}
+use Rattle.stub_link.specs.History.{AreQuestions, Past, first_past, past_of}
+use Rattle.stub_link.specs.LinkState.{Version}
+use Rattle.stub_history.specs.Answered.{AreOrdinary, AreZones, IsAnsweredBy, is_plain}
+use Rattle.stub_history.specs.Faithful.{HasNoReuse, IsFaithful}
+use Rattle.stub_history.specs.Stands.{HasShortChains, HasShortLinks}
+use Rattle.stub_history.proofs.CloseLaws.{closely}
+use Rattle.stub_history.proofs.EventLaws.{first-faithful}
+use Rattle.stub_history.proofs.FreshLaws.{fresh}
+use Rattle.stub_history.proofs.ServeLaws.{UpdatesKeepZones}
+use Rattle.stub_run.specs.Headline.{AreFresh, HasChainBy, HasNoLeastTtl, HaveChainBounds, IsFreshBy, WorldContent, settings_of, ttls_of}
+use Rattle.stub_run.specs.Run.{InOrder, RunState, Runs, asks_of}
+use Rattle.stub_run.specs.World.{IsFirst}
+use Rattle.stub_run.specs.declared.event.Event.{Event}
+use Rattle.stub_run.specs.declared.report.EventReport.{EventReport}
+use Rattle.stub_run.proofs.HeadlineLaws.{Has, HoldsOfRun, runs-hold}
+
+-- a front of versions has short chains if all have
+short-front : (history more : List Version) → HasShortChains (history ++ more) → HasShortChains history
+short-front history more h =
+    subst (All HasShortLinks) (take-append_seam history more) (All-take HasShortLinks _ (history ++ more) h)
+
+module _ (keep : UpdatesKeepZones) (chains : (zone : ZoneContent) (q : Query) → IsChain zone.rows q.query_type q.name (answer zone q).answers)
+    (round : (number : ℕ) → type_number (type_of number) ≡ number) (content : WorldContent) (first last : RunState) (events : List Event)
+    (reports : List EventReport) (states : List RunState) (zone : IsZone content.zone)
+    (begins : IsFirst content.zone content.limit content.ids content.config content.options content.hosts first)
+    (order : InOrder 0 events) (runs : Runs first events reports states last) (once : HasNoReuse (asks_of last).sent)
+    (none : HasNoLeastTtl content) where
+  abbrev origin : DomainName
+  origin = content.zone.origin
+
+  abbrev ttls : TtlConfigContent
+  ttls = ttls_of content
+
+  in-order : InOrder (asks_of first).link.moment events
+  in-order = subst (λ (a : AskState). InOrder a.link.moment events) (sym begins.asks) order
+
+  no-questions : AreQuestions (asks_of first).link.datagrams
+  no-questions = subst (λ (a : AskState). AreQuestions a.link.datagrams) (sym begins.asks) tt
+
+  first-past : past_of (asks_of first).link ≡ first_past content.zone
+  first-past = ap (λ (a : AskState). past_of a.link) begins.asks
+
+  module _ (aliases : Bool) (same : content.options.preserve_intermediates ≡ aliases) (Carries : Query → Message → Record → Type 0)
+      (Leads : Query → Message → Type 0) (brings : Brings ttls aliases (λ (asked : List Asked). Comes Carries Leads asked)) where
+    abbrev HasHere : List Asked → RunState → Type 0
+    HasHere = Has keep chains round origin ttls aliases (settings_of content) Carries Leads brings
+
+    has-first : HasHere [] first
+    has-first = record {
+      faithful = subst (IsFaithful origin) (sym begins.asks) (first-faithful content.zone content.limit content.ids zone);
+      answered = All-nil (IsAnsweredBy origin (asks_of first).link.history);
+      early = All-nil (λ (a : Asked). a.moment ≤ (asks_of first).link.moment);
+      ordinary = All-nil (λ (a : Asked). special_answer a.ask.question ≡ Ordinary);
+      cache = subst (λ (c : CacheContent). CacheIsFrom (λ (asked : List Asked). Comes Carries Leads asked) [] (asks_of first).link.moment c)
+          (sym begins.cache)
+          (from-empty (λ (asked : List Asked). Comes Carries Leads asked) [] (asks_of first).link.moment (empty_cache content.options));
+      config_is = ap (λ (c : CacheContent). c.config) begins.cache;
+      settings_is = begins.settings;
+      aliases_is = begins.aliases ∙ same;
+    }
+
+  abbrev Always : List Version → Type 0
+  Always history = Unit {0}
+
+  pub fresh-run : AreFresh content events reports
+  fresh-run =
+      let aliases : Bool = content.options.preserve_intermediates in
+      let brings = brings-all ttls aliases none in
+      let run = runs-hold keep chains round origin ttls aliases (settings_of content) (BringsRecord ttls) LeadsOn brings
+      (IsFreshBy ttls) Always (λ history more good. tt)
+      (λ history asked zones answered ordinary good q now r plain brought.
+      fresh chains origin history zones ttls (type_number q.query_type) plain (none q.query_type) asked answered brought refl)
+      [] (first_past content.zone) first last events reports states (has-first aliases refl (BringsRecord ttls) LeadsOn brings)
+      no-questions first-past in-order runs once in
+      record { occasions = run.occasions; are_events = run.are; holds = run.holds tt }
+
+  pub chain-run : content.options.preserve_intermediates ≡ false → HaveChainBounds content events reports
+  chain-run off =
+      let brings = brings-closely ttls false refl none in
+      let run = runs-hold keep chains round origin ttls false (settings_of content) (BringsClosely ttls) LeadsOnClosely brings
+      (HasChainBy ttls) HasShortChains short-front
+      (λ history asked zones answered ordinary short q now r plain brought.
+      closely chains origin history zones ttls (type_number q.query_type) plain (none q.query_type) asked answered ordinary short brought refl)
+      [] (first_past content.zone) first last events reports states (has-first false off (BringsClosely ttls) LeadsOnClosely brings)
+      no-questions first-past in-order runs once in
+      record { occasions = run.occasions; are_events = run.are; holds = run.holds }

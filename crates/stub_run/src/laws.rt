@@ -1,0 +1,78 @@
+//! Laws of runs.
+//!
+//! The laws are functions with an empty body. Their contracts state what holds of every question to the zone's server, of every
+//! lookup, and of every run, by the relation that is the contract of [`run`](crate::run).
+
+ghost use Rattle.std.specs.Prelude.{◌≡◌, ◌≤◌, ◌+◌, ◌++◌, ◌∷◌, [], false, List, ℕ, Result, Err};
+ghost use Rattle.dns_messages.specs.declared.message.Message.{Message};
+ghost use Rattle.dns_messages.specs.declared.query.Query.{Query};
+ghost use Rattle.dns_messages.specs.declared.response_code.ResponseCode.{ResponseCode};
+ghost use Rattle.dns_zone.specs.Rows.{ZoneContent};
+ghost use Rattle.stub_config.specs.declared.request_options.DnsRequestOptions.{DnsRequestOptions};
+ghost use Rattle.stub_lookup.specs.declared.error.LinkFault.{LinkFault};
+ghost use Rattle.stub_lookup.specs.declared.error.NetError.{NetError};
+ghost use Rattle.stub_client.specs.Handle.{Ask, Outcome};
+ghost use Rattle.stub_client.specs.Looks.{Answers, Reply};
+ghost use Rattle.stub_client.specs.declared.caching_client.CachingClient.{CachingClient};
+ghost use Rattle.stub_client.specs.declared.request.DnsRequest.{DnsRequest};
+ghost use Rattle.stub_link.specs.AskState.{AskState, AskZone, UpdateZone, first_asks};
+ghost use Rattle.stub_link.specs.History.{Occasion, history_of};
+ghost use Rattle.stub_run.specs.Counts.{AreFew, HasDrawn};
+ghost use Rattle.stub_run.specs.History.{AreOccasions};
+ghost use Rattle.stub_run.specs.Run.{RunState, Runs, asks_of};
+ghost use Rattle.stub_run.specs.declared.event.Event.{Event};
+ghost use Rattle.stub_run.specs.declared.report.EventReport.{EventReport};
+
+mod headline;
+mod questions;
+
+pub use headline::{distinct_ids_are_not_reused, every_record_stood};
+pub use questions::{
+    questions_without_faults_are_answered, resolvers_ask_sound_questions,
+    resolvers_ask_the_zone_sound_questions,
+};
+use stub_client::laws::every_failure_is_returned;
+
+/// A question sends at most one datagram and drops at most sixteen. A lookup of one name and type asks at most eight questions,
+/// so it sends at most eight and drops at most 128. An update sends no question, and drops at most sixteen datagrams.
+pub fn questions_are_few()
+    ensures question { (old new : AskState) (request : DnsRequest) (now : ℕ) (outcome : Outcome)
+        → AskZone old request now outcome new → new.link.out_of_memory ≡ false → AreFew 1 old new }
+    ensures lookup { (options : DnsRequestOptions) (now : ℕ) (old new : CachingClient AskState)
+        (q : Query) (reply : Reply)
+        → Answers (λ asks request now outcome after. AskZone asks request now outcome after)
+        options now old q reply new
+        → new.handle.link.out_of_memory ≡ false → AreFew 8 old.handle new.handle }
+    ensures update { (old new : AskState) (update : Message) (reply : Result ResponseCode NetError)
+        → UpdateZone old update reply new → new.link.out_of_memory ≡ false
+        → (new.questions ≤ old.questions) × (new.dropped ≤ old.dropped + 16) }
+{}
+
+/// A fault of the link ends a lookup, which returns it and leaves the cache as it was before the question.
+pub fn faults_leave_the_cache()
+    ensures { (options : DnsRequestOptions) (now : ℕ) (old new : CachingClient AskState)
+        (q : Query) (reply : Reply)
+        → (answers : Answers (λ asks request now outcome after. AskZone asks request now outcome after)
+        options now old q reply new)
+        → (earlier : List Ask) (last : Ask) (fault : LinkFault) → answers.asks ≡ earlier ++ last ∷ []
+        → last.outcome ≡ Err (NetError.Link fault)
+        → (reply ≡ Err (NetError.Link fault)) × (new.cache ≡ old.cache) }
+{
+    every_failure_is_returned();
+}
+
+/// In a run, the ids of the list are drawn in order, one for each question.
+pub fn ids_are_drawn_in_order()
+    ensures { (ids : List ℕ) (first last : RunState) (events : List Event)
+        (reports : List EventReport) (states : List RunState) → HasDrawn ids (asks_of first)
+        → Runs first events reports states last → HasDrawn ids (asks_of last) }
+{}
+
+/// The versions of a zone in a run are decided by its events alone, but for the updates that found no memory.
+pub fn events_decide_the_history()
+    ensures { (zone : ZoneContent) (limit : ℕ) (ids : List ℕ) (first last : RunState)
+        (events : List Event) (reports : List EventReport) (states : List RunState)
+        → asks_of first ≡ first_asks zone limit ids → Runs first events reports states last
+        → (occasions : List Occasion) × AreOccasions events reports occasions
+        × ((asks_of last).link.history ≡ history_of zone occasions) }
+{}
