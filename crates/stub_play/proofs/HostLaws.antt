@@ -22,7 +22,7 @@ use Rattle.dns_names.specs.Parse.{no_octet, unescaped, by_digits, by_character, 
 use Rattle.dns_names.specs.declared.error.ParseError.{ParseError}
 use Rattle.dns_names.proofs.GrammarCompleteness.{read_is_spelled}
 use Rattle.dns_text.specs.Address.{IsTextOf}
-use Rattle.stub_play.specs.ScriptText.{SpellsHost, host_of, is_address}
+use Rattle.stub_play.specs.ScriptFields.{SpellsHost, host_of, is_address}
 
 -- ---- addresses
 

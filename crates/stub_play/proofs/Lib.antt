@@ -1,7 +1,10 @@
 pub mod HostLaws
+pub mod LineLaws
 pub mod OptionLaws
 pub mod OrderLaws
 pub mod PlayLaws
 pub mod ReportLaws
 pub mod ScriptLaws
+pub mod UpdateLaws
+pub mod WordsGrammarLaws
 pub mod WordsLaws

@@ -1,12 +1,13 @@
 -- What lines and events side by side are, and what the exits of a whole run say.
-use Rattle.std.proofs.Common.{◌≡◌, ◌≢◌, ◌↔◌, ◌≤◌, ◌<◌, ◌⊎◌, ◌||◌, Bool, false, nat_lt, ℕ, List, [], ◌∷◌, ◌++◌, suc, zero, length, take, slice_get, Option, Some, IfSome, Result, Ok, Err, OnOk, refl, sym, subst, ap, ◌∙◌, inl, inr, arith, string_bytes, length-take, EachIndex, slice_index, ◌+◌}
+use Rattle.std.proofs.Common.{◌≡◌, ◌≢◌, ◌↔◌, ◌≤◌, ◌<◌, ◌⊎◌, ◌||◌, Bool, false, nat_lt, map, ℕ, List, [], ◌∷◌, ◌++◌, suc, zero, length, take, slice_get, Option, Some, IfSome, Result, Ok, Err, OnOk, refl, sym, subst, ap, ◌∙◌, inl, inr, arith, string_bytes, length-take, EachIndex, slice_index, ◌+◌}
 use Rattle.std.proofs.lemmas.Bool.{le-ltb}
 use Rattle.std.proofs.lemmas.Option.{slice_get_within}
 use Rattle.std.proofs.Math.Seq.{take-nil}
 use Rattle.std.specs.Io.KnownBytes.{Appends}
 use Rattle.stub_hosts.specs.declared.hosts.file.HostsFault.{HostsFault}
 use Rattle.stub_core.specs.ResolverBuilder.{is_unsupported}
-use Rattle.dns_zone.specs.Rows.{ZoneContent}
+use Rattle.dns_messages.specs.declared.query.Query.{Query}
+use Rattle.dns_zone.specs.Rows.{ZoneContent, IsZone as IsZoneContent}
 use Rattle.stub_config.specs.config.{config_of_servers}
 use Rattle.stub_config.specs.declared.config.ResolverConfig.{ResolverConfig}
 use Rattle.stub_config.specs.declared.options.ResolverOpts.{ResolverOpts}
@@ -14,12 +15,17 @@ use Rattle.stub_hosts.specs.Hosts.{HostsContent}
 use Rattle.stub_run.specs.declared.event.Event.{Event}
 use Rattle.stub_run.specs.declared.world.World.{World}
 use Rattle.stub_run.specs.World.{BeginsWith, IsFirst}
+use Rattle.stub_run.specs.Counts.{HasDrawn}
+use Rattle.stub_run.specs.Headline.{AreFresh, WorldContent}
+use Rattle.stub_run.specs.Ids.{AreDistinct}
+use Rattle.stub_run.proofs.Reporting.{Bounds, Law, front-in-order}
+use Rattle.stub_history.specs.Faithful.{HasNoReuse}
 use Rattle.stub_run.specs.declared.report.EventReport.{EventReport}
 use Rattle.stub_run.specs.declared.report.Report.{Report}
 use Rattle.stub_run.specs.declared.report.Stopped.{Stopped}
 use Rattle.stub_run.specs.declared.report.Stopped.TheVariants.{Moments}
 use Rattle.stub_run.specs.declared.report.Stopped.TheVariants as stops
-use Rattle.stub_run.specs.Run.{InOrder, IsReportBefore, IsReportOf, RunState, Runs, StopsAt, memory_report}
+use Rattle.stub_run.specs.Run.{InOrder, IsReportBefore, IsReportOf, RunState, Runs, StopsAt, asks_of, memory_report}
 use Rattle.stub_play.specs.declared.script_text.ScriptFault.{ScriptFault}
 use Rattle.stub_play.specs.declared.script_text.ScriptFault.TheVariants.{Line, Memory}
 use Rattle.stub_play.specs.declared.script_text.ScriptText.{ScriptText}
@@ -28,10 +34,12 @@ use Rattle.stub_play.specs.declared.plays.fault.PlayFault.{PlayFault}
 use Rattle.stub_play.specs.declared.plays.fault.PlayFault.TheVariants.{Write}
 use Rattle.stub_play.specs.declared.plays.fault.PlayFault.TheVariants as plays
 use Rattle.stub_play.specs.declared.plays.input.PlayInput.{PlayInput}
-use Rattle.stub_play.specs.Plays.{events_of, lines_of, numbered, Faults, HostsAre, IsAtFault, IsFirstOutOfOrder, IsLineOutOfOrder, IsLoaded, IsPlayed, IsRead, IsStart, IsScript, IsUnwritten, IsZone, Tells, TellsAll, TellsFirst, play_options}
+use Rattle.dns_names.specs.Name.{DomainName}
+use Rattle.stub_play.specs.EventContent.{EventContent}
+use Rattle.stub_play.specs.Plays.{ZoneIs, events_of, lines_of, numbered, Faults, HostsAre, IsAtFault, IsFirstOutOfOrder, IsLineOutOfOrder, IsLoaded, IsPlayed, IsRead, IsStart, IsScript, IsUnwritten, IsZone, Tells, TellsAll, TellsFirst, content_of, play_options}
 use Rattle.stub_play.specs.PlayFault.{script_fault}
 use Rattle.stub_play.specs.ReportText.{event_text, reply_text, report_text}
-use Rattle.stub_play.specs.ScriptText.{contents_of, script_of_text, side_by_side}
+use Rattle.stub_play.specs.ScriptText.{IsScriptOf, contents_of, side_by_side}
 use Rattle.stub_play.proofs.OrderLaws.{in_order_if_not_out}
 
 -- ---- lines and events
@@ -84,30 +92,30 @@ on_ok (Err e) p = tt
 -- ---- the files
 
 -- the first line that cannot be read is the script's fault
-line_is_at_fault : (input : PlayInput) (fault : ScriptFault) (line : ℕ) → fault ≡ Line line
-    → (fault ≢ Memory → script_of_text (string_bytes input.script) ≡ Err fault) → IsAtFault input line
-line_is_at_fault input fault line is refused =
+line_is_at_fault : (input : PlayInput) (zone : ZoneContent) (fault : ScriptFault) (line : ℕ) → fault ≡ Line line
+    → (fault ≢ Memory → IsScriptOf zone.origin (string_bytes input.script) (Err fault)) → IsAtFault input zone line
+line_is_at_fault input zone fault line is refused =
     let other : fault ≢ Memory = λ e. let both : Line line ≡ Memory = sym is ∙ e in cc both in
-    inl (refused other ∙ ap Err is)
+    inl (subst (λ (x : ScriptFault). IsScriptOf zone.origin (string_bytes input.script) (Err x)) is (refused other))
 
 -- the script's fault is the run's
-pub script_faults : (input : PlayInput) (fault : ScriptFault) → IsZone input
-    → (fault ≢ Memory → script_of_text (string_bytes input.script) ≡ Err fault)
+pub script_faults : (input : PlayInput) (zone : ZoneContent) (fault : ScriptFault) → ZoneIs input (Ok zone)
+    → (fault ≢ Memory → IsScriptOf zone.origin (string_bytes input.script) (Err fault))
     → IsUnwritten (script_fault fault) × Faults input (script_fault fault)
-script_faults input (Line line) zone refused = (tt, (zone, line_is_at_fault input (Line line) line refl refused))
-script_faults input Memory zone refused = (tt, zone)
+script_faults input zone (Line line) is refused = (tt, (zone, is, line_is_at_fault input zone (Line line) line refl refused))
+script_faults input zone Memory is refused = (tt, (zone, is))
 
--- a script that was read
-pub script_is : (input : PlayInput) (found : List ℕ) (script : ScriptText) → found ≡ string_bytes input.script
-    → script_of_text found ≡ Ok (contents_of (numbered script)) → IsScript input
-script_is input found script same read =
-    (numbered script, subst (λ (text : List ℕ). script_of_text text ≡ Ok (contents_of (numbered script))) same read)
+-- what was read of a script is that of the run's
+pub script_read : {origin : DomainName} (input : PlayInput) (zone : ZoneContent) (found : List ℕ)
+    (outcome : Result (List (ℕ × EventContent)) ScriptFault) → origin ≡ zone.origin → found ≡ string_bytes input.script
+    → IsScriptOf origin found outcome → IsScriptOf zone.origin (string_bytes input.script) outcome
+script_read input zone found outcome same text read = rw (same, text) at read
 
 -- the fault of the hosts is the run's
-pub hosts_faults : (input : PlayInput) (found : List ℕ) (fault : HostsFault) → IsZone input → IsScript input → found ≡ input.hosts.items
+pub hosts_faults : (input : PlayInput) (found : List ℕ) (fault : HostsFault) → IsScript input → found ≡ input.hosts.items
     → HostsAre found (Err fault) → IsUnwritten (plays.Hosts fault) × Faults input (plays.Hosts fault)
-hosts_faults input found fault zone script same read =
-    (tt, (zone, script, subst (λ (src : List ℕ). HostsAre src (Err fault)) same read))
+hosts_faults input found fault script same read =
+    (tt, (script, subst (λ (src : List ℕ). HostsAre src (Err fault)) same read))
 
 -- ---- the first state
 
@@ -138,12 +146,13 @@ starts input zone limit ids config options hosts world same_limit same_config sa
 -- ---- what is printed
 
 -- a run reports of each event once
-runs_len : (old : RunState) (events : List Event) (reports : List EventReport) (new : RunState) → Runs old events reports new
-    → length reports ≡ length events
-runs_len old [] [] new h = refl
-runs_len old [] (r ∷ reports) new h = absurd h
-runs_len old (e ∷ events) [] new h = absurd h
-runs_len old (e ∷ events) (r ∷ reports) new h = ap suc (runs_len h.0 events reports new h.2)
+runs_len : (old : RunState) (events : List Event) (reports : List EventReport) (states : List RunState) (new : RunState)
+    → Runs old events reports states new → length reports ≡ length events
+runs_len old [] [] states new h = refl
+runs_len old [] (r ∷ reports) states new h = absurd h
+runs_len old (e ∷ events) [] states new h = absurd h
+runs_len old (e ∷ events) (r ∷ reports) [] new h = absurd h
+runs_len old (e ∷ events) (r ∷ reports) (state ∷ states) new h = ap suc (runs_len state events reports states new h.1)
 
 -- events without a report have no text
 front_text : (n : ℕ) (events : List Event) (reports : List EventReport) → length reports ≤ n
@@ -161,7 +170,7 @@ front_is : (first : RunState) (events : List Event) (report : Report) (before : 
 front_is first events report before =
     let front = take before.count events in
     let same : length report.events.items ≡ length front =
-    runs_len first front report.events.items before.reported.last before.reported.runs in
+    runs_len first front report.events.items before.reported.states before.reported.last before.reported.runs in
     let short = length-take before.count events in
     let few : length report.events.items ≤ before.count = omega (arith, same, short) in
     front_text before.count events report.events.items few
@@ -178,6 +187,16 @@ front_within count numbered events state same (inr stop) =
 pub stopped_is : (P : Report → Type 0) (error : Stopped) (report : Report) → error ≡ stops.Memory report
     → IfSome (memory_report (Err error)) P → P report
 stopped_is P error report is h = rw is at h
+
+-- what holds of every run
+pub record RunsHold : Type 0 where
+  pub fresh : Law AreFresh
+  pub chain_bound : Law Bounds
+  pub drawn : (ids : List ℕ) (first last : RunState) (events : List Event) (reports : List EventReport) (states : List RunState)
+      → HasDrawn ids (asks_of first) → Runs first events reports states last → HasDrawn ids (asks_of last)
+  pub distinct : (ids : List ℕ) (sent : List (ℕ × Query)) → AreDistinct ids
+      → map (λ (draw : ℕ × Query). draw.0) sent ≡ take (length sent) ids → HasNoReuse sent
+  pub counted : (n : ℕ) (ids : List ℕ) → EachIndex ids (λ k. slice_index ids k ≡ k + n) → AreDistinct ids
 
 -- files that could be read
 module _ (input : PlayInput) (loaded : Loaded) (is : IsLoaded input loaded) where
@@ -199,14 +218,24 @@ module _ (input : PlayInput) (loaded : Loaded) (is : IsLoaded input loaded) wher
   }
 
   pub moment_is_at_fault : (line : ℕ) → IsLineOutOfOrder (numbered loaded.script) line → Faults input (plays.Script line)
-  moment_is_at_fault line out = (zone_is, inr (numbered loaded.script, loaded.hosts, is.script, is.hosts, out))
+  moment_is_at_fault line out = (loaded.zone, is.zone, inr (numbered loaded.script, loaded.hosts, is.script, is.hosts, out))
 
   -- a run from the first state tells this
-  module _ (order : InOrder 0 loaded.script.events.items) (state : RunState) (start : IsStart input loaded.zone loaded.hosts state)
-      (report : Report) where
-    tells : (told : List Event) → IsReportOf state told report → Tells input told (report_text told report.events.items)
-    tells told reported = record {
-      zone = loaded.zone;
+  module _ (laws : RunsHold) (zone : IsZoneContent loaded.zone) (order : InOrder 0 loaded.script.events.items) (state : RunState)
+      (start : IsStart input loaded.zone loaded.hosts state) (report : Report) where
+    abbrev content : WorldContent
+    content = content_of input loaded.zone start.ids loaded.hosts
+
+    no-reuse : (told : List Event) (reported : IsReportOf state told report) → HasNoReuse (asks_of reported.last).sent
+    no-reuse told reported =
+        let first : HasDrawn start.ids (asks_of state) =
+        subst (HasDrawn start.ids) (sym start.first.asks) (record { ids_are = refl; drawn = refl }) in
+        let last = laws.drawn start.ids state reported.last told report.events.items reported.states first reported.runs in
+        laws.distinct start.ids (asks_of reported.last).sent (laws.counted 1 start.ids start.counted) last.drawn
+
+    tells : (told : List Event) → InOrder 0 told → IsReportOf state told report
+        → Tells input loaded.zone told (report_text told report.events.items)
+    tells told in-order reported = record {
       hosts = loaded.hosts;
       state = state;
       report = report;
@@ -215,15 +244,20 @@ module _ (input : PlayInput) (loaded : Loaded) (is : IsLoaded input loaded) wher
       start = start;
       reported = reported;
       is_text = refl;
+      fresh = laws.fresh content state reported.last told report.events.items reported.states zone start.first in-order reported.runs
+          (no-reuse told reported) (λ kind. refl);
+      chain_bound = laws.chain_bound content state reported.last told report.events.items reported.states zone start.first in-order
+          reported.runs (no-reuse told reported) (λ kind. refl) refl;
     }
 
     pub tells_all : IsReportOf state loaded.script.events.items report
         → TellsAll input (report_text loaded.script.events.items report.events.items)
     tells_all reported = (
+      loaded.zone,
       numbered loaded.script,
       is.script,
       rw events_are order,
-      rw events_are (tells loaded.script.events.items reported),
+      rw events_are (tells loaded.script.events.items order reported),
     )
 
     pub tells_first : IsReportBefore state loaded.script.events.items report
@@ -232,13 +266,14 @@ module _ (input : PlayInput) (loaded : Loaded) (is : IsLoaded input loaded) wher
         let events = loaded.script.events.items in
         let front = take before.count events in
         let len = sides_len loaded.script.lines.items events is.beside in
-        let told : Tells input front (report_text front report.events.items) = tells front before.reported in (
+        let told : Tells input loaded.zone front (report_text front report.events.items) = tells front (front-in-order 0 before.count events order) before.reported in (
+          loaded.zone,
           numbered loaded.script,
           before.count,
           is.script,
           rw events_are order,
           front_within before.count (length (numbered loaded.script)) events before.reported.last len before.stopped,
-          rw events_are (subst (Tells input front) (sym (front_is state events report before)) told),
+          rw events_are (subst (Tells input loaded.zone front) (sym (front_is state events report before)) told),
         )
 
 -- ---- how a whole run ends

@@ -1,15 +1,20 @@
 -- The events of a script, line by line.
-use Rattle.std.proofs.Common.{◌≡◌, ◌<◌, ◌+◌, ◌++◌, ℕ, List, [], ◌∷◌, length, map, drop, get_or, Result, Ok, Err, Bor, refl, ap, ◌∙◌, sym, add-one, append_assoc, drop-cons, length-append, arith}
+use Rattle.std.proofs.Common.{◌≡◌, ◌<◌, ◌≤◌, ◌+◌, ◌++◌, ℕ, zero, suc, Bool, true, false, if◌then◌else◌, List, [], ◌∷◌, length, map, drop, get_or, Option, Some, None, Result, Ok, Err, Bor, refl, ap, ◌∙◌, sym, subst, add-one, append_assoc, drop-cons, length-append, append-nil, arith}
+use Rattle.std.specs.Int.{from_bool}
+use Rattle.dns_names.specs.Name.{DomainName}
 use Rattle.stub_run.specs.declared.event.Event.{Event}
+use Rattle.stub_play.specs.declared.script_text.LineContent.{LineContent}
 use Rattle.stub_play.specs.declared.script_text.ScriptFault.{ScriptFault}
-use Rattle.stub_play.specs.ScriptText.{EventContent, Meaning, NoEvent, OneEvent, content_of, contents_of, events_from, meaning_of_line, side_by_side, then_events}
+use Rattle.stub_play.specs.declared.script_text.ScriptFault.TheVariants.{Line}
+use Rattle.stub_play.specs.EventContent.{EventContent, content_of}
+use Rattle.stub_play.specs.ScriptText.{IsScriptFrom, at_fault, no_line, past_event, past_nothing, Means, Meaning, NoEvent, OneEvent, Unreadable, contents_of, is_update, meaning_of, side_by_side, update_id, updates_after, with_event}
 
 -- events in front of those that are still to be read
 abbrev pub in_front : List (ℕ × EventContent) → Result (List (ℕ × EventContent)) ScriptFault → Result (List (ℕ × EventContent)) ScriptFault
 in_front front (Ok events) = Ok (front ++ events)
 in_front front (Err fault) = Err fault
 
--- lines and events, side by side, with the texts of the events' hosts
+-- lines and events, side by side, by their contents
 abbrev pub contents_at : List ℕ → List Event → List (ℕ × EventContent)
 contents_at numbers events = contents_of (side_by_side numbers events)
 
@@ -23,41 +28,107 @@ contents_more (x ∷ xs) (y ∷ ys) n e h = let same : length xs ≡ length ys =
 abbrev pub texts : List (Bor (List ℕ)) → List (List ℕ)
 texts = map (λ line. line.now)
 
--- what is read from the line at a place on
-abbrev pub Rest : List (Bor (List ℕ)) → ℕ → Result (List (ℕ × EventContent)) ScriptFault
-Rest all i = events_from (i + 1) (texts (drop i all))
+-- what is read from the line at a place on, after this many updates
+abbrev pub Rest : DomainName → ℕ → List (Bor (List ℕ)) → ℕ → Result (List (ℕ × EventContent)) ScriptFault → Type 0
+Rest origin count all i found = IsScriptFrom origin count (i + 1) (texts (drop i all)) found
 
-rest_is : (all : List (Bor (List ℕ))) (i : ℕ) (d : Bor (List ℕ)) → i < length all
-    → Rest all i ≡ then_events (meaning_of_line (get_or all i d).now) (i + 1) (Rest all (i + 1))
-rest_is all i d lt =
+-- whatever the rest leads to, the whole leads to, with these events in front
+abbrev pub LeadsOn : DomainName → List (Bor (List ℕ)) → ℕ → ℕ → List (ℕ × EventContent) → Type 0
+LeadsOn origin all i count front =
+    (found : Result (List (ℕ × EventContent)) ScriptFault) → Rest origin count all i found → Rest origin 0 all 0 (in_front front found)
+
+-- the line at a place has this meaning
+pub record IsLine (origin : DomainName) (count : ℕ) (all : List (Bor (List ℕ))) (i : ℕ) (meaning : Meaning) : Type 0 where
+  pub d : Bor (List ℕ)
+  pub is_line : i < length all
+  pub means : Means origin (update_id count) (get_or all i d).now meaning
+
+texts_at : (all : List (Bor (List ℕ))) (i : ℕ) (d : Bor (List ℕ)) → i < length all
+    → texts (drop i all) ≡ (get_or all i d).now ∷ texts (drop (i + 1) all)
+texts_at all i d lt =
     let back : drop i all ≡ get_or all i d ∷ drop (i + 1) all = rw (add-one, drop-cons all i d lt) refl in
-    rw back refl
+    ap texts back
+
+-- nothing was read so far
+pub leads_from_start : (origin : DomainName) (all : List (Bor (List ℕ))) → LeadsOn origin all 0 0 []
+leads_from_start origin all (Ok events) rest = rest
+leads_from_start origin all (Err fault) rest = rest
+
+pub past_no_event : (origin : DomainName) (all : List (Bor (List ℕ))) (i count : ℕ) (front : List (ℕ × EventContent))
+    → IsLine origin count all i NoEvent → LeadsOn origin all i count front → LeadsOn origin all (i + 1) count front
+past_no_event origin all i count front line leads found rest =
+    leads found (subst (λ (ts : List (List ℕ)). IsScriptFrom origin count (i + 1) ts found) (sym (texts_at all i line.d line.is_line))
+    (past_nothing line.means rest))
 
 in_front_more : (front : List (ℕ × EventContent)) (n : ℕ) (e : EventContent) (rest : Result (List (ℕ × EventContent)) ScriptFault)
-    → in_front front (then_events (OneEvent e) n rest) ≡ in_front (front ++ (n, e) ∷ []) rest
+    → in_front front (with_event n e rest) ≡ in_front (front ++ (n, e) ∷ []) rest
 in_front_more front n e (Ok events) = ap Ok (rw append_assoc refl)
 in_front_more front n e (Err fault) = refl
 
--- the line at a place has this meaning
-pub record IsLine (all : List (Bor (List ℕ))) (i : ℕ) (meaning : Meaning) : Type 0 where
-  pub d : Bor (List ℕ)
-  pub is_line : i < length all
-  pub is : meaning ≡ meaning_of_line (get_or all i d).now
-
-rest_of : (all : List (Bor (List ℕ))) (i : ℕ) (meaning : Meaning) → IsLine all i meaning → Rest all i ≡ then_events meaning (i + 1) (Rest all (i + 1))
-rest_of all i meaning h = rest_is all i h.d h.is_line ∙ ap (λ (x : Meaning). then_events x (i + 1) (Rest all (i + 1))) (sym h.is)
-
-pub past_nothing : (all : List (Bor (List ℕ))) (i : ℕ) → IsLine all i NoEvent → Rest all i ≡ Rest all (i + 1)
-past_nothing all i h = rest_of all i NoEvent h
-
-pub past_event : (all : List (Bor (List ℕ))) (i : ℕ) (numbers : List ℕ) (events : List Event) (e : Event)
-    → IsLine all i (OneEvent (content_of e)) → length numbers ≡ length events
-    → in_front (contents_at numbers events) (Rest all i) ≡ in_front (contents_at (numbers ++ (i + 1) ∷ []) (events ++ e ∷ [])) (Rest all (i + 1))
-past_event all i numbers events e h same =
-    let step : Rest all i ≡ then_events (OneEvent (content_of e)) (i + 1) (Rest all (i + 1)) = rest_of all i (OneEvent (content_of e)) h in
+pub past_one_event : (origin : DomainName) (all : List (Bor (List ℕ))) (i count : ℕ) (numbers : List ℕ) (events : List Event) (e : Event)
+    → IsLine origin count all i (OneEvent (content_of e)) → length numbers ≡ length events
+    → LeadsOn origin all i count (contents_at numbers events)
+    → LeadsOn origin all (i + 1) (updates_after count (content_of e)) (contents_at (numbers ++ (i + 1) ∷ []) (events ++ e ∷ []))
+past_one_event origin all i count numbers events e line same leads found rest =
+    let front = contents_at numbers events in
+    let step : Rest origin count all i (with_event (i + 1) (content_of e) found) =
+    subst (λ (ts : List (List ℕ)). IsScriptFrom origin count (i + 1) ts (with_event (i + 1) (content_of e) found))
+    (sym (texts_at all i line.d line.is_line)) (past_event (content_of e) found line.means rest) in
     let more = contents_more numbers events (i + 1) e same in
-    ap (in_front (contents_at numbers events)) step ∙ in_front_more (contents_at numbers events) (i + 1) (content_of e) (Rest all (i + 1))
-    ∙ ap (λ (x : List (ℕ × EventContent)). in_front x (Rest all (i + 1))) (sym more)
+    subst (λ (r : Result (List (ℕ × EventContent)) ScriptFault). Rest origin 0 all 0 r)
+    (in_front_more front (i + 1) (content_of e) found ∙ ap (λ (x : List (ℕ × EventContent)). in_front x found) (sym more))
+    (leads (with_event (i + 1) (content_of e) found) step)
+
+-- a line that cannot be read
+pub ends_at_fault : (origin : DomainName) (all : List (Bor (List ℕ))) (i count : ℕ) (front : List (ℕ × EventContent))
+    → IsLine origin count all i Unreadable → LeadsOn origin all i count front → Rest origin 0 all 0 (Err (Line (i + 1)))
+ends_at_fault origin all i count front line leads =
+    leads (Err (Line (i + 1))) (subst (λ (ts : List (List ℕ)). IsScriptFrom origin count (i + 1) ts (Err (Line (i + 1))))
+    (sym (texts_at all i line.d line.is_line)) (at_fault line.means))
+
+pub drop_all : {A : Type 0} (xs : List A) (i : ℕ) → length xs ≤ i → drop i xs ≡ []
+drop_all [] zero few = refl
+drop_all [] (suc i) few = refl
+drop_all (x ∷ xs) zero few = absurd (omega arith)
+drop_all (x ∷ xs) (suc i) few = let less : length xs ≤ i = omega arith in drop_all xs i less
+
+-- all lines were read
+pub ends_at_end : (origin : DomainName) (all : List (Bor (List ℕ))) (i count : ℕ) (front : List (ℕ × EventContent)) → length all ≤ i
+    → LeadsOn origin all i count front → Rest origin 0 all 0 (Ok front)
+ends_at_end origin all i count front len leads =
+    let none : texts (drop i all) ≡ [] = ap texts (drop_all all i len) in
+    let whole : Rest origin 0 all 0 (Ok (front ++ [])) =
+    leads (Ok []) (subst (λ (ts : List (List ℕ)). IsScriptFrom origin count (i + 1) ts (Ok [])) (sym none) no_line) in
+    subst (λ (events : List (ℕ × EventContent)). Rest origin 0 all 0 (Ok events)) (append-nil front) whole
+
+-- the line at a place was read, as an event or not
+pub line_of : (origin : DomainName) (count id : ℕ) (all : List (Bor (List ℕ))) (i : ℕ) (content : LineContent) (meaning : Meaning)
+    → id ≡ update_id count → i < length all → meaning_of content ≡ meaning
+    → Means origin id (get_or all i (record { ref_ptr = (0, 0); now = [] })).now (meaning_of content)
+    → IsLine origin count all i meaning
+line_of origin count id all i content meaning same lt is means = record {
+  d = record { ref_ptr = (0, 0); now = [] };
+  is_line = lt;
+  means = subst (λ (n : ℕ). Means origin n (get_or all i (record { ref_ptr = (0, 0); now = [] })).now meaning) same
+      (subst (λ (m : Meaning). Means origin id (get_or all i (record { ref_ptr = (0, 0); now = [] })).now m) is means);
+}
+
+-- a line has one update at most
+few_by : (test : Bool) (count i : ℕ) → count ≤ i → (if test then count + 1 else count) ≤ i + 1
+few_by true count i few = omega arith
+few_by false count i few = omega arith
+
+pub few_more : (count i : ℕ) (e : EventContent) → count ≤ i → updates_after count e ≤ i + 1
+few_more count i e few = few_by (is_update e) count i few
+
+-- the number that a test adds
+add_test : (test : Bool) (count added : ℕ) → added ≡ from_bool test → count + added ≡ (if test then count + 1 else count)
+add_test true count added is = rw is refl
+add_test false count added is = rw is (omega arith)
+
+pub counted : (count added : ℕ) (test : Bool) (e : EventContent) → test ≡ is_update e → added ≡ from_bool test
+    → count + added ≡ updates_after count e
+counted count added test e same is = rw same at (add_test test count added is)
 
 pub more_beside : (numbers : List ℕ) (events : List Event) (n : ℕ) (e : Event) → length numbers ≡ length events → length (numbers ++ n ∷ []) ≡ length (events ++ e ∷ [])
 more_beside numbers events n e h = rw (length-append numbers (n ∷ []), length-append events (e ∷ [])) (ap (λ (x : ℕ). x + 1) h)

@@ -1,7 +1,14 @@
+pub mod internal
+pub mod ClearLine
+pub mod EventContent
+pub mod LinkWords
+pub mod LookupLine
 pub mod PlayFault
 pub mod Plays
 pub mod Program
 pub mod ReportText
+pub mod ScriptFields
 pub mod ScriptText
 pub mod ScriptWords
+pub mod UpdateLine
 pub mod Words

@@ -16,6 +16,7 @@ use Rattle.stub_core.specs.ResolverBuilder.{no_hosts}
 use Rattle.stub_run.specs.declared.event.Event.{Event}
 use Rattle.stub_run.specs.declared.report.Report.{Report}
 use Rattle.stub_run.specs.Run.{InOrder, IsReportOf, RunState}
+use Rattle.stub_run.specs.Headline.{AreFresh, HaveChainBounds, WorldContent}
 use Rattle.stub_run.specs.World.{IsFirst}
 use Rattle.stub_play.specs.declared.script_text.ScriptFault.TheVariants as scripts
 use Rattle.stub_play.specs.declared.script_text.ScriptText.{ScriptText}
@@ -24,7 +25,7 @@ use Rattle.stub_play.specs.declared.plays.fault.PlayFault.{PlayFault}
 use Rattle.stub_play.specs.declared.plays.fault.PlayFault.TheVariants.{Zone, Script, Hosts, Memory, Write}
 use Rattle.stub_play.specs.declared.plays.input.PlayInput.{PlayInput}
 use Rattle.stub_play.specs.ReportText.{report_text}
-use Rattle.stub_play.specs.ScriptText.{contents_of, script_of_text, side_by_side}
+use Rattle.stub_play.specs.ScriptText.{IsScriptOf, contents_of, side_by_side}
 
 -- ---- moments
 
@@ -54,12 +55,13 @@ ZoneIs input outcome = ReadsZone [] input.origin (string_bytes input.zone) outco
 abbrev pub IsZone : PlayInput → Type 0
 IsZone input = (zone : ZoneContent) × ZoneIs input (Ok zone)
 
--- the events of the script, each with its line
-abbrev pub ScriptIs : PlayInput → List (ℕ × Event) → Type 0
-ScriptIs input script = script_of_text (string_bytes input.script) ≡ Ok (contents_of script)
+-- the events of the script, each with its line; the zone's origin completes the names of updates
+abbrev pub ScriptIs : PlayInput → ZoneContent → List (ℕ × Event) → Type 0
+ScriptIs input zone script = IsScriptOf zone.origin (string_bytes input.script) (Ok (contents_of script))
 
+-- the zone and the script can be read
 abbrev pub IsScript : PlayInput → Type 0
-IsScript input = (script : List (ℕ × Event)) × ScriptIs input script
+IsScript input = (zone : ZoneContent) × (script : List (ℕ × Event)) × ZoneIs input (Ok zone) × ScriptIs input zone script
 
 -- the hosts of a hosts file, or its first fault
 abbrev pub HostsAre : List ℕ → Result HostsContent HostsFault → Type 0
@@ -72,34 +74,34 @@ pub record IsRead (input : PlayInput) : Type 0 where
   pub script : List (ℕ × Event)
   pub hosts : HostsContent
   pub is_zone : ZoneIs input (Ok zone)
-  pub is_script : ScriptIs input script
+  pub is_script : ScriptIs input zone script
   pub are_hosts : HostsAre input.hosts.items (Ok hosts)
   pub in_order : InOrder 0 (events_of script)
 
--- what the files have
+-- the events of a script, each with its line
 abbrev pub numbered : ScriptText → List (ℕ × Event)
 numbered script = side_by_side script.lines.items script.events.items
 
 pub record IsLoaded (input : PlayInput) (loaded : Loaded) : Type 0 where
   pub zone : ZoneIs input (Ok loaded.zone)
-  pub script : ScriptIs input (numbered loaded.script)
+  pub script : ScriptIs input loaded.zone (numbered loaded.script)
   pub beside : length loaded.script.lines.items ≡ length loaded.script.events.items
   pub hosts : HostsAre input.hosts.items (Ok loaded.hosts)
 
 -- ---- faults
 
 -- the script's first line at fault: one that cannot be read; or else, if the hosts can be read, one whose moment is out of order
-abbrev pub IsAtFault : PlayInput → ℕ → Type 0
-IsAtFault input line =
-    (script_of_text (string_bytes input.script) ≡ Err (scripts.Line line))
-    ⊎ ((script : List (ℕ × Event)) × (hosts : HostsContent) × ScriptIs input script
+abbrev pub IsAtFault : PlayInput → ZoneContent → ℕ → Type 0
+IsAtFault input zone line =
+    IsScriptOf zone.origin (string_bytes input.script) (Err (scripts.Line line))
+    ⊎ ((script : List (ℕ × Event)) × (hosts : HostsContent) × ScriptIs input zone script
     × HostsAre input.hosts.items (Ok hosts) × IsLineOutOfOrder script line)
 
 -- what a fault says of the files
 abbrev pub Faults : PlayInput → PlayFault → Type 0
 Faults input (Zone fault) = fault ≢ zones.Memory → ZoneIs input (Err fault)
-Faults input (Script line) = IsZone input × IsAtFault input line
-Faults input (Hosts fault) = IsZone input × IsScript input × HostsAre input.hosts.items (Err fault)
+Faults input (Script line) = (zone : ZoneContent) × ZoneIs input (Ok zone) × IsAtFault input zone line
+Faults input (Hosts fault) = IsScript input × HostsAre input.hosts.items (Err fault)
 Faults input Memory = IsZone input
 Faults input Write = IsRead input
 
@@ -134,9 +136,19 @@ pub record IsStart (input : PlayInput) (zone : ZoneContent) (hosts : HostsConten
   pub counted : EachIndex ids (λ k. slice_index ids k ≡ k + 1)
   pub all : length ids ≡ 65535
 
--- the text of what events lead to
-pub record Tells (input : PlayInput) (events : List Event) (text : List ℕ) : Type 0 where
-  pub zone : ZoneContent
+-- what the world of a run is made of
+abbrev pub content_of : PlayInput → ZoneContent → List ℕ → HostsContent → WorldContent
+content_of input zone ids hosts = record {
+  zone = zone;
+  limit = input.limit;
+  ids = ids;
+  config = config_of_servers [];
+  options = play_options input;
+  hosts = hosts;
+}
+
+-- The text of the report of a run of these events. Every record in it stood in the zone, and has the chain bound.
+pub record Tells (input : PlayInput) (zone : ZoneContent) (events : List Event) (text : List ℕ) : Type 0 where
   pub hosts : HostsContent
   pub state : RunState
   pub report : Report
@@ -145,17 +157,20 @@ pub record Tells (input : PlayInput) (events : List Event) (text : List ℕ) : T
   pub start : IsStart input zone hosts state
   pub reported : IsReportOf state events report
   pub is_text : text ≡ report_text events report.events.items
+  pub fresh : AreFresh (content_of input zone start.ids hosts) events report.events.items
+  pub chain_bound : HaveChainBounds (content_of input zone start.ids hosts) events report.events.items
 
 -- of all events of the script
 abbrev pub TellsAll : PlayInput → List ℕ → Type 0
 TellsAll input text =
-    (script : List (ℕ × Event)) × ScriptIs input script × InOrder 0 (events_of script) × Tells input (events_of script) text
+    (zone : ZoneContent) × (script : List (ℕ × Event)) × ScriptIs input zone script × InOrder 0 (events_of script)
+    × Tells input zone (events_of script) text
 
 -- of those before memory ran out
 abbrev pub TellsFirst : PlayInput → List ℕ → Type 0
 TellsFirst input text =
-    (script : List (ℕ × Event)) × (n : ℕ) × ScriptIs input script × InOrder 0 (events_of script)
-    × ((n ≡ 0) ⊎ (n < length script)) × Tells input (take n (events_of script)) text
+    (zone : ZoneContent) × (script : List (ℕ × Event)) × (n : ℕ) × ScriptIs input zone script × InOrder 0 (events_of script)
+    × ((n ≡ 0) ⊎ (n < length script)) × Tells input zone (take n (events_of script)) text
 
 -- what a run of files that can be read comes to; `same` says that nothing was written
 pub record IsPlayed (input : PlayInput) (same : Type 0) (old new : Option (List ℕ)) (result : Result (Unit {0}) PlayFault) : Type 0 where

@@ -38,6 +38,7 @@ event_text (event.Lookup at name kind script) = decimal at ++ (codes " lookup " 
 event_text (event.LookupIp at host script) = decimal at ++ (codes " ip " ++ string_bytes host)
 event_text (event.Clear at name kind script) = decimal at ++ (codes " clear " ++ (text_of_name name ++ (codes " " ++ type_as_read kind)))
 event_text (event.ClearAll at script) = decimal at ++ codes " clearall"
+event_text (event.Update at update script) = decimal at ++ codes " update"
 
 -- a record on a line of its own
 abbrev pub record_text : Record → List ℕ
@@ -64,12 +65,14 @@ abbrev pub outcome_text : Result LookupContent NetError → List ℕ
 outcome_text (Ok lookup) = codes ": " ++ answers_text lookup.message.answers
 outcome_text (Err error) = codes ": " ++ (reason_text error ++ 10 ∷ [])
 
--- The reply to an event. That entries were removed is not mentioned.
+-- The reply to an event: what a lookup found, nothing about entries that were removed, or the code of an update.
 abbrev pub reply_text : EventReply → List ℕ
 reply_text (replies.Lookup outcome) = outcome_text outcome
 reply_text (replies.LookupIp outcome) = outcome_text outcome
 reply_text (replies.Cleared (Ok done)) = 10 ∷ []
 reply_text (replies.Cleared (Err error)) = codes ": " ++ (reason_text error ++ 10 ∷ [])
+reply_text (replies.Update (Ok code)) = codes ": " ++ (code_text code ++ 10 ∷ [])
+reply_text (replies.Update (Err error)) = codes ": " ++ (reason_text error ++ 10 ∷ [])
 
 -- event by event, as far as both lists go
 abbrev pub report_text : List Event → List EventReport → List ℕ

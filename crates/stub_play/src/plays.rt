@@ -19,9 +19,10 @@ use std::alloc::{AllocError, Global};
 use std::io;
 use stub_config::{ResolverConfig, ResolverOpts};
 use stub_hosts::{Hosts, HostsFault};
+use stub_run::laws::{distinct_ids_are_not_reused, every_record_stood, ids_are_drawn_in_order};
 use stub_run::{Event, Report, Stopped, World, run};
 
-/// Plays a script: lets its events happen in a world over the zone, and writes what each led to.
+/// Runs the script against a server for the zone, and writes each result.
 ///
 /// The zone, the script and the hosts are read in this order, before anything is written. If the run ends early for want of
 /// memory, what was reported before is written first.
@@ -40,7 +41,7 @@ pub fn play<W: io::Write>(alloc: Global, input: &PlayInput, writer: &mut W) -> R
     play_loaded(alloc, input, loaded, writer)
 }
 
-/// What the files have.
+/// The zone, the script and the hosts that the files have.
 struct Loaded {
     zone: Zone,
     script: ScriptText,
@@ -81,7 +82,7 @@ fn read_hosts(alloc: Global, src: &[u8]) -> Result<Hosts, HostsFault>
     Ok(hosts)
 }
 
-/// Lets the events of a script happen in a world over a zone, and writes what each led to.
+/// Runs the events of a script in a world over a zone, and writes each result.
 fn play_loaded<W: io::Write>(
     alloc: Global,
     input: &PlayInput,
@@ -98,6 +99,11 @@ fn play_loaded<W: io::Write>(
         script,
         hosts,
     } = loaded;
+    // Tells the prover that the zone is well formed, and what holds of every run.
+    let _origin = zone.origin();
+    every_record_stood();
+    ids_are_drawn_in_order();
+    distinct_ids_are_not_reused();
     let world = new_world(alloc, input, zone, hosts)?;
     match run(world, script.events.as_slice()) {
         Ok(report) => {

@@ -54,10 +54,11 @@ fn write_event<W: io::Write>(event: &Event, writer: &mut W) -> io::Result<()>
             write!(writer, "{at} clear {name} {rtype}")
         }
         Event::ClearAll { at, .. } => write!(writer, "{at} clearall"),
+        Event::Update { at, .. } => write!(writer, "{at} update"),
     }
 }
 
-/// Writes the reply to an event behind the event: the records, or why there are none.
+/// Writes the reply to an event after the event: the records, the code of an update, or why there is neither.
 fn write_reply<W: io::Write>(reply: &EventReply, writer: &mut W) -> io::Result<()>
     ensures { OnOk result (Appends (W.contents writer.old) (W.contents writer.new)
         (reply_text reply.now)) }
@@ -71,6 +72,8 @@ fn write_reply<W: io::Write>(reply: &EventReply, writer: &mut W) -> io::Result<(
         EventReply::LookupIp(Err(error)) => write_error(error, writer),
         EventReply::Cleared(Ok(())) => writeln!(writer),
         EventReply::Cleared(Err(error)) => write_error(error, writer),
+        EventReply::Update(Ok(code)) => writeln!(writer, ": {code}"),
+        EventReply::Update(Err(error)) => write_error(error, writer),
     }
 }
 

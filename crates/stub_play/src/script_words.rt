@@ -1,11 +1,21 @@
 //! The words of a line of a script (RFC 1035 section 5.1).
 
-ghost use Rattle.std.specs.Prelude.{◌≡◌, ◌++◌, [], IfOk, OnOk, map, option_map};
-ghost use Rattle.stub_play.specs.ScriptWords.{is_blank, is_escape, is_quoted, role_of, word_if_any, complete_words, open_word, words};
+ghost use Rattle.std.specs.Prelude.{◌≡◌, ◌++◌, [], IfOk, OnOk, map};
+ghost use Rattle.stub_play.specs.ScriptWords.{is_blank};
+ghost use Rattle.stub_play.specs.internal.ScriptWords.{IsSplit, complete_words, ends_words, is_escape, is_quoted, open_word, role_of, word_if_any};
 
 use std::alloc::{AllocError, Global};
 
-/// What a character is to the words of its line.
+/// The words at the start of a text.
+#[derive(Drop)]
+pub(crate) struct LineWords {
+    /// The words, with their quotes and escapes.
+    pub(crate) words: Vec<Vec<u8>>,
+    /// The index of the semicolon that ends the words, or the length of the text.
+    pub(crate) end: usize,
+}
+
+/// The role of a character in the words of its line.
 #[derive(Clone, Copy)]
 enum Role {
     /// A blank between words.
@@ -18,21 +28,21 @@ enum Role {
     Text,
 }
 
-/// Whether a character is a space or a tab.
+/// Returns `true` if a character is a space or a tab.
 pub(crate) fn is_blank(c: u8) -> bool
     ensures { result ≡ is_blank c }
 {
     c == b' ' || c == b'\t'
 }
 
-/// Whether a character is a backslash that escapes the next one.
+/// Returns `true` if a character is a backslash that escapes the next one.
 pub(crate) fn is_escape(escaped: bool, c: u8) -> bool
     ensures { result ≡ is_escape escaped c }
 {
     !escaped && c == b'\\'
 }
 
-/// Whether a quote is open after a character.
+/// Returns `true` if a quote is open after a character.
 pub(crate) fn is_quoted(escaped: bool, quoted: bool, c: u8) -> bool
     ensures { result ≡ is_quoted escaped quoted c }
 {
@@ -43,7 +53,7 @@ pub(crate) fn is_quoted(escaped: bool, quoted: bool, c: u8) -> bool
     }
 }
 
-/// What a character is to the words of its line, given whether it is escaped and whether a quote is open before it.
+/// Returns the role of a character, given whether it is escaped and whether a quote is open before it.
 fn role_of(escaped: bool, quoted: bool, c: u8) -> Role
     ensures { result ≡ role_of escaped quoted c }
 {
@@ -76,7 +86,7 @@ fn end_word(alloc: Global, done: &mut Vec<Vec<u8>>, word: &mut Vec<u8>) -> Resul
     Ok(())
 }
 
-/// Takes a character of a line into its words.
+/// Adds a character of a line to its words.
 fn take_character(
     alloc: Global,
     role: Role,
@@ -103,25 +113,38 @@ fn take_character(
     Ok(())
 }
 
-/// The words of a line, with their quotes and escapes. `None` if a quote is not closed, or if a backslash at the end has
-/// nothing to escape.
-pub(crate) fn split_words(alloc: Global, line: &[u8]) -> Result<Option<Vec<Vec<u8>>>, AllocError>
-    ensures { IfOk result (λ found.
-        option_map (λ split. map (λ v. v.items) split.items) found ≡ words line.now) }
+/// Returns the words of a text, up to its end or to a semicolon that is neither quoted nor escaped. `None` if a quote is not
+/// closed, or if a backslash at the end of the text has nothing to escape.
+pub(crate) fn split_words(alloc: Global, text: &[u8]) -> Result<Option<LineWords>, AllocError>
+    ensures { IfOk result (IsSplit text.now) }
 {
-    let mut done = Vec::new(alloc);
+    let mut words = Vec::new(alloc);
     let mut word = Vec::new(alloc);
     let mut escaped = false;
     let mut quoted = false;
-    for c in line {
+    for (i, c) in text.iter().enumerate() {
+        if ends_words(escaped, quoted, *c) {
+            end_word(alloc, &mut words, &mut word)?;
+            return Ok(Some(LineWords { words, end: i }));
+        }
         let role = role_of(escaped, quoted, *c);
-        take_character(alloc, role, *c, &mut done, &mut word)?;
+        take_character(alloc, role, *c, &mut words, &mut word)?;
         quoted = is_quoted(escaped, quoted, *c);
         escaped = is_escape(escaped, *c);
     }
     if escaped || quoted {
         return Ok(None);
     }
-    end_word(alloc, &mut done, &mut word)?;
-    Ok(Some(done))
+    end_word(alloc, &mut words, &mut word)?;
+    Ok(Some(LineWords {
+        words,
+        end: text.len(),
+    }))
+}
+
+/// Returns `true` if a character is a semicolon that is neither escaped nor quoted.
+fn ends_words(escaped: bool, quoted: bool, c: u8) -> bool
+    ensures { result ≡ ends_words escaped quoted c }
+{
+    !escaped && !quoted && c == b';'
 }

@@ -1,4 +1,4 @@
-//! What a run is made of.
+//! The input of a run.
 
 use dns_names::Name;
 

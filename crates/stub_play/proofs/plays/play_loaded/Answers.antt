@@ -5,7 +5,7 @@ use Rattle.stub_run.specs.Run.{InOrder, IsReportBefore, IsReportOf}
 use Rattle.stub_play.specs.ReportText.{report_text}
 use Rattle.stub_play.specs.Plays.{numbered}
 use Rattle.stub_play.specs.declared.plays.fault.PlayFault.TheVariants as plays
-use Rattle.stub_play.proofs.PlayLaws.{in_order_if_run, is_read, moment_is_at_fault, silent_end, stopped_end, stopped_is, tells_all, tells_first, told_end, unwritten_end, zone_is}
+use Rattle.stub_play.proofs.PlayLaws.{RunsHold, in_order_if_run, is_read, moment_is_at_fault, silent_end, stopped_end, stopped_is, tells_all, tells_first, told_end, unwritten_end, zone_is}
 use Rattle.stub_play.proofs.plays.play_loaded.Goals as goal
 
 pub returns-in_err-world : goal.returns-in_err-world
@@ -26,6 +26,13 @@ returns-in_err-print-in-Ok g c =
 
 pub returns-in-Ok : goal.returns-in-Ok
 returns-in-Ok g c =
+    let laws : RunsHold = record {
+      fresh = c.every_record_stood.ensures.fresh;
+      chain_bound = c.every_record_stood.ensures.chain_bound;
+      drawn = c.ids_are_drawn_in_order.ensures;
+      distinct = c.distinct_ids_are_not_reused.ensures.drawn;
+      counted = c.distinct_ids_are_not_reused.ensures.counted;
+    } in
     let input = c.args.input.now in
     let loaded = c.args.loaded in
     let events = loaded.script.events.items in
@@ -36,7 +43,7 @@ returns-in-Ok g c =
     subst (λ (es : List Event). IsReportOf start.0 es c.in-Ok.report) c.as_slice.ensures.value (c.in-Ok.ensures.run start.0 start.2) in
     told_end input (c.print.new.writer ≡ c.args.writer.now) (g.W.Write.contents c.args.writer.now) (g.W.Write.contents c.print.new.writer)
     (report_text events c.in-Ok.report.events.items) (is_read input loaded c.requires.loaded order)
-    (tells_all input loaded c.requires.loaded order start.0 start.1 c.in-Ok.report reported) c.in_ok-print-in-Ok.ensures
+    (tells_all input loaded c.requires.loaded laws c.origin-origin.ensures.well_formed order start.0 start.1 c.in-Ok.report reported) c.in_ok-print-in-Ok.ensures
 
 pub returns-in_err-print-in-Err-Memory : goal.returns-in_err-print-in-Err-Memory
 returns-in_err-print-in-Err-Memory g c =
@@ -49,6 +56,13 @@ returns-in_err-print-in-Err-Memory g c =
 
 pub returns-in-Err-Memory : goal.returns-in-Err-Memory
 returns-in-Err-Memory g c =
+    let laws : RunsHold = record {
+      fresh = c.every_record_stood.ensures.fresh;
+      chain_bound = c.every_record_stood.ensures.chain_bound;
+      drawn = c.ids_are_drawn_in_order.ensures;
+      distinct = c.distinct_ids_are_not_reused.ensures.drawn;
+      counted = c.distinct_ids_are_not_reused.ensures.counted;
+    } in
     let input = c.args.input.now in
     let loaded = c.args.loaded in
     let events = loaded.script.events.items in
@@ -61,7 +75,7 @@ returns-in-Err-Memory g c =
     subst (λ (es : List Event). IsReportBefore start.0 es report) c.as_slice.ensures.value (stopped start.0 start.2) in
     stopped_end input (c.print-in-Err-Memory.new.writer ≡ c.args.writer.now) (g.W.Write.contents c.args.writer.now)
     (g.W.Write.contents c.print-in-Err-Memory.new.writer) (report_text events report.events.items)
-    (zone_is input loaded c.requires.loaded) (tells_first input loaded c.requires.loaded order start.0 start.1 report before)
+    (zone_is input loaded c.requires.loaded) (tells_first input loaded c.requires.loaded laws c.origin-origin.ensures.well_formed order start.0 start.1 report before)
     c.in_ok-print-in-Err-Memory.ensures
 
 pub returns : goal.returns

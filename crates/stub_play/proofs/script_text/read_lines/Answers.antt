@@ -1,25 +1,49 @@
-use Rattle.std.proofs.Common.{◌≡◌, ◌+◌, ◌++◌, [], ◌∷◌, ◌∙◌, sym, ap}
-use Rattle.stub_play.specs.ScriptText.{NoEvent, OneEvent, content_of, meaning_of}
-use Rattle.stub_play.proofs.ScriptLaws.{IsLine, contents_at, in_front, more_beside, past_event, past_nothing}
+use Rattle.std.proofs.Common.{◌≡◌, ◌≤◌, ◌+◌, ◌++◌, ℕ, Bool, true, false, [], ◌∷◌, ◌∙◌, sym, ap, arith, List, map}
+use Rattle.stub_play.specs.EventContent.{content_of}
+use Rattle.stub_play.specs.ScriptText.{Meaning, NoEvent, OneEvent, Unreadable, is_update, meaning_of, updates_after}
+use Rattle.stub_play.proofs.ScriptLaws.{IsLine, LeadsOn, contents_at, counted, ends_at_end, ends_at_fault, few_more, line_of, more_beside, past_no_event, past_one_event}
 use Rattle.stub_play.proofs.script_text.read_lines.Goals as goal
 use Rattle.stub_play.proofs.script_text.read_lines.Goals.{in-Nothing, in-Holds+in_ok-push-in-Holds+in_ok-push-in-Holds-2}
+
+pub returns-in-Unreadable-clause-refused : goal.returns-in-Unreadable-clause-refused
+returns-in-Unreadable-clause-refused c = λ other.
+    let line : IsLine c.args.origin.now c.loop-i.update_count c.args.all.now c.loop-i.i Unreadable =
+    line_of c.args.origin.now c.loop-i.update_count c.update_id.result c.args.all.now c.loop-i.i c.in_ok-read_line.field-0 Unreadable
+    c.update_id.ensures c.loop-i-test.true (ap meaning_of c.in-Unreadable.is) c.in_ok-read_line.ensures in
+    ends_at_fault c.args.origin.now c.args.all.now c.loop-i.i c.loop-i.update_count (contents_at c.loop-i.lines.items c.loop-i.events.items) line
+    c.loop-i.invariant.leads
 
 pub loop-i-preserved : goal.loop-i-preserved
 loop-i-preserved c =
     elim c.match-branch-2.branch [
       | in-Nothing w ↦
-          let line : IsLine c.args.all.now c.loop-i.i NoEvent = record { d = record { ref_ptr = (0, 0); now = [] }; is_line = c.loop-i-test.true; is = ap meaning_of (sym w.in-Nothing.is) ∙ c.in_ok-read_line.ensures } in
-          rw (w.lines-is, w.events-is) (record {
+          let line : IsLine c.args.origin.now c.loop-i.update_count c.args.all.now c.loop-i.i NoEvent =
+          line_of c.args.origin.now c.loop-i.update_count c.update_id.result c.args.all.now c.loop-i.i c.in_ok-read_line.field-0 NoEvent
+          c.update_id.ensures c.loop-i-test.true (ap meaning_of w.in-Nothing.is) c.in_ok-read_line.ensures in
+          rw (w.lines-is, w.events-is, w.update_count-is) (record {
             beside = c.loop-i.invariant.beside;
-            read = c.loop-i.invariant.read ∙ ap (in_front (contents_at c.loop-i.lines.items c.loop-i.events.items)) (past_nothing c.args.all.now c.loop-i.i line);
+            few = omega (arith, c.loop-i.invariant.few);
+            leads = past_no_event c.args.origin.now c.args.all.now c.loop-i.i c.loop-i.update_count
+                (contents_at c.loop-i.lines.items c.loop-i.events.items) line c.loop-i.invariant.leads;
           })
       | in-Holds+in_ok-push-in-Holds+in_ok-push-in-Holds-2 w ↦
-          let line : IsLine c.args.all.now c.loop-i.i (OneEvent (content_of w.in-Holds.event)) =
-          record { d = record { ref_ptr = (0, 0); now = [] }; is_line = c.loop-i-test.true; is = ap meaning_of (sym w.in-Holds.is) ∙ c.in_ok-read_line.ensures } in
+          let event = w.in-Holds.event in
+          let line : IsLine c.args.origin.now c.loop-i.update_count c.args.all.now c.loop-i.i (OneEvent (content_of event)) =
+          line_of c.args.origin.now c.loop-i.update_count c.update_id.result c.args.all.now c.loop-i.i c.in_ok-read_line.field-0 (OneEvent (content_of event))
+          c.update_id.ensures c.loop-i-test.true (ap meaning_of w.in-Holds.is) c.in_ok-read_line.ensures in
           let numbers : c.match-branch-2.lines.items ≡ c.loop-i.lines.items ++ (c.loop-i.i + 1) ∷ [] = ap (λ v. v.items) w.lines-is ∙ w.in_ok-push-in-Holds-2.ensures.items in
-          let events : c.match-branch-2.events.items ≡ c.loop-i.events.items ++ w.in-Holds.event ∷ [] = ap (λ v. v.items) w.events-is ∙ w.in_ok-push-in-Holds.ensures.items in
-          rw (numbers, events) (record {
-            beside = more_beside c.loop-i.lines.items c.loop-i.events.items (c.loop-i.i + 1) w.in-Holds.event c.loop-i.invariant.beside;
-            read = c.loop-i.invariant.read ∙ past_event c.args.all.now c.loop-i.i c.loop-i.lines.items c.loop-i.events.items w.in-Holds.event line c.loop-i.invariant.beside;
+          let events : c.match-branch-2.events.items ≡ c.loop-i.events.items ++ event ∷ [] = ap (λ v. v.items) w.events-is ∙ w.in_ok-push-in-Holds.ensures.items in
+          let count : c.match-branch-2.update_count ≡ updates_after c.loop-i.update_count (content_of event) =
+          w.update_count-is ∙ counted c.loop-i.update_count w.from-update_count.result w.is_update.result (content_of event) w.is_update.ensures w.from-update_count.ensures in
+          rw (numbers, events, count) (record {
+            beside = more_beside c.loop-i.lines.items c.loop-i.events.items (c.loop-i.i + 1) event c.loop-i.invariant.beside;
+            few = few_more c.loop-i.update_count c.loop-i.i (content_of event) c.loop-i.invariant.few;
+            leads = past_one_event c.args.origin.now c.args.all.now c.loop-i.i c.loop-i.update_count c.loop-i.lines.items c.loop-i.events.items event line
+                c.loop-i.invariant.beside c.loop-i.invariant.leads;
           })
     ]
+
+pub returns-clause-ok : goal.returns-clause-ok
+returns-clause-ok c =
+    ends_at_end c.args.origin.now c.args.all.now c.loop-i.i c.loop-i.update_count (contents_at c.loop-i.lines.items c.loop-i.events.items)
+    c.loop-i-test.false c.loop-i.invariant.leads

@@ -1,10 +1,11 @@
-use Rattle.std.proofs.Common.{◌≡◌, length}
-use Rattle.stub_play.proofs.ScriptLaws.{Rest, contents_at, in_front}
+use Rattle.std.proofs.Common.{◌≡◌, ◌≤◌, length}
+use Rattle.stub_play.proofs.ScriptLaws.{LeadsOn, contents_at}
 use Rattle.stub_play.proofs.script_text.read_lines.Given as goal
 
--- what was read stands in front of what the rest holds
+-- the whole leads to what was read, and then to what the rest leads to; no line has more than one update
 abbrev pub invariant-loop-i : goal.invariant-loop-i
 invariant-loop-i l = record {
   beside : length l.lines.items ≡ length l.events.items;
-  read : Rest l.all 0 ≡ in_front (contents_at l.lines.items l.events.items) (Rest l.all l.i);
+  few : l.update_count ≤ l.i;
+  leads : LeadsOn l.origin l.all l.i l.update_count (contents_at l.lines.items l.events.items);
 }

@@ -1,7 +1,8 @@
-use Rattle.std.proofs.Common.{◌≡◌, drop, map}
-use Rattle.stub_play.specs.ScriptWords.{in_front, words, words_from}
+use Rattle.std.proofs.Common.{◌≡◌, false, [], drop, map}
+use Rattle.stub_play.proofs.WordsGrammarLaws.{in_front, scan}
 use Rattle.stub_play.proofs.script_words.split_words.Given as goal
 
--- the complete words stand in front of those of the rest
-abbrev pub invariant-loop-c : goal.invariant-loop-c
-invariant-loop-c l = words l.line ≡ in_front (map (λ v. v.items) l.done.items) (words_from l.escaped l.quoted l.word.items (drop l.c-index l.line))
+-- the complete words come before those of the rest
+abbrev pub invariant-loop-i : goal.invariant-loop-i
+invariant-loop-i l =
+    scan false false [] l.text ≡ in_front (map (λ word. word.items) l.words.items) (scan l.escaped l.quoted l.word.items (drop l.i l.text))

@@ -1,0 +1,3 @@
+-- Definitions that no public clause cites.
+pub mod ScriptText
+pub mod ScriptWords
