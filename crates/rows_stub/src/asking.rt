@@ -3,6 +3,7 @@
 use crate::ids::ids_of;
 use crate::list_link::ListLink;
 use crate::request::request_of;
+use crate::updating::send_update;
 use dns_messages::{DnsResponse, Query};
 use rows::{
     Answer, RowFault, digits_of, parsed, push_answer, split, text, two_words, word_and_rest,
@@ -72,13 +73,14 @@ pub(crate) fn handle_of(
 }
 
 /// Takes a step: `ask QUESTION`, which asks with the default options; `send WORDS = MESSAGE`, which sends this request;
-/// `bring ITEMS`, which lets the link bring more; `reserve NUMBER` and `reset`. `state` prints what the handle tells, and
-/// `datagrams` what it sent.
+/// `update DIGITS`, which sends this message as an update; `bring ITEMS`, which lets the link bring more; `reserve NUMBER` and
+/// `reset`. `state` prints what the handle tells, and `datagrams` what it sent.
 fn step(alloc: Global, handle: &mut WireHandle<ListLink>, part: &str) -> Answer {
     let (word, rest) = word_and_rest(part);
     match word {
         "ask" => return ask_question(alloc, handle, rest),
         "send" => return send_request(alloc, handle, request_of(alloc, rest)?),
+        "update" => return send_update(alloc, handle, rest),
         "state" => return state(alloc, handle),
         "datagrams" => return datagrams(alloc, handle.link().sent()),
         "bring" => handle.link_mut().take_words(rest)?,
@@ -105,7 +107,7 @@ fn send_request(alloc: Global, handle: &mut WireHandle<ListLink>, request: DnsRe
 }
 
 /// A response's id, code and answers, or an error.
-fn outcome_text(alloc: Global, outcome: &Result<DnsResponse, NetError>) -> Answer {
+pub(crate) fn outcome_text(alloc: Global, outcome: &Result<DnsResponse, NetError>) -> Answer {
     match outcome {
         Ok(response) => response_text(alloc, response),
         Err(error) => error_text(alloc, error),

@@ -1,7 +1,8 @@
 //! Events in a row.
 
+use crate::link_script::push_link_script;
 use rows::{RowFault, parsed, two_words, word_and_rest};
-use rows_text::{name_of, type_of};
+use rows_text::{name_of, push_sections, type_of};
 use std::alloc::{AllocError, Global};
 use std::fmt::Write;
 use stub_lookup::Moment;
@@ -62,7 +63,8 @@ fn clear_of(alloc: Global, at: Moment, question: &str) -> Result<Event, RowFault
     })
 }
 
-/// Adds an event as a script has it.
+/// Adds an event as a script has it, with its link script. An update is its id and the records of its sections: the prerequisites are
+/// the answers of the message, and the updates its authorities.
 pub(crate) fn push_event(text: &mut String, event: &Event) -> Result<(), AllocError> {
     let at = event.at();
     match event {
@@ -70,6 +72,11 @@ pub(crate) fn push_event(text: &mut String, event: &Event) -> Result<(), AllocEr
         Event::LookupIp { host, .. } => write!(text, "{at} ip {host}")?,
         Event::Clear { name, rtype, .. } => write!(text, "{at} clear {name} {rtype}")?,
         Event::ClearAll { .. } => write!(text, "{at} clearall")?,
+        Event::Update { update, .. } => {
+            let id = update.message().metadata.id;
+            write!(text, "{at} update {id}")?;
+            push_sections(text, update.message())?;
+        }
     }
-    Ok(())
+    push_link_script(text, event.script())
 }

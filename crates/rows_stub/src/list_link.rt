@@ -32,6 +32,8 @@ pub(crate) struct ListLink {
     alloc: Global,
     /// What comes, in order.
     items: Vec<Item>,
+    /// What streams bring, in order.
+    streams: Vec<Item>,
     sending: Sending,
     /// The only datagram that can be sent, if only one can.
     request: Option<Vec<u8>>,
@@ -45,12 +47,14 @@ impl Drop for ListLink {
         let ListLink {
             alloc: _alloc,
             items,
+            streams,
             sending: _sending,
             request,
             sent,
             failures: _failures,
         } = self;
         drop(items);
+        drop(streams);
         drop(request);
         drop(sent);
     }
@@ -59,11 +63,12 @@ impl Drop for ListLink {
 impl ListLink {
     /// The link of a row's words: the digits of a datagram that comes, `empty`, `fail` or `no-memory`; `sent:` and the
     /// digits of the only datagram that can be sent; `unsendable`, if none can; `unsendable-memory`, if sending is refused
-    /// memory; `sendable`, if it works again.
+    /// memory; `sendable`, if it works again; `stream:` and what a stream brings: digits, `empty`, `fail` or `no-memory`.
     pub(crate) fn of_words(alloc: Global, words: &str) -> Result<ListLink, RowFault> {
         let mut link = ListLink {
             alloc,
             items: Vec::new(alloc),
+            streams: Vec::new(alloc),
             sending: Sending::Works,
             request: None,
             sent: Vec::new(alloc),
@@ -86,15 +91,13 @@ impl ListLink {
         let alloc = self.alloc;
         match word.split_once(':') {
             Some(("sent", digits)) => self.request = Some(bytes_of(alloc, digits)?),
+            Some(("stream", item)) => self.streams.push(item_of(alloc, item)?)?,
             _ => match word {
                 "" => {}
                 "sendable" => self.sending = Sending::Works,
                 "unsendable" => self.sending = Sending::Fails,
                 "unsendable-memory" => self.sending = Sending::HasNoMemory,
-                "fail" => self.items.push(Item::Failure)?,
-                "no-memory" => self.items.push(Item::NoMemory)?,
-                "empty" => self.items.push(Item::Datagram(Vec::new(alloc)))?,
-                digits => self.items.push(Item::Datagram(bytes_of(alloc, digits)?))?,
+                item => self.items.push(item_of(alloc, item)?)?,
             },
         }
         Ok(())
@@ -103,6 +106,16 @@ impl ListLink {
     /// What was sent, in order.
     pub(crate) fn sent(&self) -> &[Vec<u8>] {
         self.sent.as_slice()
+    }
+}
+
+/// The item of a word.
+fn item_of(alloc: Global, word: &str) -> Result<Item, RowFault> {
+    match word {
+        "fail" => Ok(Item::Failure),
+        "no-memory" => Ok(Item::NoMemory),
+        "empty" => Ok(Item::Datagram(Vec::new(alloc))),
+        digits => Ok(Item::Datagram(bytes_of(alloc, digits)?)),
     }
 }
 
@@ -137,6 +150,8 @@ impl Link for ListLink {
 
     ghost receives = { λ _ _ _. Unit {0} };
 
+    ghost streams = { λ _ _ _ _. Unit {0} };
+
     ghost failure_count = { λ link. link.failures };
 
     fn send_datagram(&mut self, bytes: &[u8]) -> Result<(), LinkError> {
@@ -157,6 +172,19 @@ impl Link for ListLink {
         }
         match self.items.remove(0) {
             Item::Datagram(bytes) => Ok(Some(bytes)),
+            // The row refuses memory here.
+            Item::NoMemory => Err(LinkError::Memory),
+            Item::Failure => Err(fail(&mut self.failures)),
+        }
+    }
+
+    fn ask_stream(&mut self, bytes: &[u8]) -> Result<Vec<u8>, LinkError> {
+        let _bytes = bytes;
+        if self.streams.is_empty() {
+            return Err(fail(&mut self.failures));
+        }
+        match self.streams.remove(0) {
+            Item::Datagram(bytes) => Ok(bytes),
             // The row refuses memory here.
             Item::NoMemory => Err(LinkError::Memory),
             Item::Failure => Err(fail(&mut self.failures)),

@@ -1,13 +1,17 @@
 //! The operations, by their words.
 
 use crate::asking::{ask, handle};
+use crate::compare::{every_script, random_scripts};
 use crate::fault::{ending, link_fault, play_fault, script_fault};
+use crate::following::followed;
+use crate::framing::frame_cuts;
 use crate::linking::linked;
 use crate::playing::{play_size, played, played_with};
 use crate::request::{fits, sound, sound_data, sound_record};
 use crate::resolving::resolve;
 use crate::running::ran;
 use crate::script::script;
+use crate::unruly::unruly;
 use crate::words::words;
 use rows::{Answer, RowFault};
 use std::alloc::Global;
@@ -23,6 +27,11 @@ pub(crate) fn answer(alloc: Global, word: &str, input: &str) -> Answer {
         "handle" => handle(alloc, input),
         "resolve" => resolve(alloc, input),
         "link" => linked(alloc, input),
+        "follow" => followed(alloc, input),
+        "scripts" => every_script(alloc, input),
+        "random-scripts" => random_scripts(alloc, input),
+        "unruly" => unruly(alloc, input),
+        "frame-cuts" => frame_cuts(alloc, input),
         "run" => ran(alloc, input),
         "play" => played(alloc, input),
         "play-with" => played_with(alloc, input),

@@ -1,5 +1,6 @@
 //! Requests that a row makes, and whether messages are sound.
 
+use crate::updating::decoded;
 use dns_data::{OPT, RData};
 use dns_messages::{Edns, Message, MessageType, OpCode, ResponseCode};
 use dns_names::Name;
@@ -66,14 +67,6 @@ fn text_or_bytes_of(alloc: Global, text: &str) -> Result<Message, RowFault> {
     match text.strip_prefix("0x") {
         Some(digits) => decoded(alloc, bytes_of(alloc, digits)?.as_slice()),
         None => message_of(alloc, text),
-    }
-}
-
-/// The message of bytes.
-fn decoded(alloc: Global, bytes: &[u8]) -> Result<Message, RowFault> {
-    match Message::from_vec(alloc, bytes) {
-        Ok(message) => Ok(message),
-        Err(_) => Err(RowFault::Lacks("a message")),
     }
 }
 
