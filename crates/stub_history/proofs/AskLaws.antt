@@ -1,8 +1,9 @@
 -- A question is asked: the state stays faithful, and a response holds the answer of rows that stand.
-use Rattle.std.proofs.Common.{◌≡◌, ℕ, ◌<◌, ◌≤◌, ◌==◌, ◌&&◌, ◌++◌, zero, suc, Bool, true, false, cond, List, [], ◌∷◌, length, Option, Some, None, Result, Ok, Err, Contains, refl, sym, ap, subst, ◌∙◌, slice_index_or, inl, inr, arith}
+use Rattle.std.proofs.Common.{◌≡◌, ℕ, ◌+◌, ◌<◌, ◌≤◌, ◌==◌, ◌&&◌, ◌++◌, zero, suc, Bool, true, false, cond, List, [], ◌∷◌, length, Option, Some, None, Result, Ok, Err, Contains, refl, sym, ap, subst, ◌∙◌, slice_index_or, inl, inr, arith, length-append}
 use Rattle.std.specs.Prelude.{◌⊎◌, IfSome}
 use Rattle.std.specs.List.{AllByRecursion}
 use Rattle.std.proofs.lemmas.Bool.{true≢false}
+use Rattle.std.proofs.lemmas.List.{append-nil, append_assoc}
 use Rattle.std.proofs.lemmas.List.Elements.{Contains-append_left, Contains-push}
 use Rattle.dns_names.specs.Name.{DomainName}
 use Rattle.dns_records.specs.Rows.{Rows}
@@ -15,7 +16,7 @@ use Rattle.dns_messages.specs.declared.op_code.OpCode.TheVariants as ops
 use Rattle.dns_messages.specs.declared.query.Query.{Query}
 use Rattle.dns_messages.specs.declared.response.DnsResponse.{DnsResponse}
 use Rattle.dns_zone.specs.Rows.{ZoneContent}
-use Rattle.dns_zone.specs.Serving.{query_reply, reply_by_code, reply_limit, sent_reply}
+use Rattle.dns_zone.specs.Serving.{query_reply, reply_by_code, reply_limit, sent_reply, zone_after}
 use Rattle.dns_zone.specs.declared.road.Road.{Road}
 use Rattle.dns_zone.specs.declared.road.Road.TheVariants.{Datagram, Stream}
 use Rattle.stub_lookup.specs.declared.error.LinkFault.TheVariants as fault
@@ -27,14 +28,14 @@ use Rattle.stub_link.specs.Ask.{AfterReply, AfterStream, AfterWaiting, IsAsked, 
 use Rattle.stub_link.specs.Ask.IsStreamReply.{matching, unreadable, other, undecoded}
 use Rattle.stub_link.specs.AskState.{AskState}
 use Rattle.stub_link.specs.Link.{messages}
-use Rattle.stub_link.specs.LinkState.{Course, Honest, Listed, LinkState, ServerReply, link_calls, message_of, Streams as StreamsMessage}
+use Rattle.stub_link.specs.LinkState.{Course, Honest, Listed, LinkState, ServerReply, Version, is_applied, link_calls, message_of, serve, Streams as StreamsMessage}
 use Rattle.stub_link.specs.Reply.{is_reply_code, is_reply_header, is_response, matches, repeats}
 use Rattle.stub_link.specs.Request.{IsSoundUpdate}
-use Rattle.stub_history.specs.Answered.{HoldsAnswer, HoldsAnswerAt, zone_with}
-use Rattle.stub_history.specs.Faithful.{EachSent, EachUnderWay, HasNoReuse, IsFaithful, IsMadeBy, IsSentDatagram, StaysFaithful, is_reuse}
-use Rattle.stub_history.specs.Stands.{StandAt}
-use Rattle.stub_history.proofs.EventLaws.{IsSentReply, sent-sound}
-use Rattle.stub_history.proofs.ReceiveLaws.{Holds, IsBroughtBy, Still, fail-still, serve-still, still-then}
+use Rattle.stub_history.specs.Answered.{HoldsAnswer, HoldsAnswerAt, HoldsAnswerSince, zone_with}
+use Rattle.stub_history.specs.Faithful.{EachSent, EachUnderWay, HasHistory, HasNoReuse, IsCurrent, IsFaithful, IsMadeBy, IsSentDatagram, StaysFaithful, is_reuse}
+use Rattle.stub_history.specs.Stands.{Extends, HoldSince, StandAt}
+use Rattle.stub_history.proofs.EventLaws.{IsSentReply, SentReplies, sent-sound}
+use Rattle.stub_history.proofs.ReceiveLaws.{Holds, IsBroughtBy, ReplyClaim, Still, fail-still, serve-still, still-then}
 use Rattle.stub_history.proofs.ServeLaws.{UpdatesKeepZones, current-stands, each-weaker}
 use Rattle.stub_history.proofs.StandLaws.{both-true}
 use Rattle.stub_history.proofs.WaitLaws.{Accepts, StillUnlessOut, same-response, sent-accepts, sent-still, unless-same}
@@ -119,6 +120,7 @@ more-faithful origin old new more link sent f = record {
         replied = each-weaker (IsSentReply old.sent) (IsSentReply (old.sent ++ more)) (λ r s. drawn-more old.sent more r.datagram s) old.link.replies f.replied;
       }));
   moment_is = ap (λ (l : LinkState). l.moment) link;
+  added = ([], ap (λ (l : LinkState). l.history) link ∙ sym (append-nil old.link.history));
   stands = subst (λ (l : LinkState). (moment : ℕ) (rows : Rows) → moment ≤ old.link.moment → StandAt old.link.history moment rows → StandAt l.history moment rows)
       (sym link) (λ moment rows past stand. stand);
   drawn = more;
@@ -131,32 +133,101 @@ more-faithful origin old new more link sent f = record {
 abbrev pub IsKnown : List (ℕ × Query) → Message → Message → Type 0
 IsKnown sent m x = IsSentDatagram sent x ⊎ (x ≡ m)
 
--- a reply is to a datagram that was sent before, or it was made at this moment, to that of this question
-abbrev pub IsKnownReply : List (ℕ × Query) → Message → ℕ → ServerReply → Type 0
-IsKnownReply sent m now r = IsSentDatagram sent r.datagram ⊎ ((r.datagram ≡ m) × (r.moment ≡ now))
+-- A reply is to a datagram that was sent before, or it was made at this moment, to that of this question, by rows that hold since earlier
+-- versions.
+abbrev pub IsKnownReply : List (ℕ × Query) → Message → ℕ → List Version → List Version → ServerReply → Type 0
+IsKnownReply sent m now earlier history r =
+    IsSentDatagram sent r.datagram ⊎ ((r.datagram ≡ m) × (r.moment ≡ now) × HoldSince earlier history r.zone.rows)
 
-module _ (keep : UpdatesKeepZones) (origin : DomainName) (sent : List (ℕ × Query)) (now : ℕ) (m : Message) (q : Query)
+-- the current rows hold since earlier versions
+current-since : (earlier history : List Version) (moment : ℕ) (rows : Rows) → IsCurrent history moment rows → Extends earlier history
+    → HoldSince earlier history rows
+current-since earlier history moment rows c added = record {
+  before = c.before;
+  since = c.since;
+  after = [];
+  split = c.split;
+  late = by (length-append earlier added.0)
+      (length-append c.before (record { moment = c.since; rows = rows } ∷ []))
+      (ap (λ (vs : List Version). length vs) (sym added.1 ∙ c.split));
+}
+  where
+    by : length (earlier ++ added.0) ≡ length earlier + length added.0
+        → length (c.before ++ record { moment = c.since; rows = rows } ∷ []) ≡ length c.before + 1
+        → length (earlier ++ added.0) ≡ length (c.before ++ record { moment = c.since; rows = rows } ∷ [])
+        → length earlier ≤ suc (length c.before)
+    by a b same = omega (arith, a, b, same)
+
+-- and so they do as versions are added
+since-more : (earlier history more : List Version) (rows : Rows) → HoldSince earlier history rows → HoldSince earlier (history ++ more) rows
+since-more earlier history more rows s = record {
+  before = s.before;
+  since = s.since;
+  after = s.after ++ more;
+  split = ap (λ (vs : List Version). vs ++ more) s.split
+      ∙ append_assoc s.before (record { moment = s.since; rows = rows } ∷ s.after) more;
+  late = s.late;
+}
+
+-- rows that hold since some versions hold since earlier ones
+pub since-wider : (first earlier history final : List Version) (rows : Rows) → Extends first earlier → Extends history final
+    → HoldSince earlier history rows → HoldSince first final rows
+since-wider first earlier history final rows before after s =
+    subst (λ (vs : List Version). HoldSince first vs rows) (sym after.1) (since-more first history after.0 rows (record {
+      before = s.before;
+      since = s.since;
+      after = s.after;
+      split = s.split;
+      late = by (ap (λ (vs : List Version). length vs) before.1) (length-append first before.0) s.late;
+    }))
+  where
+    by : length earlier ≡ length (first ++ before.0) → length (first ++ before.0) ≡ length first + length before.0
+        → length earlier ≤ suc (length s.before) → length first ≤ suc (length s.before)
+    by a b late = omega (arith, a, b, late)
+
+-- an answer of rows that stand at a moment, and hold since earlier versions
+pub record HoldsAnswerThen (origin : DomainName) (earlier history : List Version) (moment : ℕ) (q : Query) (m : Message) : Type 0 where
+  pub held : HoldsAnswerAt origin history moment q m
+  pub since : HoldSince earlier history held.rows
+
+abbrev pub answer-since : (origin : DomainName) (earlier history : List Version) (moment : ℕ) (q : Query) (m : Message)
+    → HoldsAnswerThen origin earlier history moment q m → HoldsAnswerSince origin earlier history q m
+answer-since origin earlier history moment q m a = record { rows = a.held.rows; since = a.since; holds = a.held.holds }
+
+module _ (keep : UpdatesKeepZones) (origin : DomainName) (sent : List (ℕ × Query)) (earlier : List Version) (now : ℕ) (m : Message) (q : Query)
     (code : m.metadata.op_code ≡ ops.Query) (only : m.queries ≡ q ∷ []) where
-  abbrev D : Message → Type 0
+  abbrev pub D : Message → Type 0
   D x = IsKnown sent m x
 
-  abbrev R : ServerReply → Type 0
-  R r = IsKnownReply sent m now r
+  pub known-later : (history : List Version) (v : Version) (r : ServerReply) → IsKnownReply sent m now earlier history r
+      → IsKnownReply sent m now earlier (history ++ v ∷ []) r
+  known-later history v r (inl s) = inl s
+  known-later history v r (inr made) = inr (made.0, made.1, since-more earlier history (v ∷ []) r.zone.rows made.2)
 
-  makes : (x : Message) (zone : ZoneContent) → IsKnown sent m x → IsKnownReply sent m now (record { datagram = x; zone = zone; moment = now })
-  makes x zone (inl s) = inl s
-  makes x zone (inr e) = inr (e, refl)
+  abbrev pub R : ReplyClaim
+  R = record {
+    earlier = earlier;
+    holds = λ history r. IsKnownReply sent m now earlier history r;
+    later = λ history v r held. known-later history v r held;
+  }
+
+  makes : (x : Message) (state : LinkState) → HasHistory origin state → Extends earlier state.history → IsKnown sent m x
+      → IsKnownReply sent m now earlier state.history (record { datagram = x; zone = state.zone; moment = now })
+  makes x state has added (inl s) = inl s
+  makes x state has added (inr e) =
+      inr (e, refl, current-since earlier state.history state.moment state.zone.rows has.current added)
 
   sound : (x : Message) → IsKnown sent m x → x.metadata.op_code ≡ ops.Update → IsSound x
   sound x (inl s) u = sent-sound sent x s u
   sound x (inr e) u =
       absurd (let clash : ◌≡◌ {A = OpCode} ops.Query ops.Update = sym code ∙ ap (λ (y : Message). y.metadata.op_code) (sym e) ∙ u in cc)
 
-  pub known-holds : (state : LinkState) → Holds origin now (IsSentDatagram sent) (IsSentReply sent) state → Holds origin now D R state
+  pub known-holds : (state : LinkState) → Holds origin now (IsSentDatagram sent) (SentReplies earlier sent) state → Holds origin now D R state
   known-holds state h = record {
     history = h.history;
     sent = sent-weaker (IsSentDatagram sent) D (λ x s. inl s) state h.sent;
-    replied = each-weaker (IsSentReply sent) R (λ r s. inl s) state.replies h.replied;
+    added = h.added;
+    replied = each-weaker (IsSentReply sent) (R.holds state.history) (λ r s. inl s) state.replies h.replied;
     at_moment = h.at_moment;
   }
 
@@ -167,16 +238,19 @@ module _ (keep : UpdatesKeepZones) (origin : DomainName) (sent : List (ℕ × Qu
   known-drawn x (inl s) = drawn-more sent ((m.metadata.id, q) ∷ []) x s
   known-drawn x (inr e) = subst (λ (y : Message). IsSentDatagram (sent ++ (m.metadata.id, q) ∷ []) y) (sym e) is-drawn
 
-  reply-drawn : (r : ServerReply) → IsKnownReply sent m now r → IsSentDatagram (sent ++ (m.metadata.id, q) ∷ []) r.datagram
-  reply-drawn r (inl s) = drawn-more sent ((m.metadata.id, q) ∷ []) r.datagram s
-  reply-drawn r (inr e) = known-drawn r.datagram (inr e.0)
+  reply-drawn : (history : List Version) (r : ServerReply) → IsKnownReply sent m now earlier history r
+      → IsSentDatagram (sent ++ (m.metadata.id, q) ∷ []) r.datagram
+  reply-drawn history r (inl s) = drawn-more sent ((m.metadata.id, q) ∷ []) r.datagram s
+  reply-drawn history r (inr e) = known-drawn r.datagram (inr e.0)
 
   pub drawn-holds : (state : LinkState) → Holds origin now D R state
-      → Holds origin now (IsSentDatagram (sent ++ (m.metadata.id, q) ∷ [])) (IsSentReply (sent ++ (m.metadata.id, q) ∷ [])) state
+      → Holds origin now (IsSentDatagram (sent ++ (m.metadata.id, q) ∷ [])) (SentReplies earlier (sent ++ (m.metadata.id, q) ∷ [])) state
   drawn-holds state h = record {
     history = h.history;
     sent = sent-weaker D (IsSentDatagram (sent ++ (m.metadata.id, q) ∷ [])) known-drawn state h.sent;
-    replied = each-weaker R (IsSentReply (sent ++ (m.metadata.id, q) ∷ [])) reply-drawn state.replies h.replied;
+    added = h.added;
+    replied = each-weaker (R.holds state.history) (IsSentReply (sent ++ (m.metadata.id, q) ∷ [])) (reply-drawn state.history) state.replies
+        h.replied;
     at_moment = h.at_moment;
   }
 
@@ -223,7 +297,8 @@ module _ (keep : UpdatesKeepZones) (origin : DomainName) (sent : List (ℕ × Qu
     abbrev IsGot : DnsResponse → Type 0
     IsGot response =
         (IsBroughtBy origin now R new.link response.message × (matches m.metadata.id (Some q) response.message ≡ true))
-        ⊎ ((zone : ZoneContent) × StandAt new.link.history now zone.rows × (zone.origin ≡ origin) × (response.message ≡ sent_reply zone Stream m))
+        ⊎ ((zone : ZoneContent) × StandAt new.link.history now zone.rows × HoldSince earlier new.link.history zone.rows
+        × (zone.origin ≡ origin) × (response.message ≡ sent_reply zone Stream m))
 
     record Concludes (response : DnsResponse) : Type 0 where
       got : IsGot response
@@ -236,6 +311,17 @@ module _ (keep : UpdatesKeepZones) (origin : DomainName) (sent : List (ℕ × Qu
     stream-whole false second response e is =
         let same : second ≡ response = same-response second response is in
         (same, ap (λ (x : DnsResponse). x.message.metadata.truncation) (sym same) ∙ e)
+
+    -- the rows by which a request is served
+    since-served : (mid : LinkState) → Holds origin now D R mid → HoldSince earlier (serve m mid).history mid.zone.rows
+    since-served mid h =
+        since-applied mid.history (record { moment = mid.moment; rows = (zone_after mid.zone m).rows }) mid.zone.rows
+        (current-since earlier mid.history mid.moment mid.zone.rows h.history.current h.added) (is_applied mid.zone m)
+      where
+        since-applied : (history : List Version) (v : Version) (rows : Rows) → HoldSince earlier history rows → (applied : Bool)
+            → HoldSince earlier (cond applied (history ++ v ∷ []) history) rows
+        since-applied history v rows s true = since-more earlier history (v ∷ []) rows s
+        since-applied history v rows s false = s
 
     streamed : (mid : LinkState) (link : LinkState) (result : Result Message LinkError) (response : DnsResponse) → Still origin now D R old.link mid
         → StreamsMessage mid m result link → AfterStream messages m.metadata.id q result outcome → new.link ≡ link → outcome ≡ Ok response → Concludes response
@@ -250,6 +336,7 @@ module _ (keep : UpdatesKeepZones) (origin : DomainName) (sent : List (ℕ × Qu
           got = inr (
             zone,
             subst (λ (l : LinkState). StandAt l.history now zone.rows) (sym (same ∙ s.2)) (served.stands now zone.rows (omega arith) stand),
+            subst (λ (l : LinkState). HoldSince earlier l.history zone.rows) (sym (same ∙ s.2)) (since-served mid k.holds),
             k.holds.history.origin_is,
             ap (λ (x : DnsResponse). x.message) (sym both.0) ∙ is.message ∙ s.1,
           );
@@ -293,14 +380,15 @@ module _ (keep : UpdatesKeepZones) (origin : DomainName) (sent : List (ℕ × Qu
     at-origin : (zone : ZoneContent) (x : Message) → zone.origin ≡ origin → HoldsAnswer zone q x → HoldsAnswer (zone_with origin zone.rows) q x
     at-origin zone x is holds = subst (λ (o : DomainName). HoldsAnswer (zone_with o zone.rows) q x) is holds
 
-    -- a response holds the answer of rows that stand now
+    -- a response holds the answer of rows that stand now, and hold since before the question
     pub asked-answer : (later : List (ℕ × Query)) (response : DnsResponse) → HasNoReuse (sent ++ (m.metadata.id, q) ∷ later)
-        → IsAsked messages link_calls m q old outcome new → outcome ≡ Ok response → HoldsAnswerAt origin new.link.history now q response.message
+        → IsAsked messages link_calls m q old outcome new → outcome ≡ Ok response
+        → HoldsAnswerThen origin earlier new.link.history now q response.message
     asked-answer later response once x ok = by (concludes x.waited x.mid x.datagram response x.sent (ends-of x) ok)
       where
-        by-reply : (r : ServerReply) (limit : ℕ) → IsKnownReply sent m now r → IsMadeBy origin new.link.history now r → response.message ≡ message_of limit r
+        by-reply : (r : ServerReply) (limit : ℕ) → IsKnownReply sent m now earlier new.link.history r → IsMadeBy origin new.link.history now r → response.message ≡ message_of limit r
             → matches m.metadata.id (Some q) response.message ≡ true → response.message.metadata.truncation ≡ false
-            → HoldsAnswerAt origin new.link.history now q response.message
+            → HoldsAnswerThen origin earlier new.link.history now q response.message
         by-reply r limit (inl (inl s)) made is matched whole =
             absurd (true≢false (sym (repeats-question r.zone (Datagram limit) m.metadata.id q r.datagram s.question s.op_code s.only
             (subst (λ (y : Message). matches m.metadata.id (Some q) y ≡ true) is matched))
@@ -310,22 +398,28 @@ module _ (keep : UpdatesKeepZones) (origin : DomainName) (sent : List (ℕ × Qu
         by-reply r limit (inr both) made is matched whole =
             let sent-is : response.message ≡ sent_reply r.zone (Datagram limit) m = is ∙ ap (sent_reply r.zone (Datagram limit)) both.0 in
             record {
-              rows = r.zone.rows;
-              stand = subst (λ (t : ℕ). StandAt new.link.history t r.zone.rows) both.1 made.stand;
-              holds = subst (λ (y : Message). HoldsAnswer (zone_with origin r.zone.rows) q y) (sym sent-is)
-                  (at-origin r.zone (sent_reply r.zone (Datagram limit) m) made.origin_is
-                  (holds-answer r.zone (Datagram limit) m q code only (ap (λ (y : Message). y.metadata.truncation) (sym sent-is) ∙ whole)));
+              held = record {
+                rows = r.zone.rows;
+                stand = subst (λ (t : ℕ). StandAt new.link.history t r.zone.rows) both.1 made.stand;
+                holds = subst (λ (y : Message). HoldsAnswer (zone_with origin r.zone.rows) q y) (sym sent-is)
+                    (at-origin r.zone (sent_reply r.zone (Datagram limit) m) made.origin_is
+                    (holds-answer r.zone (Datagram limit) m q code only (ap (λ (y : Message). y.metadata.truncation) (sym sent-is) ∙ whole)));
+              };
+              since = both.2;
             }
 
-        by-got : IsGot response → response.message.metadata.truncation ≡ false → HoldsAnswerAt origin new.link.history now q response.message
+        by-got : IsGot response → response.message.metadata.truncation ≡ false → HoldsAnswerThen origin earlier new.link.history now q response.message
         by-got (inl g) whole = by-reply g.0.0 g.0.1 g.0.2 g.0.3 g.0.4 g.1 whole
         by-got (inr g) whole = record {
-          rows = g.0.rows;
-          stand = g.1;
-          holds = subst (λ (y : Message). HoldsAnswer (zone_with origin g.0.rows) q y) (sym g.3)
-              (at-origin g.0 (sent_reply g.0 Stream m) g.2
-              (holds-answer g.0 Stream m q code only (ap (λ (y : Message). y.metadata.truncation) (sym g.3) ∙ whole)));
+          held = record {
+            rows = g.0.rows;
+            stand = g.1;
+            holds = subst (λ (y : Message). HoldsAnswer (zone_with origin g.0.rows) q y) (sym g.4)
+                (at-origin g.0 (sent_reply g.0 Stream m) g.3
+                (holds-answer g.0 Stream m q code only (ap (λ (y : Message). y.metadata.truncation) (sym g.4) ∙ whole)));
+          };
+          since = g.2;
         }
 
-        by : Concludes response → HoldsAnswerAt origin new.link.history now q response.message
+        by : Concludes response → HoldsAnswerThen origin earlier new.link.history now q response.message
         by c = by-got c.got c.whole

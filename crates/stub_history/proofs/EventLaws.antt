@@ -16,7 +16,7 @@ use Rattle.stub_link.specs.AskState.{AskState, begin, begin_with_update, end, fi
 use Rattle.stub_link.specs.LinkState.{LinkState, ServerReply, Version, course_of, end_event}
 use Rattle.stub_history.specs.Answered.{zone_with}
 use Rattle.stub_history.specs.Faithful.{EachUnderWay, HasHistory, IsFaithful, IsMadeBy, IsSentDatagram, StaysFaithful}
-use Rattle.stub_history.proofs.ReceiveLaws.{Holds, Still, end-still}
+use Rattle.stub_history.proofs.ReceiveLaws.{Holds, ReplyClaim, Still, end-still}
 use Rattle.stub_history.proofs.ServeLaws.{UpdatesKeepZones, each-push, each-weaker}
 
 -- ---- faithful states, as what holds of the link
@@ -28,13 +28,25 @@ sent-sound sent m (inr u) e = u.sound
 abbrev pub IsSentReply : List (ℕ × Query) → ServerReply → Type 0
 IsSentReply sent r = IsSentDatagram sent r.datagram
 
-pub holds-of : (origin : DomainName) (state : AskState) → IsFaithful origin state
-    → Holds origin state.link.moment (IsSentDatagram state.sent) (IsSentReply state.sent) state.link
-holds-of origin state f = record { history = f.history; sent = f.sent; replied = f.replied; at_moment = refl }
+-- the same as a claim of replies, by a history that goes on after earlier versions
+abbrev pub SentReplies : List Version → List (ℕ × Query) → ReplyClaim
+SentReplies earlier sent =
+    record { earlier = earlier; holds = λ history r. IsSentReply sent r; later = λ history v r held. held }
 
-pub faithful-of : (origin : DomainName) (now : ℕ) (state : AskState) → Holds origin now (IsSentDatagram state.sent) (IsSentReply state.sent) state.link
+pub holds-of : (origin : DomainName) (state : AskState) → IsFaithful origin state
+    → Holds origin state.link.moment (IsSentDatagram state.sent) (SentReplies state.link.history state.sent) state.link
+holds-of origin state f = record {
+  history = f.history;
+  sent = f.sent;
+  added = ([], sym (append-nil state.link.history));
+  replied = f.replied;
+  at_moment = refl;
+}
+
+pub faithful-of : (origin : DomainName) (now : ℕ) (earlier : List Version) (state : AskState)
+    → Holds origin now (IsSentDatagram state.sent) (SentReplies earlier state.sent) state.link
     → IsFaithful origin state
-faithful-of origin now state h = record { history = h.history; sent = h.sent; replied = h.replied }
+faithful-of origin now earlier state h = record { history = h.history; sent = h.sent; replied = h.replied }
 
 -- ---- at first
 
@@ -116,12 +128,13 @@ module _ (origin : DomainName) (moment : ℕ) (s : Script) (state : AskState) (l
 
 pub end-faithful : UpdatesKeepZones → (origin : DomainName) (state : AskState) → IsFaithful origin state → StaysFaithful origin state (end state)
 end-faithful keep origin state f =
-    let still : Still origin state.link.moment (IsSentDatagram state.sent) (IsSentReply state.sent) state.link (end_event state.link) =
-    end-still keep origin state.link.moment (IsSentDatagram state.sent) (IsSentReply state.sent) (λ m zone d. d) (sent-sound state.sent)
+    let still : Still origin state.link.moment (IsSentDatagram state.sent) (SentReplies state.link.history state.sent) state.link (end_event state.link) =
+    end-still keep origin state.link.moment (IsSentDatagram state.sent) (SentReplies state.link.history state.sent) (λ m made has added d. d) (sent-sound state.sent)
     state.link (holds-of origin state f) in
     record {
-      faithful = faithful-of origin state.link.moment (end state) still.holds;
+      faithful = faithful-of origin state.link.moment state.link.history (end state) still.holds;
       moment_is = still.holds.at_moment;
+      added = still.holds.added;
       stands = still.stands;
       drawn = [];
       sent_is = sym (append-nil state.sent);

@@ -21,11 +21,11 @@ use Rattle.stub_link.specs.Link.{messages}
 use Rattle.stub_link.specs.LinkState.{LinkState, link_calls}
 use Rattle.stub_link.specs.Request.{IsUpdate, with_id}
 use Rattle.stub_link.specs.Update.{IsUpdateSent}
-use Rattle.stub_history.specs.Answered.{HoldsAnswerAt, IsAnsweredBy}
+use Rattle.stub_history.specs.Answered.{IsAnsweredBy, IsAnsweredSince}
 use Rattle.stub_history.specs.Faithful.{HasNoReuse, IsFaithful, IsSentDatagram, StaysFaithful, StaysFaithfulUnlessOut}
 use Rattle.stub_history.specs.Stands.{StandAt}
-use Rattle.stub_history.proofs.AskLaws.{asked-answer, asked-still, drawn-holds, known-holds, more-faithful}
-use Rattle.stub_history.proofs.EventLaws.{IsSentReply, faithful-of, holds-of, sent-sound}
+use Rattle.stub_history.proofs.AskLaws.{D, HoldsAnswerThen, R, answer-since, asked-answer, asked-still, drawn-holds, known-holds, more-faithful}
+use Rattle.stub_history.proofs.EventLaws.{SentReplies, faithful-of, holds-of, sent-sound}
 use Rattle.stub_history.proofs.ReceiveLaws.{Still}
 use Rattle.stub_history.proofs.ServeLaws.{UpdatesKeepZones}
 use Rattle.stub_history.proofs.WaitLaws.{StillUnlessOut, sent-still}
@@ -64,6 +64,7 @@ stays-same origin old mid new link sent (inr s) =
     inr (record {
       faithful = more.faithful;
       moment_is = ap (λ (l : LinkState). l.moment) link ∙ s.moment_is;
+      added = (s.added.0, ap (λ (l : LinkState). l.history) link ∙ s.added.1);
       stands = subst (λ (l : LinkState). (moment : ℕ) (rows : Rows) → moment ≤ old.link.moment → StandAt old.link.history moment rows → StandAt l.history moment rows)
           (sym link) s.stands;
       drawn = s.drawn;
@@ -71,12 +72,13 @@ stays-same origin old mid new link sent (inr s) =
     })
 
 stays-still : (origin : DomainName) (old new : AskState) (drawn : List (ℕ × Query)) → new.sent ≡ old.sent ++ drawn
-    → Still origin old.link.moment (IsSentDatagram (old.sent ++ drawn)) (IsSentReply (old.sent ++ drawn)) old.link new.link
+    → Still origin old.link.moment (IsSentDatagram (old.sent ++ drawn)) (SentReplies old.link.history (old.sent ++ drawn)) old.link new.link
     → StaysFaithful origin old new
 stays-still origin old new drawn sent s = record {
   faithful = subst (λ (all : List (ℕ × Query)). IsFaithful origin (record new { sent = all })) (sym sent)
-      (faithful-of origin old.link.moment (record new { sent = old.sent ++ drawn }) s.holds);
+      (faithful-of origin old.link.moment old.link.history (record new { sent = old.sent ++ drawn }) s.holds);
   moment_is = s.holds.at_moment;
+  added = s.holds.added;
   stands = s.stands;
   drawn = drawn;
   sent_is = sent;
@@ -95,30 +97,30 @@ module _ (keep : UpdatesKeepZones) (origin : DomainName) (old : AskState) (f : I
             | inl e ↦ inr (more-faithful origin old new [] (ap (λ (s : AskState). s.link) e) (ap (λ (s : AskState). s.sent) e ∙ sym (append-nil old.sent)) f)
             | inr e ↦ inr (more-faithful origin old new ((id, q) ∷ []) (ap (λ (s : AskState). s.link) e) (ap (λ (s : AskState). s.sent) e) f)
           ]
-          | inr x ↦ by id x (asked-still keep origin old.sent old.link.moment (with_id id m) q code only (draw id q old)
-              (known-holds keep origin old.sent old.link.moment (with_id id m) q code only old.link (holds-of origin old f)) outcome new x)
+          | inr x ↦ by id x (asked-still keep origin old.sent old.link.history old.link.moment (with_id id m) q code only (draw id q old)
+              (known-holds keep origin old.sent old.link.history old.link.moment (with_id id m) q code only old.link (holds-of origin old f)) outcome new x)
         ]
       where
         by : (id : ℕ) (x : IsAsked messages link_calls (with_id id m) q (draw id q old) outcome new)
-            → StillUnlessOut origin old.link.moment (λ y. IsSentDatagram old.sent y ⊎ (y ≡ with_id id m))
-            (λ r. IsSentDatagram old.sent r.datagram ⊎ ((r.datagram ≡ with_id id m) × (r.moment ≡ old.link.moment))) old.link new.link
+            → StillUnlessOut origin old.link.moment (D keep origin old.sent old.link.history old.link.moment (with_id id m) q code only)
+            (R keep origin old.sent old.link.history old.link.moment (with_id id m) q code only) old.link new.link
             → StaysFaithfulUnlessOut origin old new
         by id x (inl out) = inl out
         by id x (inr s) =
             inr (stays-still origin old new ((id, q) ∷ []) (asked-same (with_id id m) q (draw id q old) outcome new x) (record {
-              holds = drawn-holds keep origin old.sent old.link.moment (with_id id m) q code only new.link s.holds;
+              holds = drawn-holds keep origin old.sent old.link.history old.link.moment (with_id id m) q code only new.link s.holds;
               stands = s.stands;
             }))
 
     under-answers : (found : Option ℕ) (later : List (ℕ × Query)) (response : DnsResponse) → AskUnder messages link_calls found m q old outcome new
-        → HasNoReuse (new.sent ++ later) → outcome ≡ Ok response → HoldsAnswerAt origin new.link.history old.link.moment q response.message
+        → HasNoReuse (new.sent ++ later) → outcome ≡ Ok response → HoldsAnswerThen origin old.link.history new.link.history old.link.moment q response.message
     under-answers None later response t once ok =
         absurd (let clash : ◌≡◌ {A = Outcome} (Err (net.Link fault.NoId)) (Ok response) = sym t.0 ∙ ok in cc)
     under-answers (Some id) later response t once ok =
         elim t [
           | inl u ↦ absurd (let clash : ◌≡◌ {A = Outcome} (Err net.Memory) (Ok response) = sym u.0 ∙ ok in cc)
-          | inr x ↦ asked-answer keep origin old.sent old.link.moment (with_id id m) q code only (draw id q old)
-              (known-holds keep origin old.sent old.link.moment (with_id id m) q code only old.link (holds-of origin old f)) outcome new later response
+          | inr x ↦ asked-answer keep origin old.sent old.link.history old.link.moment (with_id id m) q code only (draw id q old)
+              (known-holds keep origin old.sent old.link.history old.link.moment (with_id id m) q code only old.link (holds-of origin old f)) outcome new later response
               (subst (λ (all : List (ℕ × Query)). HasNoReuse all)
               (ap (λ (all : List (ℕ × Query)). all ++ later) (asked-same (with_id id m) q (draw id q old) outcome new x)
               ∙ append_assoc old.sent ((id, q) ∷ []) later) once) x ok
@@ -140,37 +142,47 @@ module _ (keep : UpdatesKeepZones) (origin : DomainName) (old : AskState) (f : I
         ])
 
     supported-answers : (k : IsSupported messages link_calls m old outcome x.uncounted) (later : List (ℕ × Query)) (response : DnsResponse)
-        → HasNoReuse (new.sent ++ later) → outcome ≡ Ok response → HoldsAnswerAt origin new.link.history old.link.moment k.question response.message
+        → HasNoReuse (new.sent ++ later) → outcome ≡ Ok response → HoldsAnswerThen origin old.link.history new.link.history old.link.moment k.question response.message
     supported-answers k later response once ok =
-        subst (λ (l : LinkState). HoldsAnswerAt origin l.history old.link.moment k.question response.message) (sym link-is)
+        subst (λ (l : LinkState). HoldsAnswerThen origin old.link.history l.history old.link.moment k.question response.message) (sym link-is)
         (under-answers m k.question k.asks.op_code k.asks.only outcome x.uncounted (slice_get old.ids (length old.sent)) later response k.asked
         (subst (λ (all : List (ℕ × Query)). HasNoReuse (all ++ later)) sent-is once) ok)
 
-    pub ask-answers : (q : Query) (later : List (ℕ × Query)) → m.queries ≡ q ∷ [] → HasNoReuse (new.sent ++ later)
-        → IsAnsweredBy origin new.link.history (record { moment = old.link.moment; ask = record { question = q; outcome = outcome } })
-    ask-answers q later only once response ok =
+    answers-then : (q : Query) (later : List (ℕ × Query)) → m.queries ≡ q ∷ [] → HasNoReuse (new.sent ++ later)
+        → (response : DnsResponse) → outcome ≡ Ok response
+        → HoldsAnswerThen origin old.link.history new.link.history old.link.moment q response.message
+    answers-then q later only once response ok =
         elim x.asked [
           | inl u ↦ absurd (let clash : ◌≡◌ {A = Outcome} (Err net.Unsupported) (Ok response) = sym u.outcome_is ∙ ok in cc)
-          | inr k ↦ subst (λ (p : Query). HoldsAnswerAt origin new.link.history old.link.moment p response.message)
+          | inr k ↦ subst (λ (p : Query). HoldsAnswerThen origin old.link.history new.link.history old.link.moment p response.message)
               (same-question k.question q (sym k.asks.only ∙ only)) (supported-answers k later response once ok)
         ]
       where
         same-question : (p q : Query) → ◌≡◌ {A = List Query} (p ∷ []) (q ∷ []) → p ≡ q
         same-question p q e = cc
 
+    pub ask-answers : (q : Query) (later : List (ℕ × Query)) → m.queries ≡ q ∷ [] → HasNoReuse (new.sent ++ later)
+        → IsAnsweredBy origin new.link.history (record { moment = old.link.moment; ask = record { question = q; outcome = outcome } })
+    ask-answers q later only once response ok = (answers-then q later only once response ok).held
+
+    pub ask-answers-since : (q : Query) (later : List (ℕ × Query)) → m.queries ≡ q ∷ [] → HasNoReuse (new.sent ++ later)
+        → IsAnsweredSince origin old.link.history new.link.history (record { question = q; outcome = outcome })
+    ask-answers-since q later only once response ok =
+        answer-since origin old.link.history new.link.history old.link.moment q response.message (answers-then q later only once response ok)
+
   -- ---- updates
 
   update-sent-stays : (m : Message) (u : IsUpdate m) (reply : Result ResponseCode NetError) (new : AskState) → IsUpdateSent messages link_calls m old reply new
       → StaysFaithfulUnlessOut origin old new
   update-sent-stays m u reply new x =
-      by (sent-still keep origin old.link.moment (IsSentDatagram old.sent) (IsSentReply old.sent) (λ y zone d. d) (sent-sound old.sent)
+      by (sent-still keep origin old.link.moment (IsSentDatagram old.sent) (SentReplies old.link.history old.sent) (λ y made has added d. d) (sent-sound old.sent)
       m None x.datagram old x.waited new (inr u.update) (holds-of origin old f) x.sent)
     where
-      by : StillUnlessOut origin old.link.moment (IsSentDatagram old.sent) (IsSentReply old.sent) old.link new.link → StaysFaithfulUnlessOut origin old new
+      by : StillUnlessOut origin old.link.moment (IsSentDatagram old.sent) (SentReplies old.link.history old.sent) old.link new.link → StaysFaithfulUnlessOut origin old new
       by (inl out) = inl out
       by (inr s) =
           inr (stays-still origin old new [] (sent-same m None x.datagram old x.waited new x.sent ∙ sym (append-nil old.sent))
-          (subst (λ (all : List (ℕ × Query)). Still origin old.link.moment (IsSentDatagram all) (IsSentReply all) old.link new.link) (sym (append-nil old.sent)) s))
+          (subst (λ (all : List (ℕ × Query)). Still origin old.link.moment (IsSentDatagram all) (SentReplies old.link.history all) old.link new.link) (sym (append-nil old.sent)) s))
 
   pub update-stays : (m : Message) (u : IsUpdate m) (reply : Result ResponseCode NetError) (new : AskState) → UpdateZone old m reply new
       → StaysFaithfulUnlessOut origin old new

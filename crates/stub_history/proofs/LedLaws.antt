@@ -10,10 +10,12 @@ use Rattle.stub_client.specs.Handle.{Ask, Led, Outcome, request_for}
 use Rattle.stub_client.specs.Origins.{asked_at}
 use Rattle.stub_client.specs.declared.request.DnsRequest.{DnsRequest}
 use Rattle.stub_link.specs.AskState.{AskState, AskZone}
-use Rattle.stub_history.specs.Answered.{IsAnsweredBy}
+use Rattle.stub_link.specs.LinkState.{Version}
+use Rattle.stub_history.specs.Answered.{IsAnsweredBy, IsAnsweredSince}
 use Rattle.stub_history.specs.Faithful.{HasNoReuse, IsFaithful, StaysFaithful, StaysFaithfulUnlessOut}
-use Rattle.stub_history.proofs.AskLaws.{more-faithful}
-use Rattle.stub_history.proofs.FaithfulLaws.{ask-answers, ask-stays}
+use Rattle.stub_history.proofs.AskLaws.{more-faithful, since-wider}
+use Rattle.stub_history.specs.Stands.{Extends}
+use Rattle.stub_history.proofs.FaithfulLaws.{ask-answers, ask-answers-since, ask-stays}
 use Rattle.stub_history.proofs.LaterLaws.{answered-still}
 use Rattle.stub_history.proofs.OutLaws.{IsOut, ask-out}
 use Rattle.stub_history.proofs.ServeLaws.{UpdatesKeepZones}
@@ -22,10 +24,16 @@ use Rattle.stub_history.proofs.ServeLaws.{UpdatesKeepZones}
 abbrev pub asks_zone : AskState → DnsRequest → ℕ → Outcome → AskState → Type 0
 asks_zone old request now outcome new = AskZone old request now outcome new
 
-stays-then : (origin : DomainName) (old mid new : AskState) → StaysFaithful origin old mid → StaysFaithful origin mid new → StaysFaithful origin old new
+pub stays-then : (origin : DomainName) (old mid new : AskState) → StaysFaithful origin old mid → StaysFaithful origin mid new → StaysFaithful origin old new
 stays-then origin old mid new first second = record {
   faithful = second.faithful;
   moment_is = second.moment_is ∙ first.moment_is;
+  added = (
+    first.added.0 ++ second.added.0,
+    second.added.1
+        ∙ ap (λ (vs : List Version). vs ++ second.added.0) first.added.1
+        ∙ append_assoc old.link.history first.added.0 second.added.0,
+  );
   stands = λ moment rows past stand.
       second.stands moment rows (let at : mid.link.moment ≡ old.link.moment = first.moment_is in omega arith) (first.stands moment rows past stand);
   drawn = first.drawn ++ second.drawn;
@@ -62,6 +70,14 @@ module _ (options : DnsRequestOptions) (now : ℕ) where
     first-answers old mid new ask asks later f (inr x) rest memory once =
         ask-answers keep origin old f (request_for ask.question options).message ask.outcome mid x ask.question later refl once
 
+    first-since : (old mid new : AskState) (ask : Ask) (asks : List Ask) (later : List (ℕ × Query)) → IsFaithful origin old
+        → AskZone old (request_for ask.question options) now ask.outcome mid → Led asks_zone options now mid asks new
+        → new.link.out_of_memory ≡ false → HasNoReuse (mid.sent ++ later)
+        → IsAnsweredSince origin old.link.history mid.link.history ask
+    first-since old mid new ask asks later f (inl s) rest memory once = absurd (true≢false (sym (led-out mid new asks rest s.1) ∙ memory))
+    first-since old mid new ask asks later f (inr x) rest memory once =
+        ask-answers-since keep origin old f (request_for ask.question options).message ask.outcome mid x ask.question later refl once
+
     pub led-holds : (old new : AskState) (asks : List Ask) (later : List (ℕ × Query)) → IsFaithful origin old → old.link.moment ≡ now
         → Led asks_zone options now old asks new → new.link.out_of_memory ≡ false → HasNoReuse (new.sent ++ later)
         → StaysFaithful origin old new × All (IsAnsweredBy origin new.link.history) (asked_at now asks)
@@ -84,3 +100,34 @@ module _ (options : DnsRequestOptions) (now : ℕ) where
           All-cons (IsAnsweredBy origin new.link.history) (record { moment = now; ask = ask }) (asked_at now asks)
               (answered-still origin mid.link new.link (record { moment = now; ask = ask }) (omega arith) rest.0.stands answered) rest.1,
         )
+
+    -- the outcomes hold the answers of rows that hold since earlier versions
+    pub led-since : (earlier : List Version) (old new : AskState) (asks : List Ask) (later : List (ℕ × Query)) → Extends earlier old.link.history
+        → IsFaithful origin old → old.link.moment ≡ now → Led asks_zone options now old asks new → new.link.out_of_memory ≡ false
+        → HasNoReuse (new.sent ++ later) → All (IsAnsweredSince origin earlier new.link.history) asks
+    led-since earlier old new [] later before f at led memory once = All-nil (IsAnsweredSince origin earlier new.link.history)
+    led-since earlier old new (ask ∷ asks) later before f at led memory once =
+        let mid : AskState = led.0 in
+        let first = first-stays old mid new ask asks f led.1 led.2 memory in
+        let at-mid : mid.link.moment ≡ now = first.moment_is ∙ at in
+        let rest = (led-holds mid new asks later first.faithful at-mid led.2 memory once).0 in
+        let once-there : HasNoReuse (mid.sent ++ (rest.drawn ++ later)) =
+        subst (λ (s : List (ℕ × Query)). HasNoReuse s)
+        (ap (λ (s : List (ℕ × Query)). s ++ later) rest.sent_is ∙ append_assoc mid.sent rest.drawn later) once in
+        let here : IsAnsweredSince origin old.link.history mid.link.history ask =
+        first-since old mid new ask asks (rest.drawn ++ later) f led.1 led.2 memory once-there in
+        let mid-before : Extends earlier mid.link.history = (
+          before.0 ++ first.added.0,
+          first.added.1
+              ∙ ap (λ (vs : List Version). vs ++ first.added.0) before.1
+              ∙ append_assoc earlier before.0 first.added.0,
+        ) in
+        All-cons (IsAnsweredSince origin earlier new.link.history) ask asks
+        (λ response ok.
+        let held = here response ok in
+        record {
+          rows = held.rows;
+          since = since-wider earlier old.link.history mid.link.history new.link.history held.rows before rest.added held.since;
+          holds = held.holds;
+        })
+        (led-since earlier mid new asks later mid-before first.faithful at-mid led.2 memory once)

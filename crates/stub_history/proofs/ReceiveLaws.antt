@@ -1,21 +1,23 @@
 -- What the link does keeps its history, whatever is claimed of the datagrams that are sent and of the replies to them.
-use Rattle.std.proofs.Common.{◌≡◌, ℕ, ◌-◌, ◌≤◌, zero, suc, Bool, true, false, cond, List, [], ◌∷◌, length, take, Option, Some, None, Result, Ok, Err, refl, sym, subst, arith}
+use Rattle.std.proofs.Common.{◌≡◌, ℕ, ◌-◌, ◌≤◌, zero, suc, Bool, true, false, cond, List, [], ◌∷◌, length, take, ◌++◌, Option, Some, None, Result, Ok, Err, refl, sym, ap, subst, ◌∙◌, arith}
 use Rattle.std.specs.Prelude.{IfSome, slice_get}
 use Rattle.std.specs.List.{AllByRecursion, fold}
+use Rattle.std.proofs.lemmas.List.{append_assoc}
 use Rattle.dns_names.specs.Name.{DomainName}
 use Rattle.dns_records.specs.Rows.{Rows}
 use Rattle.dns_messages.specs.Sound.{IsSound}
 use Rattle.dns_messages.specs.declared.message.Message.{Message}
 use Rattle.dns_messages.specs.declared.op_code.OpCode.TheVariants as ops
 use Rattle.dns_zone.specs.Rows.{ZoneContent}
+use Rattle.dns_zone.specs.Serving.{zone_after}
 use Rattle.stub_link.specs.declared.link.LinkError.{LinkError}
 use Rattle.stub_link.specs.declared.link.LinkError.TheVariants.{Failed}
 use Rattle.stub_link.specs.declared.link.script.LinkEvent.{LinkEvent}
 use Rattle.stub_link.specs.declared.link.script.LinkEvent.TheVariants.{Question, Update, Reply, Quiet, Fail}
-use Rattle.stub_link.specs.LinkState.{Course, Honest, Listed, LinkState, Received, ServerReply, deliver, deliver_event, deliver_named, deliver_rest, end_event, fail, message_of, named_update, receive, receive_by, receive_listed, receive_reply, receives_in, send, serve, with_last, with_under_way, without_first}
+use Rattle.stub_link.specs.LinkState.{Course, Honest, Listed, LinkState, Received, ServerReply, Version, deliver, deliver_event, deliver_named, deliver_rest, end_event, fail, is_applied, message_of, named_update, receive, receive_by, receive_listed, receive_reply, receives_in, send, serve, with_last, with_under_way, without_first}
 use Rattle.stub_history.specs.Faithful.{EachSent, EachUnderWay, HasHistory, IsMadeBy}
-use Rattle.stub_history.specs.Stands.{StandAt}
-use Rattle.stub_history.proofs.ServeLaws.{UpdatesKeepZones, deliver-has, each-push, serve-has, serve-stands}
+use Rattle.stub_history.specs.Stands.{Extends, StandAt}
+use Rattle.stub_history.proofs.ServeLaws.{UpdatesKeepZones, deliver-has, each-push, each-weaker, serve-has, serve-stands}
 
 -- ---- lists
 
@@ -35,35 +37,55 @@ each-take P zero xs h = tt
 each-take P (suc n) [] h = tt
 each-take P (suc n) (x ∷ xs) h = (h.0, each-take P n xs h.1)
 
+-- ---- versions that are added
+
+pub extends-more : (earlier history more : List Version) → Extends earlier history → Extends earlier (history ++ more)
+extends-more earlier history more added =
+    (added.0 ++ more, ap (λ (vs : List Version). vs ++ more) added.1 ∙ append_assoc earlier added.0 more)
+
+-- the versions after a request, which may be an update that is applied
+if-applied : (P : List Version → Type 0) (history : List Version) (v : Version) → P history → P (history ++ v ∷ []) → (applied : Bool)
+    → P (cond applied (history ++ v ∷ []) history)
+if-applied P history v h more true = more
+if-applied P history v h more false = h
+
 -- ---- what holds of a state within an event
 
+-- What is claimed of replies, by the history, which goes on after earlier versions; as versions are added, it still holds.
+pub record ReplyClaim : Type 1 where
+  pub earlier : List Version
+  pub holds : List Version → ServerReply → Type 0
+  pub later : (history : List Version) (v : Version) (r : ServerReply) → holds history r → holds (history ++ v ∷ []) r
+
 -- The link has a history at a moment; each datagram that was sent has one property, and each reply another.
-pub record Holds (origin : DomainName) (now : ℕ) (D : Message → Type 0) (R : ServerReply → Type 0) (state : LinkState) : Type 0 where
+pub record Holds (origin : DomainName) (now : ℕ) (D : Message → Type 0) (R : ReplyClaim) (state : LinkState) : Type 0 where
   pub history : HasHistory origin state
   pub sent : EachSent D state
-  pub replied : AllByRecursion R state.replies
+  pub added : Extends R.earlier state.history
+  pub replied : AllByRecursion (R.holds state.history) state.replies
   pub at_moment : state.moment ≡ now
 
 -- it still holds, and what stood by this moment stands
-pub record Still (origin : DomainName) (now : ℕ) (D : Message → Type 0) (R : ServerReply → Type 0) (old new : LinkState) : Type 0 where
+pub record Still (origin : DomainName) (now : ℕ) (D : Message → Type 0) (R : ReplyClaim) (old new : LinkState) : Type 0 where
   pub holds : Holds origin now D R new
   pub stands : (moment : ℕ) (rows : Rows) → moment ≤ now → StandAt old.history moment rows → StandAt new.history moment rows
 
 -- a datagram that was received is the message of a reply
-abbrev pub IsBroughtBy : DomainName → ℕ → (ServerReply → Type 0) → LinkState → Message → Type 0
+abbrev pub IsBroughtBy : DomainName → ℕ → ReplyClaim → LinkState → Message → Type 0
 IsBroughtBy origin now R state m =
-    (r : ServerReply) × (limit : ℕ) × R r × IsMadeBy origin state.history now r × (m ≡ message_of limit r)
+    (r : ServerReply) × (limit : ℕ) × R.holds state.history r × IsMadeBy origin state.history now r × (m ≡ message_of limit r)
 
-abbrev pub BringsReply : DomainName → ℕ → (ServerReply → Type 0) → LinkState → Result (Option Message) LinkError → Type 0
+abbrev pub BringsReply : DomainName → ℕ → ReplyClaim → LinkState → Result (Option Message) LinkError → Type 0
 BringsReply origin now R state (Ok (Some m)) = IsBroughtBy origin now R state m
 BringsReply origin now R state other = Unit {0}
 
-pub record Brings (origin : DomainName) (now : ℕ) (D : Message → Type 0) (R : ServerReply → Type 0) (old : LinkState) (x : Received) : Type 0 where
+pub record Brings (origin : DomainName) (now : ℕ) (D : Message → Type 0) (R : ReplyClaim) (old : LinkState) (x : Received) : Type 0 where
   pub still : Still origin now D R old x.state
   pub brings : BringsReply origin now R x.state x.datagram
 
-module _ (keep : UpdatesKeepZones) (origin : DomainName) (now : ℕ) (D : Message → Type 0) (R : ServerReply → Type 0)
-    (makes : (m : Message) (zone : ZoneContent) → D m → R (record { datagram = m; zone = zone; moment = now }))
+module _ (keep : UpdatesKeepZones) (origin : DomainName) (now : ℕ) (D : Message → Type 0) (R : ReplyClaim)
+    (makes : (m : Message) (state : LinkState) → HasHistory origin state → Extends R.earlier state.history → D m
+    → R.holds state.history (record { datagram = m; zone = state.zone; moment = now }))
     (sound : (m : Message) → D m → m.metadata.op_code ≡ ops.Update → IsSound m) where
   pub still-same : (state : LinkState) → Holds origin now D R state → Still origin now D R state state
   still-same state h = record { holds = h; stands = λ moment rows past stand. stand }
@@ -86,6 +108,7 @@ module _ (keep : UpdatesKeepZones) (origin : DomainName) (now : ℕ) (D : Messag
       replies = h.history.replies;
     };
     sent = record { datagrams = h.sent.datagrams; updates = h.sent.updates; under_way = under_way };
+    added = h.added;
     replied = h.replied;
     at_moment = h.at_moment;
   }
@@ -96,12 +119,25 @@ module _ (keep : UpdatesKeepZones) (origin : DomainName) (now : ℕ) (D : Messag
 
   -- ---- deliveries
 
+  -- what is claimed of a reply still is after a request
+  pub served-holds : (m : Message) (state : LinkState) (r : ServerReply) → R.holds state.history r → R.holds (serve m state).history r
+  served-holds m state r held =
+      if-applied (λ (h : List Version). R.holds h r) state.history (record { moment = state.moment; rows = (zone_after state.zone m).rows })
+      held (R.later state.history (record { moment = state.moment; rows = (zone_after state.zone m).rows }) r held) (is_applied state.zone m)
+
+  served-added : (m : Message) (state : LinkState) → Extends R.earlier state.history → Extends R.earlier (serve m state).history
+  served-added m state added =
+      if-applied (Extends R.earlier) state.history (record { moment = state.moment; rows = (zone_after state.zone m).rows })
+      added (extends-more R.earlier state.history _ added) (is_applied state.zone m)
+
   pub serve-still : (m : Message) (state : LinkState) → D m → Holds origin now D R state → Still origin now D R state (serve m state)
   serve-still m state d h = record {
     holds = record {
       history = serve-has keep origin m (sound m d) state h.history;
       sent = record { datagrams = h.sent.datagrams; updates = h.sent.updates; under_way = h.sent.under_way };
-      replied = h.replied;
+      added = served-added m state h.added;
+      replied = each-weaker (R.holds state.history) (R.holds (serve m state).history) (λ r held. served-holds m state r held) state.replies
+          h.replied;
       at_moment = h.at_moment;
     };
     stands = λ moment rows past stand.
@@ -113,7 +149,13 @@ module _ (keep : UpdatesKeepZones) (origin : DomainName) (now : ℕ) (D : Messag
     holds = record {
       history = deliver-has keep origin m (sound m d) state h.history;
       sent = record { datagrams = h.sent.datagrams; updates = h.sent.updates; under_way = h.sent.under_way };
-      replied = (subst (λ (t : ℕ). R (record { datagram = m; zone = state.zone; moment = t })) (sym h.at_moment) (makes m state.zone d), h.replied);
+      added = served-added m state h.added;
+      replied = (
+        served-holds m state (record { datagram = m; zone = state.zone; moment = state.moment })
+            (subst (λ (t : ℕ). R.holds state.history (record { datagram = m; zone = state.zone; moment = t })) (sym h.at_moment)
+            (makes m state h.history h.added d)),
+        (serve-still m state d h).holds.replied,
+      );
       at_moment = h.at_moment;
     };
     stands = (serve-still m state d h).stands;
@@ -199,6 +241,7 @@ module _ (keep : UpdatesKeepZones) (origin : DomainName) (now : ℕ) (D : Messag
                 (each-take (λ (place : Option Message). IfSome place D) (length state.updates - 1) state.updates h.sent.updates) d;
             under_way = under-way-more m state.course d h.sent.under_way;
           };
+          added = h.added;
           replied = h.replied;
           at_moment = h.at_moment;
         };
@@ -218,6 +261,7 @@ module _ (keep : UpdatesKeepZones) (origin : DomainName) (now : ℕ) (D : Messag
             updates = h.sent.updates;
             under_way = under-way-more m state.course d h.sent.under_way;
           };
+          added = h.added;
           replied = h.replied;
           at_moment = h.at_moment;
         };
@@ -248,10 +292,10 @@ module _ (keep : UpdatesKeepZones) (origin : DomainName) (now : ℕ) (D : Messag
   listed-receives (Quiet ∷ events) state h = received-here (Ok None) events state h tt
   listed-receives (Fail ∷ events) state h = received-here (Err Failed) events state h tt
   listed-receives (Reply n ∷ events) state h =
-      by (slice_get state.replies n) (both-each R (IsMadeBy origin state.history state.moment) state.replies n h.replied h.history.replies)
+      by (slice_get state.replies n) (both-each (R.holds state.history) (IsMadeBy origin state.history state.moment) state.replies n h.replied h.history.replies)
       (listed-receives events state h)
     where
-      by : (o : Option ServerReply) → IfSome o (λ r. R r × IsMadeBy origin state.history state.moment r)
+      by : (o : Option ServerReply) → IfSome o (λ r. R.holds state.history r × IsMadeBy origin state.history state.moment r)
           → Brings origin now D R state (receive_listed events state)
           → Brings origin now D R state (receive_reply o events state (receive_listed events state))
       by (Some r) is rest =

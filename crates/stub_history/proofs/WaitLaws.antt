@@ -7,7 +7,6 @@ use Rattle.dns_messages.specs.declared.message.Message.{Message}
 use Rattle.dns_messages.specs.declared.op_code.OpCode.TheVariants as ops
 use Rattle.dns_messages.specs.declared.query.Query.{Query}
 use Rattle.dns_messages.specs.declared.response.DnsResponse.{DnsResponse}
-use Rattle.dns_zone.specs.Rows.{ZoneContent}
 use Rattle.stub_lookup.specs.declared.error.LinkFault.TheVariants as fault
 use Rattle.stub_lookup.specs.declared.error.NetError.TheVariants as net
 use Rattle.stub_client.specs.Handle.{Outcome}
@@ -16,18 +15,20 @@ use Rattle.stub_link.specs.declared.link.LinkError.TheVariants.{Failed, Memory}
 use Rattle.stub_link.specs.Ask.{AfterSending, IsSent}
 use Rattle.stub_link.specs.AskState.{AskState}
 use Rattle.stub_link.specs.Link.{messages}
-use Rattle.stub_link.specs.LinkState.{LinkState, Received, ServerReply, link_calls, receive, send, Receives as ReceivesMessage, Sends as SendsMessage}
+use Rattle.stub_link.specs.LinkState.{LinkState, Received, link_calls, receive, send, Receives as ReceivesMessage, Sends as SendsMessage}
 use Rattle.stub_link.specs.Reply.{matches}
 use Rattle.stub_link.specs.Wait.{Wait, WaitAfter}
-use Rattle.stub_history.proofs.ReceiveLaws.{Brings, Holds, IsBroughtBy, Still, fail-still, receive-still, send-still, still-same, still-then}
+use Rattle.stub_history.specs.Faithful.{HasHistory}
+use Rattle.stub_history.specs.Stands.{Extends}
+use Rattle.stub_history.proofs.ReceiveLaws.{Brings, Holds, IsBroughtBy, ReplyClaim, Still, fail-still, receive-still, send-still, still-same, still-then}
 use Rattle.stub_history.proofs.ServeLaws.{UpdatesKeepZones}
 
 -- out of memory, or it still holds
-abbrev pub StillUnlessOut : DomainName → ℕ → (Message → Type 0) → (ServerReply → Type 0) → LinkState → LinkState → Type 0
+abbrev pub StillUnlessOut : DomainName → ℕ → (Message → Type 0) → ReplyClaim → LinkState → LinkState → Type 0
 StillUnlessOut origin now D R old new = (new.out_of_memory ≡ true) ⊎ Still origin now D R old new
 
 -- a response was accepted: it is the message of a reply, and it matches
-pub record Accepts (origin : DomainName) (now : ℕ) (D : Message → Type 0) (R : ServerReply → Type 0) (id : ℕ) (question : Option Query)
+pub record Accepts (origin : DomainName) (now : ℕ) (D : Message → Type 0) (R : ReplyClaim) (id : ℕ) (question : Option Query)
     (old new : LinkState) (response : DnsResponse) : Type 0 where
   pub still : Still origin now D R old new
   pub brings : IsBroughtBy origin now R new response.message
@@ -36,8 +37,9 @@ pub record Accepts (origin : DomainName) (now : ℕ) (D : Message → Type 0) (R
 pub same-response : (first second : DnsResponse) → ◌≡◌ {A = Outcome} (Ok first) (Ok second) → first ≡ second
 same-response first second e = cc
 
-module _ (keep : UpdatesKeepZones) (origin : DomainName) (now : ℕ) (D : Message → Type 0) (R : ServerReply → Type 0)
-    (makes : (m : Message) (zone : ZoneContent) → D m → R (record { datagram = m; zone = zone; moment = now }))
+module _ (keep : UpdatesKeepZones) (origin : DomainName) (now : ℕ) (D : Message → Type 0) (R : ReplyClaim)
+    (makes : (m : Message) (state : LinkState) → HasHistory origin state → Extends R.earlier state.history → D m
+    → R.holds state.history (record { datagram = m; zone = state.zone; moment = now }))
     (sound : (m : Message) → D m → m.metadata.op_code ≡ ops.Update → IsSound m) where
   -- nothing else happens
   pub unless-same : (old mid new : LinkState) → StillUnlessOut origin now D R old mid → new ≡ mid → StillUnlessOut origin now D R old new

@@ -120,15 +120,16 @@ pub holds-answer : (zone : ZoneContent) (road : Road) (m : Message) (q : Query) 
     → (sent_reply zone road m).metadata.truncation ≡ false → HoldsAnswer zone q (sent_reply zone road m)
 holds-answer zone road m q code only h =
     subst (λ (r : Message). HoldsAnswer zone q (cut (reply_limit road m) r)) (sym (is-query-reply zone m q code only))
-    (by (query_reply zone m q) refl refl refl refl
+    (by (query_reply zone m q) refl refl refl refl refl
     (subst (λ (r : Message). (cut (reply_limit road m) r).metadata.truncation ≡ false) (is-query-reply zone m q code only) h))
   where
-    by : (r : Message) → r.metadata.response_code ≡ (answer zone q).code → r.answers ≡ (answer zone q).answers
+    by : (r : Message) → r.queries ≡ q ∷ [] → r.metadata.response_code ≡ (answer zone q).code → r.answers ≡ (answer zone q).answers
         → r.authorities ≡ (answer zone q).authorities → r.additionals ≡ []
         → (cut (reply_limit road m) r).metadata.truncation ≡ false → HoldsAnswer zone q (cut (reply_limit road m) r)
-    by r code answers authorities additionals h =
+    by r queries code answers authorities additionals h =
         let whole = whole-cut (reply_limit road m) r h in
         record {
+          queries = queries;
           code = remaining-same (remaining (reply_limit road m) r).edns r.metadata.response_code
               (subst IsHeaderCode (sym code) (answer-code zone q)) ∙ code;
           answers = whole.answers ∙ answers;

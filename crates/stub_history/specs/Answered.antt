@@ -1,5 +1,5 @@
 -- Outcomes of questions that hold what a zone answers by rows that stood.
-use Rattle.std.specs.Prelude.{◌≡◌, ◌==◌, ◌&&◌, ◌||◌, nat_le, nat_lt, not, Bool, All, List, [], ℕ, Ok}
+use Rattle.std.specs.Prelude.{◌≡◌, ◌==◌, ◌&&◌, ◌||◌, nat_le, nat_lt, not, Bool, All, List, [], ◌∷◌, ℕ, Ok}
 use Rattle.dns_codes.specs.RecordType.{type_number}
 use Rattle.dns_codes.specs.declared.record_type.RecordType.{RecordType}
 use Rattle.dns_names.specs.Name.{DomainName}
@@ -10,11 +10,12 @@ use Rattle.dns_messages.specs.declared.response.DnsResponse.{DnsResponse}
 use Rattle.dns_zone.specs.Answer.{answer}
 use Rattle.dns_zone.specs.Rows.{IsZone, ZoneContent}
 use Rattle.stub_cache.specs.Ttl.{TtlConfigContent, bounds_of, positive_range}
+use Rattle.stub_client.specs.Handle.{Ask}
 use Rattle.stub_client.specs.Origins.{Asked}
 use Rattle.stub_client.specs.SpecialNames.{special_answer}
 use Rattle.stub_client.specs.declared.special_names.SpecialAnswer.TheVariants.{Ordinary}
 use Rattle.stub_link.specs.LinkState.{Version}
-use Rattle.stub_history.specs.Stands.{StandAt}
+use Rattle.stub_history.specs.Stands.{HoldSince, StandAt}
 
 -- ---- plain types
 
@@ -43,8 +44,9 @@ AreZones origin history = All (λ version. IsZone (zone_with origin version.rows
 
 -- ---- answers
 
--- A message holds exactly the answer of a zone to a question: its code, answers and authorities, and no additional record.
+-- A message repeats a question and holds exactly the answer of a zone to it: its code, answers and authorities, and no additional record.
 pub record HoldsAnswer (zone : ZoneContent) (q : Query) (m : Message) : Type 0 where
+  pub queries : m.queries ≡ q ∷ []
   pub code : m.metadata.response_code ≡ (answer zone q).code
   pub answers : m.answers ≡ (answer zone q).answers
   pub authorities : m.authorities ≡ (answer zone q).authorities
@@ -61,6 +63,17 @@ abbrev pub IsAnsweredBy : DomainName → List Version → Asked → Type 0
 IsAnsweredBy origin history asked =
     (response : DnsResponse) → asked.ask.outcome ≡ Ok response
     → HoldsAnswerAt origin history asked.moment asked.ask.question response.message
+
+-- a message holds the answer of a zone with this origin, by rows that hold since earlier versions
+pub record HoldsAnswerSince (origin : DomainName) (earlier history : List Version) (q : Query) (m : Message) : Type 0 where
+  pub rows : Rows
+  pub since : HoldSince earlier history rows
+  pub holds : HoldsAnswer (zone_with origin rows) q m
+
+-- If the outcome of a question is a response, this holds what the zone answers by rows that hold since earlier versions.
+abbrev pub IsAnsweredSince : DomainName → List Version → List Version → Ask → Type 0
+IsAnsweredSince origin earlier history ask =
+    (response : DnsResponse) → ask.outcome ≡ Ok response → HoldsAnswerSince origin earlier history ask.question response.message
 
 -- no question for a special-use name was sent
 abbrev pub AreOrdinary : List Asked → Type 0

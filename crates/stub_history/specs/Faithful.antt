@@ -12,7 +12,7 @@ use Rattle.stub_link.specs.AskState.{AskState}
 use Rattle.stub_link.specs.LinkState.{Course, Honest, LinkState, Listed, ServerReply, Version}
 use Rattle.stub_link.specs.Request.{IsSoundUpdate}
 use Rattle.stub_history.specs.Answered.{AreZones}
-use Rattle.stub_history.specs.Stands.{StandAt}
+use Rattle.stub_history.specs.Stands.{Extends, StandAt}
 
 -- ---- ids
 
@@ -85,10 +85,12 @@ pub record IsFaithful (origin : DomainName) (state : AskState) : Type 0 where
 abbrev pub KeepsStanding : LinkState → LinkState → Type 0
 KeepsStanding old new = (moment : ℕ) (rows : Rows) → moment ≤ old.moment → StandAt old.history moment rows → StandAt new.history moment rows
 
--- A state is faithful if another one is, at the same moment; what stood still stands, and no id that was drawn is forgotten.
+-- A state is faithful if another one is, at the same moment; its history goes on, what stood still stands, and no id that was drawn is
+-- forgotten.
 pub record StaysFaithful (origin : DomainName) (old new : AskState) : Type 0 where
   pub faithful : IsFaithful origin new
   pub moment_is : new.link.moment ≡ old.link.moment
+  pub added : Extends old.link.history new.link.history
   pub stands : KeepsStanding old.link new.link
   pub drawn : List (ℕ × Query)
   pub sent_is : new.sent ≡ old.sent ++ drawn

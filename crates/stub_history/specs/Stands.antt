@@ -1,5 +1,5 @@
 -- What stood in a zone, by the versions of its rows, and what of it may be returned for a name: bounded staleness.
-use Rattle.std.specs.Prelude.{◌≡◌, ◌≤◌, ◌+◌, ◌++◌, ◌⊎◌, suc, min, All, Contains, List, [], ◌∷◌, ℕ}
+use Rattle.std.specs.Prelude.{◌≡◌, ◌≤◌, ◌+◌, ◌++◌, ◌⊎◌, suc, min, length, All, Contains, List, [], ◌∷◌, ℕ}
 use Rattle.dns_codes.specs.declared.record_type.RecordType.TheVariants as types
 use Rattle.dns_names.specs.Compare.{lower}
 use Rattle.dns_names.specs.Name.{DomainName}
@@ -28,6 +28,19 @@ pub record StandAt (history : List Version) (moment : ℕ) (rows : Rows) : Type 
   pub split : history ≡ before ++ record { moment = since; rows = rows } ∷ after
   pub begun : since ≤ moment
   pub lasts : BeginsBy moment after
+
+-- a history goes on after earlier versions
+abbrev pub Extends : List Version → List Version → Type 0
+Extends earlier history = (more : List Version) × (history ≡ earlier ++ more)
+
+-- Rows hold since earlier versions of a history: those of the last of them, or of a version after them. At one moment several rows may
+-- stand; these are not among those that were replaced before.
+pub record HoldSince (earlier history : List Version) (rows : Rows) : Type 0 where
+  pub before : List Version
+  pub since : ℕ
+  pub after : List Version
+  pub split : history ≡ before ++ record { moment = since; rows = rows } ∷ after
+  pub late : length earlier ≤ suc (length before)
 
 -- two names have the same labels, up to ASCII case; in a zone every name is fully qualified
 abbrev pub AreSame : DomainName → DomainName → Type 0

@@ -11,4 +11,4 @@ pub use answers::{
 pub use asking::{
     events_keep_states_faithful, outcomes_hold_answers_that_stood, updates_keep_states_faithful,
 };
-pub use lookups::lookups_have_answers_that_stood;
+pub use lookups::{lookups_have_answers_that_stood, lookups_have_current_answers};

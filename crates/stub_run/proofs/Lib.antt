@@ -12,6 +12,9 @@ pub mod Reporting
 pub mod Requests
 pub mod RunLaws
 pub mod Running
+pub mod RunsAgree
 pub mod SoundQuestionLaws
 pub mod SupportedLaws
+pub mod Unchanged
+pub mod WalkedRuns
 pub mod ZoneQuestions

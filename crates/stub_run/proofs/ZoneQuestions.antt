@@ -59,8 +59,22 @@ unfaulted (Err (net.Proto error)) old new h e = absurd h
 unfaulted (Err (net.Message text)) old new h e = absurd h
 unfaulted (Err net.Unsupported) old new h e = absurd h
 
+-- an error is not the meaning of a response, but a fault of the link or want of memory
+abbrev pub IsNoMeaning : Outcome → Type 0
+IsNoMeaning (Err (net.Dns error)) = ⊥
+IsNoMeaning outcome = Unit {0}
+
+no-meaning : (outcome : Outcome) (old new : ℕ) → IsReplyOrFault outcome old new → IsNoMeaning outcome
+no-meaning (Ok response) old new h = tt
+no-meaning (Err net.Memory) old new h = tt
+no-meaning (Err (net.Link error)) old new h = tt
+no-meaning (Err (net.Dns error)) old new h = h
+no-meaning (Err (net.Proto error)) old new h = tt
+no-meaning (Err (net.Message text)) old new h = tt
+no-meaning (Err net.Unsupported) old new h = tt
+
 module _ (options : DnsRequestOptions) (now : ℕ) where
-  abbrev Leads : AskState → List Ask → AskState → Type 0
+  abbrev pub Leads : AskState → List Ask → AskState → Type 0
   Leads old asks new = Led (λ old request now outcome new. AsksZone old request now outcome new) options now old asks new
 
   led-stays : (old new : AskState) (asks : List Ask) → Leads old asks new → IsOutOfMemory old → IsOutOfMemory new
@@ -68,13 +82,29 @@ module _ (options : DnsRequestOptions) (now : ℕ) where
   led-stays old new (ask ∷ asks) h out =
       led-stays h.0 new asks h.2 (zone-stays old h.0 (request_for ask.question options) now ask.outcome h.1.0 out)
 
-  lives-before : (old new : AskState) (asks : List Ask) → Leads old asks new → new.link.out_of_memory ≡ false
+  pub lives-before : (old new : AskState) (asks : List Ask) → Leads old asks new → new.link.out_of_memory ≡ false
       → old.link.out_of_memory ≡ false
   lives-before old new asks h lives = by old.link.out_of_memory refl
     where
       by : (out : Bool) → old.link.out_of_memory ≡ out → old.link.out_of_memory ≡ false
       by false e = e
       by true e = absurd (true≢false (sym (led-stays old new asks h e) ∙ lives))
+
+  -- no error is the meaning of a response
+  pub no-meanings : (old new : AskState) (asks : List Ask) → Leads old asks new → new.link.out_of_memory ≡ false
+      → All (λ ask. IsNoMeaning ask.outcome) asks
+  no-meanings old new [] h lives = All-nil (λ (ask : Ask). IsNoMeaning ask.outcome)
+  no-meanings old new (ask ∷ asks) h lives =
+      let mid-lives : h.0.link.out_of_memory ≡ false = lives-before h.0 new asks h.2 lives in
+      let old-lives : old.link.out_of_memory ≡ false = lives-before old new (ask ∷ asks) h lives in
+      All-cons (λ (ask : Ask). IsNoMeaning ask.outcome) ask asks
+      (elim h.1.1 [
+        | inl out ↦ absurd (true≢false (sym out ∙ old-lives))
+        | inr asked ↦
+            no-meaning ask.outcome old.faults h.0.faults
+            (zone-question-ends old h.0 (request_for ask.question options) asked.0 now ask.outcome asked.1 h.1.0 mid-lives)
+      ])
+      (no-meanings h.0 new asks h.2 lives)
 
   led-unfaulted : (old new : AskState) (asks : List Ask) → Leads old asks new → new.link.out_of_memory ≡ false → new.faults ≡ 0
       → (old.faults ≡ 0) × All IsAnswered asks

@@ -1,6 +1,6 @@
 -- What a run promises of the records that its lookups return: each of them stood in the zone. It is stated by the world and the events
 -- alone: nothing here speaks of a cache, of datagrams or of handles.
-use Rattle.std.specs.Prelude.{◌≡◌, true, string_bytes, take, length, List, [], ◌∷◌, ℕ, Option, Some, None, Result, Ok, Err}
+use Rattle.std.specs.Prelude.{◌≡◌, ◌<◌, ◌^◌, true, string_bytes, take, length, List, [], ◌∷◌, ℕ, Option, Some, None, Result, Ok, Err}
 use Rattle.std.specs.declared.net.ip_addr.IpAddr.{IpAddr}
 use Rattle.dns_names.specs.Parse.{name_of_text}
 use Rattle.dns_text.specs.Address.{IsTextOf}
@@ -42,9 +42,10 @@ pub record WorldContent : Type 0 where
   pub options : ResolverOpts
   pub hosts : HostsContent
 
--- a world is made of a zone, ids and the parts of a resolver
+-- a world is made of a zone, ids and the parts of a resolver, whose payload size has 16 bits (RFC 6891 section 6.1.2)
 pub record IsMadeOf (world : World) (content : WorldContent) : Type 0 where
   pub zone : IsZone content.zone
+  pub payload : content.options.edns_payload_len < 2 ^ 16
   pub state : RunState
   pub first : IsFirst content.zone content.limit content.ids content.config content.options content.hosts state
   pub begins : BeginsWith world state

@@ -7,3 +7,4 @@ pub mod Ids
 pub mod Run
 pub mod World
 pub mod Questions
+pub mod Walked

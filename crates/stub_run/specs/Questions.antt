@@ -1,5 +1,5 @@
 -- Questions of a resolver to the zone's server, and what they end in.
-use Rattle.std.specs.Prelude.{◌≡◌, ◌<◌, ◌^◌, true, ℕ, Ok, Err}
+use Rattle.std.specs.Prelude.{◌≡◌, ◌<◌, ◌^◌, true, List, [], ◌∷◌, ℕ, Ok, Err}
 use Rattle.dns_codes.specs.RecordType.{type_number}
 use Rattle.stub_lookup.specs.declared.error.NetError.TheVariants as net
 use Rattle.stub_client.specs.Handle.{Outcome}
@@ -33,6 +33,10 @@ IsReplyUnlessMemory (Err error) = ⊥
 abbrev pub IsAskable : Event → Type 0
 IsAskable (event.Lookup at name kind script) = IsShort name × (type_number kind < 2 ^ 16)
 IsAskable e = Unit {0}
+
+abbrev pub AreAskable : List Event → Type 0
+AreAskable [] = Unit {0}
+AreAskable (e ∷ events) = IsAskable e × AreAskable events
 
 -- what a resolver replies that asks the zone's server questions alone
 abbrev pub RepliesByQuestions : RunState → Event → EventReply → RunState → Type 0

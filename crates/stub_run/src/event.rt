@@ -3,6 +3,7 @@
 ghost use Rattle.std.specs.Prelude.{◌≡◌, IfSome};
 ghost use Rattle.std.specs.Option.{option_copied};
 ghost use Rattle.stub_link.specs.Request.{IsUpdate};
+ghost use Rattle.stub_run.specs.Questions.{IsAskable};
 
 use dns_messages::Message;
 use dns_names::Name;
@@ -59,6 +60,22 @@ impl Event {
             | Event::Clear { at, .. }
             | Event::ClearAll { at, .. }
             | Event::Update { at, .. } => *at,
+        }
+    }
+
+    /// Tells the prover that a name that is looked up has at most 255 bytes, and its type 16 bits.
+    pub(crate) fn know_name(&self)
+        ensures { IsAskable self.now }
+    {
+        match self {
+            Event::Lookup { name, rtype, .. } => {
+                let _length = name.encoded_len();
+                let _number = u16::from(*rtype);
+            }
+            Event::LookupIp { .. }
+            | Event::Clear { .. }
+            | Event::ClearAll { .. }
+            | Event::Update { .. } => {}
         }
     }
 

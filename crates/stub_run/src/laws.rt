@@ -26,7 +26,10 @@ ghost use Rattle.stub_run.specs.declared.report.EventReport.{EventReport};
 mod headline;
 mod questions;
 
-pub use headline::{distinct_ids_are_not_reused, every_record_stood};
+pub use headline::{
+    distinct_ids_are_not_reused, every_record_stood, unchanged_zones_are_walked,
+    walked_replies_agree, walked_runs_agree,
+};
 pub use questions::{
     questions_without_faults_are_answered, resolvers_ask_sound_questions,
     resolvers_ask_the_zone_sound_questions,

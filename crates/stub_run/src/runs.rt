@@ -8,11 +8,13 @@ ghost use Rattle.stub_run.specs.Alike.{AreAlike};
 ghost use Rattle.stub_run.specs.Event.{TakesMemory, moment_of, update_of};
 ghost use Rattle.stub_history.specs.Faithful.{HasNoReuse};
 ghost use Rattle.stub_run.specs.Headline.{AreFresh, HasNoLeastTtl, HaveChainBounds, IsMadeOf, WorldContent, report_in, reported};
+ghost use Rattle.stub_run.specs.Questions.{AreAskable};
 ghost use Rattle.stub_run.specs.Run.{InOrder, IsReportBefore, IsReportOf, Replies, RunState, Runs, RunsOut, Step, asks_of, begin_event, end_event, memory_report};
+ghost use Rattle.stub_run.specs.Walked.{AreWalked};
 ghost use Rattle.stub_run.specs.World.{BeginsWith};
 
 use crate::event::Event;
-use crate::laws::every_record_stood;
+use crate::laws::{every_record_stood, unchanged_zones_are_walked};
 use crate::report::{EventReply, EventReport, Report, Stopped};
 use crate::world::World;
 use std::alloc::AllocError;
@@ -38,7 +40,10 @@ const MAX_MOMENT: u64 = 1 << 62;
 ///
 /// Whatever the link loses, repeats, delays or reorders, every record of the type that was asked for stood in the zone, was
 /// reached by aliases that stood there, and its TTL counts from such a moment (`fresh`). If aliases are left out, the TTLs of
-/// these aliases bound it, too (`chain_bound`). Both also hold of the report of a run that stopped for memory.
+/// these aliases bound it, too (`chain_bound`). And where nothing was updated since the last full clear, or the start, and the
+/// link met no fault in an event, its lookup of a plain type, or of a host, returns exactly what a walk over the zone comes to,
+/// whatever was cached and however large datagrams may be (`walked`). All of this also holds of the report of a run that stopped
+/// for memory.
 pub fn run(world: World, events: &[Event]) -> Result<Report, Stopped>
     ensures moments { (result ≡ Err Stopped.Moments) ↔ ¬ InOrder 0 events.now }
     ensures run { IfOk result (λ report. (state : RunState) → BeginsWith world state
@@ -52,9 +57,24 @@ pub fn run(world: World, events: &[Event]) -> Result<Report, Stopped>
         → IsMadeOf world content → HasNoReuse report.sent.items → HasNoLeastTtl content
         → content.options.preserve_intermediates ≡ false
         → HaveChainBounds content (reported events.now report) report.events.items) }
+    ensures walked { IfSome (report_in result) (λ report. (content : WorldContent)
+        → IsMadeOf world content → HasNoReuse report.sent.items
+        → content.options.preserve_intermediates ≡ false
+        → AreWalked content (reported events.now report) report.events.items) }
 {
     every_record_stood();
+    unchanged_zones_are_walked();
+    know_names(events);
     run_events(world, events)
+}
+
+/// Tells the prover that no event names a name that is too long.
+fn know_names(events: &[Event])
+    ensures { AreAskable events.now }
+{
+    for event in events {
+        event.know_name();
+    }
 }
 
 /// Runs the events in a world, in order.

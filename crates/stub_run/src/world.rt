@@ -1,6 +1,6 @@
 //! Worlds: a zone's server, a link to it, and a resolver that asks over it.
 
-ghost use Rattle.std.specs.Prelude.{◌≡◌, true, false, IfOk, IsErrOf, IsOkAnd};
+ghost use Rattle.std.specs.Prelude.{◌≡◌, ◌<◌, ◌^◌, true, false, IfOk, IsErrOf, IsOkAnd};
 ghost use Rattle.stub_core.specs.ResolverBuilder.{is_unsupported};
 ghost use Rattle.stub_run.specs.Headline.{IsMadeOf};
 ghost use Rattle.stub_run.specs.Run.{RunState};
@@ -50,12 +50,20 @@ impl World {
           hosts = hosts;
         })) }
     {
-        // Tells the prover that the zone is well formed.
+        // Tells the prover that the zone is well formed, and what fits its type.
         let _origin = zone.origin();
+        let _payload = payload_len(&options);
         let link = ScriptedLink::new(alloc, zone, limit);
         let handle = WireHandle::new(alloc, link, ids);
         let builder = Resolver::builder_with_config(alloc, config, handle);
         let resolver = builder.with_options(options).with_hosts(hosts).build()?;
         Ok(World { alloc, resolver })
     }
+}
+
+/// Returns the payload size that requests announce.
+fn payload_len(options: &ResolverOpts) -> u16
+    ensures { options.now.edns_payload_len < 2 ^ 16 }
+{
+    options.edns_payload_len
 }

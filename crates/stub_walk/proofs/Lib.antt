@@ -9,3 +9,4 @@ pub mod MoreLaws
 pub mod ResolverLaws
 pub mod AgreementLaws
 pub mod FaultLaws
+pub mod SteadyLaws

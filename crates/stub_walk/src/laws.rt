@@ -10,6 +10,7 @@ pub use lookups::{
     clears_keep_agreement, every_lookup_agrees_with_walks, every_resolver_lookup_comes_to_walks,
 };
 pub use outcomes::{
-    alias_chains_of_answers_end, outcomes_of_answers_are_walks, questions_fail_by_faults,
+    alias_chains_of_answers_end, answers_of_steady_rows_are_of_a_zone,
+    outcomes_of_answers_are_walks, questions_fail_by_faults,
 };
 pub use walks::{walks_are_functions, walks_ignore_spelling};

@@ -1,17 +1,30 @@
 //! What runs promise of the records that their lookups return.
 
-ghost use Rattle.std.specs.Prelude.{◌≡◌, ◌+◌, false, EachIndex, List, ℕ, length, map, slice_index, take};
+ghost use Rattle.std.specs.Prelude.{◌≡◌, ◌+◌, ◌<◌, ◌^◌, false, true, EachIndex, List, ℕ, length, map, slice_index, take};
+ghost use Rattle.std.specs.List.{AllByRecursion};
+ghost use Rattle.dns_codes.specs.declared.record_type.RecordType.{RecordType};
+ghost use Rattle.dns_names.specs.Name.{DomainName};
 ghost use Rattle.dns_messages.specs.declared.query.Query.{Query};
-ghost use Rattle.dns_zone.specs.Rows.{IsZone};
+ghost use Rattle.dns_zone.specs.Rows.{IsZone, ZoneContent};
+ghost use Rattle.stub_client.specs.Looks.{Reply};
+ghost use Rattle.stub_core.specs.Resolver.{known_type};
+ghost use Rattle.stub_core.specs.declared.resolver.settings.Settings.{Settings};
+ghost use Rattle.stub_link.specs.declared.link.script.Script.{Script};
+ghost use Rattle.stub_history.specs.Answered.{is_plain};
+ghost use Rattle.stub_walk.specs.Agreement.{Agree};
 ghost use Rattle.stub_history.specs.Faithful.{HasNoReuse};
-ghost use Rattle.stub_run.specs.Headline.{AreFresh, HasNoLeastTtl, HaveChainBounds, WorldContent};
+ghost use Rattle.stub_run.specs.Headline.{AreFresh, HasNoLeastTtl, HaveChainBounds, WorldContent, settings_of};
 ghost use Rattle.stub_run.specs.Ids.{AreDistinct};
+ghost use Rattle.stub_run.specs.Questions.{AreAskable};
 ghost use Rattle.stub_run.specs.Run.{InOrder, RunState, Runs, asks_of};
+ghost use Rattle.stub_run.specs.Walked.{AreAgreed, AreWalked, HasSentUpdate, IsWalkedReply, with_cache_size, with_sizes};
 ghost use Rattle.stub_run.specs.World.{IsFirst};
 ghost use Rattle.stub_run.specs.declared.event.Event.{Event};
+ghost use Rattle.stub_run.specs.declared.report.EventReply.{EventReply};
 ghost use Rattle.stub_run.specs.declared.report.EventReport.{EventReport};
 
 use dns_codes::laws::type_number_round_trips;
+use dns_names::laws::parsing_follows_the_grammar;
 use dns_zone::laws::{answers_are_alias_chains, updates_keep_zones_well_formed};
 
 /// Every record of a plain type that a lookup of a run returns stood in the zone, was reached by aliases that stood there, and its TTL
@@ -39,6 +52,59 @@ pub fn every_record_stood()
     answers_are_alias_chains();
     updates_keep_zones_well_formed();
 }
+
+/// Where nothing was updated since the last full clear, or the start, and the link met no fault in an event, its lookup of a plain type, or
+/// of a host, is one in which each question is walked over the zone: whatever was kept, however large datagrams may be, and whatever
+/// the link loses, repeats, delays or reorders in between.
+///
+/// No id serves two equal questions, aliases are left out, and no chain of aliases in the zone passes seven links. Memory may run
+/// out for a lookup.
+pub fn unchanged_zones_are_walked()
+    ensures { (content : WorldContent) (first last : RunState) (events : List Event)
+        (reports : List EventReport) (states : List RunState) → IsZone content.zone
+        → IsFirst content.zone content.limit content.ids content.config content.options
+        content.hosts first
+        → InOrder 0 events → Runs first events reports states last
+        → HasNoReuse (asks_of last).sent
+        → content.options.preserve_intermediates ≡ false
+        → content.options.edns_payload_len < 2 ^ 16 → AreAskable events
+        → AreWalked content events reports }
+{
+    type_number_round_trips();
+    parsing_follows_the_grammar();
+    updates_keep_zones_well_formed();
+}
+
+/// Two such lookups of the same name and type, or of the same host, agree: they have the same records or the same failure, TTLs aside,
+/// unless memory runs out. So a lookup that is repeated returns the same; and so do two runs over the same zone that differ in the size
+/// of the cache, the limit of datagrams or the ids.
+pub fn walked_replies_agree()
+    ensures name { (zone : ZoneContent) (settings : Settings) (size at later : ℕ)
+        (name : DomainName) (kind : RecordType) (script other : Script) (one two : Reply)
+        → IsWalkedReply zone settings (Event.Lookup at name kind script) (EventReply.Lookup one)
+        → IsWalkedReply zone (with_cache_size size settings) (Event.Lookup later name kind other)
+        (EventReply.Lookup two)
+        → is_plain (known_type kind) ≡ true → Agree one two }
+    ensures host { (zone : ZoneContent) (settings : Settings) (size at later : ℕ) (host : _)
+        (script other : Script) (one two : Reply)
+        → IsWalkedReply zone settings (Event.LookupIp at host script) (EventReply.LookupIp one)
+        → IsWalkedReply zone (with_cache_size size settings) (Event.LookupIp later host other)
+        (EventReply.LookupIp two)
+        → Agree one two }
+    ensures settings { (content : WorldContent) (size limit : ℕ) (ids : List ℕ)
+        → settings_of (with_sizes size limit ids content)
+        ≡ with_cache_size size (settings_of content) }
+{}
+
+/// So the replies of two runs of the same events over the same zone agree, event by event, where the premises hold of both: they may
+/// differ in the size of the cache, the limit of datagrams, the ids, and in what memory is refused to them, but not to an update.
+pub fn walked_runs_agree()
+    ensures { (content : WorldContent) (size limit : ℕ) (ids : List ℕ) (events : List Event)
+        (reports others : List EventReport) → AreWalked content events reports
+        → AreWalked (with_sizes size limit ids content) events others
+        → AllByRecursion HasSentUpdate reports → AllByRecursion HasSentUpdate others
+        → AreAgreed content.zone events reports others }
+{}
 
 /// Distinct ids serve no two questions: if no id occurs twice in the list, no id that was drawn serves two equal questions. So do
 /// the ids that count from a number on.

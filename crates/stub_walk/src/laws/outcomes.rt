@@ -1,6 +1,8 @@
 //! What questions come to where a zone answers them.
 
-ghost use Rattle.std.specs.Prelude.{◌≡◌, false, All, List, Ok, Err};
+ghost use Rattle.std.specs.Prelude.{◌≡◌, false, All, List, ℕ, Ok, Err};
+ghost use Rattle.dns_names.specs.Name.{DomainName};
+ghost use Rattle.dns_records.specs.Rows.{Rows};
 ghost use Rattle.dns_messages.specs.declared.message.Message.{Message};
 ghost use Rattle.dns_messages.specs.declared.query.Query.{Query};
 ghost use Rattle.dns_messages.specs.declared.response.DnsResponse.{DnsResponse};
@@ -8,13 +10,16 @@ ghost use Rattle.dns_zone.specs.Rows.{IsZone, ZoneContent};
 ghost use Rattle.stub_lookup.specs.declared.error.NetError.{NetError};
 ghost use Rattle.stub_client.specs.Conclusions.{Conclusion};
 ghost use Rattle.stub_client.specs.Handle.{Ask, Outcome};
+ghost use Rattle.stub_client.specs.Origins.{asked_at};
 ghost use Rattle.stub_client.specs.Outcomes.{ChainsEnd, ComesTo};
 ghost use Rattle.stub_client.specs.declared.caching_client.step.LookupSettings.{LookupSettings};
 ghost use Rattle.stub_link.specs.Ask as one_question;
 ghost use Rattle.stub_link.specs.AskState.{AskState};
 ghost use Rattle.stub_link.specs.Link.{messages};
-ghost use Rattle.stub_link.specs.LinkState.{link_calls};
+ghost use Rattle.stub_link.specs.LinkState.{Version, link_calls};
 ghost use Rattle.stub_link.specs.Request.{IsQuestion};
+ghost use Rattle.stub_history.specs.Answered.{IsAnsweredBy, zone_with};
+ghost use Rattle.stub_history.specs.Stands.{StandAt};
 ghost use Rattle.stub_walk.specs.Answered.{HasShortAliases, IsAskError, IsAsked, IsOrdinary, IsPlainAsk, IsZoneOutcome, IsZoneReply};
 ghost use Rattle.stub_walk.specs.Walk.{AgreesWithWalk};
 
@@ -48,4 +53,13 @@ pub fn questions_fail_by_faults()
         → IsZoneReply zone q response.message)
         → ((error : NetError) → outcome ≡ Err error → IsAskError error)
         → IsZoneOutcome zone q outcome }
+{}
+
+/// Where the same rows stand during a lookup, all its outcomes that are answered by rows that stand are those of the zone with these rows.
+pub fn answers_of_steady_rows_are_of_a_zone()
+    ensures { (origin : DomainName) (history : List Version) (rows : Rows) (now : ℕ)
+        (asks : List Ask) → ((other : Rows) → StandAt history now other → other ≡ rows)
+        → All (IsAnsweredBy origin history) (asked_at now asks)
+        → All (λ ask. (error : NetError) → ask.outcome ≡ Err error → IsAskError error) asks
+        → All (IsAsked (zone_with origin rows)) asks }
 {}

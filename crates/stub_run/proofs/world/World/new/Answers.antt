@@ -37,4 +37,4 @@ returns-clause-content c =
     (λ is. ok-is-no-error c.in_ok-resolver.resolver Unsupported
     (c.in_ok-resolver.ensures.unsupported (ap (λ (s : Settings). is_unsupported s.options) settings ∙ is))) in
     let made = returns-clause-supported c supported in
-    record { zone = c.origin-origin.ensures.well_formed; state = made.0; first = made.1; begins = made.2 }
+    record { zone = c.origin-origin.ensures.well_formed; payload = c.payload_len-payload.ensures; state = made.0; first = made.1; begins = made.2 }

@@ -1,0 +1,108 @@
+-- What a run promises where the rows of the zone do not change: its lookups return what walks over the zone come to. Neither the cache, nor
+-- the size of datagrams, nor ids make a difference.
+use Rattle.std.specs.Prelude.{◌≡◌, ◌≢◌, ◌++◌, true, string_bytes, All, List, [], ◌∷◌, ℕ, Option, Ok, Err}
+use Rattle.std.specs.declared.net.ip_addr.IpAddr.{IpAddr}
+use Rattle.dns_names.specs.Parse.{name_of_text}
+use Rattle.dns_text.specs.Address.{IsTextOf}
+use Rattle.dns_zone.specs.Rows.{ZoneContent}
+use Rattle.stub_lookup.specs.declared.error.NetError.TheVariants as net
+use Rattle.stub_core.specs.Resolver.{LooksUp, LooksUpHost, known_type}
+use Rattle.stub_core.specs.declared.resolver.settings.Settings.{Settings}
+use Rattle.stub_link.specs.History.{Occasion, Past, first_past, past_after_occasion}
+use Rattle.stub_link.specs.LinkState.{Version}
+use Rattle.stub_history.specs.Answered.{is_plain}
+use Rattle.stub_walk.specs.Agreement.{Agree}
+use Rattle.stub_walk.specs.Answered.{HasShortAliases}
+use Rattle.stub_walk.specs.Walk.{ByWalk}
+use Rattle.stub_run.specs.Headline.{WorldContent, settings_of}
+use Rattle.stub_run.specs.History.{AreOccasions}
+use Rattle.stub_run.specs.declared.event.Event.{Event}
+use Rattle.stub_run.specs.declared.event.Event.TheVariants as event
+use Rattle.stub_run.specs.declared.report.EventReply.{EventReply}
+use Rattle.stub_run.specs.declared.report.EventReply.TheVariants as replies
+use Rattle.stub_run.specs.declared.report.EventReport.{EventReport}
+
+-- ---- zones that do not change
+
+-- the past from which on the zone must not change: that before the last full clear, or the first one
+abbrev pub past_since : Event → Past → Past → Past
+past_since (event.ClearAll at script) first past = past
+past_since e first past = first
+
+-- each version that was added since has the same rows
+abbrev pub IsUnchanged : Past → List Version → Type 0
+IsUnchanged first history =
+    (added : List Version) → history ≡ first.history ++ added → All (λ version. version.rows ≡ first.zone.rows) added
+
+-- ---- replies
+
+-- A lookup of a plain type, or of a host, is one in which each question is walked over the zone. A walk has neither a cache nor a link.
+abbrev pub IsWalkedReply : ZoneContent → Settings → Event → EventReply → Type 0
+IsWalkedReply zone settings (event.Lookup at name kind script) (replies.Lookup found) =
+    is_plain (known_type kind) ≡ true → LooksUp settings at (ByWalk zone) (Ok name) kind tt found tt
+IsWalkedReply zone settings (event.LookupIp at host script) (replies.LookupIp found) =
+    (address : Option IpAddr) × IsTextOf (string_bytes host) address
+    × LooksUpHost settings at (ByWalk zone) address (name_of_text (string_bytes host)) tt found tt
+IsWalkedReply zone settings e reply = Unit {0}
+
+-- If no delivery changed the rows since the last full clear, or the start, up to the end of the event, no chain of aliases in the zone
+-- passes seven links, and the link met no fault in this event, its reply is walked.
+abbrev pub IsWalkedEvent : Settings → Past → Past → Event → EventReport → Type 0
+IsWalkedEvent settings first after e report =
+    IsUnchanged first after.history → HasShortAliases first.zone → report.faults ≡ 0
+    → IsWalkedReply first.zone settings e report.reply
+
+-- event by event
+abbrev pub AreWalkedEvents : Settings → Past → Past → List Event → List EventReport → List Occasion → Type 0
+AreWalkedEvents settings first past [] [] [] = Unit {0}
+AreWalkedEvents settings first past (e ∷ events) (report ∷ reports) (occasion ∷ occasions) =
+    IsWalkedEvent settings (past_since e first past) (past_after_occasion past occasion) e report
+    × AreWalkedEvents settings (past_since e first past) (past_after_occasion past occasion) events reports occasions
+AreWalkedEvents settings first past events reports occasions = ⊥
+
+-- ---- runs
+
+-- Equality of roads: where nothing was updated and the link met no fault, the lookups of a run return what walks over the zone come to.
+pub record AreWalked (content : WorldContent) (events : List Event) (reports : List EventReport) : Type 0 where
+  pub occasions : List Occasion
+  pub are_events : AreOccasions events reports occasions
+  pub walked : AreWalkedEvents (settings_of content) (first_past content.zone) (first_past content.zone) events reports occasions
+
+-- ---- settings
+
+-- settings with another size of the cache
+abbrev pub with_cache_size : ℕ → Settings → Settings
+with_cache_size size settings = record settings { options = record settings.options { cache_size = size } }
+
+-- a world of the same zone whose cache and datagrams have other sizes, and that draws other ids
+abbrev pub with_sizes : ℕ → ℕ → List ℕ → WorldContent → WorldContent
+with_sizes size limit ids content =
+    record content { limit = limit; ids = ids; options = record content.options { cache_size = size } }
+
+-- ---- two runs of the same events
+
+-- two replies to a lookup of a plain type, or of a host, agree, TTLs aside
+abbrev pub AgreeOn : Event → EventReply → EventReply → Type 0
+AgreeOn (event.Lookup at name kind script) (replies.Lookup one) (replies.Lookup other) =
+    is_plain (known_type kind) ≡ true → Agree one other
+AgreeOn (event.LookupIp at host script) (replies.LookupIp one) (replies.LookupIp other) = Agree one other
+AgreeOn e one other = Unit {0}
+
+-- no memory was lacking for the datagram of an update
+abbrev pub HasSentUpdate : EventReport → Type 0
+HasSentUpdate report = report.reply ≢ replies.Update (Err net.Memory)
+
+-- If the zone is unchanged, its chains of aliases are short and the link met no fault in either run, the replies agree; event by event.
+abbrev pub AreAgreedEvents : Past → Past → List Event → List EventReport → List EventReport → List Occasion → Type 0
+AreAgreedEvents first past [] [] [] [] = Unit {0}
+AreAgreedEvents first past (e ∷ events) (one ∷ reports) (other ∷ others) (occasion ∷ occasions) =
+    (IsUnchanged (past_since e first past) (past_after_occasion past occasion).history → HasShortAliases (past_since e first past).zone
+    → one.faults ≡ 0 → other.faults ≡ 0 → AgreeOn e one.reply other.reply)
+    × AreAgreedEvents (past_since e first past) (past_after_occasion past occasion) events reports others occasions
+AreAgreedEvents first past events reports others occasions = ⊥
+
+-- two runs over a zone agree
+pub record AreAgreed (zone : ZoneContent) (events : List Event) (reports others : List EventReport) : Type 0 where
+  pub occasions : List Occasion
+  pub are_events : AreOccasions events reports occasions
+  pub agree : AreAgreedEvents (first_past zone) (first_past zone) events reports others occasions
