@@ -147,7 +147,8 @@ content_of input zone ids hosts = record {
   hosts = hosts;
 }
 
--- The text of the report of a run of these events. Every record in it stood in the zone, and has the chain bound.
+-- The text of the report of a run of these events. What it says of plain types is fresh, and has the chain bound if no chain of aliases passes
+-- seven links.
 pub record Tells (input : PlayInput) (zone : ZoneContent) (events : List Event) (text : List ℕ) : Type 0 where
   pub hosts : HostsContent
   pub state : RunState
