@@ -16,7 +16,7 @@ use Rattle.stub_run.specs.declared.event.Event.{Event}
 use Rattle.stub_run.specs.declared.world.World.{World}
 use Rattle.stub_run.specs.World.{BeginsWith, IsFirst}
 use Rattle.stub_run.specs.Counts.{HasDrawn}
-use Rattle.stub_run.specs.Headline.{AreFresh, WorldContent}
+use Rattle.stub_run.specs.Headline.{AreFresh, HasNoLeastTtl, WorldContent}
 use Rattle.stub_run.specs.Ids.{AreDistinct}
 use Rattle.stub_run.proofs.Reporting.{Bounds, Law, front-in-order}
 use Rattle.stub_history.specs.Faithful.{HasNoReuse}
@@ -190,8 +190,8 @@ stopped_is P error report is h = rw is at h
 
 -- what holds of every run
 pub record RunsHold : Type 0 where
-  pub fresh : Law AreFresh
-  pub chain_bound : Law Bounds
+  pub fresh : Law HasNoLeastTtl AreFresh
+  pub chain_bound : Law HasNoLeastTtl Bounds
   pub drawn : (ids : List ℕ) (first last : RunState) (events : List Event) (reports : List EventReport) (states : List RunState)
       → HasDrawn ids (asks_of first) → Runs first events reports states last → HasDrawn ids (asks_of last)
   pub distinct : (ids : List ℕ) (sent : List (ℕ × Query)) → AreDistinct ids
