@@ -1,0 +1,146 @@
+"""References in pages to public items, clauses, definitions and files."""
+import re
+from functools import cache
+
+CODE = re.compile(r"`([^`\n]+)`")
+ITEM = re.compile(r"([a-z]\w*)::([\w:{}, ]+?)(?:#(\w+))?")
+FILE = re.compile(r"(?:crates/)?(\w+/specs/[\w/{}, ]+\.antt)(?:: ([\w, -]+))?")
+LINK = re.compile(r"\]\(([^)#:\s]*)(?:#([^)\s]*))?\)")
+# Names that a sentence places in a file, as "`IsFresh` and `IsReached`, in `stub_history/specs/Stands.antt`".
+PLACED = re.compile(r"((?:`[\w-]+`(?:, | and |, and )?)+),? in `(\w+/specs/[\w/{},]+\.antt)`")
+# A line that declares a definition, a field of a record or a constructor.
+DECLARED = re.compile(
+    r"^\s*(?:(?:abbrev|unfoldable|opaque|pub|data|record)\s+)*([^\W\d][\w-]*)\s*(?=[:({]|$)", re.M
+)
+BRACES = re.compile(r"\{([^{}]*)\}")
+
+
+def unresolved(library, page):
+    """The number of references in a page, and a line for each that leads nowhere."""
+    found = 0
+    lines = []
+    names = names_of_tables(page)
+    for number, line in prose_lines(page):
+        checked = [*references(library, page, line), *(placed(it) for it in names.get(number, []))]
+        found += len(checked)
+        for text, reason in [(text, reason(library)) for text, reason in checked]:
+            lines += [f"{page.name}:{number}: {text}: {reason}"] if reason else []
+    return found, lines
+
+
+def prose_lines(page):
+    """The lines of a page outside blocks of code, each with its number."""
+    is_code = False
+    for number, line in enumerate(page.read_text(encoding="utf-8").splitlines(), 1):
+        is_fence = line.lstrip().startswith("```")
+        if not is_code and not is_fence:
+            yield number, line
+        is_code ^= is_fence
+
+
+def references(library, page, line):
+    """The references of a line, each with what says why it leads nowhere, or says nothing."""
+    for text in CODE.findall(line):
+        item, file = ITEM.fullmatch(text), FILE.fullmatch(text)
+        if item and item[1] in library.crates:
+            for path in expanded(item[2]):
+                yield text, lambda it, path=path, item=item: no_item(it, item[1], path, item[3])
+        elif file:
+            for path in expanded(file[1]):
+                yield text, lambda it, path=path, names=file[2]: no_definitions(it, [path], names_in(names))
+    for names, file in PLACED.findall(line):
+        yield f"{names} in {file}", lambda it, n=names, f=file: no_definitions(it, expanded(f), CODE.findall(n))
+    for target, anchor in LINK.findall(line):
+        yield target or f"#{anchor}", lambda _, t=target, a=anchor: no_file(page, t, a)
+
+
+def expanded(text):
+    """A text with braces, once for each of their parts."""
+    found = BRACES.search(text)
+    if not found:
+        return [text]
+    return [it for part in found[1].split(",") for it in expanded(text[: found.start()] + part.strip() + text[found.end() :])]
+
+
+def names_in(text):
+    return [it.strip() for it in text.split(",")] if text else []
+
+
+def no_item(library, crate, path, clause):
+    """Why a path names no public item, or no clause of it."""
+    export, member = library.resolve(crate, None, path.split("::"))
+    if not export or export.item is None:
+        return "no such public item"
+    items = [export.item] if not member else [it for it in library.members(export) if it.name == member]
+    if not items:
+        return f"{export.title()} has no public member {member}"
+    if clause and clause not in clauses_of(library, export, items):
+        return f"no clause {clause}"
+    return ""
+
+
+def clauses_of(library, export, items):
+    """The names of the clauses of items. A type has those of the traits that it implements, a trait its ghost members."""
+    names = {it.name for item in items for it in item.clauses}
+    for item in items:
+        names |= {it.name for it in item.members if it.kind == "ghost"}
+        if item is export.item and item.kind in ("struct", "enum"):
+            impls = [impl for impl, parts, _ in library.implementations(export) if parts[0]]
+            names |= {it.name for impl in impls for it in impl.members if it.kind == "ghost"}
+            names |= {it.name for impl in impls for member in impl.members for it in member.clauses}
+    return names
+
+
+def no_definitions(library, files, names):
+    """Why a file does not exist, or which names none of the files declares."""
+    missing = [it for it in files if not (library.root / "crates" / it).is_file()]
+    if missing:
+        return f"no file {missing[0]}"
+    declared = {name for it in files for name in declared_in(library.root / "crates" / it)}
+    lost = [it for it in names if it not in declared]
+    return f"{', '.join(lost)} not declared there" if lost else ""
+
+
+@cache
+def declared_in(path):
+    """The names that a file of definitions declares."""
+    return set(DECLARED.findall(path.read_text(encoding="utf-8")))
+
+
+def no_file(page, target, anchor):
+    """Why a link leads nowhere."""
+    file = page.parent / target if target else page
+    if not file.exists():
+        return "no such file"
+    is_page = file.suffix == ".md" and anchor
+    return "no such place" if is_page and anchor not in anchors(file) else ""
+
+
+@cache
+def anchors(file):
+    """The places in a page: those that are marked, and its headings."""
+    text = file.read_text(encoding="utf-8")
+    headings = [re.sub(r"[^\w\- ]", "", it.lower()).replace(" ", "-") for it in re.findall(r"^#+ (.*)$", text, re.M)]
+    return set(re.findall(r'<a id="([^"]*)">', text)) | set(headings)
+
+
+def names_of_tables(page):
+    """The definitions of each line of a table with the columns `Definition` and `File`, with their files."""
+    found, columns = {}, []
+    for number, line in prose_lines(page):
+        cells = [it.strip() for it in re.split(r"(?<!\\)\|", line)]
+        if not line.startswith("|"):
+            columns = []
+        elif not columns:
+            columns = cells
+        elif "Definition" in columns and "File" in columns:
+            names = CODE.findall(cells[columns.index("Definition")])
+            files = [it for file in CODE.findall(cells[columns.index("File")]) for it in expanded(file)]
+            found[number] = [(names, files)] if files else []
+    return found
+
+
+def placed(names_and_files):
+    """A reference to definitions in files."""
+    names, files = names_and_files
+    return f"{', '.join(names)} in {', '.join(files)}", lambda it: no_definitions(it, files, names)
