@@ -12,19 +12,21 @@ PLACED = re.compile(r"((?:`[\w-]+`(?:, | and |, and )?)+),? in `(\w+/specs/[\w/{
 DECLARED = re.compile(
     r"^\s*(?:(?:abbrev|unfoldable|opaque|pub|data|record)\s+)*([^\W\d][\w-]*)\s*(?=[:({]|$)", re.M
 )
+# What a page on coverage says of a rule.
+STATUSES = ("stated", "own choice", "left out")
 BRACES = re.compile(r"\{([^{}]*)\}")
 
 
 def unresolved(library, page):
     """The number of references in a page, and a line for each that leads nowhere."""
-    found = 0
-    lines = []
-    names = names_of_tables(page)
+    found, lines = 0, []
+    rows = dict(table_rows(page))
     for number, line in prose_lines(page):
-        checked = [*references(library, page, line), *(placed(it) for it in names.get(number, []))]
+        row = rows.get(number, {})
+        checked = [*references(library, page, line), *placed_by_columns(row)]
         found += len(checked)
-        for text, reason in [(text, reason(library)) for text, reason in checked]:
-            lines += [f"{page.name}:{number}: {text}: {reason}"] if reason else []
+        reasons = [(text, reason(library)) for text, reason in checked] + [("the row", status_fault(library, page, row))]
+        lines += [f"{page.name}:{number}: {text}: {reason}" for text, reason in reasons if reason]
     return found, lines
 
 
@@ -124,23 +126,32 @@ def anchors(file):
     return set(re.findall(r'<a id="([^"]*)">', text)) | set(headings)
 
 
-def names_of_tables(page):
-    """The definitions of each line of a table with the columns `Definition` and `File`, with their files."""
-    found, columns = {}, []
+def table_rows(page):
+    """The rows of the tables in a page: the number of the line, and the cell of each column."""
+    columns = []
     for number, line in prose_lines(page):
         cells = [it.strip() for it in re.split(r"(?<!\\)\|", line)]
         if not line.startswith("|"):
             columns = []
         elif not columns:
             columns = cells
-        elif "Definition" in columns and "File" in columns:
-            names = CODE.findall(cells[columns.index("Definition")])
-            files = [it for file in CODE.findall(cells[columns.index("File")]) for it in expanded(file)]
-            found[number] = [(names, files)] if files else []
-    return found
+        elif not line.startswith("|--"):
+            yield number, dict(zip(columns, cells))
 
 
-def placed(names_and_files):
-    """A reference to definitions in files."""
-    names, files = names_and_files
-    return f"{', '.join(names)} in {', '.join(files)}", lambda it: no_definitions(it, files, names)
+def placed_by_columns(row):
+    """The definitions that a row has in the column `Definition`, in the files of its column `File`."""
+    if row.get("Definition") and row.get("File"):
+        names = CODE.findall(row["Definition"])
+        files = [it for file in CODE.findall(row["File"]) for it in expanded(file)]
+        yield f"{', '.join(names)} in {', '.join(files)}", lambda it: no_definitions(it, files, names)
+
+
+def status_fault(library, page, row):
+    """What is wrong with the status of a row: it is unknown, or nothing is named that states the rule."""
+    if "Rule" not in row or "Status" not in row:
+        return ""
+    if row["Status"] not in STATUSES:
+        return f"the status is none of {', '.join(STATUSES)}"
+    is_bare = row["Status"] == "stated" and not [*references(library, page, row.get("Where", ""))]
+    return "nothing is named that states the rule" if is_bare else ""
