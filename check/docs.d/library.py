@@ -84,7 +84,7 @@ class Library:
         return sorted(found, key=lambda it: (it[2] is not export.module, it[2].path))
 
     def members(self, export):
-        """What a path can name in an item: its variants and public fields, and its methods or the members of a trait."""
+        """What a path can name in an item: variants and public fields, and methods or the members of a trait."""
         item = export.item
         found = [it for it in item.members if item.kind == "trait" or it.kind == "variant" or it.is_public()]
         if item.kind in TYPES:

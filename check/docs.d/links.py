@@ -1,6 +1,8 @@
 """Links from documentation and contracts to items and definitions."""
 import re
 
+from specs import definitions_of
+
 LINK = re.compile(r"\[`([\w:]+)(\(\))?`\](?:\(([\w:]+)\))?")
 WORD = re.compile(r"[^\W\d][\w-]*")
 
@@ -39,20 +41,34 @@ class Links:
         return f"Error: [`{error}`]({target})." if target else ""
 
     def definitions(self, imports, texts):
-        """The definitions that contracts name, with links to the files that have them."""
+        """The definitions that contracts name, each with a link to what it says."""
         used = {it for text in texts for it in WORD.findall(text)}
-        files = {}
-        for name in sorted(used & set(imports)):
-            file = spec_file(imports[name])
-            if file and (self.library.root / file).is_file():
-                files.setdefault(file, []).append(name)
-        lines = [f"{', '.join(f'`{it}`' for it in names)} in [{short(file)}](../../{file})" for file, names in files.items()]
-        return "\n\nDefinitions: " + "; ".join(lines) + "." if lines else ""
+        names = [self.definition(it, imports[it]) for it in sorted(used & set(imports))]
+        return "\n\nDefinitions: " + ", ".join(it for it in names if it) + "." if any(names) else ""
+
+    def definition(self, name, imported):
+        """A definition with its link, or an empty text if the repository has no file of it."""
+        file = spec_file(imported)
+        if not file or not (self.library.root / file).is_file():
+            return ""
+        crate, module = imported.split(".")[1], imported.split(".specs.")[1].replace(".", "/")
+        target = self.definition_place(crate, module, name)
+        return f"[`{name}`]({target or '../../' + file})"
+
+    def definition_place(self, crate, module, name):
+        """The place of a definition in these pages, or `None`."""
+        for it in definitions_of(self.library.root, crate):
+            if it.module == module and name in it.names:
+                page = "" if crate == self.crate.name else f"{crate}.md"
+                return f"{page}#{definition_anchor(module, name)}"
+            if it.module == module and name in it.reexports:
+                return self.definition_place(*it.reexports[name], name)
+        return None
 
 
-def short(file):
-    """The path of a file of definitions without the folder of all crates."""
-    return file.removeprefix("crates/")
+def definition_anchor(module, name):
+    """The anchor of a definition in its crate's page."""
+    return f"spec.{module.replace('/', '.')}.{name}"
 
 
 def spec_file(module):

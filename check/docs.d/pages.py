@@ -1,8 +1,9 @@
 """The page of a crate."""
 import re
 
-from links import Links
 from library import is_type
+from links import Links, definition_anchor
+from specs import definitions_of
 
 KINDS = {
     "struct": "Structs",
@@ -61,6 +62,7 @@ class Page:
             self.add_contents(path)
         for path in modules:
             self.add_module(path)
+        self.add_definitions()
         return "\n\n".join(self.parts) + "\n"
 
     def of_module(self, path):
@@ -97,11 +99,22 @@ class Page:
         items = self.of_module(path)
         if path:
             module = self.crate.modules[path]
-            self.add(f'## <a id="{".".join(path)}"></a>Module `{"::".join(path)}`', self.links(module).prose(module.docs))
+            self.add(f'## <a id="{".".join(path)}"></a>Module `{"::".join(path)}`')
+            self.add(self.links(module).prose(module.docs))
         elif items:
             self.add("## Items")
         for export in items:
             self.add_item(export)
+
+    def add_definitions(self):
+        """What the definitions are that contracts name."""
+        files = [it for it in definitions_of(self.library.root, self.crate.name) if it.names]
+        if files:
+            self.add("## Definitions", "What the names in contracts mean, by the file that has the definition.")
+        for it in files:
+            self.add(f"### [`{it.path.removeprefix('crates/')}`](../../{it.path})", it.comment)
+            rows = [definition_row(it.module, name, comment) for name, comment in it.names.items()]
+            self.add("\n".join(["| Definition | |", "|---|---|", *rows]))
 
     def add_item(self, export):
         """The section of an item."""
@@ -120,15 +133,16 @@ class Page:
         for it in export.item.members:
             if it.kind == "variant" or it.kind == "field" and it.is_public() and it.docs:
                 lines.append(member_line(field_anchor(export, it), it, links))
+                anchor = field_anchor(export, it)
                 fields = [field for field in it.members if field.kind == "field" and field.docs]
-                lines += ["  " + member_line(f"{field_anchor(export, it)}.{field.name}", field, links) for field in fields]
+                lines += ["  " + member_line(f"{anchor}.{field.name}", field, links) for field in fields]
         title = {"enum": "**Variants**", "struct": "**Fields**"}.get(export.item.kind)
         return f"{title}\n\n" + "\n".join(lines) if lines else ""
 
     def invariants(self, item, links):
         """What always holds of the fields of a type."""
-        ghosts = [it for it in item.members if it.kind == "ghost"] if item.kind in ("struct", "enum") else []
-        ghosts += [field for it in item.members if it.kind == "variant" for field in it.members if field.kind == "ghost"]
+        fields = item.members + [field for it in item.members if it.kind == "variant" for field in it.members]
+        ghosts = [it for it in fields if it.kind == "ghost"] if item.kind in ("struct", "enum") else []
         if not ghosts:
             return ""
         texts = [it.signature.removeprefix("ghost ") for it in ghosts]
@@ -159,7 +173,8 @@ class Page:
             self.add("**What an implementation states**, for contracts", "\n".join(lines), folded("Types", code))
         for member in export.item.members:
             self.add_member(export, member, links)
-        names = sorted({f"- `{impl.signature}` in `{crate.name}`" for crate, impl, *_ in self.library.implementors(export)})
+        found = self.library.implementors(export)
+        names = sorted({f"- `{impl.signature}` in `{crate.name}`" for crate, impl, *_ in found})
         self.add("**Implementations**" if names else "", "\n".join(names))
 
     def add_member(self, export, member, links):
@@ -213,6 +228,12 @@ class Page:
             if texts:
                 parts.append(block("text", impl.signature, *texts) + links.definitions(impl.imports, texts))
         return folded("Contracts of these implementations", "\n\n".join(parts)) if parts else ""
+
+
+def definition_row(module, name, comment):
+    """The line of a definition in the table of its file."""
+    text = comment.replace("|", "\\|")
+    return f'| <a id="{definition_anchor(module, name)}"></a>`{name}` | {text} |'
 
 
 def html_code(text):

@@ -25,7 +25,8 @@ def unresolved(library, page):
         row = rows.get(number, {})
         checked = [*references(library, page, line), *placed_by_columns(row)]
         found += len(checked)
-        reasons = [(text, reason(library)) for text, reason in checked] + [("the row", status_fault(library, page, row))]
+        reasons = [(text, reason(library)) for text, reason in checked]
+        reasons += [("the row", status_fault(library, page, row))]
         lines += [f"{page.name}:{number}: {text}: {reason}" for text, reason in reasons if reason]
     return found, lines
 
@@ -61,7 +62,8 @@ def expanded(text):
     found = BRACES.search(text)
     if not found:
         return [text]
-    return [it for part in found[1].split(",") for it in expanded(text[: found.start()] + part.strip() + text[found.end() :])]
+    before, after = text[: found.start()], text[found.end() :]
+    return [it for part in found[1].split(",") for it in expanded(before + part.strip() + after)]
 
 
 def names_in(text):
@@ -82,7 +84,7 @@ def no_item(library, crate, path, clause):
 
 
 def clauses_of(library, export, items):
-    """The names of the clauses of items. A type has those of the traits that it implements, a trait its ghost members."""
+    """The names of the clauses of items. A type has those of its traits, too, and a trait its ghost members."""
     names = {it.name for item in items for it in item.clauses}
     for item in items:
         names |= {it.name for it in item.members if it.kind == "ghost"}
