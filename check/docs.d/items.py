@@ -30,7 +30,7 @@ class Item:
     signature: str = ""
     clauses: list = field(default_factory=list)
     members: list = field(default_factory=list)
-    # The definitions that the item's contract may name, each with its module: those of `ghost use`.
+    # The definitions that the item's contract may name, each with its module and its name there: those of `ghost use`.
     imports: dict = field(default_factory=dict)
     # The tokens of the declaration.
     words: list = field(default_factory=list)
@@ -211,10 +211,15 @@ def share_imports(item):
 
 
 def imports_of(words):
-    """The names that a `ghost use` imports, each with its module, as `Rattle.dns_zone.specs.Answer`."""
-    text = "".join(words)
-    module, _, names = text.partition(".{")
-    return {name: module for name in names.rstrip("}").split(",") if name}
+    """The names that a `ghost use` imports, each with its module, as `Rattle.dns_zone.specs.Answer`, and its name there."""
+    text = " ".join(words)
+    module, _, names = text.partition(" . { ")
+    found = {}
+    for part in names.removesuffix("}").split(","):
+        name, _, local = part.partition(" as ")
+        name = name.replace(" ", "")
+        found[local.replace(" ", "") or name] = (module.replace(" ", ""), name)
+    return found
 
 
 def read_items(text):

@@ -43,17 +43,17 @@ class Links:
     def definitions(self, imports, texts):
         """The definitions that contracts name, each with a link to what it says."""
         used = {it for text in texts for it in WORD.findall(text)}
-        names = [self.definition(it, imports[it]) for it in sorted(used & set(imports))]
+        names = [self.definition(it, *imports[it]) for it in sorted(used & set(imports))]
         return "\n\nDefinitions: " + ", ".join(it for it in names if it) + "." if any(names) else ""
 
-    def definition(self, name, imported):
+    def definition(self, shown, imported, name):
         """A definition with its link, or an empty text if the repository has no file of it."""
         file = spec_file(imported)
         if not file or not (self.library.root / file).is_file():
             return ""
         crate, module = imported.split(".")[1], imported.split(".specs.")[1].replace(".", "/")
         target = self.definition_place(crate, module, name)
-        return f"[`{name}`]({target or '../../' + file})"
+        return f"[`{shown}`]({target or '../../' + file})"
 
     def definition_place(self, crate, module, name):
         """The place of a definition in these pages, or `None`."""

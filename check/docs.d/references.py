@@ -12,6 +12,8 @@ PLACED = re.compile(r"((?:`[\w-]+`(?:, | and |, and )?)+),? in `(\w+/specs/[\w/{
 DECLARED = re.compile(
     r"^\s*(?:(?:abbrev|unfoldable|opaque|pub|data|record)\s+)*([^\W\d][\w-]*)\s*(?=[:({]|$)", re.M
 )
+# Pages whose blocks of code are contracts and definitions.
+QUOTING = ("READING_CONTRACTS.md",)
 # What a page on coverage says of a rule.
 STATUSES = ("stated", "own choice", "left out")
 BRACES = re.compile(r"\{([^{}]*)\}")
@@ -28,7 +30,24 @@ def unresolved(library, page):
         reasons = [(text, reason(library)) for text, reason in checked]
         reasons += [("the row", status_fault(library, page, row))]
         lines += [f"{page.name}:{number}: {text}: {reason}" for text, reason in reasons if reason]
+    if page.name in QUOTING:
+        lines += [f"{page.name}:{number}: no source has this line: {it}" for number, it in misquoted(library.root, page)]
     return found, lines
+
+
+def misquoted(root, page):
+    """The lines of a page's blocks of code that no source and no file of definitions has, each with its number."""
+    prose = {number for number, _ in prose_lines(page)}
+    for number, line in enumerate(page.read_text(encoding="utf-8").splitlines(), 1):
+        if number not in prose and not line.startswith("```") and line.strip() not in source_lines(root):
+            yield number, line.strip()
+
+
+@cache
+def source_lines(root):
+    """The lines of all sources and definitions, without indentation."""
+    files = [*root.glob("crates/*/src/**/*.rt"), *root.glob("crates/*/specs/**/*.antt")]
+    return {""} | {line.strip() for it in files for line in it.read_text(encoding="utf-8").splitlines()}
 
 
 def prose_lines(page):
