@@ -34,6 +34,7 @@ class Item:
     imports: dict = field(default_factory=dict)
     # The tokens of the declaration.
     words: list = field(default_factory=list)
+    has_body: bool = False
 
     def is_public(self):
         return self.visibility == "pub"
@@ -139,6 +140,7 @@ class Reader:
             name = "".join(tokens.words[end + 1 : opened])
             item.clauses.append(Clause(tokens.word(end), name, tokens.slice(end, after)))
             end = after
+        item.has_body = tokens.word(end) == "{"
         return item, tokens.after(end)
 
     def ghost(self, item, start, at):

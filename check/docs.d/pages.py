@@ -278,8 +278,10 @@ def field_anchor(export, member):
 
 def displayed(item):
     """The text that an error is displayed as."""
-    shown = [it for it in item.attributes if it.startswith("#[error(")]
-    return f"Displayed as {shown[0][8:-2]}." if shown else ""
+    shown = [it[8:-2] for it in item.attributes if it.startswith("#[error(")]
+    if not shown:
+        return ""
+    return "Displayed as its content." if shown[0] == '"{0}"' else f"Displayed as {shown[0]}."
 
 
 def member_line(anchor, item, links):
@@ -292,6 +294,8 @@ def member_line(anchor, item, links):
 
 def declaration(item):
     """The declaration of an item as a user sees it: without private fields and without documentation."""
+    if item.kind == "trait":
+        return trait_declaration(item)
     if item.kind not in ("struct", "enum") or not item.members:
         semicolon = ";" if item.kind in ("struct", "const", "type") else ""
         return item.signature + semicolon
@@ -304,6 +308,14 @@ def declaration(item):
         return item.signature + "(" + ", ".join(it.signature if it.is_public() else "_" for it in fields) + ");"
     lines = [f"    {it.signature}," for it in shown]
     lines += ["    // private fields"] if len(shown) < len(fields) else []
+    return "\n".join([item.signature + " {", *lines, "}"]) if lines else item.signature + " {}"
+
+
+def trait_declaration(item):
+    """A trait with the signatures of its members, without what is for contracts alone."""
+    members = [it for it in item.members if it.kind != "ghost"]
+    texts = [it.signature + (" { .. }" if it.has_body else ";") for it in members]
+    lines = [f"    {line}" for text in texts for line in text.split("\n")]
     return "\n".join([item.signature + " {", *lines, "}"]) if lines else item.signature + " {}"
 
 
