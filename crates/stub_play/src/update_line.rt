@@ -50,7 +50,10 @@ pub(crate) fn read_update(
         (map (λ word. word.items) arguments.now) (option_map content_of found)) }
 {
     match update_of(alloc, arguments, origin, id)? {
-        Some(update) => Ok(Some(Event::Update { at, update, script })),
+        Some(update) => {
+            let update = Box::new(alloc, update)?;
+            Ok(Some(Event::Update { at, update, script }))
+        }
         None => Ok(None),
     }
 }

@@ -402,7 +402,7 @@ module _ {H S : Type 0} (is_in : H → S → Type 0) (gives : Behavior H) (other
       } in
       (after, subst (λ (resolver : Resolver H). AreAlike is_in resolver after) (sym h.1) cleared, (h.0, refl))
   replies-alike old new (event.Update at update script) (replies.Update reply) state alike h =
-      updates-alike update old new reply state alike h
+      updates-alike update.value old new reply state alike h
   replies-alike old new e reply state alike h = absurd h
 
 -- ---- what every question and update keeps

@@ -12,10 +12,10 @@ use Rattle.stub_core.specs.Resolver.{with_handle}
 use Rattle.stub_client.specs.declared.request.DnsRequest.{DnsRequest}
 use Rattle.stub_core.specs.declared.resolver.Resolver.{Resolver}
 use Rattle.stub_link.specs.AskState.{AskState, AskZone, UpdateZone, begin, begin_with_update, end}
-use Rattle.stub_link.specs.LinkState.{Course, Honest, Listed, LinkState, deliver, deliver_event, deliver_named, deliver_rest, begin_event as begin_link, begin_update as begin_link_update, end_event as end_link, named_update}
+use Rattle.stub_link.specs.LinkState.{Course, Honest, Listed, LinkState, deliver, deliver_event, deliver_named, deliver_rest, begin_event as begin_link_event, begin_update as begin_link_update, end_event as end_link, named_update}
 use Rattle.stub_link.specs.Link.{Calls, calls_of, wire}
 use Rattle.stub_link.specs.Request.{IsUpdate}
-use Rattle.stub_link.specs.ScriptedLink.{IsAt, IsBegun, IsEnded, IsListed, Receives, Sends, Streams}
+use Rattle.stub_link.specs.ScriptedLink.{IsAt, IsBegun, IsEnded, IsListed, Receives, Sends, Streams, is_out_of_memory}
 use Rattle.stub_link.specs.WireHandle.{Asks, IsIn, SendsUpdate, asker_of, with_link}
 use Rattle.stub_link.specs.declared.link.script.LinkEvent.{LinkEvent}
 use Rattle.stub_link.specs.declared.link.script.LinkEvent.TheVariants as does
@@ -24,6 +24,8 @@ use Rattle.stub_link.specs.declared.link.scripted.ScriptedLink.{ScriptedLink}
 use Rattle.stub_link.specs.declared.wire_handle.WireHandle.{WireHandle}
 use Rattle.stub_run.specs.Alike.{AreAlike}
 use Rattle.stub_run.specs.Event.{TakesMemory, moment_of, script_of, update_of}
+use Rattle.stub_run.specs.RunOver.{BeginsOver, EndsOver, LinkRules, RunsOutOver, StepOver, begun_handle, link_is_out, no_beginning, no_end, rules_of}
+use Rattle.stub_run.specs.ScriptedEvents.{Begins as LinkBegins, Ends as LinkEnds, begin_link}
 use Rattle.stub_run.specs.Run.{Replies, RepliesByZone, RunState, RunsOut, Step, asks_of, at_ask, at_begin, at_end, begin_asks, begin_event, end_event}
 use Rattle.stub_run.specs.declared.event.Event.{Event}
 use Rattle.stub_run.specs.declared.event.Event.TheVariants as event
@@ -56,18 +58,18 @@ UpdatesServer old update reply new = UpdateZone old update reply new
 abbrev pub IsInState : Handle → AskState → Type 0
 IsInState handle asks = IsIn handle asks
 
--- ---- an event begins
+-- what the scripted link does
+abbrev pub scripted_rules : LinkRules ScriptedLink
+scripted_rules = rules_of LinkBegins LinkEnds is_out_of_memory Sends Receives Streams (λ link. link.failures)
 
--- a handle that begins an event, with its link as it is then
-abbrev pub begun : Handle → ScriptedLink → Handle
-begun handle link = record handle { link = link; faults = 0; questions = 0 }
+-- ---- an event begins
 
 -- a state in which an event begins, with the link's state as it is then
 abbrev begun_asks : AskState → LinkState → AskState
 begun_asks asks link = record asks { link = link; faults = 0; questions = 0 }
 
 begins-in : (handle : Handle) (link : ScriptedLink) (asks : AskState) (next : LinkState)
-    → next.out_of_memory ≡ asks.link.out_of_memory → IsAt link next → IsIn handle asks → IsIn (begun handle link) (begun_asks asks next)
+    → next.out_of_memory ≡ asks.link.out_of_memory → IsAt link next → IsIn handle asks → IsIn (begun_handle handle link) (begun_asks asks next)
 begins-in handle link asks next memory at h = record {
   link = at;
   shows = λ quiet.
@@ -87,13 +89,20 @@ begin-other (event.Clear at name kind script) asks h = refl
 begin-other (event.ClearAll at script) asks h = refl
 begin-other (event.Update at update script) asks h = absurd (cc)
 
-begin-update : (e : Event) (asks : AskState) (m : Message) → update_of e ≡ Some m
-    → begin_asks e asks ≡ begin_with_update (moment_of e) (script_of e) asks
-begin-update (event.Lookup at name kind script) asks m h = absurd (cc)
-begin-update (event.LookupIp at host script) asks m h = absurd (cc)
-begin-update (event.Clear at name kind script) asks m h = absurd (cc)
-begin-update (event.ClearAll at script) asks m h = absurd (cc)
-begin-update (event.Update at update script) asks m h = refl
+-- an event begins on the link, and nothing is counted yet
+begin-by-link : (e : Event) (asks : AskState) → begin_asks e asks ≡ begun_asks asks (begin_link e asks.link)
+begin-by-link (event.Lookup at name kind script) asks = refl
+begin-by-link (event.LookupIp at host script) asks = refl
+begin-by-link (event.Clear at name kind script) asks = refl
+begin-by-link (event.ClearAll at script) asks = refl
+begin-by-link (event.Update at update script) asks = refl
+
+begin-memory : (e : Event) (state : LinkState) → (begin_link e state).out_of_memory ≡ state.out_of_memory
+begin-memory (event.Lookup at name kind script) state = refl
+begin-memory (event.LookupIp at host script) state = refl
+begin-memory (event.Clear at name kind script) state = refl
+begin-memory (event.ClearAll at script) state = refl
+begin-memory (event.Update at update script) state = refl
 
 -- a resolver whose handle is alike
 alike-with : (resolver : WireResolver) (handle : Handle) (state : RunState) (asks : AskState) → AreAlike IsInState resolver state
@@ -103,92 +112,53 @@ alike-with resolver handle state asks alike h = record {
   client = record { handle = h; cache = alike.client.cache; aliases = alike.client.aliases };
 }
 
--- what the link does as an event begins, from each state that it is in
-abbrev pub LinkBegins : ScriptedLink → (LinkState → LinkState) → ScriptedLink → Type 0
-LinkBegins old begins new = (state : LinkState) → IsAt old state → IsAt new (begins state)
-
-pub begins-other : (old : WireResolver) (e : Event) (link : ScriptedLink) → update_of e ≡ None
-    → LinkBegins old.client.handle.link (λ state. begin_link (moment_of e) (script_of e) state) link
-    → Begins old e (with_handle old (begun old.client.handle link))
-begins-other old e link other h = λ state alike.
+-- an event begins over the scripted link, from each state that the resolver is in
+begins-alike : (old new : WireResolver) (e : Event) → BeginsOver scripted_rules old e new → Begins old e new
+begins-alike old new e b = λ state alike.
     let asks = asks_of state in
-    let next = begin_link (moment_of e) (script_of e) asks.link in
-    subst (λ (a : AskState). AreAlike IsInState (with_handle old (begun old.client.handle link)) (with_handle state a))
-    (sym (begin-other e asks other))
-    (alike-with old (begun old.client.handle link) state (begun_asks asks next) alike
-    (begins-in old.client.handle link asks next refl (h asks.link alike.client.handle.link) alike.client.handle))
+    let link = new.client.handle.link in
+    let at : IsAt link (begin_link e asks.link) = b.link asks.link alike.client.handle.link in
+    subst (λ (r : WireResolver). AreAlike IsInState r (begin_event e state)) (sym b.rest)
+    (subst (λ (a : AskState). AreAlike IsInState (with_handle old (begun_handle old.client.handle link)) (with_handle state a))
+    (sym (begin-by-link e asks))
+    (alike-with old (begun_handle old.client.handle link) state (begun_asks asks (begin_link e asks.link)) alike
+    (begins-in old.client.handle link asks (begin_link e asks.link) (begin-memory e asks.link) at alike.client.handle)))
 
-pub begins-update : (old : WireResolver) (e : Event) (link : ScriptedLink) (m : Message) → update_of e ≡ Some m
-    → LinkBegins old.client.handle.link (λ state. begin_link_update (moment_of e) (script_of e) state) link
-    → Begins old e (with_handle old (begun old.client.handle link))
-begins-update old e link m update h = λ state alike.
-    let asks = asks_of state in
-    let next = begin_link_update (moment_of e) (script_of e) asks.link in
-    subst (λ (a : AskState). AreAlike IsInState (with_handle old (begun old.client.handle link)) (with_handle state a))
-    (sym (begin-update e asks m update))
-    (alike-with old (begun old.client.handle link) state (begun_asks asks next) alike
-    (begins-in old.client.handle link asks next refl (h asks.link alike.client.handle.link) alike.client.handle))
+-- ---- events of the scripted link
 
--- how a resolver's handle begins an event: it is lent, its counts are reset, and its link is lent
-pub record Lent (old : WireResolver) (first reset : Handle) (before : ScriptedLink) : Type 0 where
-  pub handle : first ≡ old.client.handle
-  pub counts : reset ≡ record first { faults = 0; questions = 0 }
-  pub link : before ≡ reset.link
+link-other : (e : Event) (state : LinkState) → update_of e ≡ None
+    → begin_link e state ≡ begin_link_event (moment_of e) (script_of e) state
+link-other (event.Lookup at name kind script) state h = refl
+link-other (event.LookupIp at host script) state h = refl
+link-other (event.Clear at name kind script) state h = refl
+link-other (event.ClearAll at script) state h = refl
+link-other (event.Update at update script) state h = absurd (cc)
 
--- the handle with the link as it then is
-lent-begun : (old : WireResolver) (first reset : Handle) (before after : ScriptedLink) → Lent old first reset before
-    → begun old.client.handle after ≡ with_link reset after
-lent-begun old first reset before after lent =
-    sym (ap (λ (h : Handle). with_link h after) (lent.counts ∙ ap (λ (h : Handle). record h { faults = 0; questions = 0 }) lent.handle))
+link-update : (e : Event) (m : Message) (state : LinkState) → update_of e ≡ Some m
+    → begin_link e state ≡ begin_link_update (moment_of e) (script_of e) state
+link-update (event.Lookup at name kind script) m state h = absurd (cc)
+link-update (event.LookupIp at host script) m state h = absurd (cc)
+link-update (event.Clear at name kind script) m state h = absurd (cc)
+link-update (event.ClearAll at script) m state h = absurd (cc)
+link-update (event.Update at update script) m state h = refl
 
-lent-link : (old : WireResolver) (first reset : Handle) (before : ScriptedLink) → Lent old first reset before
-    → before ≡ old.client.handle.link
-lent-link old first reset before lent =
-    lent.link ∙ ap (λ (h : Handle). h.link) lent.counts ∙ ap (λ (h : Handle). h.link) lent.handle
+pub begun-other : (old new : ScriptedLink) (e : Event) (s : Script) (result : Result (Unit {0}) AllocError) → s ≡ script_of e
+    → update_of e ≡ None → IsBegun old result new (λ moment state. begin_link_event moment s state)
+    → OnOk result (LinkBegins old e new)
+begun-other old new e s (Ok done) script none b = λ state at.
+    subst (λ (l : LinkState). IsAt new l)
+    (ap (λ (x : Script). begin_link_event (moment_of e) x state) script ∙ sym (link-other e state none))
+    (b.begins (moment_of e) state at)
+begun-other old new e s (Err error) script none b = tt
 
--- what the link does as it begins, unless there is no memory
-begins-link : (old before after : ScriptedLink) (result : Result (Unit {0}) AllocError) (moment : ℕ)
-    (begin : ℕ → LinkState → LinkState) → before ≡ old → IsBegun before result after begin
-    → OnOk result (LinkBegins old (λ state. begin moment state) after)
-begins-link old before after (Ok done) moment begin same b =
-    λ state at. b.begins moment state (subst (λ (l : ScriptedLink). IsAt l state) (sym same) at)
-begins-link old before after (Err error) moment begin same b = tt
-
-on-ok : {A E : Type 0} (P Q : Type 0) (result : Result A E) → (P → Q) → OnOk result P → OnOk result Q
-on-ok P Q (Ok done) h holds = h holds
-on-ok P Q (Err error) h holds = tt
-
-pub begun-other : (old : WireResolver) (e : Event) (s : Script) (first reset : Handle) (before after : ScriptedLink)
-    (result : Result (Unit {0}) AllocError) → Lent old first reset before → s ≡ script_of e → update_of e ≡ None
-    → IsBegun before result after (λ moment state. begin_link moment s state)
-    → OnOk result (Begins old e (with_handle old (with_link reset after)))
-begun-other old e s first reset before after result lent script none b =
-    let by_script : IsBegun before result after (λ moment state. begin_link moment (script_of e) state) =
-    subst (λ (x : Script). IsBegun before result after (λ moment state. begin_link moment x state)) script b in
-    on-ok (LinkBegins old.client.handle.link (λ state. begin_link (moment_of e) (script_of e) state) after)
-    (Begins old e (with_handle old (with_link reset after))) result
-    (λ h. subst (λ (x : Handle). Begins old e (with_handle old x)) (lent-begun old first reset before after lent) (begins-other old e after none h))
-    (begins-link old.client.handle.link before after result (moment_of e) (λ moment state. begin_link moment (script_of e) state)
-    (lent-link old first reset before lent) by_script)
-
-pub begun-update : (old : WireResolver) (e : Event) (s : Script) (m : Message) (first reset : Handle) (before after : ScriptedLink)
-    (result : Result (Unit {0}) AllocError) → Lent old first reset before → s ≡ script_of e → update_of e ≡ Some m
-    → IsBegun before result after (λ moment state. begin_link_update moment s state)
-    → OnOk result (Begins old e (with_handle old (with_link reset after)))
-begun-update old e s m first reset before after result lent script update b =
-    let by_script : IsBegun before result after (λ moment state. begin_link_update moment (script_of e) state) =
-    subst (λ (x : Script). IsBegun before result after (λ moment state. begin_link_update moment x state)) script b in
-    on-ok (LinkBegins old.client.handle.link (λ state. begin_link_update (moment_of e) (script_of e) state) after)
-    (Begins old e (with_handle old (with_link reset after))) result
-    (λ h. subst (λ (x : Handle). Begins old e (with_handle old x)) (lent-begun old first reset before after lent) (begins-update old e after m update h))
-    (begins-link old.client.handle.link before after result (moment_of e) (λ moment state. begin_link_update moment (script_of e) state)
-    (lent-link old first reset before lent) by_script)
-
--- no id is drawn as an event begins
-pub begun-sent : (old : WireResolver) (first reset : Handle) (before after : ScriptedLink) → Lent old first reset before
-    → (with_link reset after).sent.items ≡ old.client.handle.sent.items
-begun-sent old first reset before after lent =
-    ap (λ (h : Handle). h.sent.items) lent.counts ∙ ap (λ (h : Handle). h.sent.items) lent.handle
+pub begun-update : (old new : ScriptedLink) (e : Event) (s : Script) (m : Message) (result : Result (Unit {0}) AllocError)
+    → s ≡ script_of e → update_of e ≡ Some m → IsBegun old result new (λ moment state. begin_link_update moment s state)
+    → OnOk result (LinkBegins old e new)
+begun-update old new e s m (Ok done) script update b = λ state at.
+    subst (λ (l : LinkState). IsAt new l)
+    (ap (λ (x : Script). begin_link_update (moment_of e) x state) script ∙ sym (link-update e m state update))
+    (b.begins (moment_of e) state at)
+begun-update old new e s m (Err error) script update b = tt
 
 -- only a listed script, or an update, takes memory
 pub takes-other : (e : Event) (s : Script) (result : Result (Unit {0}) AllocError) → s ≡ script_of e → update_of e ≡ None
@@ -258,20 +228,17 @@ ends-in handle link asks at h = record {
 abbrev pub Ends : WireResolver → WireResolver → Type 0
 Ends old new = (state : RunState) → AreAlike IsInState old state → AreAlike IsInState new (end_event state)
 
-pub ends : (old : WireResolver) (link : ScriptedLink) → LinkBegins old.client.handle.link (λ state. end_link state) link
-    → Ends old (with_handle old (record old.client.handle { link = link }))
-ends old link h = λ state alike.
-    alike-with old (record old.client.handle { link = link }) state (end (asks_of state)) alike
-    (ends-in old.client.handle link (asks_of state) (h (asks_of state).link alike.client.handle.link) alike.client.handle)
+ends-alike : (old new : WireResolver) → EndsOver scripted_rules old new → Ends old new
+ends-alike old new e = λ state alike.
+    let link = new.client.handle.link in
+    subst (λ (r : WireResolver). AreAlike IsInState r (end_event state)) (sym e.rest)
+    (alike-with old (with_link old.client.handle link) state (end (asks_of state)) alike
+    (ends-in old.client.handle link (asks_of state) (e.link (asks_of state).link alike.client.handle.link) alike.client.handle))
 
-pub ended : (old : WireResolver) (first : Handle) (before after : ScriptedLink) (result : Result (Unit {0}) AllocError)
-    → first ≡ old.client.handle → before ≡ first.link → IsEnded before result after
-    → OnOk result (Ends old (with_handle old (with_link first after)))
-ended old first before after (Ok done) handle link b =
-    subst (λ (x : Handle). Ends old (with_handle old (with_link x after))) (sym handle)
-    (ends old after (λ state at. b.ends state
-    (subst (λ (l : ScriptedLink). IsAt l state) (sym (link ∙ ap (λ (h : Handle). h.link) handle)) at)))
-ended old first before after (Err error) handle link b = tt
+pub ended : (old new : ScriptedLink) (result : Result (Unit {0}) AllocError) → IsEnded old result new
+    → OnOk result (LinkEnds old new)
+ended old new (Ok done) e = e.ends
+ended old new (Err error) e = tt
 
 -- ---- what an event leads to
 
@@ -318,20 +285,6 @@ replied-in old begun replied e reply happens state alike =
     replies-alike IsInState AsksLink AsksServer UpdatesLink UpdatesServer happens.laws.carries happens.laws.carries_updates
     begun replied e reply (begin_event e state) (happens.begins state alike) happens.replies
 
--- what is known of a result that is not an error, or is one
-pub if-ok : {A E : Type 0} (result : Result A E) (Holds : Type 0) → is_err result ≡ false → OnOk result Holds → Holds
-if-ok (Ok done) Holds h holds = holds
-if-ok (Err error) Holds h holds = absurd (cc)
-
-pub if-err : {A E : Type 0} (result : Result A E) (Holds : Type 0) → is_err result ≡ true → OnErr result Holds → Holds
-if-err (Ok done) Holds h holds = absurd (cc)
-if-err (Err error) Holds h holds = holds
-
--- what is known of a report, if there is one
-pub if-some : {A : Type 0} (P Q : A → Type 0) (o : Option A) → ((x : A) → P x → Q x) → IfSome o P → IfSome o Q
-if-some P Q None h holds = tt
-if-some P Q (Some x) h holds = h x holds
-
 -- the report of an event is that of a resolver at its end, which has not run out of memory
 pub record Reports (e : EventReply) (report : EventReport) (ended : WireResolver) : Type 0 where
   pub is : report ≡ record { reply = e; faults = ended.client.handle.faults; questions = ended.client.handle.questions }
@@ -377,37 +330,27 @@ happens-unended old begun replied e reply happens = λ state alike.
     let led = replied-in old begun replied e reply happens state alike in
     at_end reply led.0 led.2
 
--- ---- ids are appended
+-- ---- from runs over the scripted link
 
--- the calls of the scripted link
-abbrev link_calls : Calls ScriptedLink (List ℕ)
-link_calls = calls_of Sends Receives Streams
+pub step-alike : AskLaw → UpdateLaw → (old new : WireResolver) (e : Event) (report : EventReport)
+    → StepOver scripted_rules old e report new → Leads old e report new
+step-alike asks updates old new e report s =
+    let h = s.happens in
+    happens-step old h.begun s.replied new e report.reply report
+    (happened old h.begun s.replied e report.reply asks updates (begins-alike old h.begun e h.begins) h.replies)
+    (ends-alike s.replied new s.ends)
+    (record {
+      is =
+          ap (λ (n : ℕ). record { reply = report.reply; faults = n; questions = report.questions }) s.faults
+          ∙ ap (λ (n : ℕ). record { reply = report.reply; faults = new.client.handle.faults; questions = n }) s.questions;
+      quiet = s.memory;
+    })
 
--- these ids were drawn first
-abbrev pub IsFront : List (ℕ × Query) → Handle → Type 0
-IsFront drawn handle = take (length drawn) handle.sent.items ≡ drawn
-
-keeps-front : (drawn : List (ℕ × Query)) → Keeps (IsFront drawn) AsksLink
-keeps-front drawn old new request now outcome h asks =
-    front-of-sent drawn (asker_of old) (asker_of new) h (ask-tallies wire link_calls request.message (asker_of old) outcome (asker_of new) asks.ask)
-
-updates-keep-front : (drawn : List (ℕ × Query)) → KeepsUpdates (IsFront drawn) UpdatesLink
-updates-keep-front drawn old new update reply h sound sends =
-    front-of-sent drawn (asker_of old) (asker_of new) h (update-tallies wire link_calls update (asker_of old) reply (asker_of new) sends.sent)
-
--- no id was drawn
-pub front-same : (old new : WireResolver) → new.client.handle.sent.items ≡ old.client.handle.sent.items
-    → IsFront old.client.handle.sent.items new.client.handle
-front-same old new same =
-    let drawn = old.client.handle.sent.items in
-    subst (λ (sent : List (ℕ × Query)). take (length drawn) sent ≡ drawn) (sym same) (take_all (length drawn) drawn (omega arith))
-
--- the ids that were drawn before an event are the first ones afterwards
-pub happens-front : (old begun replied ended : WireResolver) (e : Event) (reply : EventReply) → Happens old e reply begun replied
-    → begun.client.handle.sent.items ≡ old.client.handle.sent.items → ended.client.handle.sent.items ≡ replied.client.handle.sent.items
-    → IsFront old.client.handle.sent.items ended.client.handle
-happens-front old begun replied ended e reply happens same last =
-    let drawn = old.client.handle.sent.items in
-    subst (λ (sent : List (ℕ × Query)). take (length drawn) sent ≡ drawn) (sym last)
-    (replies-keep (IsFront drawn) AsksLink UpdatesLink (keeps-front drawn) (updates-keep-front drawn) begun replied e reply
-    (front-same old begun same) happens.replies)
+pub out-alike : AskLaw → UpdateLaw → (old : WireResolver) (e : Event) → RunsOutOver scripted_rules old e → LeadsOut old e
+out-alike asks updates old e (no_beginning takes) = λ state alike. at_begin takes
+out-alike asks updates old e (no_end reply replied h) =
+    happens-unended old h.begun replied e reply
+    (happened old h.begun replied e reply asks updates (begins-alike old h.begun e h.begins) h.replies)
+out-alike asks updates old e (link_is_out reply replied new h ends out) =
+    happens-out old h.begun replied new e reply
+    (happened old h.begun replied e reply asks updates (begins-alike old h.begun e h.begins) h.replies) (ends-alike replied new ends) out

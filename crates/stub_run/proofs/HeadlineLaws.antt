@@ -402,7 +402,7 @@ module _ (keep : UpdatesKeepZones) (chains : (zone : ZoneContent) (q : Query) �
       (has-cleared asked old mid _ h (from-empty Brought asked (asks_of old).link.moment old.client.cache) refl r.1)
       (ap (λ (s : RunState). (asks_of s).link.moment) r.1) (λ history zones answered claims. tt)
   replied Claim asked (event.Update at update script) (replies.Update reply) old mid later h moment r memory once =
-      let u = updated asked update reply old mid h r memory in
+      let u = updated asked update.value reply old mid h r memory in
       not-asked Claim asked (event.Update at update script) (replies.Update reply) old mid u.0 u.1 (λ history zones answered claims. tt)
   replied Claim asked e reply old mid later h moment r memory once = absurd r
 

@@ -12,6 +12,7 @@ pub mod Reporting
 pub mod Requests
 pub mod RunLaws
 pub mod Running
+pub mod RunningOver
 pub mod RunsAgree
 pub mod SoundQuestionLaws
 pub mod SupportedLaws

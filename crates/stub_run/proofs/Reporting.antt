@@ -161,7 +161,7 @@ WalkedResult world events result =
     IfSome (report_in result) (λ report. (content : WorldContent) → IsMadeOf world content → HasNoReuse report.sent.items
     → content.options.preserve_intermediates ≡ false → AreWalked content (reported events report) report.events.items)
 
-front-askable : (count : ℕ) (events : List Event) → AreAskable events → AreAskable (take count events)
+pub front-askable : (count : ℕ) (events : List Event) → AreAskable events → AreAskable (take count events)
 front-askable zero [] h = tt
 front-askable zero (e ∷ events) h = tt
 front-askable (suc count) [] h = tt

@@ -1,5 +1,6 @@
 -- What every run keeps: the ids that were drawn, and the history of the zone.
-use Rattle.std.proofs.Common.{◌≡◌, ◌++◌, Bool, true, false, inl, inr, ℕ, List, [], ◌∷◌, Option, Some, None, Result, Ok, Err, refl, sym, ap, subst, ◌∙◌}
+use Rattle.std.proofs.Common.{◌≡◌, ◌++◌, Bool, true, false, inl, inr, ℕ, List, [], ◌∷◌, Option, Some, None, Result, Ok, Err, Box, refl, sym, ap, subst, ◌∙◌}
+use Rattle.std.specs.Global.{Global}
 use Rattle.std.specs.Prelude.{◌⊎◌}
 use Rattle.std.specs.List.{fold}
 use Rattle.dns_messages.specs.declared.message.Message.{Message}
@@ -146,9 +147,9 @@ decides-other old e report mid none h replies memory =
     }
 
 -- an update event
-decides-update : (old mid : RunState) (at : ℕ) (update : Message) (script : Script) (reply : Result ResponseCode NetError)
+decides-update : (old mid : RunState) (at : ℕ) (update : Box Message Global) (script : Script) (reply : Result ResponseCode NetError)
     → AreQuestions (asks_of old).link.datagrams
-    → Updates (λ asks update reply after. UpdateZone asks update reply after) update (begin_event (event.Update at update script) old)
+    → Updates (λ asks update reply after. UpdateZone asks update reply after) update.value (begin_event (event.Update at update script) old)
     reply mid
     → (asks_of mid).link.out_of_memory ≡ false
     → Decides (asks_of old).link (event.Update at update script) (replies.Update reply) (end_link (asks_of mid).link)
@@ -160,11 +161,11 @@ decides-update old mid at update script reply h updates memory = by updates.sent
     out : {P : Type 0} → IsOut (asks_of mid).link → P
     out {P} is = absurd (cc)
 
-    by : UpdateZone first update reply (asks_of mid)
+    by : UpdateZone first update.value reply (asks_of mid)
         → Decides (asks_of old).link (event.Update at update script) (replies.Update reply) (end_link (asks_of mid).link)
     by (inl stays) = out stays.1
     by (inr sends) =
-        elim (update-comes at script (asks_of old).link h update first reply (asks_of mid) refl sends) [
+        elim (update-comes at script (asks_of old).link h update.value first reply (asks_of mid) refl sends) [
           | inl is ↦ out is
           | inr comes ↦ record {
             questions = end-questions (asks_of mid).link comes.2.questions;

@@ -1,16 +1,18 @@
--- A run goes on, event by event, and is reported.
-use Rattle.std.proofs.Common.{◌≡◌, ◌≤◌, ◌<◌, ◌^◌, ◌++◌, false, ℕ, zero, suc, List, [], ◌∷◌, length, take, get_or, refl, sym, ap, subst, ◌∙◌, arith, inr}
-use Rattle.std.proofs.lemmas.Option.{slice_get_read}
+-- A run over the scripted link goes on, event by event, in the states without bytes, and is reported.
+use Rattle.std.proofs.Common.{◌≡◌, ◌≤◌, ◌<◌, ◌^◌, false, ℕ, zero, suc, List, [], ◌∷◌, Option, Some, None, Result, Ok, Err, IfOk, IfSome, length, take, get_or, refl, sym, subst, ◌∙◌, arith, inl, inr}
+use Rattle.std.specs.Global.{Vec}
+use Rattle.dns_messages.specs.declared.query.Query.{Query}
 use Rattle.stub_run.specs.Alike.{AreAlike}
 use Rattle.stub_run.specs.Event.{moment_of}
-use Rattle.stub_run.specs.Run.{InOrder, IsReportBefore, IsReportOf, RunState, Runs, RunsOut, Step, StopsAt, asks_of}
+use Rattle.stub_run.specs.Run.{InOrder, IsReportBefore, IsReportOf, RunState, Runs, StopsAt, asks_of}
+use Rattle.stub_run.specs.RunOver.{HasRunOver, IsReportBeforeOver, IsReportOver, RunsOver, StopsAtOver, with_sent}
 use Rattle.stub_run.specs.World.{BeginsWith}
 use Rattle.stub_run.specs.declared.event.Event.{Event}
 use Rattle.stub_run.specs.declared.report.EventReport.{EventReport}
 use Rattle.stub_run.specs.declared.report.Report.{Report}
-use Rattle.stub_run.specs.declared.runs.Progress.{Progress}
+use Rattle.stub_run.specs.declared.report.Stopped.{Stopped}
 use Rattle.stub_run.specs.declared.world.World.{World}
-use Rattle.stub_run.proofs.Happening.{IsInState, Leads, WireResolver}
+use Rattle.stub_run.proofs.Happening.{AskLaw, IsInState, UpdateLaw, WireResolver, out-alike, scripted_rules, step-alike}
 
 -- ---- moments
 
@@ -23,17 +25,6 @@ moment-in-order last (e ∷ events) (suc i) d h within = moment-in-order (moment
 
 -- ---- runs
 
-Runs-push : (first : RunState) (events : List Event) (reports : List EventReport) (states : List RunState) (mid : RunState) (e : Event)
-    (report : EventReport) (after : RunState) → Runs first events reports states mid → Step mid e report after
-    → Runs first (events ++ e ∷ []) (reports ++ report ∷ []) (states ++ after ∷ []) after
-Runs-push first [] [] [] mid e report after h step = (subst (λ (state : RunState). Step state e report after) h step, refl)
-Runs-push first [] [] (s ∷ states) mid e report after h step = absurd h
-Runs-push first [] (r ∷ reports) states mid e report after h step = absurd h
-Runs-push first (x ∷ events) [] states mid e report after h step = absurd h
-Runs-push first (x ∷ events) (r ∷ reports) [] mid e report after h step = absurd h
-Runs-push first (x ∷ events) (r ∷ reports) (s ∷ states) mid e report after h step =
-    (h.0, Runs-push s events reports states mid e report after h.1 step)
-
 -- Events with these reports led a resolver to a state that is not out of memory.
 pub record HasRun (first : RunState) (events : List Event) (reports : List EventReport) (resolver : WireResolver) : Type 0 where
   pub states : List RunState
@@ -42,76 +33,94 @@ pub record HasRun (first : RunState) (events : List Event) (reports : List Event
   pub memory : (asks_of state).link.out_of_memory ≡ false
   pub runs : Runs first events reports states state
 
-pub has-begun : (world : World) (first : RunState) → BeginsWith world first → HasRun first [] [] world.resolver
-has-begun world first begins =
-    record { states = []; state = first; alike = begins.alike; memory = begins.memory; runs = refl }
-
--- a resolver that is in the same states
-abbrev pub IsInSame : WireResolver → WireResolver → Type 0
-IsInSame old new = (state : RunState) → AreAlike IsInState old state → AreAlike IsInState new state
-
-pub has-run-same : (first : RunState) (events : List Event) (reports : List EventReport) (old new : WireResolver) → IsInSame old new
-    → HasRun first events reports old → HasRun first events reports new
-has-run-same first events reports old new same run =
-    record { states = run.states; state = run.state; alike = same run.state run.alike; memory = run.memory; runs = run.runs }
-
-pub has-run-more : (first : RunState) (events : List Event) (reports : List EventReport) (old : WireResolver) (e : Event)
-    (report : EventReport) (new : WireResolver) → Leads old e report new → HasRun first events reports old
-    → HasRun first (events ++ e ∷ []) (reports ++ report ∷ []) new
-has-run-more first events reports old e report new leads run =
-    let led = leads run.state run.alike in
+-- A run over the scripted link leads to a state, from each state that its resolver is in at first.
+has-run-from : (asks : AskLaw) (updates : UpdateLaw) (old : WireResolver) (events : List Event) (reports : List EventReport)
+    (states : List WireResolver) (last : WireResolver) → RunsOver scripted_rules old events reports states last → (first : RunState)
+    → AreAlike IsInState old first → (asks_of first).link.out_of_memory ≡ false → HasRun first events reports last
+has-run-from asks updates old [] [] [] last h first alike memory = record {
+  states = [];
+  state = first;
+  alike = subst (λ (r : WireResolver). AreAlike IsInState r first) (sym h) alike;
+  memory = memory;
+  runs = refl;
+}
+has-run-from asks updates old [] [] (s ∷ states) last h first alike memory = absurd h
+has-run-from asks updates old [] (r ∷ reports) states last h first alike memory = absurd h
+has-run-from asks updates old (e ∷ events) [] states last h first alike memory = absurd h
+has-run-from asks updates old (e ∷ events) (r ∷ reports) [] last h first alike memory = absurd h
+has-run-from asks updates old (e ∷ events) (r ∷ reports) (s ∷ states) last h first alike memory =
+    let led = step-alike asks updates old s e r h.0 first alike in
+    let rest = has-run-from asks updates s events reports states last h.1 led.0 led.1 led.2.memory in
     record {
-      states = run.states ++ led.0 ∷ [];
-      state = led.0;
-      alike = led.1;
-      memory = led.2.memory;
-      runs = Runs-push first events reports run.states run.state e report led.0 run.runs led.2;
+      states = led.0 ∷ rest.states;
+      state = rest.state;
+      alike = rest.alike;
+      memory = rest.memory;
+      runs = (led.2, rest.runs);
     }
+
+-- a resolver is in the same states whatever capacity is reserved for its ids
+alike-reserved : (resolver : WireResolver) (ids : Vec (ℕ × Query)) (state : RunState) → ids.items ≡ resolver.client.handle.sent.items
+    → AreAlike IsInState resolver state → AreAlike IsInState (with_sent resolver ids) state
+alike-reserved resolver ids state same alike = record {
+  settings = alike.settings;
+  client = record {
+    handle = record {
+      link = alike.client.handle.link;
+      shows = λ quiet.
+          let shown = alike.client.handle.shows quiet in
+          record { ids = shown.ids; sent = same ∙ shown.sent; dropped = shown.dropped; faults = shown.faults; questions = shown.questions };
+    };
+    cache = alike.client.cache;
+    aliases = alike.client.aliases;
+  };
+}
+
+abbrev has-run : (asks : AskLaw) (updates : UpdateLaw) (world : World) (first : RunState) (events : List Event) (reports : List EventReport)
+    (last : WireResolver) → BeginsWith world first → HasRunOver scripted_rules world.resolver events reports last
+    → HasRun first events reports last
+has-run asks updates world first events reports last begins h =
+    has-run-from asks updates (with_sent world.resolver h.ids) events reports h.states last h.runs first
+    (alike-reserved world.resolver h.ids first h.reserved begins.alike) begins.memory
 
 -- ---- reports
 
--- what a report says of a resolver: its events, and the ids and datagrams so far
-pub record Tells (reports : List EventReport) (resolver : WireResolver) (report : Report) : Type 0 where
-  pub events : report.events.items ≡ reports
-  pub sent : report.sent.items ≡ resolver.client.handle.sent.items
-  pub dropped : report.dropped ≡ resolver.client.handle.dropped
-
-abbrev pub is-report-of : (first : RunState) (events : List Event) (reports : List EventReport) (resolver : WireResolver) (report : Report)
-    → HasRun first events reports resolver → Tells reports resolver report → IsReportOf first events report
-is-report-of first events reports resolver report run tells =
+-- the report of a run over the scripted link is one of the states
+abbrev is-report-of : (first : RunState) (events : List Event) (resolver : WireResolver) (report : Report)
+    (run : HasRun first events report.events.items resolver) → report.sent.items ≡ resolver.client.handle.sent.items
+    → report.dropped ≡ resolver.client.handle.dropped → IsReportOf first events report
+is-report-of first events resolver report run sent dropped =
     let handle = run.alike.client.handle in
     let shown = handle.shows (handle.link.memory ∙ run.memory) in
+    record { states = run.states; last = run.state; runs = run.runs; sent = sent ∙ shown.sent; dropped = dropped ∙ shown.dropped }
+
+pub reported : (asks : AskLaw) (updates : UpdateLaw) (world : World) (events : List Event) (result : Result Report Stopped)
+    → IfOk result (λ report. IsReportOver scripted_rules world.resolver events report)
+    → IfOk result (λ report. (first : RunState) → BeginsWith world first → IsReportOf first events report)
+reported asks updates world events (Ok report) h = λ first begins.
+    is-report-of first events h.last report
+    (has-run asks updates world first events report.events.items h.last begins h.has_run) h.sent h.dropped
+reported asks updates world events (Err stopped) h = tt
+
+before : (asks : AskLaw) (updates : UpdateLaw) (world : World) (events : List Event) (report : Report)
+    → IsReportBeforeOver scripted_rules world.resolver events report → (first : RunState) → BeginsWith world first
+    → IsReportBefore first events report
+before asks updates world events report h first begins =
+    let last = h.reported.last in
+    let run = has-run asks updates world first (take h.count events) report.events.items last begins h.reported.has_run in
     record {
-      states = run.states;
-      last = run.state;
-      runs = subst (λ (rs : List EventReport). Runs first events rs run.states run.state) (sym tells.events) run.runs;
-      sent = tells.sent ∙ shown.sent;
-      dropped = tells.dropped ∙ shown.dropped;
+      count = h.count;
+      reported = is-report-of first (take h.count events) last report run h.reported.sent h.reported.dropped;
+      stopped = by run h.stopped;
     }
+  where
+    by : (run : HasRun first (take h.count events) report.events.items h.reported.last) → StopsAtOver scripted_rules h.count events h.reported.last
+        → StopsAt h.count events run.state
+    by run (inl none) = inl none
+    by run (inr (e, found, out)) = inr (e, found, out-alike asks updates h.reported.last e out run.state run.alike)
 
-pub is-report-before : (first : RunState) (events : List Event) (count : ℕ) (reports : List EventReport) (resolver : WireResolver)
-    (report : Report) (run : HasRun first (take count events) reports resolver) → StopsAt count events run.state
-    → Tells reports resolver report → IsReportBefore first events report
-is-report-before first events count reports resolver report run stop tells = record {
-  count = count;
-  reported = is-report-of first (take count events) reports resolver report run tells;
-  stopped = stop;
-}
-
--- a run stops at an event during which memory runs out
-pub stops-at : (events : List Event) (i : ℕ) (e : Event) (state : RunState) → i < length events → e ≡ get_or events i e → RunsOut state e
-    → StopsAt i events state
-stops-at events i e state within is out = inr (e, slice_get_read events (length events) i e refl within is, out)
-
--- The report of a run when it had reached an earlier point, before an event.
-pub tells-before : (reports : List EventReport) (old new : WireResolver) (progress : Progress) (report : Report)
-    → progress ≡ record { drawn = length old.client.handle.sent.items; dropped = old.client.handle.dropped }
-    → take (length old.client.handle.sent.items) new.client.handle.sent.items ≡ old.client.handle.sent.items
-    → report.events.items ≡ reports → report.sent.items ≡ take progress.drawn new.client.handle.sent.items
-    → report.dropped ≡ progress.dropped → Tells reports old report
-tells-before reports old new progress report reached front events sent dropped =
-    record {
-      events = events;
-      sent = sent ∙ ap (λ (p : Progress). take p.drawn new.client.handle.sent.items) reached ∙ front;
-      dropped = dropped ∙ ap (λ (p : Progress). p.dropped) reached;
-    }
+pub stopped : (asks : AskLaw) (updates : UpdateLaw) (world : World) (events : List Event) (o : Option Report)
+    → IfSome o (λ report. IsReportBeforeOver scripted_rules world.resolver events report)
+    → IfSome o (λ report. (first : RunState) → BeginsWith world first → IsReportBefore first events report)
+stopped asks updates world events None h = tt
+stopped asks updates world events (Some report) h = before asks updates world events report h

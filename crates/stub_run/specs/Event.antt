@@ -1,8 +1,9 @@
 -- Events: when they happen, what the link does meanwhile, and which of them update the zone.
-use Rattle.std.specs.Prelude.{ℕ, Option, Some, None}
+use Rattle.std.specs.Prelude.{◌≡◌, List, [], ◌∷◌, ℕ, Option, Some, None}
 use Rattle.dns_messages.specs.declared.message.Message.{Message}
 use Rattle.stub_link.specs.ScriptedLink.{IsListed}
 use Rattle.stub_link.specs.declared.link.script.Script.{Script}
+use Rattle.stub_link.specs.declared.link.script.Script.TheVariants.{Honest}
 use Rattle.stub_run.specs.declared.event.Event.{Event}
 use Rattle.stub_run.specs.declared.event.Event.TheVariants.{Lookup, LookupIp, Clear, ClearAll, Update}
 
@@ -20,9 +21,14 @@ script_of (Clear at name rtype script) = script
 script_of (ClearAll at script) = script
 script_of (Update at update script) = script
 
+-- the link follows no script during any of the events
+abbrev pub AreHonest : List Event → Type 0
+AreHonest [] = Unit {0}
+AreHonest (e ∷ events) = (script_of e ≡ Honest) × AreHonest events
+
 -- the message of an update
 abbrev pub update_of : Event → Option Message
-update_of (Update at update script) = Some update
+update_of (Update at update script) = Some update.value
 update_of (Lookup at name rtype script) = None
 update_of (LookupIp at host script) = None
 update_of (Clear at name rtype script) = None

@@ -5,6 +5,8 @@ pub mod Headline
 pub mod History
 pub mod Ids
 pub mod Run
+pub mod RunOver
+pub mod ScriptedEvents
 pub mod World
 pub mod Questions
 pub mod Walked

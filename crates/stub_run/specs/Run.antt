@@ -82,7 +82,7 @@ Replies gives sends old (event.LookupIp at host script) (replies.LookupIp found)
 Replies gives sends old (event.Clear at name kind script) (replies.Cleared done) new = Clears name kind old done new
 Replies gives sends old (event.ClearAll at script) (replies.Cleared done) new =
     (done ≡ Ok tt) × (new ≡ record old { client = with_entries old.client [] })
-Replies gives sends old (event.Update at update script) (replies.Update reply) new = Updates sends update old reply new
+Replies gives sends old (event.Update at update script) (replies.Update reply) new = Updates sends update.value old reply new
 Replies gives sends old e reply new = ⊥
 
 -- what a resolver replies that asks the zone's server

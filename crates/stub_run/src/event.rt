@@ -42,7 +42,7 @@ pub enum Event {
     /// An update of the zone, sent under its own id (RFC 2136 section 2).
     Update {
         at: Moment,
-        update: UpdateEvent,
+        update: Box<UpdateEvent>,
         script: Script,
     },
 }

@@ -1,31 +1,27 @@
-//! Runs: events in a world, one after another.
+//! Runs: events one after another, in a world, and for a resolver over any link.
 
-ghost use Rattle.std.specs.Prelude.{◌≡◌, ◌≤◌, ◌<◌, ◌+◌, ◌++◌, ◌∷◌, ◌↔◌, ◌^◌, ◌*◌, ◌-◌, min, IfOk, OnOk, OnErr, IfSome, IsTrue, true, false, [], ℕ, length, take, vec_len, vec_capacity, Err, None};
-ghost use Rattle.stub_link.specs.Request.{IsUpdate};
-ghost use Rattle.stub_link.specs.ScriptedLink.{Receives, Sends, Streams};
-ghost use Rattle.stub_link.specs.WireHandle.{Asks, IsIn, SendsUpdate};
-ghost use Rattle.stub_run.specs.Alike.{AreAlike};
-ghost use Rattle.stub_run.specs.Event.{TakesMemory, moment_of, update_of};
+ghost use Rattle.std.specs.Prelude.{◌≡◌, ◌≤◌, ◌<◌, ◌+◌, ◌++◌, ◌∷◌, ◌↔◌, ◌^◌, ◌*◌, ◌-◌, min, IfOk, OnOk, OnErr, IfSome, IsTrue, true, false, [], length, take, vec_len, vec_capacity, Err, None};
+ghost use Rattle.stub_link.specs.WireHandle.{Asks, SendsUpdate};
+ghost use Rattle.stub_run.specs.Event.{TakesMemory, moment_of};
 ghost use Rattle.stub_history.specs.Faithful.{HasNoReuse};
 ghost use Rattle.stub_run.specs.Headline.{AreFresh, HasNoLeastTtl, HaveChainBounds, IsMadeOf, WorldContent, report_in, reported};
 ghost use Rattle.stub_run.specs.Questions.{AreAskable};
-ghost use Rattle.stub_run.specs.Run.{InOrder, IsReportBefore, IsReportOf, Replies, RunState, Runs, RunsOut, Step, asks_of, begin_event, end_event, memory_report};
+ghost use Rattle.stub_run.specs.Run.{InOrder, IsReportBefore, IsReportOf, Replies, RunState, memory_report};
+ghost use Rattle.stub_run.specs.RunOver.{BeginsOver, EndsOver, IsReportBeforeOver, IsReportOver, RunsOutOver, StepOver, rules_of, with_sent};
 ghost use Rattle.stub_run.specs.Walked.{AreWalked};
 ghost use Rattle.stub_run.specs.World.{BeginsWith};
 
 use crate::event::Event;
+use crate::event_link::EventLink;
 use crate::laws::{every_record_stood, unchanged_zones_are_walked};
 use crate::report::{EventReply, EventReport, Report, Stopped};
 use crate::world::World;
-use std::alloc::AllocError;
+use std::alloc::{AllocError, Global};
 use stub_core::Resolver;
 use stub_link::laws::{
     handles_over_the_scripted_link_ask_the_zone, handles_over_the_scripted_link_update_the_zone,
 };
-use stub_link::{ScriptedLink, WireHandle};
-
-/// A resolver that asks over a link to a zone's server.
-type WireResolver = Resolver<WireHandle<ScriptedLink>>;
+use stub_link::{Link, WireHandle};
 
 /// The last moment at which an event may happen.
 const MAX_MOMENT: u64 = 1 << 62;
@@ -65,11 +61,12 @@ pub fn run(world: World, events: &[Event]) -> Result<Report, Stopped>
     every_record_stood();
     unchanged_zones_are_walked();
     know_names(events);
-    run_events(world, events)
+    run_world(world, events)
 }
 
-/// Tells the prover that no event names a name that is too long.
-fn know_names(events: &[Event])
+/// Does nothing. It tells the prover that no event names a name that is too long (RFC 1035 section 2.3.4), a premise of
+/// [`unchanged_zones_are_walked`].
+pub fn know_names(events: &[Event])
     ensures { AreAskable events.now }
 {
     for event in events {
@@ -78,7 +75,7 @@ fn know_names(events: &[Event])
 }
 
 /// Runs the events in a world, in order.
-fn run_events(world: World, events: &[Event]) -> Result<Report, Stopped>
+fn run_world(world: World, events: &[Event]) -> Result<Report, Stopped>
     ensures moments { (result ≡ Err Stopped.Moments) ↔ ¬ InOrder 0 events.now }
     ensures run { IfOk result (λ report. (state : RunState) → BeginsWith world state
         → IsReportOf state events.now report) }
@@ -86,13 +83,32 @@ fn run_events(world: World, events: &[Event]) -> Result<Report, Stopped>
         → BeginsWith world state → IsReportBefore state events.now report) }
     ensures order { IfSome (report_in result) (λ report. InOrder 0 events.now) }
 {
+    handles_over_the_scripted_link_ask_the_zone();
+    handles_over_the_scripted_link_update_the_zone();
+    let World { alloc, resolver } = world;
+    run_events(alloc, resolver, events)
+}
+
+/// Runs the events for a resolver over any link, in order.
+///
+/// The errors are those of [`run`]. What the link does is not known here, so the report is described by the link's own relations:
+/// each reply is the resolver's, by what its questions and updates over the link came to (`run`).
+pub fn run_events<L: EventLink + Drop>(
+    alloc: Global,
+    mut resolver: Resolver<WireHandle<L>>,
+    events: &[Event],
+) -> Result<Report, Stopped>
+    ensures moments { (result ≡ Err Stopped.Moments) ↔ ¬ InOrder 0 events.now }
+    ensures run { IfOk result (λ report. IsReportOver (rules_of L.begins L.ends L.is_out L.sends
+        L.receives L.streams L.failure_count) resolver events.now report) }
+    ensures stopped { IfSome (memory_report result) (λ report. IsReportBeforeOver (rules_of
+        L.begins L.ends L.is_out L.sends L.receives L.streams L.failure_count) resolver events.now
+        report) }
+    ensures order { IfSome (report_in result) (λ report. InOrder 0 events.now) }
+{
     if !is_in_order(events) {
         return Err(Stopped::Moments);
     }
-    let World {
-        alloc,
-        mut resolver,
-    } = world;
     let max_questions = resolver.max_questions();
     let mut reports = Vec::new(alloc);
     if reports.reserve(events.len()).is_err()
@@ -128,14 +144,13 @@ fn is_in_order(events: &[Event]) -> bool
 }
 
 /// Reserves capacity for the ids that events draw, as far as ids are left.
-fn reserve_ids(
-    resolver: &mut WireResolver,
+fn reserve_ids<L: Link>(
+    resolver: &mut Resolver<WireHandle<L>>,
     max_questions: usize,
     event_count: usize,
 ) -> Result<(), AllocError>
-    ensures alike { (state : RunState)
-        → AreAlike (λ handle asks. IsIn handle asks) resolver.old state
-        → AreAlike (λ handle asks. IsIn handle asks) resolver.new state }
+    ensures rest { resolver.new ≡ with_sent resolver.old resolver.new.client.handle.sent }
+    ensures ids { resolver.new.client.handle.sent.items ≡ resolver.old.client.handle.sent.items }
     ensures room { OnOk result (vec_len resolver.new.client.handle.sent
         + min (event_count * max_questions) (length resolver.old.client.handle.ids.items
         - length resolver.old.client.handle.sent.items)
@@ -155,7 +170,7 @@ struct Progress {
 }
 
 /// Returns what a run has reached.
-fn progress_of(resolver: &WireResolver) -> Progress
+fn progress_of<L: Link>(resolver: &Resolver<WireHandle<L>>) -> Progress
     ensures { result ≡ record {
       drawn = length resolver.now.client.handle.sent.items;
       dropped = resolver.now.client.handle.dropped;
@@ -169,20 +184,18 @@ fn progress_of(resolver: &WireResolver) -> Progress
 }
 
 /// Lets an event happen. Returns `None` if the link or its server runs out of memory.
-fn happen(resolver: &mut WireResolver, event: &Event) -> Option<EventReport>
+fn happen<L: EventLink>(
+    resolver: &mut Resolver<WireHandle<L>>,
+    event: &Event,
+) -> Option<EventReport>
     requires { moment_of event.now ≤ 2 ^ 62 }
-    ensures step { IfSome result (λ report. (state : RunState)
-        → AreAlike (λ handle asks. IsIn handle asks) resolver.old state
-        → (after : RunState) × AreAlike (λ handle asks. IsIn handle asks) resolver.new after
-        × Step state event.now report after) }
-    ensures stop { result ≡ None → (state : RunState)
-        → AreAlike (λ handle asks. IsIn handle asks) resolver.old state
-        → RunsOut state event.now }
+    ensures step { IfSome result (λ report. StepOver (rules_of L.begins L.ends L.is_out L.sends
+        L.receives L.streams L.failure_count) resolver.old event.now report resolver.new) }
+    ensures stop { result ≡ None → RunsOutOver (rules_of L.begins L.ends L.is_out L.sends
+        L.receives L.streams L.failure_count) resolver.old event.now }
     ensures front { take (length resolver.old.client.handle.sent.items)
         resolver.new.client.handle.sent.items ≡ resolver.old.client.handle.sent.items }
 {
-    handles_over_the_scripted_link_ask_the_zone();
-    handles_over_the_scripted_link_update_the_zone();
     if begin(resolver, event).is_err() {
         // There was no memory for the script or the place of the update.
         return None;
@@ -195,44 +208,44 @@ fn happen(resolver: &mut WireResolver, event: &Event) -> Option<EventReport>
     event_report(resolver, reply)
 }
 
-/// Begins an event: nothing is counted yet, the link follows its script, and an update has a place among the updates.
-fn begin(resolver: &mut WireResolver, event: &Event) -> Result<(), AllocError>
-    ensures begins { OnOk result ((state : RunState)
-        → AreAlike (λ handle asks. IsIn handle asks) resolver.old state
-        → AreAlike (λ handle asks. IsIn handle asks) resolver.new (begin_event event.now state)) }
+/// Begins an event: nothing is counted yet, and the link begins it.
+fn begin<L: EventLink>(
+    resolver: &mut Resolver<WireHandle<L>>,
+    event: &Event,
+) -> Result<(), AllocError>
+    ensures begins { OnOk result (BeginsOver (rules_of L.begins L.ends L.is_out L.sends L.receives
+        L.streams L.failure_count) resolver.old event.now resolver.new) }
     ensures refused { OnErr result (TakesMemory event.now) }
-    ensures sound { IfSome (update_of event.now) IsUpdate }
     ensures sent { resolver.new.client.handle.sent.items ≡ resolver.old.client.handle.sent.items }
 {
     let handle = resolver.handle_mut();
     handle.reset_counts();
-    match event.update() {
-        Some(_) => handle.link_mut().begin_update(event.script()),
-        None => handle.link_mut().begin_event(event.script()),
-    }
+    handle.link_mut().begin(event)
 }
 
-/// Ends an event: what its script has not delivered yet is delivered.
-fn end(resolver: &mut WireResolver) -> Result<(), AllocError>
-    ensures ends { OnOk result ((state : RunState)
-        → AreAlike (λ handle asks. IsIn handle asks) resolver.old state
-        → AreAlike (λ handle asks. IsIn handle asks) resolver.new (end_event state)) }
+/// Ends an event.
+fn end<L: EventLink>(resolver: &mut Resolver<WireHandle<L>>) -> Result<(), AllocError>
+    ensures ends { OnOk result (EndsOver (rules_of L.begins L.ends L.is_out L.sends L.receives
+        L.streams L.failure_count) resolver.old resolver.new) }
     ensures sent { resolver.new.client.handle.sent.items ≡ resolver.old.client.handle.sent.items }
 {
-    resolver.handle_mut().link_mut().end_event()
+    resolver.handle_mut().link_mut().end()
 }
 
 /// Returns the report of an event with a reply, or `None` if the link or its server ran out of memory.
-fn event_report(resolver: &WireResolver, reply: EventReply) -> Option<EventReport>
+fn event_report<L: EventLink>(
+    resolver: &Resolver<WireHandle<L>>,
+    reply: EventReply,
+) -> Option<EventReport>
     ensures report { IfSome result (λ report. (report ≡ record {
       reply = reply;
       faults = resolver.now.client.handle.faults;
       questions = resolver.now.client.handle.questions;
-    }) × (resolver.now.client.handle.link.out_of_memory ≡ false)) }
-    ensures none { result ≡ None → resolver.now.client.handle.link.out_of_memory ≡ true }
+    }) × (L.is_out resolver.now.client.handle.link ≡ false)) }
+    ensures none { result ≡ None → L.is_out resolver.now.client.handle.link ≡ true }
 {
     let handle = resolver.handle();
-    if handle.link().is_out_of_memory() {
+    if handle.link().has_run_out() {
         return None;
     }
     let counts = handle.counts();
@@ -244,11 +257,10 @@ fn event_report(resolver: &WireResolver, reply: EventReply) -> Option<EventRepor
 }
 
 /// Returns the reply of a resolver to an event.
-fn reply_to(resolver: &mut WireResolver, event: &Event) -> EventReply
-    requires moment { moment_of event.now ≤ 2 ^ 62 }
-    requires sound { IfSome (update_of event.now) IsUpdate }
-    ensures { Replies (Asks Sends Receives Streams (λ link. link.failures))
-        (SendsUpdate Sends Receives Streams (λ link. link.failures)) resolver.old event.now result
+fn reply_to<L: Link>(resolver: &mut Resolver<WireHandle<L>>, event: &Event) -> EventReply
+    requires { moment_of event.now ≤ 2 ^ 62 }
+    ensures { Replies (Asks L.sends L.receives L.streams L.failure_count)
+        (SendsUpdate L.sends L.receives L.streams L.failure_count) resolver.old event.now result
         resolver.new }
 {
     match event {
@@ -269,13 +281,15 @@ fn reply_to(resolver: &mut WireResolver, event: &Event) -> EventReply
             EventReply::Cleared(Ok(()))
         }
         Event::Update { update, .. } => {
-            EventReply::Update(resolver.handle_mut().send_update(update))
+            // Tells the prover that the message is an update.
+            let _message = update.message();
+            EventReply::Update(resolver.handle_mut().send_update(&**update))
         }
     }
 }
 
 /// Returns the report of a run so far.
-fn report_of(resolver: WireResolver, events: Vec<EventReport>) -> Report
+fn report_of<L: Link + Drop>(resolver: Resolver<WireHandle<L>>, events: Vec<EventReport>) -> Report
     ensures events { result.events ≡ events }
     ensures sent { result.sent ≡ resolver.client.handle.sent }
     ensures dropped { result.dropped ≡ resolver.client.handle.dropped }
@@ -289,7 +303,11 @@ fn report_of(resolver: WireResolver, events: Vec<EventReport>) -> Report
 }
 
 /// Returns the report of a run when it had reached an earlier point.
-fn report_at(progress: Progress, resolver: WireResolver, events: Vec<EventReport>) -> Report
+fn report_at<L: Link + Drop>(
+    progress: Progress,
+    resolver: Resolver<WireHandle<L>>,
+    events: Vec<EventReport>,
+) -> Report
     ensures events { result.events ≡ events }
     ensures sent { result.sent.items ≡ take progress.drawn resolver.client.handle.sent.items }
     ensures dropped { result.dropped ≡ progress.dropped }

@@ -7,15 +7,15 @@ use Rattle.stub_run.proofs.runs.run.Goals as goal
 
 pub returns-clause-fresh : goal.returns-clause-fresh
 returns-clause-fresh c =
-    report-fresh c.every_record_stood.ensures.fresh c.args.world c.args.events.now c.run_events.result c.run_events.ensures.run
-    c.run_events.ensures.stopped c.run_events.ensures.order
+    report-fresh c.every_record_stood.ensures.fresh c.args.world c.args.events.now c.run_world.result c.run_world.ensures.run
+    c.run_world.ensures.stopped c.run_world.ensures.order
 
 pub returns-clause-chain_bound : goal.returns-clause-chain_bound
 returns-clause-chain_bound c =
-    report-chain_bound c.every_record_stood.ensures.chain_bound c.args.world c.args.events.now c.run_events.result
-    c.run_events.ensures.run c.run_events.ensures.stopped c.run_events.ensures.order
+    report-chain_bound c.every_record_stood.ensures.chain_bound c.args.world c.args.events.now c.run_world.result
+    c.run_world.ensures.run c.run_world.ensures.stopped c.run_world.ensures.order
 
 pub returns-clause-walked : goal.returns-clause-walked
 returns-clause-walked c =
-    report-walked c.unchanged_zones_are_walked.ensures c.args.world c.args.events.now c.run_events.result c.know_names.ensures
-    c.run_events.ensures.run c.run_events.ensures.stopped c.run_events.ensures.order
+    report-walked c.unchanged_zones_are_walked.ensures c.args.world c.args.events.now c.run_world.result c.know_names.ensures
+    c.run_world.ensures.run c.run_world.ensures.stopped c.run_world.ensures.order

@@ -1,0 +1,22 @@
+-- Events over the scripted link.
+use Rattle.stub_link.specs.LinkState.{LinkState, begin_event, begin_update, end_event}
+use Rattle.stub_link.specs.ScriptedLink.{IsAt}
+use Rattle.stub_link.specs.declared.link.scripted.ScriptedLink.{ScriptedLink}
+use Rattle.stub_run.specs.declared.event.Event.{Event}
+use Rattle.stub_run.specs.declared.event.Event.TheVariants.{Lookup, LookupIp, Clear, ClearAll, Update}
+
+-- An event begins at its moment with its script, and an update has a place among the updates.
+abbrev pub begin_link : Event → LinkState → LinkState
+begin_link (Lookup at name kind script) state = begin_event at script state
+begin_link (LookupIp at host script) state = begin_event at script state
+begin_link (Clear at name kind script) state = begin_event at script state
+begin_link (ClearAll at script) state = begin_event at script state
+begin_link (Update at update script) state = begin_update at script state
+
+-- From each state that the link is in, the event begins.
+abbrev pub Begins : ScriptedLink → Event → ScriptedLink → Type 0
+Begins old e new = (state : LinkState) → IsAt old state → IsAt new (begin_link e state)
+
+-- From each state that the link is in, the event ends.
+abbrev pub Ends : ScriptedLink → ScriptedLink → Type 0
+Ends old new = (state : LinkState) → IsAt old state → IsAt new (end_event state)

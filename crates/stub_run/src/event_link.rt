@@ -1,0 +1,62 @@
+//! Links over which events happen.
+
+ghost use Rattle.std.specs.Prelude.{◌≡◌, OnOk, OnErr};
+ghost use Rattle.stub_run.specs.Event.{TakesMemory};
+
+use crate::event::Event;
+use std::alloc::AllocError;
+use stub_link::{Link, ScriptedLink};
+
+/// A link over which events happen, one after another: it is told when each one begins and ends.
+pub trait EventLink: Link {
+    ghost use Rattle.std.specs.Prelude.{Bool};
+    ghost use Rattle.stub_run.specs.declared.event.Event.{Event};
+
+    /// From a state, an event may begin and lead to that state.
+    ghost begins: { Self → Event → Self → Type 0 };
+
+    /// From a state, an event may end and lead to that state.
+    ghost ends: { Self → Self → Type 0 };
+
+    /// In a state, the link or its server has run out of memory.
+    ghost is_out: { Self → Bool };
+
+    /// Begins an event. The error is that there is no memory for a copy of its script or for the place of an update.
+    fn begin(&mut self, event: &Event) -> Result<(), AllocError>
+        ensures begins { OnOk result (begins self.old event.now self.new) }
+        ensures refused { OnErr result (TakesMemory event.now) };
+
+    /// Ends an event. The error is that the server ran out of memory.
+    fn end(&mut self) -> Result<(), AllocError>
+        ensures { OnOk result (ends self.old self.new) };
+
+    /// Returns `true` if the link or its server has run out of memory.
+    fn has_run_out(&self) -> bool
+        ensures { result ≡ is_out self.now };
+}
+
+impl EventLink for ScriptedLink {
+    ghost use Rattle.stub_link.specs.ScriptedLink.{is_out_of_memory};
+    ghost use Rattle.stub_run.specs.ScriptedEvents.{Begins, Ends};
+
+    ghost begins = { Begins };
+
+    ghost ends = { Ends };
+
+    ghost is_out = { is_out_of_memory };
+
+    fn begin(&mut self, event: &Event) -> Result<(), AllocError> {
+        match event.update() {
+            Some(_) => self.begin_update(event.script()),
+            None => self.begin_event(event.script()),
+        }
+    }
+
+    fn end(&mut self) -> Result<(), AllocError> {
+        self.end_event()
+    }
+
+    fn has_run_out(&self) -> bool {
+        self.is_out_of_memory()
+    }
+}
