@@ -1,0 +1,20 @@
+use Rattle.std.proofs.Common.{Bool, ℕ, ap, ◌∙◌}
+use Rattle.stub_socket.specs.SocketLink.{failures_after, memory_after}
+use Rattle.stub_socket.proofs.CallLaws.{datagram-failures, datagram-memory}
+use Rattle.stub_socket.proofs.socket_link.SocketLinkLink.next_datagram.Goals as goal
+
+pub returns-clause-receives : goal.returns-clause-receives
+returns-clause-receives g c =
+    let called = c.receive-received in
+    record {
+      calls = record {
+        limit = called.ensures.limit;
+        failures =
+            c.count_failure.ensures.counted
+            ∙ (ap (λ (n : ℕ). failures_after called.result n) called.ensures.failures ∙ datagram-failures called.result c.args.self.now.failures);
+        memory =
+            c.note_memory.ensures
+            ∙ (ap (λ (b : Bool). memory_after called.result b) called.ensures.memory ∙ datagram-memory called.result c.args.self.now.out_of_memory);
+      };
+      serves = called.ensures.served;
+    }

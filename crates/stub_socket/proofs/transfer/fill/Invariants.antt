@@ -1,0 +1,9 @@
+use Rattle.std.proofs.Common.{length, ◌-◌, ◌≡◌, ◌≤◌}
+use Rattle.stub_socket.proofs.transfer.fill.Given as goal
+
+-- The front of the buffer, whose length stays, is filled.
+abbrev pub invariant-loop-filled : goal.invariant-loop-filled
+invariant-loop-filled l = (l.filled ≤ length l.buffer) × (length l.buffer ≡ length l.initial.buffer)
+
+abbrev pub decreases-loop-filled : goal.decreases-loop-filled
+decreases-loop-filled l = length l.initial.buffer - l.filled

@@ -1,0 +1,63 @@
+-- Links over sockets: what their calls do to the zone and the counts. What sockets carry is not known.
+use Rattle.std.specs.Prelude.{◌≡◌, ◌<◌, ◌+◌, ◌-◌, ◌^◌, ◌⊎◌, min, true, Bool, List, ℕ, Option, Result, Err}
+use Rattle.dns_zone.specs.declared.road.Road.{Road}
+use Rattle.dns_zone.specs.declared.road.Road.TheVariants.{Datagram, Stream}
+use Rattle.stub_run.specs.RunOver.{LinkRules, rules_of}
+use Rattle.dns_zone.specs.Rows.{ZoneContent}
+use Rattle.dns_zone.specs.Serving.{Serves}
+use Rattle.stub_link.specs.declared.link.LinkError.{LinkError}
+use Rattle.stub_link.specs.declared.link.LinkError.TheVariants.{Failed, Memory}
+use Rattle.stub_socket.specs.declared.socket_link.SocketLink.{SocketLink}
+
+-- ---- the server
+
+-- A server served a message that arrived over a transport, or none.
+abbrev pub MayServe : Road → ZoneContent → ZoneContent → Type 0
+MayServe road old new = (new ≡ old) ⊎ ((bytes : List ℕ) × ((reply : Option (List ℕ)) × Serves old road bytes reply new))
+
+-- A server served at most a number of messages, one after another. Nothing else changed the zone.
+pub data ServesAtMost (road : Road) (old : ZoneContent) : ℕ → ZoneContent → Type 0 where
+  nothing : (most : ℕ) → ServesAtMost road old most old
+  one_more : (n most : ℕ) (now new : ZoneContent) → n < most → ServesAtMost road old n now → MayServe road now new
+      → ServesAtMost road old most new
+
+-- ---- calls
+
+-- the number of failures after a call: one more if it failed, up to 2^64 - 1
+abbrev pub failures_after : {X : Type 0} → Result X LinkError → ℕ → ℕ
+failures_after (Err Failed) failures = min (failures + 1) (2 ^ 64 - 1)
+failures_after _ failures = failures
+
+-- whether the link has run out of memory, after a call
+abbrev pub memory_after : {X : Type 0} → Result X LinkError → Bool → Bool
+memory_after (Err Memory) old = true
+memory_after _ old = old
+
+-- A call has a result. It keeps the limit, counts its failure, and remembers want of memory.
+pub record Calls {R X : Type 0} (old : SocketLink R) (result : Result X LinkError) (new : SocketLink R) : Type 0 where
+  pub limit : new.limit ≡ old.limit
+  pub failures : new.failures ≡ failures_after result old.failures
+  pub memory : new.out_of_memory ≡ memory_after result old.out_of_memory
+
+-- Sending a datagram keeps the zone.
+pub record Sends {R X : Type 0} (old : SocketLink R) (result : Result X LinkError) (new : SocketLink R) : Type 0 where
+  pub calls : Calls old result new
+  pub zone : new.zone ≡ old.zone
+
+-- Before a receive, at most 1,024 datagrams are served.
+pub record Receives {R X : Type 0} (old : SocketLink R) (result : Result X LinkError) (new : SocketLink R) : Type 0 where
+  pub calls : Calls old result new
+  pub serves : ServesAtMost (Datagram old.limit) old.zone 1024 new.zone
+
+-- A stream carries at most one message to the server.
+pub record Streams {R X : Type 0} (old : SocketLink R) (result : Result X LinkError) (new : SocketLink R) : Type 0 where
+  pub calls : Calls old result new
+  pub serves : MayServe Stream old.zone new.zone
+
+-- ---- events
+
+-- What links over sockets do. They follow no script, so an event begins and ends as the link is.
+abbrev pub socket_rules : (R : Type 0) → LinkRules (SocketLink R)
+socket_rules R =
+    rules_of (λ old e new. new ≡ old) (λ old new. new ≡ old) (λ link. link.out_of_memory) (λ old bytes result new. Sends old result new)
+    (λ old result new. Receives old result new) (λ old bytes result new. Streams old result new) (λ link. link.failures)
