@@ -10,7 +10,7 @@ use std::alloc::{AllocError, Global};
 use std::process::ExitCode;
 use std::rt::{Env, Files};
 use std::{env, fmt, fs, io};
-use stub_play::{FileContents, PlayInput, Words, play, read_words, reading_order};
+use stub_play::{FileContents, PlayInput, Words, play_in_memory, read_words, reading_order};
 
 /// How an example ended.
 #[derive(Clone, Copy)]
@@ -61,7 +61,7 @@ fn run_example<R: Files + AllocGlobal>(rt: &R, name: &str) -> io::Result<Verdict
     };
     let stored = fs::read(rt, path_of(rt.alloc(), name, "stdout")?.as_str())?;
     let mut output: Vec<u8> = Vec::new(rt.alloc());
-    if play(rt.alloc(), &input, &mut output).is_err() {
+    if play_in_memory(rt.alloc(), &input, &mut output).is_err() {
         return Ok(Verdict::Fault);
     }
     if output.as_slice() == stored.as_slice() {

@@ -1,3 +1,4 @@
+pub mod HonestLaws
 pub mod HostLaws
 pub mod LineLaws
 pub mod OptionLaws

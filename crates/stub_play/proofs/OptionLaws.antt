@@ -1,10 +1,10 @@
--- The options of a command that was made argument by argument, and what a parse finds for those that take a number.
-use Rattle.std.proofs.Common.{◌≡◌, ◌∙◌, ◌++◌, ◌<◌, ◌≤◌, ◌&&◌, ◌||◌, ℕ, zero, suc, Bool, true, false, not, List, [], ◌∷◌, length, map, get_or, Option, Some, None, is_some, option_map, cond, refl, sym, subst, ap, inl, inr, arith, append_assoc, append-nil, bytes_eq, All, codes}
+-- The options of a command that was made argument by argument, and what a parse finds for those that take a number or no value.
+use Rattle.std.proofs.Common.{◌≡◌, ◌⊎◌, ◌∙◌, ◌++◌, ◌<◌, ◌≤◌, ◌&&◌, ◌||◌, ℕ, zero, suc, Bool, true, false, not, List, [], ◌∷◌, length, map, get_or, Option, Some, None, is_some, option_map, cond, refl, sym, subst, ap, inl, inr, arith, append_assoc, append-nil, bytes_eq, All, codes}
 use Rattle.std.specs.Prelude.{⊤, find, fold, slice_get}
 use Rattle.std.specs.List.{AllByRecursion, list_all}
 use Rattle.std.specs.Borrow.{Bor}
 use Rattle.std.proofs.lemmas.Slice.Eq.{bytes_eq-Decides}
-use Rattle.clap.specs.Facts.{Entry, EntryPasses, HasId, HasReading, PassesArg, ValuesPass, WantsDefault, args_of, groups_of, least_values, parser_of, parser_of_value}
+use Rattle.clap.specs.Facts.{Entry, EntryPasses, HasId, PassesArg, ValuesPass, WantsDefault, args_of, groups_of, least_values, parser_of, parser_of_value}
 use Rattle.clap.specs.Built.{AddsArg, AddsInTurn, FitsChain, HasDistinctIds, IsAuto, IsParsedFrom, IsPlain, IsPlainArg, SameRules}
 use Rattle.clap.specs.Words.{App, app_of, rule_of, with_rule}
 use Rattle.clap.specs.Matches.{found_of, matched_of, one_text}
@@ -19,7 +19,8 @@ use Rattle.clap.specs.declared.parser.matches.ArgMatches.{ArgMatches}
 use Rattle.clap.specs.declared.parser.matches.Found.{Found}
 use Rattle.clap.specs.declared.parser.matches.MatchedArg.{MatchedArg}
 use Rattle.clap.proofs.CallerLemmas.{added_plain, default_present, entry_by_id, same_rules_by_id}
-use Rattle.stub_play.specs.Words.{TakesNumber}
+use Rattle.clap.specs.declared.builder.value_parser.ValueParser.TheVariants as parsers
+use Rattle.stub_play.specs.Words.{IsFlagText, TakesFlag, TakesNumber, TakesOne}
 
 -- ---- arguments, place by place
 
@@ -173,10 +174,13 @@ entry_of f id has = go (find (λ e. bytes_eq e.0.now id) f.entries.items) refl (
         cc
     go (Some e) is some = record { entry = e.1; is = ap (option_map (λ x. x.1)) is }
 
--- what a parse reads of an option that takes one value, by this parser
+-- how a parse reads an option, by this parser
 pub record ReadsBy (parser : ValueParser) (ignore_case : Bool) (a : Arg) : Type 0 where
   pub is_parser : parser_of a ≡ parser
   pub is_case : a.ignore_case ≡ ignore_case
+
+-- an option that takes one value
+pub record HasValue (a : Arg) : Type 0 where
   pub is_set : a.action ≡ Some Set
   pub delimiter : a.val_delim ≡ None
   pub count : 1 ≤ least_values a
@@ -190,6 +194,17 @@ first_value_passes : (P : Bor (List ℕ) → Type 0) (how : Reading) (values : L
 first_value_passes P how [] all some = absurd (omega arith)
 first_value_passes P how (v ∷ values) all some = (v, refl, all 0 v (omega arith))
 
+-- the parser takes the text, if there is one
+abbrev pub AcceptsAny : ValueParser → Bool → Option (List ℕ) → Type 0
+AcceptsAny parser ignore_case None = ⊤
+AcceptsAny parser ignore_case (Some text) = (t : List ℕ) × (text ≡ read_as (reading_of parser) t) × Accepts ignore_case parser t
+
+any_of_values : (parser : ValueParser) (ignore_case : Bool) (values : List (Bor (List ℕ)))
+    → All (λ (v : Bor (List ℕ)). Accepts ignore_case parser v.now) values
+    → AcceptsAny parser ignore_case (option_map (λ s. read_as (reading_of parser) s.now) (slice_get values 0))
+any_of_values parser ignore_case [] all = tt
+any_of_values parser ignore_case (v ∷ values) all = (v.now, refl, all 0 v (omega arith))
+
 module _ (c : Command) (f : Found) (id : List ℕ) (parser : ValueParser) (ignore_case : Bool) (ungrouped : groups_of c ≡ [])
     (named : id ≡ [] → ⊥) (reads : (a : Arg) → IsArgNamed c id a → ReadsBy parser ignore_case a) where
   no_group : (e : Entry) → e.0.now ≡ id → EntryPasses c e → e.1.is_group ≡ true → ⊥
@@ -200,17 +215,17 @@ module _ (c : Command) (f : Found) (id : List ℕ) (parser : ValueParser) (ignor
         omega arith
   ]
 
-  has_value : (e : Entry) → e.0.now ≡ id → EntryPasses c e → 0 < length e.1.vals.items
-  has_value e key pass = elim pass.1 [
+  has_value : ((a : Arg) → IsArgNamed c id a → HasValue a) → (e : Entry) → e.0.now ≡ id → EntryPasses c e → 0 < length e.1.vals.items
+  has_value valued e key pass = elim pass.1 [
     | inl group ↦ absurd (no_group e key pass group.0)
     | inr (inl some) ↦ some
     | inr (inr (inl count)) ↦
         let any = count.1 in
-        let r = reads any.1 (any.0, any.2, any.3, subst (λ (w : List ℕ). bytes_eq any.1.id.now w ≡ true) key any.4.0) in
+        let r = valued any.1 (any.0, any.2, any.3, subst (λ (w : List ℕ). bytes_eq any.1.id.now w ≡ true) key any.4.0) in
         let bad : Set ≡ Count = rw r.is_set at any.4.1 in
         cc
     | inr (inr (inr any)) ↦
-        let r = reads any.1 (any.0, any.2, any.3, subst (λ (w : List ℕ). bytes_eq any.1.id.now w ≡ true) key any.4.0) in
+        let r = valued any.1 (any.0, any.2, any.3, subst (λ (w : List ℕ). bytes_eq any.1.id.now w ≡ true) key any.4.0) in
         elim any.4.1 [
           | inl none ↦
               let least = r.count in
@@ -242,22 +257,51 @@ module _ (c : Command) (f : Found) (id : List ℕ) (parser : ValueParser) (ignor
   ]
 
   -- the entry of the option has a first text, which the parser takes
-  pub text_in : ValuesPass c f → HasId f id
+  pub text_in : ((a : Arg) → IsArgNamed c id a → HasValue a) → ValuesPass c f → HasId f id
       → (t : List ℕ) × (one_text f id ≡ Some (read_as (reading_of parser) t)) × Accepts ignore_case parser t
-  text_in values has =
+  text_in valued values has =
       let there = entry_of f id has in
       let (e, same, key, pass) = entry_by_id (EntryPasses c) f.entries.items id there.entry values there.is in
       let is_id : e.0.now ≡ id = (bytes_eq-Decides e.0.now id).0 key in
-      let first = first_value_passes (λ (v : Bor (List ℕ)). Accepts ignore_case parser v.now) e.1.reading e.1.vals.items (are_accepted e is_id pass) (has_value e is_id pass) in
+      let first = first_value_passes (λ (v : Bor (List ℕ)). Accepts ignore_case parser v.now) e.1.reading e.1.vals.items (are_accepted e is_id pass) (has_value valued e is_id pass) in
       let found : matched_of f id ≡ Some e.1 = there.is ∙ ap (λ (x : MatchedArg). Some x) (sym same) in
       let text : one_text f id ≡ Some (read_as e.1.reading first.0.now) = rw found first.1 in
       (first.0.now, text ∙ ap (λ (how : Reading). Some (read_as how first.0.now)) (is_read e is_id pass), first.2)
 
--- ---- a number of a command
+  any_of_entry : (entry : MatchedArg) → matched_of f id ≡ Some entry → ValuesPass c f → AcceptsAny parser ignore_case (one_text f id)
+  any_of_entry entry is values =
+      let (e, same, key, pass) = entry_by_id (EntryPasses c) f.entries.items id entry values is in
+      let is_id : e.0.now ≡ id = (bytes_eq-Decides e.0.now id).0 key in
+      let first : AcceptsAny parser ignore_case (option_map (λ s. read_as (reading_of parser) s.now) (slice_get e.1.vals.items 0)) =
+      any_of_values parser ignore_case e.1.vals.items (are_accepted e is_id pass) in
+      let found : matched_of f id ≡ Some e.1 = is ∙ ap (λ (x : MatchedArg). Some x) (sym same) in
+      rw (found, is_read e is_id pass) first
+
+  -- the entry of the option, if it has one, has a first text that the parser takes, if it has any
+  pub any_text : ValuesPass c f → AcceptsAny parser ignore_case (one_text f id)
+  any_text values = go (matched_of f id) refl
+    where
+      go : (o : Option MatchedArg) → matched_of f id ≡ o → AcceptsAny parser ignore_case (one_text f id)
+      go None is = rw is tt
+      go (Some entry) is = any_of_entry entry is values
+
+-- the parser of flags takes two texts
+flag_word : (text t : List ℕ) → text ≡ t → (bytes_eq t (codes "true") || bytes_eq t (codes "false")) ≡ true
+    → (text ≡ codes "true") ⊎ (text ≡ codes "false")
+flag_word text t same accepted = go (bytes_eq t (codes "true")) refl accepted
+  where
+    go : (b : Bool) → bytes_eq t (codes "true") ≡ b → (b || bytes_eq t (codes "false")) ≡ true → (text ≡ codes "true") ⊎ (text ≡ codes "false")
+    go true is either = inl (same ∙ (bytes_eq-Decides t (codes "true")).0 is)
+    go false is either = inr (same ∙ (bytes_eq-Decides t (codes "false")).0 either)
+
+flag_is_text : (ignore_case : Bool) (text : Option (List ℕ)) → AcceptsAny parsers.Bool ignore_case text → IsFlagText text
+flag_is_text ignore_case None any = tt
+flag_is_text ignore_case (Some text) any = flag_word text any.0 any.1 any.2
+
+-- ---- an option of a command
 
 module _ (given : List Arg) (command : Command) (m : ArgMatches) (made : IsMadeOf given command) (fit : All FitsChain given)
-    (distinct : HasDistinctIds given) (parsed : IsParsedFrom command m) (k : ℕ) (d : Arg) (lt : k < length given)
-    (parser : ValueParser) (takes : TakesNumber parser (get_or given k d)) where
+    (distinct : HasDistinctIds given) (parsed : IsParsedFrom command m) (k : ℕ) (d : Arg) (lt : k < length given) where
   there : k < length (args_of command)
   there = let same = same_len given (args_of command) made.same in omega arith
 
@@ -278,26 +322,46 @@ module _ (given : List Arg) (command : Command) (m : ArgMatches) (made : IsMadeO
   own : IsAuto (get_or (args_of command) k d) → ⊥
   own auto = (fit k d lt).3 (elim auto [ inl h ↦ inl (sym same_id ∙ h) | inr h ↦ inr (sym same_id ∙ h) ])
 
-  wants : WantsDefault (get_or (args_of command) k d)
-  wants = (rules.ifs ∙ takes.one.conditions, rw (rules.defaults takes.preset) takes.preset)
+  built_rules : (a : Arg) → IsArgNamed parsed.built (get_or (args_of command) k d).id.now a → SameRules (get_or (args_of command) k d) a
+  built_rules a at = same_rules_by_id command m parsed k d there alone own at.0 a at.1 at.2 at.3
 
-  reads : (a : Arg) → IsArgNamed parsed.built (get_or (args_of command) k d).id.now a → ReadsBy parser (get_or given k d).ignore_case a
-  reads a at =
-      let s : SameRules (get_or (args_of command) k d) a = same_rules_by_id command m parsed k d there alone own at.0 a at.1 at.2 at.3 in
-      let set : (get_or (args_of command) k d).action ≡ Some Set = rules.action Set takes.one.action in
+  reads : (parser : ValueParser) → (get_or given k d).value_parser ≡ Some parser → (a : Arg)
+      → IsArgNamed parsed.built (get_or (args_of command) k d).id.now a → ReadsBy parser (get_or given k d).ignore_case a
+  reads parser is a at =
+      let s = built_rules a at in
       record {
-        is_parser = ap parser_of_value (s.parser parser (rules.parser parser takes.parser));
+        is_parser = ap parser_of_value (s.parser parser (rules.parser parser is));
         is_case = s.ignore_case ∙ rules.ignore_case;
-        is_set = s.action Set set;
-        delimiter = s.val_delim ∙ (rules.val_delim ∙ takes.one.delimiter);
-        count = s.least set (rules.least takes.one.action takes.one.count);
       }
 
-  pub number_text : (t : List ℕ) × (one_text (found_of m) (get_or given k d).id.now ≡ Some (read_as (reading_of parser) t))
+  valued : TakesOne (get_or given k d) → (a : Arg) → IsArgNamed parsed.built (get_or (args_of command) k d).id.now a → HasValue a
+  valued one a at =
+      let s = built_rules a at in
+      let set : (get_or (args_of command) k d).action ≡ Some Set = rules.action Set one.action in
+      record {
+        is_set = s.action Set set;
+        delimiter = s.val_delim ∙ (rules.val_delim ∙ one.delimiter);
+        count = s.least set (rules.least one.action one.count);
+      }
+
+  has_name : (get_or (args_of command) k d).id.now ≡ [] → ⊥
+  has_name empty = (fit k d lt).2 (sym same_id ∙ empty)
+
+  pub number_text : (parser : ValueParser) → TakesNumber parser (get_or given k d)
+      → (t : List ℕ) × (one_text (found_of m) (get_or given k d).id.now ≡ Some (read_as (reading_of parser) t))
       × Accepts (get_or given k d).ignore_case parser t
-  number_text =
+  number_text parser takes =
       let facts = parsed.parsed (parsed.from.globals ∙ made.globals) in
+      let wants : WantsDefault (get_or (args_of command) k d) = (rules.ifs ∙ takes.one.conditions, rw (rules.defaults takes.preset) takes.preset) in
       let read = text_in parsed.built (found_of m) (get_or (args_of command) k d).id.now parser (get_or given k d).ignore_case
-      (parsed.from.plain made.plain).1 (λ empty. (fit k d lt).2 (sym same_id ∙ empty)) reads facts.values
+      (parsed.from.plain made.plain).1 has_name (reads parser takes.parser) (valued takes.one) facts.values
       (default_present command m parsed made.globals k d there wants) in
       (read.0, subst (λ (w : List ℕ). one_text (found_of m) w ≡ Some (read_as (reading_of parser) read.0)) same_id read.1, read.2)
+
+  pub flag_text : TakesFlag (get_or given k d) → IsFlagText (one_text (found_of m) (get_or given k d).id.now)
+  flag_text takes =
+      let facts = parsed.parsed (parsed.from.globals ∙ made.globals) in
+      let any = any_text parsed.built (found_of m) (get_or (args_of command) k d).id.now parsers.Bool (get_or given k d).ignore_case
+      (parsed.from.plain made.plain).1 has_name (reads parsers.Bool takes.parser) facts.values in
+      subst (λ (w : List ℕ). IsFlagText (one_text (found_of m) w)) same_id
+      (flag_is_text (get_or given k d).ignore_case (one_text (found_of m) (get_or (args_of command) k d).id.now) any)

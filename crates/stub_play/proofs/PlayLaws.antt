@@ -1,5 +1,5 @@
 -- What lines and events side by side are, and what the exits of a whole run say.
-use Rattle.std.proofs.Common.{◌≡◌, ◌≢◌, ◌↔◌, ◌≤◌, ◌<◌, ◌⊎◌, ◌||◌, Bool, false, nat_lt, map, ℕ, List, [], ◌∷◌, ◌++◌, suc, zero, length, take, slice_get, Option, Some, IfSome, Result, Ok, Err, OnOk, refl, sym, subst, ap, ◌∙◌, inl, inr, arith, string_bytes, length-take, EachIndex, slice_index, ◌+◌}
+use Rattle.std.proofs.Common.{◌≡◌, ◌≢◌, ◌↔◌, ◌≤◌, ◌<◌, ◌⊎◌, ◌||◌, ◌^◌, Bool, true, false, nat_lt, map, ℕ, List, [], ◌∷◌, ◌++◌, suc, zero, length, take, slice_get, Option, Some, IfErr, IfSome, Result, Ok, Err, OnOk, refl, sym, subst, ap, ◌∙◌, inl, inr, arith, string_bytes, length-take, EachIndex, slice_index, ◌+◌}
 use Rattle.std.proofs.lemmas.Bool.{le-ltb}
 use Rattle.std.proofs.lemmas.Option.{slice_get_within}
 use Rattle.std.proofs.Math.Seq.{take-nil}
@@ -12,13 +12,21 @@ use Rattle.stub_config.specs.config.{config_of_servers}
 use Rattle.stub_config.specs.declared.config.ResolverConfig.{ResolverConfig}
 use Rattle.stub_config.specs.declared.options.ResolverOpts.{ResolverOpts}
 use Rattle.stub_hosts.specs.Hosts.{HostsContent}
+use Rattle.stub_core.specs.declared.resolver.Resolver.{Resolver}
+use Rattle.stub_link.specs.declared.wire_handle.WireHandle.{WireHandle}
+use Rattle.stub_socket.specs.SocketLink.{socket_rules}
+use Rattle.stub_socket.specs.SocketWorld.{resolver_of}
+use Rattle.stub_socket.specs.declared.world.SocketWorld.{SocketWorld}
+use Rattle.stub_socket.specs.declared.socket_link.SocketLink.{SocketLink}
 use Rattle.stub_run.specs.declared.event.Event.{Event}
 use Rattle.stub_run.specs.declared.world.World.{World}
-use Rattle.stub_run.specs.World.{BeginsWith, IsFirst}
+use Rattle.stub_run.specs.World.{BeginsWith, IsFirst, IsFirstOver}
 use Rattle.stub_run.specs.Counts.{HasDrawn}
 use Rattle.stub_run.specs.Headline.{AreFresh, HasNoLeastTtl, WorldContent}
+use Rattle.stub_run.specs.Questions.{AreAskable}
+use Rattle.stub_run.specs.RunOver.{IsReportBeforeOver, IsReportOver, RunsOver, StopsAtOver, with_sent}
 use Rattle.stub_run.specs.Ids.{AreDistinct}
-use Rattle.stub_run.proofs.Reporting.{Bounds, Law, front-in-order}
+use Rattle.stub_run.proofs.Reporting.{Bounds, Law, WalkedLaw, front-askable, front-in-order}
 use Rattle.stub_history.specs.Faithful.{HasNoReuse}
 use Rattle.stub_run.specs.declared.report.EventReport.{EventReport}
 use Rattle.stub_run.specs.declared.report.Report.{Report}
@@ -36,7 +44,8 @@ use Rattle.stub_play.specs.declared.plays.fault.PlayFault.TheVariants as plays
 use Rattle.stub_play.specs.declared.plays.input.PlayInput.{PlayInput}
 use Rattle.dns_names.specs.Name.{DomainName}
 use Rattle.stub_play.specs.EventContent.{EventContent}
-use Rattle.stub_play.specs.Plays.{ZoneIs, events_of, lines_of, numbered, Faults, HostsAre, IsAtFault, IsFirstOutOfOrder, IsLineOutOfOrder, IsLoaded, IsPlayed, IsRead, IsStart, IsScript, IsUnwritten, IsZone, Tells, TellsAll, TellsFirst, content_of, play_options}
+use Rattle.stub_run.specs.Event.{AreHonest}
+use Rattle.stub_play.specs.Plays.{Faults, HasFiles, HostsAre, IsAtFault, IsLineListed, IsLineOf, IsLineOutOfOrder, IsLoaded, IsPlayed, IsRead, IsScript, IsStart, IsStartOver, IsUnwritten, IsUsable, IsZone, ScriptIs, Tells, TellsAll, TellsAllBy, TellsFirst, TellsFirstBy, TellsOver, ZoneIs, content_of, events_of, lines_of, numbered, play_options}
 use Rattle.stub_play.specs.PlayFault.{script_fault}
 use Rattle.stub_play.specs.ReportText.{event_text, reply_text, report_text}
 use Rattle.stub_play.specs.ScriptText.{IsScriptOf, contents_of, side_by_side}
@@ -68,17 +77,20 @@ lines_beside (n ∷ numbers) (e ∷ events) h =
     let same : length numbers ≡ length events = omega arith in
     ap (λ (x : List ℕ). n ∷ x) (lines_beside numbers events same)
 
-pub line_out_of_order : (numbers : List ℕ) (events : List Event) (place line : ℕ) → length numbers ≡ length events → IsFirstOutOfOrder events place
-    → slice_get numbers place ≡ Some line → IsLineOutOfOrder (side_by_side numbers events) line
-line_out_of_order numbers events place line same first is = (
+-- the line beside the first event of a kind
+pub line_beside : (IsFirst : List Event → ℕ → Type 0) (numbers : List ℕ) (events : List Event) (place line : ℕ)
+    → length numbers ≡ length events → IsFirst events place → slice_get numbers place ≡ Some line
+    → IsLineOf IsFirst (side_by_side numbers events) line
+line_beside IsFirst numbers events place line same first is = (
   place,
-  rw (events_beside numbers events same) first,
+  subst (λ (es : List Event). IsFirst es place) (sym (events_beside numbers events same)) first,
   rw (lines_beside numbers events same) is,
 )
 
-pub first_at_some : (found events : List Event) (r : Option ℕ) (place : ℕ) → found ≡ events → r ≡ Some place → IfSome r (IsFirstOutOfOrder found)
-    → IsFirstOutOfOrder events place
-first_at_some found events r place same is h = rw is at (rw same at h)
+pub first_at_some : (IsFirst : List Event → ℕ → Type 0) (found events : List Event) (r : Option ℕ) (place : ℕ) → found ≡ events
+    → r ≡ Some place → IfSome r (IsFirst found) → IsFirst events place
+first_at_some IsFirst found events r place same is h =
+    subst (λ (es : List Event). IsFirst es place) same (subst (λ (o : Option ℕ). IfSome o (IsFirst found)) is h)
 
 -- a run that was not stopped for its moments had them in order
 pub in_order_if_run : (events : List Event) (result : Result Report Stopped) → (result ≡ Err Moments) ↔ (¬ InOrder 0 events) → result ≢ Err Moments
@@ -88,6 +100,11 @@ in_order_if_run events result moments ran = in_order_if_not_out events (λ out. 
 pub on_ok : {T E P : Type 0} (r : Result T E) → P → OnOk r P
 on_ok (Ok x) p = p
 on_ok (Err e) p = tt
+
+-- what holds of an error
+pub if_err : {T E : Type 0} (P Q : E → Type 0) (r : Result T E) → ((e : E) → P e → Q e) → IfErr r P → IfErr r Q
+if_err P Q (Ok x) h holds = tt
+if_err P Q (Err e) h holds = h e holds
 
 -- ---- the files
 
@@ -117,6 +134,24 @@ pub hosts_faults : (input : PlayInput) (found : List ℕ) (fault : HostsFault) �
 hosts_faults input found fault script same read =
     (tt, (script, subst (λ (src : List ℕ). HostsAre src (Err fault)) same read))
 
+-- a line with link words is the script's fault over sockets
+pub listed_faults : (input : PlayInput) (zone : ZoneContent) (script : List (ℕ × Event)) (fault : PlayFault) → ZoneIs input (Ok zone)
+    → ScriptIs input zone script → ((line : ℕ) × (fault ≡ plays.Script line) × (input.udp ≡ true) × IsLineListed script line)
+    → IsUnwritten fault × Faults input fault
+listed_faults input zone script fault is read (line, is_line, udp, listed) =
+    subst (λ (f : PlayFault). IsUnwritten f × Faults input f) (sym is_line)
+    (tt, (zone, is, inr (inl (script, read, udp, listed))))
+
+-- the events of a script follow no script of the link
+pub usable_if : (input : PlayInput) (script : ScriptText) → length script.lines.items ≡ length script.events.items
+    → (input.udp ≡ true → AreHonest script.events.items) → IsUsable input (numbered script)
+usable_if input script same honest = λ udp.
+    subst AreHonest (sym (events_beside script.lines.items script.events.items same)) (honest udp)
+
+pub honest_if : (input : PlayInput) (script : ScriptText) → length script.lines.items ≡ length script.events.items
+    → IsUsable input (numbered script) → input.udp ≡ true → AreHonest script.events.items
+honest_if input script same usable udp = subst AreHonest (events_beside script.lines.items script.events.items same) (usable udp)
+
 -- ---- the first state
 
 none_below_zero : (n : ℕ) → nat_lt n 0 ≡ false
@@ -142,6 +177,23 @@ starts input zone limit ids config options hosts world same_limit same_config sa
   },
   first.2,
 )
+
+-- the resolver of a run over sockets begins as its input says
+pub starts_over : {R : Type 0} (input : PlayInput) (zone : ZoneContent) (limit : ℕ) (ids : List ℕ) (config : ResolverConfig)
+    (options : ResolverOpts) (hosts : HostsContent) (link : SocketLink R) (world : SocketWorld R) → link.zone ≡ zone → link.limit ≡ limit
+    → limit ≡ input.limit → config ≡ config_of_servers [] → options ≡ play_options input
+    → EachIndex ids (λ k. slice_index ids k ≡ k + 1) → length ids ≡ 65535
+    → IsFirstOver link ids config options hosts (resolver_of world) → IsStartOver input zone hosts (resolver_of world)
+starts_over input zone limit ids config options hosts link world same_zone link_limit same_limit same_config same_options counted all first =
+    record {
+      link = link;
+      ids = ids;
+      zone_is = same_zone;
+      limit = link_limit ∙ same_limit;
+      first = rw (same_config, same_options) at first;
+      counted = counted;
+      all = all;
+    }
 
 -- ---- what is printed
 
@@ -175,6 +227,34 @@ front_is first events report before =
     let few : length report.events.items ≤ before.count = omega (arith, same, short) in
     front_text before.count events report.events.items few
 
+module _ {R : Type 0} where
+  -- a run over sockets reports of each event once
+  runs_over_len : (old : Resolver (WireHandle (SocketLink R))) (events : List Event) (reports : List EventReport) (states : List (Resolver (WireHandle (SocketLink R))))
+      (new : Resolver (WireHandle (SocketLink R))) → RunsOver (socket_rules R) old events reports states new → length reports ≡ length events
+  runs_over_len old [] [] [] new h = refl
+  runs_over_len old [] [] (state ∷ states) new h = absurd h
+  runs_over_len old [] (r ∷ reports) states new h = absurd h
+  runs_over_len old (e ∷ events) [] states new h = absurd h
+  runs_over_len old (e ∷ events) (r ∷ reports) [] new h = absurd h
+  runs_over_len old (e ∷ events) (r ∷ reports) (state ∷ states) new h = ap suc (runs_over_len state events reports states new h.1)
+
+  front_is_over : (first : Resolver (WireHandle (SocketLink R))) (events : List Event) (report : Report)
+      (before : IsReportBeforeOver (socket_rules R) first events report)
+      → report_text events report.events.items ≡ report_text (take before.count events) report.events.items
+  front_is_over first events report before =
+      let front = take before.count events in
+      let run = before.reported.has_run in
+      let same : length report.events.items ≡ length front =
+      runs_over_len (with_sent first run.ids) front report.events.items run.states before.reported.last run.runs in
+      let short = length-take before.count events in
+      let few : length report.events.items ≤ before.count = omega (arith, same, short) in
+      front_text before.count events report.events.items few
+
+  within_over : (count : ℕ) (events : List Event) (resolver : Resolver (WireHandle (SocketLink R))) → StopsAtOver (socket_rules R) count events resolver
+      → (count ≡ 0) ⊎ (count < length events)
+  within_over count events resolver (inl none) = inl none
+  within_over count events resolver (inr stop) = inr (slice_get_within events count stop.0 stop.1)
+
 -- the event at which a run stops is one of them
 front_within : (count numbered : ℕ) (events : List Event) (state : RunState) → numbered ≡ length events → StopsAt count events state
     → (count ≡ 0) ⊎ (count < numbered)
@@ -192,11 +272,18 @@ stopped_is P error report is h = rw is at h
 pub record RunsHold : Type 0 where
   pub fresh : Law HasNoLeastTtl AreFresh
   pub chain_bound : Law HasNoLeastTtl Bounds
+  pub walked : WalkedLaw
   pub drawn : (ids : List ℕ) (first last : RunState) (events : List Event) (reports : List EventReport) (states : List RunState)
       → HasDrawn ids (asks_of first) → Runs first events reports states last → HasDrawn ids (asks_of last)
   pub distinct : (ids : List ℕ) (sent : List (ℕ × Query)) → AreDistinct ids
       → map (λ (draw : ℕ × Query). draw.0) sent ≡ take (length sent) ids → HasNoReuse sent
   pub counted : (n : ℕ) (ids : List ℕ) → EachIndex ids (λ k. slice_index ids k ≡ k + n) → AreDistinct ids
+
+-- a place is below as many lines as there are events
+below_sides : (count : ℕ) (events : List Event) (lines : ℕ) → lines ≡ length events → (count ≡ 0) ⊎ (count < length events)
+    → (count ≡ 0) ⊎ (count < lines)
+below_sides count events lines same (inl none) = inl none
+below_sides count events lines same (inr below) = inr (omega (arith, same, below))
 
 -- files that could be read
 module _ (input : PlayInput) (loaded : Loaded) (is : IsLoaded input loaded) where
@@ -206,22 +293,57 @@ module _ (input : PlayInput) (loaded : Loaded) (is : IsLoaded input loaded) wher
   pub zone_is : IsZone input
   zone_is = (loaded.zone, is.zone)
 
-  pub is_read : InOrder 0 loaded.script.events.items → IsRead input
-  is_read order = record {
+  abbrev pub has_files : HasFiles input
+  has_files = record {
     zone = loaded.zone;
     script = numbered loaded.script;
     hosts = loaded.hosts;
     is_zone = is.zone;
     is_script = is.script;
+    usable = is.usable;
     are_hosts = is.hosts;
-    in_order = rw events_are order;
   }
 
+  pub is_read : InOrder 0 loaded.script.events.items → IsRead input
+  is_read order = record { files = has_files; in_order = subst (InOrder 0) (sym events_are) order }
+
   pub moment_is_at_fault : (line : ℕ) → IsLineOutOfOrder (numbered loaded.script) line → Faults input (plays.Script line)
-  moment_is_at_fault line out = (loaded.zone, is.zone, inr (numbered loaded.script, loaded.hosts, is.script, is.hosts, out))
+  moment_is_at_fault line out =
+      (loaded.zone, is.zone, inr (inr (numbered loaded.script, loaded.hosts, is.script, is.usable, is.hosts, out)))
+
+  -- what is told of all events, or of the first ones
+  module _ (tells : ZoneContent → List Event → List ℕ → Type 0) (order : InOrder 0 loaded.script.events.items) (report : Report) where
+    pub tells_all_by : tells loaded.zone loaded.script.events.items (report_text loaded.script.events.items report.events.items)
+        → TellsAllBy tells input (report_text loaded.script.events.items report.events.items)
+    tells_all_by told = (
+      loaded.zone,
+      numbered loaded.script,
+      is.script,
+      rw events_are order,
+      subst (λ (es : List Event). tells loaded.zone es (report_text loaded.script.events.items report.events.items)) (sym events_are) told,
+    )
+
+    pub tells_first_by : (count : ℕ) → (count ≡ 0) ⊎ (count < length loaded.script.events.items)
+        → report_text loaded.script.events.items report.events.items
+        ≡ report_text (take count loaded.script.events.items) report.events.items
+        → tells loaded.zone (take count loaded.script.events.items) (report_text (take count loaded.script.events.items) report.events.items)
+        → TellsFirstBy tells input (report_text loaded.script.events.items report.events.items)
+    tells_first_by count within same told =
+        let events = loaded.script.events.items in
+        let len = sides_len loaded.script.lines.items events is.beside in (
+          loaded.zone,
+          numbered loaded.script,
+          count,
+          is.script,
+          rw events_are order,
+          below_sides count events (length (numbered loaded.script)) len within,
+          subst (λ (es : List Event). tells loaded.zone (take count es) (report_text events report.events.items)) (sym events_are)
+              (subst (tells loaded.zone (take count events)) (sym same) told),
+        )
 
   -- a run from the first state tells this
-  module _ (laws : RunsHold) (zone : IsZoneContent loaded.zone) (order : InOrder 0 loaded.script.events.items) (state : RunState)
+  module _ (laws : RunsHold) (zone : IsZoneContent loaded.zone) (order : InOrder 0 loaded.script.events.items)
+      (askable : AreAskable loaded.script.events.items) (limit : input.limit < 2 ^ 16) (state : RunState)
       (start : IsStart input loaded.zone loaded.hosts state) (report : Report) where
     abbrev content : WorldContent
     content = content_of input loaded.zone start.ids loaded.hosts
@@ -233,9 +355,9 @@ module _ (input : PlayInput) (loaded : Loaded) (is : IsLoaded input loaded) wher
         let last = laws.drawn start.ids state reported.last told report.events.items reported.states first reported.runs in
         laws.distinct start.ids (asks_of reported.last).sent (laws.counted 1 start.ids start.counted) last.drawn
 
-    tells : (told : List Event) → InOrder 0 told → IsReportOf state told report
+    tells : (told : List Event) → InOrder 0 told → AreAskable told → IsReportOf state told report
         → Tells input loaded.zone told (report_text told report.events.items)
-    tells told in-order reported = record {
+    tells told in-order asked reported = record {
       hosts = loaded.hosts;
       state = state;
       report = report;
@@ -248,39 +370,56 @@ module _ (input : PlayInput) (loaded : Loaded) (is : IsLoaded input loaded) wher
           (no-reuse told reported) (λ kind. refl);
       chain_bound = laws.chain_bound content state reported.last told report.events.items reported.states zone start.first in-order
           reported.runs (no-reuse told reported) (λ kind. refl) refl;
+      walked = laws.walked content state reported.last told report.events.items reported.states zone start.first in-order reported.runs
+          (no-reuse told reported) refl limit asked;
     }
 
     pub tells_all : IsReportOf state loaded.script.events.items report
         → TellsAll input (report_text loaded.script.events.items report.events.items)
-    tells_all reported = (
-      loaded.zone,
-      numbered loaded.script,
-      is.script,
-      rw events_are order,
-      rw events_are (tells loaded.script.events.items order reported),
-    )
+    tells_all reported = tells_all_by (Tells input) order report (tells loaded.script.events.items order askable reported)
 
     pub tells_first : IsReportBefore state loaded.script.events.items report
         → TellsFirst input (report_text loaded.script.events.items report.events.items)
     tells_first before =
         let events = loaded.script.events.items in
-        let front = take before.count events in
-        let len = sides_len loaded.script.lines.items events is.beside in
-        let told : Tells input loaded.zone front (report_text front report.events.items) = tells front (front-in-order 0 before.count events order) before.reported in (
-          loaded.zone,
-          numbered loaded.script,
-          before.count,
-          is.script,
-          rw events_are order,
-          front_within before.count (length (numbered loaded.script)) events before.reported.last len before.stopped,
-          rw events_are (subst (Tells input loaded.zone front) (sym (front_is state events report before)) told),
-        )
+        tells_first_by (Tells input) order report before.count
+        (front_within before.count (length events) events before.reported.last refl before.stopped) (front_is state events report before)
+        (tells (take before.count events) (front-in-order 0 before.count events order) (front-askable before.count events askable)
+        before.reported)
+
+  -- a run over sockets tells this
+  module _ {R : Type 0} (order : InOrder 0 loaded.script.events.items) (resolver : Resolver (WireHandle (SocketLink R)))
+      (start : IsStartOver input loaded.zone loaded.hosts resolver) (report : Report) where
+    tells_over : (told : List Event) → IsReportOver (socket_rules R) resolver told report
+        → TellsOver R input loaded.zone told (report_text told report.events.items)
+    tells_over told reported = record {
+      hosts = loaded.hosts;
+      resolver = resolver;
+      report = report;
+      is_zone = is.zone;
+      are_hosts = is.hosts;
+      start = start;
+      reported = reported;
+      is_text = refl;
+    }
+
+    pub tells_all_over : IsReportOver (socket_rules R) resolver loaded.script.events.items report
+        → TellsAllBy (TellsOver R input) input (report_text loaded.script.events.items report.events.items)
+    tells_all_over reported = tells_all_by (TellsOver R input) order report (tells_over loaded.script.events.items reported)
+
+    pub tells_first_over : IsReportBeforeOver (socket_rules R) resolver loaded.script.events.items report
+        → TellsFirstBy (TellsOver R input) input (report_text loaded.script.events.items report.events.items)
+    tells_first_over before =
+        let events = loaded.script.events.items in
+        tells_first_by (TellsOver R input) order report before.count
+        (within_over before.count events before.reported.last before.stopped)
+        (front_is_over resolver events report before) (tells_over (take before.count events) before.reported)
 
 -- ---- how a whole run ends
 
-module _ (input : PlayInput) (same : Type 0) (old new : Option (List ℕ)) where
+module _ (tells : ZoneContent → List Event → List ℕ → Type 0) (input : PlayInput) (same : Type 0) (old new : Option (List ℕ)) where
   -- nothing was written, and this was the fault
-  pub silent_end : (fault : PlayFault) → Faults input fault → same → IsPlayed input same old new (Err fault)
+  pub silent_end : (fault : PlayFault) → Faults input fault → same → IsPlayed tells input same old new (Err fault)
   silent_end fault faults unwritten = record {
     read = tt;
     fault = faults;
@@ -289,8 +428,18 @@ module _ (input : PlayInput) (same : Type 0) (old new : Option (List ℕ)) where
     stopped = λ _. inl unwritten;
   }
 
+  -- the sockets could not be opened, or memory ran out before
+  pub sockets_end : (fault : PlayFault) (loaded : Loaded) → IsLoaded input loaded → input.udp ≡ true
+      → (fault ≡ plays.Sockets) ⊎ (fault ≡ plays.Memory) → same → IsPlayed tells input same old new (Err fault)
+  sockets_end fault loaded is udp (inl sockets) unwritten =
+      subst (λ (f : PlayFault). IsPlayed tells input same old new (Err f)) (sym sockets)
+      (silent_end plays.Sockets (udp, has_files input loaded is) unwritten)
+  sockets_end fault loaded is udp (inr memory) unwritten =
+      subst (λ (f : PlayFault). IsPlayed tells input same old new (Err f)) (sym memory)
+      (silent_end plays.Memory (zone_is input loaded is) unwritten)
+
   -- the report could not be written
-  pub unwritten_end : IsRead input → IsPlayed input same old new (Err Write)
+  pub unwritten_end : IsRead input → IsPlayed tells input same old new (Err Write)
   unwritten_end read = record {
     read = tt;
     fault = read;
@@ -300,7 +449,7 @@ module _ (input : PlayInput) (same : Type 0) (old new : Option (List ℕ)) where
   }
 
   -- the whole report was written
-  pub told_end : (report : List ℕ) → IsRead input → TellsAll input report → Appends old new report → IsPlayed input same old new (Ok tt)
+  pub told_end : (report : List ℕ) → IsRead input → TellsAllBy tells input report → Appends old new report → IsPlayed tells input same old new (Ok tt)
   told_end report read tells written = record {
     read = read;
     fault = tt;
@@ -310,8 +459,8 @@ module _ (input : PlayInput) (same : Type 0) (old new : Option (List ℕ)) where
   }
 
   -- what was reported before memory ran out was written
-  pub stopped_end : (report : List ℕ) → IsZone input → TellsFirst input report → Appends old new report
-      → IsPlayed input same old new (Err plays.Memory)
+  pub stopped_end : (report : List ℕ) → IsZone input → TellsFirstBy tells input report → Appends old new report
+      → IsPlayed tells input same old new (Err plays.Memory)
   stopped_end report zone tells written = record {
     read = tt;
     fault = zone;

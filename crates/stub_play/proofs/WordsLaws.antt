@@ -1,5 +1,5 @@
 -- The program's command, as clap parses it.
-use Rattle.std.proofs.Common.{◌≡◌, ◌⊎◌, ◌∙◌, ◌<◌, ℕ, List, [], ◌∷◌, Option, Some, Result, IfErr, IsErrAnd, true, false, codes, map, option_map, is_some, refl, sym, ap, subst, arith, inl, inr}
+use Rattle.std.proofs.Common.{◌≡◌, ◌⊎◌, ◌∙◌, ◌<◌, ℕ, Bool, List, [], ◌∷◌, Option, Some, None, Result, IfErr, IsErrAnd, true, false, codes, map, option_map, is_some, refl, sym, ap, subst, arith, inl, inr}
 use Rattle.std.specs.List.{AllByRecursion, slice_index_or}
 use Rattle.std.specs.Borrow.{Bor}
 use Rattle.std.specs.Prelude.{fold}
@@ -18,8 +18,8 @@ use Rattle.clap.proofs.WalkLemmas.{first_value-rows, one_text-rows}
 use Rattle.clap.proofs.OnLiterals.{clap_on_literals}
 use Rattle.stub_play.specs.declared.words.WordsFault.{WordsFault}
 use Rattle.stub_play.specs.declared.words.WordsFault.TheVariants.{Clap, Bad, Memory}
-use Rattle.stub_play.specs.Words.{BecomesFault, HasAll, HasNumber, IsNoOrigin, IsOriginFault, IsWordsFault, TakesNumber, between, cache_rule, limit_rule, max_ttl_rule, number_of, number_of_text, optional, required, stub_app, stub_rules, value_of}
-use Rattle.stub_play.proofs.OptionLaws.{IsMadeOf, IsOption, all_fit, app_in_turn, are_distinct, distinct_ids, ids_of, is_none_of, made_in_turn, number_text, option_fits}
+use Rattle.stub_play.specs.Words.{BecomesFault, HasAll, HasNumber, IsFlagText, IsNoOrigin, IsOriginFault, IsWordsFault, TakesFlag, TakesNumber, between, cache_rule, flag, flag_of, is_set, limit_rule, max_ttl_rule, number_of, number_of_text, optional, required, stub_app, stub_rules, value_of}
+use Rattle.stub_play.proofs.OptionLaws.{IsMadeOf, IsOption, all_fit, app_in_turn, are_distinct, distinct_ids, flag_text, ids_of, made_in_turn, number_text, option_fits}
 
 -- ---- values
 
@@ -45,6 +45,23 @@ number_is app words m id n same has is =
     let rows = (has (ap is_simple same ∙ app_is_simple)).0 in
     let text = ap (λ (a : App). one_of id (matches_of a words)) (sym same) ∙ ap (one_of id) (sym rows) ∙ sym (one_text-rows (found_of m) id) in
     ap (option_map number_of_text) text ∙ is
+
+-- and the flag
+pub flag_is : (app : App) (words : List (List ℕ)) (m : ArgMatches) (id : List ℕ) (b : Bool) → app ≡ stub_app → HasMatchesOf app words m
+    → is_set (one_text (found_of m) id) ≡ b → flag_of id words ≡ b
+flag_is app words m id b same has is =
+    let rows = (has (ap is_simple same ∙ app_is_simple)).0 in
+    let text = ap (λ (a : App). one_of id (matches_of a words)) (sym same) ∙ ap (one_of id) (sym rows) ∙ sym (one_text-rows (found_of m) id) in
+    ap is_set text ∙ is
+
+-- what clap reads of a text of a flag
+pub flag_read : (text : Option (List ℕ)) (b : Bool) → IsFlagText text → (text ≡ None → b ≡ false) → (text ≡ Some (codes "true") → b ≡ true)
+    → (text ≡ Some (codes "false") → b ≡ false) → is_set text ≡ b
+flag_read None b is none set unset = sym (none refl)
+flag_read (Some text) b is none set unset = elim is [
+  | inl is_true ↦ rw is_true (sym (set (ap (λ (t : List ℕ). Some t) is_true)))
+  | inr is_false ↦ rw is_false (sym (unset (ap (λ (t : List ℕ). Some t) is_false)))
+]
 
 -- ---- faults
 
@@ -86,7 +103,7 @@ origin_fault : (app : App) (words : List (List ℕ)) (m : ArgMatches) (fault : W
     → (is_simple_and_free app ≡ true → fault_of app words ≡ []) → IsOriginFault (first_value (found_of m) (codes "origin")) fault
     → IsWordsFault words fault
 origin_fault app words m (Clap error) same has none h = absurd h
-origin_fault app words m Bad same has none h = (no_fault app words same none, subst IsNoOrigin (sym (value_in app words m (codes "origin") same has)) h)
+origin_fault app words m Bad same has none h = (no_fault app words same none, inl (subst IsNoOrigin (sym (value_in app words m (codes "origin") same has)) h))
 origin_fault app words m Memory same has none h = tt
 
 -- it is passed on as it is
@@ -96,6 +113,30 @@ pub origin_fault_passes : {T : Type 0} (app : App) (words : List (List ℕ)) (m 
 origin_fault_passes app words m r fault same has none is h =
     let found = err_from_is_err_and r h in
     rw (found.1, found.2) (origin_fault app words m fault same has none is)
+
+-- datagrams are wanted of more bytes than one has
+too_much_is_bad : (app : App) (words : List (List ℕ)) (m : ArgMatches) (limit : ℕ) (udp : Bool) → app ≡ stub_app → HasMatchesOf app words m
+    → (is_simple_and_free app ≡ true → fault_of app words ≡ []) → is_set (one_text (found_of m) (codes "udp")) ≡ udp
+    → option_map number_of_text (one_text (found_of m) (codes "limit")) ≡ Some limit → udp ≡ true → 65507 < limit → IsWordsFault words Bad
+too_much_is_bad app words m limit udp same has none set number is_udp over = (
+  no_fault app words same none,
+  inr (flag_is app words m (codes "udp") udp same has set ∙ is_udp, limit, number_is app words m (codes "limit") limit same has number, over),
+)
+
+-- it is passed on as it is
+pub too_much_passes : {T : Type 0} (app : App) (words : List (List ℕ)) (m : ArgMatches) (limit : ℕ) (udp : Bool) (r : Result T WordsFault)
+    (fault : WordsFault) → app ≡ stub_app → HasMatchesOf app words m → (is_simple_and_free app ≡ true → fault_of app words ≡ [])
+    → is_set (one_text (found_of m) (codes "udp")) ≡ udp → option_map number_of_text (one_text (found_of m) (codes "limit")) ≡ Some limit
+    → (fault ≡ Bad) × (udp ≡ true) × (65507 < limit) → IsErrAnd r (λ f. f ≡ fault) → IfErr r (IsWordsFault words)
+too_much_passes app words m limit udp r fault same has none set number is h =
+    let found = err_from_is_err_and r h in
+    rw (found.1, found.2, is.0) (too_much_is_bad app words m limit udp same has none set number is.1 is.2)
+
+pub bad_passes : {T : Type 0} (P : Type 0) (r : Result T WordsFault) (fault : WordsFault) → fault ≡ Bad → IsErrAnd r (λ f. f ≡ fault)
+    → IfErr r (λ f. P → (f ≡ Bad) ⊎ (f ≡ Memory))
+bad_passes P r fault is h =
+    let found = err_from_is_err_and r h in
+    rw found.1 (λ p. inl (found.2 ∙ is))
 
 -- ---- the command
 
@@ -124,8 +165,8 @@ pub record IsGiven (name : List ℕ) (rule : Rule) (a : Arg) : Type 0 where
   pub option : IsOption name a
   pub is_rule : rule_of a ≡ rule
 
--- the command with the seven options
-pub record IsStub (start cmd : Command) (zone script origin hosts limit cache max_ttl : Arg) : Type 0 where
+-- the command with the eight options
+pub record IsStub (start cmd : Command) (zone script origin hosts limit cache max_ttl udp : Arg) : Type 0 where
   pub bare : IsBare start
   pub is_zone : IsGiven (codes "zone") (required (codes "zone")) zone
   pub is_script : IsGiven (codes "script") (required (codes "script")) script
@@ -134,16 +175,18 @@ pub record IsStub (start cmd : Command) (zone script origin hosts limit cache ma
   pub is_limit : IsGiven (codes "limit") limit_rule limit
   pub is_cache : IsGiven (codes "cache") cache_rule cache
   pub is_max_ttl : IsGiven (codes "max-ttl") max_ttl_rule max_ttl
+  pub is_udp : IsGiven (codes "udp") (flag (codes "udp")) udp
   pub zone_value : TakesValue zone
   pub script_value : TakesValue script
   pub limit_number : TakesNumber (between 512 65535) limit
   pub cache_number : TakesNumber (between 0 4294967295) cache
   pub max_ttl_number : TakesNumber (between 0 4294967295) max_ttl
-  pub chain : AddsInTurn AddsArg start (zone ∷ script ∷ origin ∷ hosts ∷ limit ∷ cache ∷ max_ttl ∷ []) cmd
+  pub udp_flag : TakesFlag udp
+  pub chain : AddsInTurn AddsArg start (zone ∷ script ∷ origin ∷ hosts ∷ limit ∷ cache ∷ max_ttl ∷ udp ∷ []) cmd
 
-module _ (start cmd : Command) (zone script origin hosts limit cache max_ttl : Arg)
-    (h : IsStub start cmd zone script origin hosts limit cache max_ttl) where
-  each_fits : AllByRecursion FitsChain (zone ∷ script ∷ origin ∷ hosts ∷ limit ∷ cache ∷ max_ttl ∷ [])
+module _ (start cmd : Command) (zone script origin hosts limit cache max_ttl udp : Arg)
+    (h : IsStub start cmd zone script origin hosts limit cache max_ttl udp) where
+  each_fits : AllByRecursion FitsChain (zone ∷ script ∷ origin ∷ hosts ∷ limit ∷ cache ∷ max_ttl ∷ udp ∷ [])
   each_fits = (
     option_fits (codes "zone") zone h.is_zone.option refl,
     (
@@ -156,7 +199,10 @@ module _ (start cmd : Command) (zone script origin hosts limit cache max_ttl : A
             option_fits (codes "limit") limit h.is_limit.option refl,
             (
               option_fits (codes "cache") cache h.is_cache.option refl,
-              (option_fits (codes "max-ttl") max_ttl h.is_max_ttl.option refl, tt),
+              (
+                option_fits (codes "max-ttl") max_ttl h.is_max_ttl.option refl,
+                (option_fits (codes "udp") udp h.is_udp.option refl, tt),
+              ),
             ),
           ),
         ),
@@ -166,26 +212,26 @@ module _ (start cmd : Command) (zone script origin hosts limit cache max_ttl : A
 
   pub app_is : app_of cmd ≡ stub_app
   app_is =
-      let rules : map rule_of (zone ∷ script ∷ origin ∷ hosts ∷ limit ∷ cache ∷ max_ttl ∷ []) ≡ stub_rules =
-      rw (h.is_zone.is_rule, h.is_script.is_rule, h.is_origin.is_rule, h.is_hosts.is_rule, h.is_limit.is_rule, h.is_cache.is_rule, h.is_max_ttl.is_rule) refl in
-      app_in_turn (zone ∷ script ∷ origin ∷ hosts ∷ limit ∷ cache ∷ max_ttl ∷ []) start cmd h.chain each_fits
-      ∙ ap (λ (x : App). fold with_rule x (map rule_of (zone ∷ script ∷ origin ∷ hosts ∷ limit ∷ cache ∷ max_ttl ∷ []))) h.bare.app
+      let rules : map rule_of (zone ∷ script ∷ origin ∷ hosts ∷ limit ∷ cache ∷ max_ttl ∷ udp ∷ []) ≡ stub_rules =
+      rw (h.is_zone.is_rule, h.is_script.is_rule, h.is_origin.is_rule, h.is_hosts.is_rule, h.is_limit.is_rule, h.is_cache.is_rule, h.is_max_ttl.is_rule, h.is_udp.is_rule) refl in
+      app_in_turn (zone ∷ script ∷ origin ∷ hosts ∷ limit ∷ cache ∷ max_ttl ∷ udp ∷ []) start cmd h.chain each_fits
+      ∙ ap (λ (x : App). fold with_rule x (map rule_of (zone ∷ script ∷ origin ∷ hosts ∷ limit ∷ cache ∷ max_ttl ∷ udp ∷ []))) h.bare.app
       ∙ ap (fold with_rule (new_app (codes "stub"))) rules
 
-  apart : are_distinct (ids_of (zone ∷ script ∷ origin ∷ hosts ∷ limit ∷ cache ∷ max_ttl ∷ [])) ≡ true
+  apart : are_distinct (ids_of (zone ∷ script ∷ origin ∷ hosts ∷ limit ∷ cache ∷ max_ttl ∷ udp ∷ [])) ≡ true
   apart =
-      rw (h.is_zone.option.id, h.is_script.option.id, h.is_origin.option.id, h.is_hosts.option.id, h.is_limit.option.id, h.is_cache.option.id, h.is_max_ttl.option.id) refl
+      rw (h.is_zone.option.id, h.is_script.option.id, h.is_origin.option.id, h.is_hosts.option.id, h.is_limit.option.id, h.is_cache.option.id, h.is_max_ttl.option.id, h.is_udp.option.id) refl
 
-  made : IsMadeOf (zone ∷ script ∷ origin ∷ hosts ∷ limit ∷ cache ∷ max_ttl ∷ []) cmd
-  made = made_in_turn [] (zone ∷ script ∷ origin ∷ hosts ∷ limit ∷ cache ∷ max_ttl ∷ []) start cmd
+  made : IsMadeOf (zone ∷ script ∷ origin ∷ hosts ∷ limit ∷ cache ∷ max_ttl ∷ udp ∷ []) cmd
+  made = made_in_turn [] (zone ∷ script ∷ origin ∷ hosts ∷ limit ∷ cache ∷ max_ttl ∷ udp ∷ []) start cmd
       (record { same = rw h.bare.args tt; plain = (rw h.bare.args (All-nil IsPlainArg), h.bare.groups); globals = h.bare.globals }) h.chain each_fits
 
   module _ (m : ArgMatches) (parsed : IsParsedFrom cmd m) where
     number_at : (k : ℕ) (a : Arg) (name : List ℕ) (least most : ℕ)
-        → (k < 7) → slice_index_or (zone ∷ script ∷ origin ∷ hosts ∷ limit ∷ cache ∷ max_ttl ∷ []) k a ≡ a → a.id.now ≡ name
+        → (k < 8) → slice_index_or (zone ∷ script ∷ origin ∷ hosts ∷ limit ∷ cache ∷ max_ttl ∷ udp ∷ []) k a ≡ a → a.id.now ≡ name
         → TakesNumber (between least most) a → HasNumber name least most m
     number_at k a name least most lt at is takes =
-        let xs : List Arg = zone ∷ script ∷ origin ∷ hosts ∷ limit ∷ cache ∷ max_ttl ∷ [] in
+        let xs : List Arg = zone ∷ script ∷ origin ∷ hosts ∷ limit ∷ cache ∷ max_ttl ∷ udp ∷ [] in
         let read = number_text xs cmd m made (all_fit xs each_fits) (distinct_ids xs apart) parsed k a lt (between least most) (rw at takes) in
         let named : (slice_index_or xs k a).id.now ≡ name = ap (λ (x : Arg). x.id.now) at ∙ is in
         record {
@@ -194,13 +240,21 @@ module _ (start cmd : Command) (zone script origin hosts limit cache max_ttl : A
           is_number = read.2;
         }
 
-    file_at : (k : ℕ) (a : Arg) (name : List ℕ) → k < 7 → slice_index_or (zone ∷ script ∷ origin ∷ hosts ∷ limit ∷ cache ∷ max_ttl ∷ []) k a ≡ a
+    file_at : (k : ℕ) (a : Arg) (name : List ℕ) → k < 8 → slice_index_or (zone ∷ script ∷ origin ∷ hosts ∷ limit ∷ cache ∷ max_ttl ∷ udp ∷ []) k a ≡ a
         → a.id.now ≡ name → TakesValue a → is_some (first_value (found_of m) name) ≡ true
     file_at k a name lt at is takes =
-        let xs : List Arg = zone ∷ script ∷ origin ∷ hosts ∷ limit ∷ cache ∷ max_ttl ∷ [] in
+        let xs : List Arg = zone ∷ script ∷ origin ∷ hosts ∷ limit ∷ cache ∷ max_ttl ∷ udp ∷ [] in
         let named : (slice_index_or xs k a).id.now ≡ name = ap (λ (x : Arg). x.id.now) at ∙ is in
         subst (λ (w : List ℕ). is_some (first_value (found_of m) w) ≡ true) named
         (required_in_chain start cmd xs k a m h.chain h.bare.args h.bare.groups h.bare.globals h.bare.negates (all_fit xs each_fits) (distinct_ids xs apart) lt (rw at takes) parsed)
+
+    flag_at : (k : ℕ) (a : Arg) (name : List ℕ) → k < 8 → slice_index_or (zone ∷ script ∷ origin ∷ hosts ∷ limit ∷ cache ∷ max_ttl ∷ udp ∷ []) k a ≡ a
+        → a.id.now ≡ name → TakesFlag a → IsFlagText (one_text (found_of m) name)
+    flag_at k a name lt at is takes =
+        let xs : List Arg = zone ∷ script ∷ origin ∷ hosts ∷ limit ∷ cache ∷ max_ttl ∷ udp ∷ [] in
+        let named : (slice_index_or xs k a).id.now ≡ name = ap (λ (x : Arg). x.id.now) at ∙ is in
+        subst (λ (w : List ℕ). IsFlagText (one_text (found_of m) w)) named
+        (flag_text xs cmd m made (all_fit xs each_fits) (distinct_ids xs apart) parsed k a lt (rw at takes))
 
     pub has_all : HasAll m
     has_all = record {
@@ -209,4 +263,5 @@ module _ (start cmd : Command) (zone script origin hosts limit cache max_ttl : A
       limit = number_at 4 limit (codes "limit") 512 65535 (omega arith) refl h.is_limit.option.id h.limit_number;
       cache = number_at 5 cache (codes "cache") 0 4294967295 (omega arith) refl h.is_cache.option.id h.cache_number;
       max_ttl = number_at 6 max_ttl (codes "max-ttl") 0 4294967295 (omega arith) refl h.is_max_ttl.option.id h.max_ttl_number;
+      udp = flag_at 7 udp (codes "udp") (omega arith) refl h.is_udp.option.id h.udp_flag;
     }

@@ -1,6 +1,6 @@
 -- What a run of the program's files comes to, and in which order its faults are looked for: the zone, the script's lines, the hosts, the
 -- script's moments.
-use Rattle.std.specs.Prelude.{◌≡◌, ◌≢◌, ◌<◌, ◌≤◌, ◌+◌, ◌⊎◌, false, List, [], ℕ, map, length, take, slice_get, slice_index, EachIndex, Option, Some, None, Result, Ok, Err, OnOk, IfErr, ⊤, string_bytes}
+use Rattle.std.specs.Prelude.{◌≡◌, ◌≢◌, ◌<◌, ◌≤◌, ◌+◌, ◌⊎◌, false, true, List, [], ℕ, map, length, take, slice_get, slice_index, EachIndex, Option, Some, None, Result, Ok, Err, OnOk, IfErr, ⊤, string_bytes}
 use Rattle.std.specs.Io.KnownBytes.{Appends}
 use Rattle.dns_zone.specs.Rows.{ZoneContent}
 use Rattle.dns_zone.specs.Load.{ReadsZone}
@@ -13,16 +13,23 @@ use Rattle.stub_hosts.specs.Hosts.{HostsContent, with_hosts}
 use Rattle.stub_hosts.specs.HostsFile.{Host, ReadsLines, lines_of as hosts_lines}
 use Rattle.stub_hosts.specs.declared.hosts.file.HostsFault.{HostsFault}
 use Rattle.stub_core.specs.ResolverBuilder.{no_hosts}
+use Rattle.stub_core.specs.declared.resolver.Resolver.{Resolver}
+use Rattle.stub_link.specs.declared.wire_handle.WireHandle.{WireHandle}
+use Rattle.stub_run.specs.Event.{AreHonest}
 use Rattle.stub_run.specs.declared.event.Event.{Event}
 use Rattle.stub_run.specs.declared.report.Report.{Report}
 use Rattle.stub_run.specs.Run.{InOrder, IsReportOf, RunState}
 use Rattle.stub_run.specs.Headline.{AreFresh, HaveChainBounds, WorldContent}
-use Rattle.stub_run.specs.World.{IsFirst}
+use Rattle.stub_run.specs.RunOver.{IsReportOver}
+use Rattle.stub_run.specs.Walked.{AreWalked}
+use Rattle.stub_run.specs.World.{IsFirst, IsFirstOver}
+use Rattle.stub_socket.specs.SocketLink.{socket_rules}
+use Rattle.stub_socket.specs.declared.socket_link.SocketLink.{SocketLink}
 use Rattle.stub_play.specs.declared.script_text.ScriptFault.TheVariants as scripts
 use Rattle.stub_play.specs.declared.script_text.ScriptText.{ScriptText}
 use Rattle.stub_play.specs.declared.plays.Loaded.{Loaded}
 use Rattle.stub_play.specs.declared.plays.fault.PlayFault.{PlayFault}
-use Rattle.stub_play.specs.declared.plays.fault.PlayFault.TheVariants.{Zone, Script, Hosts, Memory, Write}
+use Rattle.stub_play.specs.declared.plays.fault.PlayFault.TheVariants.{Zone, Script, Hosts, Sockets, Memory, Write}
 use Rattle.stub_play.specs.declared.plays.input.PlayInput.{PlayInput}
 use Rattle.stub_play.specs.ReportText.{report_text}
 use Rattle.stub_play.specs.ScriptText.{IsScriptOf, contents_of, side_by_side}
@@ -41,10 +48,25 @@ events_of = map (λ e. e.1)
 abbrev pub lines_of : List (ℕ × Event) → List ℕ
 lines_of = map (λ e. e.0)
 
+-- the line is that of the first event of a kind
+abbrev pub IsLineOf : (List Event → ℕ → Type 0) → List (ℕ × Event) → ℕ → Type 0
+IsLineOf IsFirst script line = (place : ℕ) × IsFirst (events_of script) place × (slice_get (lines_of script) place ≡ Some line)
+
 -- the line is that of the first event whose moment is out of order
 abbrev pub IsLineOutOfOrder : List (ℕ × Event) → ℕ → Type 0
-IsLineOutOfOrder script line =
-    (place : ℕ) × IsFirstOutOfOrder (events_of script) place × (slice_get (lines_of script) place ≡ Some line)
+IsLineOutOfOrder = IsLineOf IsFirstOutOfOrder
+
+-- ---- link scripts
+
+-- the link follows a script during this event, and not during those before
+pub record IsFirstListed (events : List Event) (place : ℕ) : Type 0 where
+  pub is_event : place < length events
+  pub before : AreHonest (take place events)
+  pub listed : ¬ AreHonest (take (place + 1) events)
+
+-- the line is that of the first event with link words other than `honest`
+abbrev pub IsLineListed : List (ℕ × Event) → ℕ → Type 0
+IsLineListed = IsLineOf IsFirstListed
 
 -- ---- the files
 
@@ -59,24 +81,34 @@ IsZone input = (zone : ZoneContent) × ZoneIs input (Ok zone)
 abbrev pub ScriptIs : PlayInput → ZoneContent → List (ℕ × Event) → Type 0
 ScriptIs input zone script = IsScriptOf zone.origin (string_bytes input.script) (Ok (contents_of script))
 
+-- over sockets, which follow no script, no event has link words other than `honest`
+abbrev pub IsUsable : PlayInput → List (ℕ × Event) → Type 0
+IsUsable input script = input.udp ≡ true → AreHonest (events_of script)
+
 -- the zone and the script can be read
 abbrev pub IsScript : PlayInput → Type 0
-IsScript input = (zone : ZoneContent) × (script : List (ℕ × Event)) × ZoneIs input (Ok zone) × ScriptIs input zone script
+IsScript input =
+    (zone : ZoneContent) × (script : List (ℕ × Event)) × ZoneIs input (Ok zone) × ScriptIs input zone script × IsUsable input script
 
 -- the hosts of a hosts file, or its first fault
 abbrev pub HostsAre : List ℕ → Result HostsContent HostsFault → Type 0
 HostsAre src (Ok hosts) = (read : List Host) × ReadsLines (hosts_lines src) read (Ok tt) × (hosts ≡ with_hosts 0 no_hosts read)
 HostsAre src (Err fault) = (read : List Host) × ReadsLines (hosts_lines src) read (Err fault)
 
--- the files can be read, and the moments of the script are in order
-pub record IsRead (input : PlayInput) : Type 0 where
+-- the files can be read
+pub record HasFiles (input : PlayInput) : Type 0 where
   pub zone : ZoneContent
   pub script : List (ℕ × Event)
   pub hosts : HostsContent
   pub is_zone : ZoneIs input (Ok zone)
   pub is_script : ScriptIs input zone script
+  pub usable : IsUsable input script
   pub are_hosts : HostsAre input.hosts.items (Ok hosts)
-  pub in_order : InOrder 0 (events_of script)
+
+-- the files can be read, and the moments of the script are in order
+pub record IsRead (input : PlayInput) : Type 0 where
+  pub files : HasFiles input
+  pub in_order : InOrder 0 (events_of files.script)
 
 -- the events of a script, each with its line
 abbrev pub numbered : ScriptText → List (ℕ × Event)
@@ -86,22 +118,26 @@ pub record IsLoaded (input : PlayInput) (loaded : Loaded) : Type 0 where
   pub zone : ZoneIs input (Ok loaded.zone)
   pub script : ScriptIs input loaded.zone (numbered loaded.script)
   pub beside : length loaded.script.lines.items ≡ length loaded.script.events.items
+  pub usable : IsUsable input (numbered loaded.script)
   pub hosts : HostsAre input.hosts.items (Ok loaded.hosts)
 
 -- ---- faults
 
--- the script's first line at fault: one that cannot be read; or else, if the hosts can be read, one whose moment is out of order
+-- the script's first line at fault: one that cannot be read; or else, over sockets, one with link words other than `honest`; or else, if
+-- the hosts can be read, one whose moment is out of order
 abbrev pub IsAtFault : PlayInput → ZoneContent → ℕ → Type 0
 IsAtFault input zone line =
     IsScriptOf zone.origin (string_bytes input.script) (Err (scripts.Line line))
-    ⊎ ((script : List (ℕ × Event)) × (hosts : HostsContent) × ScriptIs input zone script
-    × HostsAre input.hosts.items (Ok hosts) × IsLineOutOfOrder script line)
+    ⊎ (((script : List (ℕ × Event)) × ScriptIs input zone script × (input.udp ≡ true) × IsLineListed script line)
+    ⊎ ((script : List (ℕ × Event)) × (hosts : HostsContent) × ScriptIs input zone script × IsUsable input script
+    × HostsAre input.hosts.items (Ok hosts) × IsLineOutOfOrder script line))
 
 -- what a fault says of the files
 abbrev pub Faults : PlayInput → PlayFault → Type 0
 Faults input (Zone fault) = fault ≢ zones.Memory → ZoneIs input (Err fault)
 Faults input (Script line) = (zone : ZoneContent) × ZoneIs input (Ok zone) × IsAtFault input zone line
 Faults input (Hosts fault) = IsScript input × HostsAre input.hosts.items (Err fault)
+Faults input Sockets = (input.udp ≡ true) × HasFiles input
 Faults input Memory = IsZone input
 Faults input Write = IsRead input
 
@@ -110,6 +146,7 @@ abbrev pub IsBeforeRun : PlayFault → Type 0
 IsBeforeRun (Zone fault) = ⊤
 IsBeforeRun (Script line) = ⊤
 IsBeforeRun (Hosts fault) = ⊤
+IsBeforeRun Sockets = ⊤
 IsBeforeRun Memory = ⊥
 IsBeforeRun Write = ⊥
 
@@ -147,8 +184,8 @@ content_of input zone ids hosts = record {
   hosts = hosts;
 }
 
--- The text of the report of a run of these events. What it says of plain types is fresh, and has the chain bound if no chain of aliases passes
--- seven links.
+-- The text of the report of a run of these events. What it says of plain types is fresh, has the chain bound if no chain of aliases passes
+-- seven links, and is what walks over the zone come to where nothing was updated and the link met no fault.
 pub record Tells (input : PlayInput) (zone : ZoneContent) (events : List Event) (text : List ℕ) : Type 0 where
   pub hosts : HostsContent
   pub state : RunState
@@ -160,23 +197,56 @@ pub record Tells (input : PlayInput) (zone : ZoneContent) (events : List Event) 
   pub is_text : text ≡ report_text events report.events.items
   pub fresh : AreFresh (content_of input zone start.ids hosts) events report.events.items
   pub chain_bound : HaveChainBounds (content_of input zone start.ids hosts) events report.events.items
+  pub walked : AreWalked (content_of input zone start.ids hosts) events report.events.items
 
 -- of all events of the script
-abbrev pub TellsAll : PlayInput → List ℕ → Type 0
-TellsAll input text =
+abbrev pub TellsAllBy : (ZoneContent → List Event → List ℕ → Type 0) → PlayInput → List ℕ → Type 0
+TellsAllBy tells input text =
     (zone : ZoneContent) × (script : List (ℕ × Event)) × ScriptIs input zone script × InOrder 0 (events_of script)
-    × Tells input zone (events_of script) text
+    × tells zone (events_of script) text
 
 -- of those before memory ran out
-abbrev pub TellsFirst : PlayInput → List ℕ → Type 0
-TellsFirst input text =
+abbrev pub TellsFirstBy : (ZoneContent → List Event → List ℕ → Type 0) → PlayInput → List ℕ → Type 0
+TellsFirstBy tells input text =
     (zone : ZoneContent) × (script : List (ℕ × Event)) × (n : ℕ) × ScriptIs input zone script × InOrder 0 (events_of script)
-    × ((n ≡ 0) ⊎ (n < length script)) × Tells input zone (take n (events_of script)) text
+    × ((n ≡ 0) ⊎ (n < length script)) × tells zone (take n (events_of script)) text
 
--- what a run of files that can be read comes to; `same` says that nothing was written
-pub record IsPlayed (input : PlayInput) (same : Type 0) (old new : Option (List ℕ)) (result : Result (Unit {0}) PlayFault) : Type 0 where
+abbrev pub TellsAll : PlayInput → List ℕ → Type 0
+TellsAll input = TellsAllBy (Tells input) input
+
+abbrev pub TellsFirst : PlayInput → List ℕ → Type 0
+TellsFirst input = TellsFirstBy (Tells input) input
+
+-- ---- runs over sockets
+
+-- a resolver over sockets begins, whose server has the zone
+pub record IsStartOver {R : Type 0} (input : PlayInput) (zone : ZoneContent) (hosts : HostsContent)
+    (resolver : Resolver (WireHandle (SocketLink R))) : Type 0 where
+  pub link : SocketLink R
+  pub ids : List ℕ
+  pub zone_is : link.zone ≡ zone
+  pub limit : link.limit ≡ input.limit
+  pub first : IsFirstOver link ids (config_of_servers []) (play_options input) hosts resolver
+  pub counted : EachIndex ids (λ k. slice_index ids k ≡ k + 1)
+  pub all : length ids ≡ 65535
+
+-- The text of the report of a run of these events over sockets. What sockets do is not known.
+pub record TellsOver (R : Type 0) (input : PlayInput) (zone : ZoneContent) (events : List Event) (text : List ℕ) : Type 0 where
+  pub hosts : HostsContent
+  pub resolver : Resolver (WireHandle (SocketLink R))
+  pub report : Report
+  pub is_zone : ZoneIs input (Ok zone)
+  pub are_hosts : HostsAre input.hosts.items (Ok hosts)
+  pub start : IsStartOver input zone hosts resolver
+  pub reported : IsReportOver (socket_rules R) resolver events report
+  pub is_text : text ≡ report_text events report.events.items
+
+-- what a run of files that can be read comes to: `same` says that nothing was written, and `tells` what a text tells of events
+pub record IsPlayed (tells : ZoneContent → List Event → List ℕ → Type 0) (input : PlayInput) (same : Type 0) (old new : Option (List ℕ))
+    (result : Result (Unit {0}) PlayFault) : Type 0 where
   pub read : OnOk result (IsRead input)
   pub fault : IfErr result (Faults input)
   pub silent : IfErr result (λ fault. IsBeforeRun fault → same)
-  pub told : OnOk result ((text : List ℕ) × TellsAll input text × Appends old new text)
-  pub stopped : IfErr result (λ fault. fault ≡ Memory → same ⊎ ((text : List ℕ) × TellsFirst input text × Appends old new text))
+  pub told : OnOk result ((text : List ℕ) × TellsAllBy tells input text × Appends old new text)
+  pub stopped : IfErr result (λ fault. fault ≡ Memory
+      → same ⊎ ((text : List ℕ) × TellsFirstBy tells input text × Appends old new text))

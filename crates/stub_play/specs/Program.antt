@@ -45,6 +45,7 @@ input_of given contents = record {
   limit = given.limit;
   cache = given.cache;
   max_ttl = given.max_ttl;
+  udp = given.udp;
 }
 
 -- ---- endings

@@ -6,7 +6,7 @@
 //! - `lookup_line`, `clear_line`, `update_line`: the kinds of lines; `link_words`: the link scripts of lines
 //! - `report_text`: the text of a report
 //! - `plays`: a whole run, from the contents of the files to the text that is printed; `plays/input`: its input;
-//!   `plays/fault`: why it ended early
+//!   `plays/sockets`: a run over sockets; `plays/fault`: why it ended early
 //! - `laws`: which words of a script are hosts
 #![tactic(auto)]
 
@@ -23,7 +23,7 @@ mod script_words;
 mod update_line;
 mod words;
 
-pub use plays::{PlayFault, PlayInput, play};
+pub use plays::{PlayFault, PlayInput, play, play_in_memory};
 pub use program::{Ending, FileContents, InputFile, reading_order, unread_arguments};
 pub use report_text::write_report;
 pub use script_text::{ScriptFault, ScriptText, read_script};

@@ -1,32 +1,80 @@
 //! A whole run: from the texts of the files to the text that is printed.
 
-ghost use Rattle.std.specs.Prelude.{◌≡◌, ◌≢◌, ◌↔◌, ◌≤◌, ◌⊎◌, ◌+◌, List, ℕ, EachIndex, IfOk, IfErr, IfSome, OnOk, None, Ok, Err, length, slice_index};
+ghost use Rattle.std.specs.Prelude.{◌≡◌, ◌≢◌, ◌↔◌, ◌≤◌, ◌⊎◌, ◌+◌, ◌<◌, ◌^◌, List, ℕ, EachIndex, IfOk, IfErr, IfSome, OnOk, None, Ok, Err, length, slice_index, true, false};
 ghost use Rattle.std.specs.Io.KnownBytes.{Appends};
 ghost use Rattle.stub_play.specs.ReportText.{report_text};
-ghost use Rattle.stub_play.specs.Plays.{Faults, HostsAre, IsBeforeRun, IsFirstOutOfOrder, IsLineOutOfOrder, IsLoaded, IsPlayed, IsRead, IsStart, IsUnwritten, TellsAll, TellsFirst, ZoneIs, numbered, play_options};
+ghost use Rattle.stub_play.specs.Plays.{Faults, HostsAre, IsBeforeRun, IsFirstListed, IsFirstOutOfOrder, IsLineListed, IsLineOutOfOrder, IsLoaded, IsPlayed, IsRead, IsStart, IsUnwritten, IsUsable, Tells, TellsAll, TellsAllBy, TellsFirst, TellsFirstBy, TellsOver, ZoneIs, numbered, play_options};
+ghost use Rattle.stub_link.specs.declared.link.script.Script.TheVariants.{Honest};
+ghost use Rattle.stub_run.specs.Event.{AreHonest, script_of};
 ghost use Rattle.stub_run.specs.Run.{InOrder, RunState};
 ghost use Rattle.stub_run.specs.World.{BeginsWith};
 
 mod fault;
 mod input;
+mod sockets;
 
 use crate::report_text::write_report;
 use crate::script_text::{ScriptText, read_script};
 use dns_zone::{DatagramLimit, Zone, ZoneFault};
 pub use fault::PlayFault;
 pub use input::PlayInput;
+use sockets::play_over_sockets;
 use std::alloc::{AllocError, Global};
 use std::io;
+use std::net::{Net, TcpListener, TcpStream};
 use stub_config::{ResolverConfig, ResolverOpts};
 use stub_hosts::{Hosts, HostsFault};
-use stub_run::laws::{distinct_ids_are_not_reused, every_record_stood, ids_are_drawn_in_order};
-use stub_run::{Event, Report, Stopped, World, run};
+use stub_run::laws::{
+    distinct_ids_are_not_reused, every_record_stood, ids_are_drawn_in_order,
+    unchanged_zones_are_walked,
+};
+use stub_run::{Event, Report, Script, Stopped, World, know_names, run};
 
-/// Runs the script against a server for the zone, and writes each result.
+/// Does what the program does after it has read its files: runs the script against a server for the zone, over sockets of the
+/// loopback interface or in memory as the input says, and writes each result. `net` is the runtime, or a reference to it.
 ///
-/// The zone, the script and the hosts are read in this order, before anything is written. If the run ends early for want of
-/// memory, what was reported before is written first.
-pub fn play<W: io::Write>(alloc: Global, input: &PlayInput, writer: &mut W) -> Result<(), PlayFault>
+/// The zone, the script and the hosts are read in this order, before anything is written; then the sockets are opened. If the
+/// run ends early for want of memory, what was reported before is written first.
+pub fn play<R: Net<Listener = TcpListener, Stream = TcpStream> + Drop, W: io::Write>(
+    net: R,
+    alloc: Global,
+    input: &PlayInput,
+    writer: &mut W,
+) -> Result<(), PlayFault>
+    requires limit { 512 ≤ input.now.limit }
+    requires udp { input.now.udp ≡ true → input.now.limit ≤ 65507 }
+    ensures read { OnOk result (IsRead input.now) }
+    ensures fault { IfErr result (Faults input.now) }
+    ensures silent { IfErr result (λ fault. IsBeforeRun fault → writer.new ≡ writer.old) }
+    ensures told { OnOk result (input.now.udp ≡ false → (text : List ℕ)
+        × TellsAll input.now text
+        × Appends (W.contents writer.old) (W.contents writer.new) text) }
+    ensures told_over { OnOk result (input.now.udp ≡ true → (text : List ℕ)
+        × TellsAllBy (TellsOver R input.now) input.now text
+        × Appends (W.contents writer.old) (W.contents writer.new) text) }
+    ensures stopped { IfErr result (λ fault. fault ≡ PlayFault.Memory → input.now.udp ≡ false
+        → (writer.new ≡ writer.old) ⊎ ((text : List ℕ) × TellsFirst input.now text
+        × Appends (W.contents writer.old) (W.contents writer.new) text)) }
+    ensures stopped_over { IfErr result (λ fault. fault ≡ PlayFault.Memory
+        → input.now.udp ≡ true → (writer.new ≡ writer.old)
+        ⊎ ((text : List ℕ) × TellsFirstBy (TellsOver R input.now) input.now text
+        × Appends (W.contents writer.old) (W.contents writer.new) text)) }
+{
+    if input.udp {
+        let loaded = load(alloc, input)?;
+        play_over_sockets(net, alloc, input, loaded, writer)
+    } else {
+        play_in_memory(alloc, input, writer)
+    }
+}
+
+/// Runs the script against a server for the zone, in memory, and writes each result. It does what [`play`] does without
+/// sockets.
+pub fn play_in_memory<W: io::Write>(
+    alloc: Global,
+    input: &PlayInput,
+    writer: &mut W,
+) -> Result<(), PlayFault>
     requires { 512 ≤ input.now.limit }
     ensures read { OnOk result (IsRead input.now) }
     ensures fault { IfErr result (Faults input.now) }
@@ -55,6 +103,7 @@ fn load(alloc: Global, input: &PlayInput) -> Result<Loaded, PlayFault>
 {
     let zone = read_zone(alloc, input)?;
     let script = read_script(alloc, input.script.as_str(), zone.origin())?;
+    refuse_link_words(input, &script)?;
     let hosts = read_hosts(alloc, input.hosts.as_slice())?;
     Ok(Loaded {
         zone,
@@ -70,6 +119,45 @@ fn read_zone(alloc: Global, input: &PlayInput) -> Result<Zone, ZoneFault>
         → ZoneIs input.now (Err fault)) }
 {
     Zone::from_text(alloc, input.zone.as_str(), &[], input.origin.as_ref())
+}
+
+/// Refuses a script with link words other than `honest`, if it is run over sockets.
+fn refuse_link_words(input: &PlayInput, script: &ScriptText) -> Result<(), PlayFault>
+    requires { length script.now.lines.items ≡ length script.now.events.items }
+    ensures usable { OnOk result (IsUsable input.now (numbered script.now)) }
+    ensures fault { IfErr result (λ fault. (line : ℕ) × (fault ≡ PlayFault.Script line)
+        × (input.now.udp ≡ true) × IsLineListed (numbered script.now) line) }
+{
+    if !input.udp {
+        return Ok(());
+    }
+    match first_listed(script.events.as_slice()) {
+        Some(place) => Err(PlayFault::Script(script.lines[place])),
+        None => Ok(()),
+    }
+}
+
+/// Returns the index of the first event during which the link follows a script.
+fn first_listed(events: &[Event]) -> Option<usize>
+    ensures none { result ≡ None → AreHonest events.now }
+    ensures first { IfSome result (IsFirstListed events.now) }
+{
+    for (i, event) in events.iter().enumerate() {
+        if is_listed(event) {
+            return Some(i);
+        }
+    }
+    None
+}
+
+/// Returns `true` if the link follows a script during an event.
+fn is_listed(event: &Event) -> bool
+    ensures { (result ≡ false) ↔ (script_of event.now ≡ Honest) }
+{
+    match event.script() {
+        Script::Honest => false,
+        Script::Listed(_) => true,
+    }
 }
 
 /// Reads the hosts of a hosts file.
@@ -91,7 +179,7 @@ fn play_loaded<W: io::Write>(
 ) -> Result<(), PlayFault>
     requires limit { 512 ≤ input.now.limit }
     requires loaded { IsLoaded input.now loaded }
-    ensures { IsPlayed input.now (writer.new ≡ writer.old)
+    ensures { IsPlayed (Tells input.now) input.now (writer.new ≡ writer.old)
         (W.contents writer.old) (W.contents writer.new) result }
 {
     let Loaded {
@@ -102,8 +190,11 @@ fn play_loaded<W: io::Write>(
     // Tells the prover that the zone is well formed, and what holds of every run.
     let _origin = zone.origin();
     every_record_stood();
+    unchanged_zones_are_walked();
     ids_are_drawn_in_order();
     distinct_ids_are_not_reused();
+    know_names(script.events.as_slice());
+    let _limit = limit_of(input);
     let world = new_world(alloc, input, zone, hosts)?;
     match run(world, script.events.as_slice()) {
         Ok(report) => {
@@ -135,6 +226,14 @@ fn new_ids(alloc: Global) -> Result<Vec<u16>, AllocError>
     ensures all { IfOk result (λ ids. length ids.items ≡ 65535) }
 {
     (1..=u16::MAX).collect(alloc)
+}
+
+/// Returns the greatest UDP payload size.
+fn limit_of(input: &PlayInput) -> u16
+    ensures limit { result ≡ input.now.limit }
+    ensures range { input.now.limit < 2 ^ 16 }
+{
+    input.limit
 }
 
 /// Creates the world of a run.

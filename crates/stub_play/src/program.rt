@@ -32,7 +32,7 @@ pub struct FileContents {
 pub enum Ending {
     /// The arguments are invalid, or ask for help. The error's text says which.
     Arguments(clap::Error),
-    /// The origin is not a name.
+    /// The origin is not a name, or the limit is above 65,507 and `--udp` is given.
     BadWords,
     /// An argument is not valid UTF-8.
     NotUtf8,
@@ -136,6 +136,7 @@ impl Words {
             limit: self.limit,
             cache: self.cache,
             max_ttl: self.max_ttl,
+            udp: self.udp,
         }
     }
 }

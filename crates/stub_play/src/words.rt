@@ -1,16 +1,19 @@
 //! The arguments of the program.
 
-ghost use Rattle.std.specs.Prelude.{◌≡◌, ◌≤◌, ◌⊎◌, [], IfOk, IfErr, OnOk, Ok, Some, true, false, is_some, map, option_map, codes, string_bytes};
+ghost use Rattle.std.specs.Prelude.{◌≡◌, ◌<◌, ◌≤◌, ◌⊎◌, [], IfOk, IfErr, OnOk, Ok, Some, true, false, is_some, map, option_map, codes, string_bytes};
 ghost use Rattle.clap.specs.Words.{IsParsedFrom, IsPlainArg, app_of, fault_of, first_value, found_of, kind_of, one_text, rule_of, takes};
 ghost use Rattle.clap.specs.Built.{TakesValue};
 ghost use Rattle.clap.specs.declared.parser.matches.ArgMatches.{ArgMatches};
-ghost use Rattle.stub_play.specs.Words.{HasAll, HasNumber, IsOriginFault, IsWordsFault, TakesNumber, TakesOne, between, cache_rule, limit_rule, max_ttl_rule, number, number_of, number_of_text, optional, origin_of, required, stub_app, value_of};
+ghost use Rattle.stub_play.specs.Words.{HasAll, HasNumber, IsFlagText, IsOriginFault, IsWordsFault, TakesFlag, TakesNumber, TakesOne, between, cache_rule, flag, flag_of, is_set, limit_rule, max_ttl_rule, number, number_of, number_of_text, optional, origin_of, required, stub_app, value_of};
 
 use clap::builder::ValueParser;
 use clap::error::ErrorKind;
 use clap::{Arg, ArgAction, ArgMatches, Command, value_parser};
 use dns_names::{Name, ParseError};
 use std::alloc::{AllocError, Global};
+
+/// The greatest payload of a UDP datagram over IPv4, in bytes: 65,535 less headers of 20 and 8 (RFC 791 section 3.1, RFC 768).
+const MAX_DATAGRAM_LEN: u16 = 65_507;
 
 /// The arguments of the program.
 #[derive(Drop)]
@@ -29,6 +32,8 @@ pub struct Words {
     pub cache: u32,
     /// The greatest TTL of cached responses, in seconds.
     pub max_ttl: u32,
+    /// Whether datagrams and streams of the loopback interface are used.
+    pub udp: bool,
 }
 
 /// Why the arguments are not valid.
@@ -36,7 +41,7 @@ pub struct Words {
 pub enum WordsFault {
     /// An argument is missing, unknown or has no valid value, or help is asked for. The error says which.
     Clap(clap::Error),
-    /// The origin is not a name.
+    /// The origin is not a name, or the limit is above 65,507 and `--udp` is given.
     Bad,
     /// Out of memory.
     Memory,
@@ -68,7 +73,7 @@ impl From<clap::Error> for WordsFault {
 
 /// Reads the arguments, of which the first is the program's name: `--zone FILE` and `--script FILE`, each once; and each at
 /// most once `--origin NAME`, `--hosts FILE`, `--limit N` from 512 to 65,535, `--cache N` and `--max-ttl N`, numbers of 32
-/// bits. The name is parsed as by `Name::from_ascii`.
+/// bits, and `--udp`, with which the limit is at most 65,507. The name is parsed as by `Name::from_ascii`.
 pub fn read_words(alloc: Global, words: &[&str]) -> Result<Words, WordsFault>
     ensures zone { IfOk result (λ found.
         value_of (codes "zone") (map (λ word. word.now) words.now)
@@ -89,7 +94,10 @@ pub fn read_words(alloc: Global, words: &[&str]) -> Result<Words, WordsFault>
     ensures max_ttl { IfOk result (λ found.
         number_of (codes "max-ttl") (map (λ word. word.now) words.now)
         ≡ Some found.max_ttl) }
+    ensures udp { IfOk result (λ found.
+        flag_of (codes "udp") (map (λ word. word.now) words.now) ≡ found.udp) }
     ensures range { IfOk result (λ found. 512 ≤ found.limit) }
+    ensures udp_range { IfOk result (λ found. found.udp ≡ true → found.limit ≤ 65507) }
     // None is taken in which clap finds a fault.
     ensures only { OnOk result (fault_of stub_app (map (λ word. word.now) words.now) ≡ []) }
     ensures fault { IfErr result (IsWordsFault (map (λ word. word.now) words.now)) }
@@ -101,6 +109,8 @@ pub fn read_words(alloc: Global, words: &[&str]) -> Result<Words, WordsFault>
     let limit = limit_in(&matches);
     let cache = number_in(&matches, "cache");
     let max_ttl = number_in(&matches, "max-ttl");
+    let udp = flag_in(&matches, "udp");
+    check_limit(limit, udp)?;
     Ok(Words {
         zone: value_in(alloc, &matches, "zone")?,
         script: value_in(alloc, &matches, "script")?,
@@ -109,6 +119,7 @@ pub fn read_words(alloc: Global, words: &[&str]) -> Result<Words, WordsFault>
         limit,
         cache,
         max_ttl,
+        udp,
     })
 }
 
@@ -119,14 +130,17 @@ fn stub_command<'a>(alloc: Global) -> Result<Command<'a>, AllocError>
         → IsParsedFrom command matches → HasAll matches) }
 {
     Command::new(alloc, "stub")
-        .about("Runs a script of lookups against the server of a zone, and prints what each found")
+        .about(
+            "Runs a script of lookups, clears and updates against the server of a zone, and prints what each led to",
+        )
         .arg(required_file(alloc, "zone", "The zone file"))?
         .arg(required_file(alloc, "script", "The script, with one event a line"))?
         .arg(value_option(alloc, "origin", "NAME", "The origin of the zone"))?
         .arg(value_option(alloc, "hosts", "FILE", "The hosts file"))?
         .arg(limit_option(alloc))?
         .arg(cache_option(alloc))?
-        .arg(max_ttl_option(alloc))
+        .arg(max_ttl_option(alloc))?
+        .arg(flag(alloc, "udp", "Use sockets of the loopback interface"))
 }
 
 /// Returns an option that takes one value.
@@ -151,6 +165,20 @@ fn required_file<'a>(alloc: Global, name: &'a str, help: &'a str) -> Arg<'a>
     ensures takes { TakesValue result }
 {
     value_option(alloc, name, "FILE", help).required(true)
+}
+
+/// Returns an option without a value.
+fn flag<'a>(alloc: Global, name: &'a str, help: &'a str) -> Arg<'a>
+    ensures id { result.id ≡ name.entry }
+    ensures rule { rule_of result ≡ flag name.entry.now }
+    ensures plain { IsPlainArg result × (result.global ≡ false) }
+    ensures parser { TakesFlag result }
+{
+    Arg::new(alloc, name)
+        .long(name)
+        .action(ArgAction::SetTrue)
+        .value_parser(value_parser!(bool))
+        .help(help)
 }
 
 /// Returns the option of the greatest UDP payload size, which is at least 512 (RFC 6891 section 6.2.3).
@@ -270,10 +298,30 @@ fn limit_in(matches: &ArgMatches<'_>) -> u16
     matches.get_one("limit").unwrap()
 }
 
+/// Checks that a datagram has as many bytes as the limit, if datagrams are sent.
+fn check_limit(limit: u16, udp: bool) -> Result<(), WordsFault>
+    ensures fits { OnOk result (udp ≡ true → limit ≤ 65507) }
+    ensures fault { IfErr result (λ fault.
+        (fault ≡ WordsFault.Bad) × (udp ≡ true) × (65507 < limit)) }
+{
+    if udp && limit > MAX_DATAGRAM_LEN {
+        return Err(WordsFault::Bad);
+    }
+    Ok(())
+}
+
 /// Returns the number that an option has.
 fn number_in(matches: &ArgMatches<'_>, name: &str) -> u32
     requires { HasNumber name.now 0 4294967295 matches.now }
     ensures { option_map number_of_text (one_text (found_of matches.now) name.now) ≡ Some result }
 {
     matches.get_one(name).unwrap()
+}
+
+/// Returns whether an option without a value is used.
+fn flag_in(matches: &ArgMatches<'_>, name: &str) -> bool
+    requires { IsFlagText (one_text (found_of matches.now) name.now) }
+    ensures { is_set (one_text (found_of matches.now) name.now) ≡ result }
+{
+    matches.get_flag(name)
 }

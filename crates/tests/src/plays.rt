@@ -2,7 +2,7 @@ ghost use Rattle.std.specs.Prelude.{◌≤◌, IfOk};
 
 use std::alloc::{AllocError, Global};
 use std::io;
-use stub_play::{PlayFault, PlayInput, play};
+use stub_play::{PlayFault, PlayInput, play_in_memory};
 
 /// A writer that takes so many writes, and fails from then on. It cannot be flushed.
 #[derive(Drop)]
@@ -37,6 +37,7 @@ fn input(alloc: Global) -> Result<PlayInput, AllocError>
         limit: 1232,
         cache: 8192,
         max_ttl: 86_400,
+        udp: false,
     })
 }
 
@@ -46,7 +47,7 @@ fn a_writer_that_fails(rt: HostRuntime) -> Result<(), AllocError> {
     for left in [0, 1, 2, 3, 100] {
         let input = input(rt.alloc())?;
         let mut writer = Failing { left };
-        let played = play(rt.alloc(), &input, &mut writer);
+        let played = play_in_memory(rt.alloc(), &input, &mut writer);
         assert!(rt; matches!(&played, Err(PlayFault::Write)), "after {left}");
     }
     Ok(())

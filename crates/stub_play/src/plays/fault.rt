@@ -1,13 +1,14 @@
 //! Why a run ended early.
 
 ghost use Rattle.std.specs.Prelude.{◌≡◌, Some};
-ghost use Rattle.stub_play.specs.PlayFault.{fault_text, script_fault};
+ghost use Rattle.stub_play.specs.PlayFault.{fault_text, link_fault, script_fault};
 
 use crate::script_text::ScriptFault;
 use dns_zone::ZoneFault;
 use std::alloc::AllocError;
 use std::{fmt, io};
 use stub_hosts::HostsFault;
+use stub_link::LinkError;
 
 /// Why a run ended early.
 #[derive(Debug, Drop)]
@@ -18,6 +19,8 @@ pub enum PlayFault {
     Script(usize),
     /// The hosts file cannot be read.
     Hosts(HostsFault),
+    /// The sockets cannot be opened.
+    Sockets,
     /// Out of memory.
     Memory,
     /// The report could not be written.
@@ -52,6 +55,17 @@ impl From<HostsFault> for PlayFault {
 
     fn from(fault: HostsFault) -> PlayFault {
         PlayFault::Hosts(fault)
+    }
+}
+
+impl From<LinkError> for PlayFault {
+    ghost from_gives = { λ error played. played ≡ link_fault error };
+
+    fn from(error: LinkError) -> PlayFault {
+        match error {
+            LinkError::Failed => PlayFault::Sockets,
+            LinkError::Memory => PlayFault::Memory,
+        }
     }
 }
 
@@ -94,6 +108,7 @@ impl fmt::Display for PlayFault {
             PlayFault::Script(line) => write!(f, "script line {line}"),
             PlayFault::Hosts(HostsFault::Utf8) => f.write_str("hosts: H1"),
             PlayFault::Hosts(HostsFault::Memory) => f.write_str("hosts: H2"),
+            PlayFault::Sockets => f.write_str("cannot open sockets"),
             PlayFault::Memory => f.write_str("no memory"),
             PlayFault::Write => f.write_str("cannot write"),
         }

@@ -19,4 +19,6 @@ pub struct PlayInput {
     pub cache: u32,
     /// The greatest TTL of cached responses, in seconds.
     pub max_ttl: u32,
+    /// Whether datagrams and streams of the loopback interface are used.
+    pub udp: bool,
 }

@@ -1,7 +1,7 @@
-use Rattle.std.proofs.Common.{◌∙◌, ap, codes, map, option_map, string_bytes, Some}
-use Rattle.clap.specs.Words.{app_of}
-use Rattle.stub_play.proofs.WordsLaws.{fault_is, no_fault, number_is, only_memory, origin_fault_passes, value_in, value_is}
-use Rattle.stub_play.specs.Words.{origin_of}
+use Rattle.std.proofs.Common.{◌≡◌, ◌∙◌, ap, codes, map, option_map, string_bytes, Some, true}
+use Rattle.clap.specs.Words.{app_of, takes}
+use Rattle.stub_play.proofs.WordsLaws.{bad_passes, fault_is, flag_is, no_fault, number_is, only_memory, origin_fault_passes, too_much_passes, value_in, value_is}
+use Rattle.stub_play.specs.Words.{origin_of, stub_app}
 use Rattle.stub_play.proofs.words.read_words.Goals as goal
 
 pub returns-in_err-matches-clause-taken : goal.returns-in_err-matches-clause-taken
@@ -19,6 +19,20 @@ number_in-cache-requires c = (c.in_ok-command.ensures.all c.in_ok-matches.matche
 
 pub number_in-max_ttl-requires : goal.number_in-max_ttl-requires
 number_in-max_ttl-requires c = (c.in_ok-command.ensures.all c.in_ok-matches.matches c.in_ok-matches.ensures.parsed).max_ttl
+
+pub flag_in-udp-requires : goal.flag_in-udp-requires
+flag_in-udp-requires c = (c.in_ok-command.ensures.all c.in_ok-matches.matches c.in_ok-matches.ensures.parsed).udp
+
+pub returns-in_err-check_limit-clause-fault : goal.returns-in_err-check_limit-clause-fault
+returns-in_err-check_limit-clause-fault c =
+    too_much_passes (app_of c.in_ok-command.command) (map (λ word. word.now) c.args.words.now) c.in_ok-matches.matches c.limit_in-limit.result c.flag_in-udp.result
+    c.from_residual-in_err-check_limit.result c.in_err-check_limit.field-0.0 c.in_ok-command.ensures.app c.in_ok-matches.ensures.matches c.in_ok-matches.ensures.kinds
+    c.flag_in-udp.ensures c.limit_in-limit.ensures.number c.in_err-check_limit.ensures.fault c.from_residual-in_err-check_limit.ensures.1
+
+pub returns-in_err-check_limit-clause-taken : goal.returns-in_err-check_limit-clause-taken
+returns-in_err-check_limit-clause-taken c =
+    bad_passes (takes stub_app (map (λ word. word.now) c.args.words.now) ≡ true) c.from_residual-in_err-check_limit.result c.in_err-check_limit.field-0.0
+    c.in_err-check_limit.ensures.fault.0 c.from_residual-in_err-check_limit.ensures.1
 
 pub returns-clause-zone : goal.returns-clause-zone
 returns-clause-zone c =
@@ -49,6 +63,11 @@ pub returns-clause-max_ttl : goal.returns-clause-max_ttl
 returns-clause-max_ttl c =
     number_is (app_of c.in_ok-command.command) (map (λ word. word.now) c.args.words.now) c.in_ok-matches.matches (codes "max-ttl") c.number_in-max_ttl.result
     c.in_ok-command.ensures.app c.in_ok-matches.ensures.matches c.number_in-max_ttl.ensures
+
+pub returns-clause-udp : goal.returns-clause-udp
+returns-clause-udp c =
+    flag_is (app_of c.in_ok-command.command) (map (λ word. word.now) c.args.words.now) c.in_ok-matches.matches (codes "udp") c.flag_in-udp.result
+    c.in_ok-command.ensures.app c.in_ok-matches.ensures.matches c.flag_in-udp.ensures
 
 pub returns-clause-only : goal.returns-clause-only
 returns-clause-only c =
