@@ -9,7 +9,7 @@ use crate::linking::linked;
 use crate::playing::{play_size, played, played_with};
 use crate::request::{fits, sound, sound_data, sound_record};
 use crate::resolving::resolve;
-use crate::running::ran;
+use crate::running::{ran, ran_script};
 use crate::script::script;
 use crate::unruly::unruly;
 use crate::words::words;
@@ -33,6 +33,7 @@ pub(crate) fn answer(alloc: Global, word: &str, input: &str) -> Answer {
         "unruly" => unruly(alloc, input),
         "frame-cuts" => frame_cuts(alloc, input),
         "run" => ran(alloc, input),
+        "run-script" => ran_script(alloc, input),
         "play" => played(alloc, input),
         "play-with" => played_with(alloc, input),
         "play-size" => play_size(alloc, input),

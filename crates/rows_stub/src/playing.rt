@@ -4,7 +4,7 @@ use rows::{Answer, RowFault, bytes_of, parsed, split};
 use rows_text::name_of;
 use std::alloc::Global;
 use std::fmt::Write;
-use stub_play::{PlayInput, play};
+use stub_play::{PlayInput, play_in_memory};
 
 /// `play ZONE || SCRIPT`: what a run prints, and behind it the line of its fault.
 pub(crate) fn played(alloc: Global, input: &str) -> Answer {
@@ -46,6 +46,7 @@ fn input_of(alloc: Global, texts: &str) -> Result<PlayInput, RowFault> {
         limit: 1232,
         cache: 8192,
         max_ttl: 86_400,
+        udp: false,
     })
 }
 
@@ -70,7 +71,7 @@ fn printed(alloc: Global, input: &PlayInput) -> Answer {
         return Err(RowFault::Lacks("a limit"));
     }
     let mut bytes: Vec<u8> = Vec::new(alloc);
-    let outcome = play(alloc, input, &mut bytes);
+    let outcome = play_in_memory(alloc, input, &mut bytes);
     let mut text = String::from_utf8_lossy(alloc, bytes.as_slice())?;
     if let Err(fault) = outcome {
         writeln!(text, "{fault}")?;

@@ -10,7 +10,7 @@ use rows_text::{error_text, push_question, resolver_config_of, resolver_options_
 use std::alloc::{AllocError, Global};
 use std::fmt::Write;
 use stub_lookup::NetError;
-use stub_play::write_report;
+use stub_play::{read_script, write_report};
 use stub_run::{Event, EventReport, Report, Stopped, World, run};
 
 /// `run LIMIT IDS SETTINGS || EVENTS || HOSTS || ZONE`: the report of events in a world over a zone, whose resolver has these
@@ -23,6 +23,26 @@ pub(crate) fn ran(alloc: Global, input: &str) -> Answer {
     let events = events_of(alloc, events)?;
     let world = world_of(alloc, setting, hosts, zone)?;
     ran_or_refused(alloc, world, events.as_slice())
+}
+
+/// `run-script LIMIT IDS SETTINGS || SCRIPT || HOSTS || ZONE`: as `run`, with the events of a script, whose lines may have link
+/// scripts.
+pub(crate) fn ran_script(alloc: Global, input: &str) -> Answer {
+    let (setting, rest) = split(input, " || ", "settings")?;
+    let (script, rest) = split(rest, " || ", "a script")?;
+    let (hosts, zone) = split(rest, " || ", "hosts and a zone")?;
+    let events = script_events(alloc, script, zone)?;
+    let world = world_of(alloc, setting, hosts, zone)?;
+    ran_or_refused(alloc, world, events.as_slice())
+}
+
+/// The events of a script over a zone.
+fn script_events(alloc: Global, script: &str, zone: &str) -> Result<Vec<Event>, RowFault> {
+    let zone = Box::new(alloc, zone_of(alloc, zone)?)?;
+    match read_script(alloc, script, zone.origin()) {
+        Ok(script) => Ok(script.events),
+        Err(_) => Err(RowFault::Lacks("a script")),
+    }
 }
 
 /// The world of a text `LIMIT IDS SETTINGS`, of hosts and of a zone, or why it is refused.

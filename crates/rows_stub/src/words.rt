@@ -31,5 +31,8 @@ fn words_text(alloc: Global, words: &Words) -> Answer {
     }
     let (limit, cache, max_ttl) = (words.limit, words.cache, words.max_ttl);
     write!(text, ", limit {limit}, cache {cache}, max-ttl {max_ttl}")?;
+    if words.udp {
+        text.push_str(", udp")?;
+    }
     Ok(text)
 }
