@@ -1,0 +1,205 @@
+"""How time and memory grow with the size of an input: each case at n, 2n, 4n and 8n."""
+from collections.abc import Callable
+from dataclasses import dataclass
+from itertools import islice, product
+from pathlib import Path
+from string import ascii_lowercase, digits
+from struct import pack
+
+from runs import Run, least_space, run
+from samples import at, header, query, question, record, update, wire
+
+LIMIT = 120.0
+SOA = b"t. 60 SOA ns.t. h.t. 1 3600 600 86400 30\n"
+LOOKUP = b"0 lookup a.t. A\n"
+SET = "each record is compared with those of its set"
+POINTERS = "each name follows up to 8,192 pointers"
+
+
+@dataclass
+class Case:
+    title: str
+    # the size n, and the files of the program `stub` or the input of a reader of the program `hostile` at a size
+    size: int
+    files: Callable[[int], dict[str, bytes]]
+    reader: str = ""
+    times: int = 1
+    # why time grows faster than n log n, where it does
+    reason: str = ""
+
+
+def zone(title: str, size: int, text: Callable[[int], bytes], reason: str = "") -> Case:
+    return Case(title, size, lambda n: {"zone": SOA + text(n), "script": LOOKUP, "hosts": b""}, reason=reason)
+
+
+def hosts(title: str, size: int, text: Callable[[int], bytes]) -> Case:
+    return Case(title, size, lambda n: {"zone": SOA, "script": LOOKUP, "hosts": text(n)})
+
+
+def script(title: str, size: int, text: Callable[[int], bytes], reason: str = "") -> Case:
+    files = {"zone": SOA + b"a.t. 60 A 10.0.0.1\n", "hosts": b""}
+    return Case(title, size, lambda n: {**files, "script": text(n)}, reason=reason)
+
+
+def wired(title: str, reader: str, size: int, data: Callable[[int], bytes], times: int = 1, reason: str = "") -> Case:
+    return Case(title, size, lambda n: {"input": data(n)}, reader, times, reason)
+
+
+def each(count: int, text: str) -> bytes:
+    """A text so many times, with its number for each `#`, and the number as an address for `@`."""
+    return "".join(
+        text.replace("#", str(it)).replace("@", f"10.{it >> 16 & 255}.{it >> 8 & 255}.{it & 255}") for it in range(count)
+    ).encode()
+
+
+def chain(links: int, count: int) -> bytes:
+    """Records of which each owner is the last pointer of a chain, which the data of the first record is."""
+    first = 12 + 11
+    data = b"\0" + b"".join(at(first if it == 0 else first + 2 * it - 1) for it in range(links))
+    last = at(first + 2 * links - 1)
+    return header((0, 1 + count, 0, 0), 0x8000) + record(b"\0", 10, data) + record(last, 10, b"x") * count
+
+
+def short_names(count: int) -> list[bytes]:
+    """Different names of three letters and digits."""
+    return ["".join(it).encode() for it in islice(product(ascii_lowercase + digits, repeat=3), count)]
+
+
+def question_chain(whole: int, short: int) -> bytes:
+    """Questions of which the last ones have the last pointer of a chain as their name. The labels of the first ones are
+    the chain, which begins with a count of 0 in the header."""
+    body, target = bytearray(), 6
+    for _ in range(whole):
+        for _ in range(4):
+            body.append(62)
+            for _ in range(31):
+                body += at(target)
+                target = 12 + len(body) - 2
+        body += question(b"\0")
+    return header((whole + short, 0, 0, 0)) + bytes(body) + question(at(target)) * short
+
+
+def compressed(count: int) -> bytes:
+    """Records whose owners are pointers to one name of 255 bytes."""
+    owner = wire(".".join("a" * 127))
+    return header((1, count, 0, 0), 0x8000) + question(owner) + record(at(12), 1, bytes(4)) * count
+
+
+def additions(count: int) -> bytes:
+    """An update that adds as many addresses to a name."""
+    return update([], [record(wire("m.t"), 1, pack(">I", it)) for it in range(count)])
+
+
+def prerequisites(count: int) -> bytes:
+    """An update that requires both addresses of a name as often."""
+    return update([record(wire("a.t"), 1, bytes([10, 0, 0, 1 + it % 2]), 0) for it in range(count)], [])
+
+
+def cases() -> list[Case]:
+    many = lambda piece: lambda n: piece * n
+    return [
+        zone("zone: records of different names", 4000, lambda n: each(n, "n#.t. 60 A 10.0.0.1\n")),
+        zone("zone: records of one name and type", 1000, lambda n: each(n, "m.t. 60 A @\n"), SET),
+        zone("zone: equal records", 4000, many(b"m.t. 60 A 10.0.0.1\n")),
+        zone("zone: names below one another", 500, lambda n: each(n, "a.b.c.d.e.f.n#.t. 60 A 10.0.0.1\n")),
+        zone("zone: lines in parentheses", 40000, lambda n: b"x.t. 60 TXT (" + b"\n" * n + b" a )\n"),
+        zone("zone: strings of one record", 4000, lambda n: b"x.t. 60 TXT " + b"a " * n + b"\n"),
+        zone("zone: opened parentheses", 40000, lambda n: b"x.t. 60 TXT " + b"( " * n),
+        zone("zone: closed and opened parentheses", 10000, lambda n: b"x.t. 60 TXT a " + b"() " * n + b"\n"),
+        zone("zone: an open quoted string", 100000, lambda n: b'x.t. 60 TXT "' + b"a" * n),
+        zone("zone: backslashes", 50000, lambda n: b"x.t. 60 TXT " + b"\\\\" * n),
+        zone("zone: digits of a TTL", 50000, lambda n: b"x.t. " + b"0" * n + b" A 10.0.0.1\n"),
+        zone("zone: units of a TTL", 50000, lambda n: b"x.t. " + b"0s" * n + b" A 10.0.0.1\n"),
+        zone("zone: a long name", 50000, lambda n: b"a." * n + b" 60 A 10.0.0.1\n"),
+        zone("zone: comments and empty lines", 20000, many(b" ; c\n\n")),
+        zone("zone: directives", 10000, many(b"$ORIGIN t.\n$TTL 1h\n")),
+        hosts("hosts: lines with different names", 4000, lambda n: each(n, "@ n#.t\n")),
+        hosts("hosts: addresses of one name", 1000, lambda n: each(n, "@ m.t\n")),
+        hosts("hosts: names on one line", 4000, lambda n: b"10.0.0.1" + each(n, " n#.t")),
+        hosts("hosts: names of three letters on one line", 4000, lambda n: b"10.0.0.1 " + b" ".join(short_names(n))),
+        hosts("hosts: one name on one line", 1000, lambda n: b"10.0.0.1" + b" m.t" * n),
+        hosts("hosts: skipped lines", 40000, many(b"x # c\n")),
+        hosts("hosts: a long line that is not UTF-8", 100000, lambda n: b"a" * n + b"\xff"),
+        script("script: lookups of one name", 4000, many(b"0 lookup a.t. A\n")),
+        script("script: lookups of different names", 250, lambda n: each(n, "0 lookup n#.t. A\n")),
+        script("script: hosts", 4000, many(b"0 ip 10.0.0.1\n")),
+        script("script: words of a line", 40000, lambda n: b"0 lookup" + b" a" * n + b"\n"),
+        script("script: words of a link script", 10000, lambda n: b"0 lookup a.t. A ;" + b" q0" * n + b"\n"),
+        script("script: replies of a link script", 10000, lambda n: b"0 lookup a.t. A ; q0" + b" r1" * n + b"\n"),
+        script("script: additions to one name", 250, lambda n: each(n, "0 update append m.t. 60 A @\n"), SET),
+        script("script: additions of different names", 1000, lambda n: each(n, "0 update append n#.t. 60 A @\n")),
+        script("script: strings of an update", 1000, lambda n: b"0 update append a.t. 60 TXT" + b' "a"' * n + b"\n"),
+        script("script: comments", 40000, many(b" # c\n")),
+        wired("message: records", "message", 400, lambda n: header((0, n, 0, 0)) + record(wire("a.t"), 1, bytes(4)) * n, 10),
+        wired("message: owners of 255 bytes, by pointers", "message", 400, compressed, 3),
+        wired("message: owners by a chain of pointers", "message", 450, lambda n: chain(2 * n, n), 3, POINTERS),
+        wired("message: questions by a chain of pointers", "message", 7, lambda n: question_chain(n, 140 * n), 1, POINTERS),
+        wired("message: strings", "message", 7000, lambda n: header((0, 1, 0, 0)) + record(b"\0", 16, bytes(n)), 20),
+        wired("message: options", "message", 1900, lambda n: header((0, 0, 0, 1)) + record(b"\0", 41, bytes(4 * n)), 20),
+        wired("message: questions", "message", 1000, lambda n: header((n, 0, 0, 0)) + question(b"\0") * n, 10),
+        wired("request: additions to one name", "stream", 350, additions, 1, SET),
+        wired("request: prerequisites of one set", "stream", 400, prerequisites),
+        wired("stream: empty frames", "frames", 4000, many(b"\0\0"), 3),
+        wired("zone file: included texts", "zone", 2000, many(b"$INCLUDE inc\n")),
+        wired("name: 127 labels, then other bytes", "name", 1000, lambda n: b"\1" + wire(".".join("a" * 127)) + bytes(n), 10),
+    ]
+
+
+@dataclass
+class Measure:
+    """The bytes of an input, the cheaper one of two runs on it, and the least address space of such a run."""
+
+    size: int
+    run: Run
+    space: int
+
+
+def measured(stub: Path, hostile: Path | None, case: Case, factor: int, has_space: bool) -> Measure:
+    """What a case costs at a size."""
+    files = case.files(case.size * factor)
+    size = sum(map(len, files.values()))
+    if case.reader:
+        row = f"read {case.reader} hex {files['input'].hex()} > ?\n"
+        program, words, files = hostile, ["rows"], {"rows": (row * case.times).encode()}
+    else:
+        program, words = stub, ["--zone", "zone", "--script", "script", "--hosts", "hosts"]
+    best = min((run(program, words, files, LIMIT) for _ in range(2)), key=lambda it: it.seconds)
+    return Measure(size, best, least_space(program, words, files, best, LIMIT) if has_space else 0)
+
+
+def print_growth(stub: Path, hostile: Path | None, wanted: str) -> int:
+    """Prints a table. The result is how many cases grow faster than n log n without a known reason, or crash."""
+    print("| Input | Bytes | Seconds at n, 2n, 4n, 8n | Memory at n, 8n | Growth |\n|---|---|---|---|---|")
+    failed = 0
+    for case in cases():
+        if wanted not in case.title or case.reader and not hostile:
+            continue
+        found = [measured(stub, hostile, case, factor, factor in (1, 8)) for factor in (1, 2, 4, 8)]
+        growth = growth_of(found)
+        if growth.startswith("faster"):
+            failed += not case.reason
+            growth += f": {case.reason or 'unexpected'}"
+        if any(it.run.status < 0 for it in found):
+            failed += 1
+            growth = f"signals: {[it.run.status for it in found]}"
+        seconds = ", ".join("late" if it.run.is_late else f"{it.run.seconds:.3f}" for it in found)
+        memory = f"{found[0].space / 2**20:.1f}, {found[3].space / 2**20:.1f} MB: {per_byte(found)} a byte"
+        print(f"| {case.title} | {found[0].size} to {found[3].size} | {seconds} | {memory} | {growth} |", flush=True)
+    return failed
+
+
+def per_byte(found: list[Measure]) -> int:
+    """How much memory each further byte of the input takes."""
+    return round((found[3].space - found[0].space) / (found[3].size - found[0].size))
+
+
+def growth_of(found: list[Measure]) -> str:
+    """Whether time grows as the size does, or faster than its product with a logarithm. Little time says nothing."""
+    if any(it.run.is_late for it in found):
+        return "faster: not ended"
+    sizes, times = [it.size for it in found], [max(it.run.seconds, 0.004) for it in found]
+    if times[3] < 0.03:
+        return "little time"
+    # From n to 8n; and from 4n to 8n, where what does not grow matters less.
+    whole, last = times[3] / times[0] / (sizes[3] / sizes[0]), times[3] / times[2] / (sizes[3] / sizes[2])
+    return f"faster, {whole:.1f} and {last:.1f}" if last > 1.45 else f"n log n at most, {whole:.1f} and {last:.1f}"
