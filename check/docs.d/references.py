@@ -15,7 +15,7 @@ DECLARED = re.compile(
 # Pages whose blocks of code are contracts and definitions.
 QUOTING = ("READING_CONTRACTS.md",)
 # What a page on coverage says of a rule.
-STATUSES = ("stated", "own choice", "left out")
+STATUSES = ("stated", "own choice", "differs", "left out")
 BRACES = re.compile(r"\{([^{}]*)\}")
 
 

@@ -12,8 +12,8 @@ const HEAD: &str = "$ORIGIN example.com.\n$TTL 3600\n@ SOA ns host 1 3600 600 86
 /// How many groups of four owners the zone has, unless a size is given.
 const GROUPS: u32 = 1_250;
 
-/// The most groups: their numbers have 16 bits.
-const MAX_GROUPS: u64 = 65_536;
+/// The most groups: their numbers have 24 bits, three octets of an address.
+const MAX_GROUPS: u64 = 1 << 24;
 
 /// The header of a query with one question.
 const HEADER: &[u8] = b"\x00\x07\x01\x00\x00\x01\x00\x00\x00\x00\x00\x00";
@@ -132,19 +132,19 @@ fn push_chain(text: &mut String) -> Result<(), AllocError> {
     for link in 0..7 {
         writeln!(text, "e{link} CNAME e{}", link + 1)?;
     }
-    text.push_str("e7 A 10.4.0.1\n")
+    text.push_str("e7 A 14.0.0.1\n")
 }
 
 /// Adds the eight records of four owners: one with two addresses; one with an address of each family; an alias; and one with
 /// an address, a mail exchange and a text.
 fn push_owners(text: &mut String, group: u32) -> Result<(), AllocError> {
-    let (high, low) = (group / 256, group % 256);
-    writeln!(text, "a{group} A 10.0.{high}.{low}")?;
-    writeln!(text, " A 10.1.{high}.{low}")?;
-    writeln!(text, "b{group} A 10.2.{high}.{low}")?;
-    writeln!(text, " AAAA 2001:db8::{group:x}")?;
+    let (high, middle, low) = (group / 65_536, group / 256 % 256, group % 256);
+    writeln!(text, "a{group} A 10.{high}.{middle}.{low}")?;
+    writeln!(text, " A 11.{high}.{middle}.{low}")?;
+    writeln!(text, "b{group} A 12.{high}.{middle}.{low}")?;
+    writeln!(text, " AAAA 2001:db8::{high:x}:{middle:x}:{low:x}")?;
     writeln!(text, "c{group} CNAME a{group}")?;
-    writeln!(text, "d{group} A 10.3.{high}.{low}")?;
+    writeln!(text, "d{group} A 13.{high}.{middle}.{low}")?;
     writeln!(text, " MX 10 a{group}")?;
     writeln!(text, " TXT \"text {group}\"")
 }
