@@ -5,6 +5,7 @@ from specs import definitions_of
 
 LINK = re.compile(r"\[`([\w:]+)(\(\))?`\](?:\(([\w:]+)\))?")
 WORD = re.compile(r"[^\W\d][\w-]*")
+HEADING = re.compile(r"^#+ (.*)$", re.M)
 
 
 class Links:
@@ -14,8 +15,9 @@ class Links:
         self.library, self.crate, self.module = library, crate, module
 
     def prose(self, text):
-        """A documentation text, with the links to items that are found, and the names of the others."""
-        return LINK.sub(self.link, text)
+        """A documentation text, with the links to items that are found, and the names of the others. Its headings are no
+        headings of the page."""
+        return LINK.sub(self.link, HEADING.sub(r"**\1**", text))
 
     def link(self, found):
         """A link to an item."""

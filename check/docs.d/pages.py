@@ -288,8 +288,15 @@ def member_line(anchor, item, links):
     """The line of a field or a variant."""
     name = " ".join(item.signature.removeprefix("pub ").split()) if item.kind == "field" else item.name
     text = " ".join(links.prose(item.docs).split())
-    text = f"{text} {displayed(item)}".strip()
+    text = f"{text} {displayed(item)}".strip() or content_of(item, links)
     return f'- <a id="{anchor}"></a>`{name}`' + (f": {text}" if text else "")
+
+
+def content_of(item, links):
+    """The types that a variant without documentation holds, each with a link."""
+    types = [it.signature for it in item.members if it.kind == "field" and it.name.isdigit()]
+    found = [(it, links.target(it)) for it in types if it.isidentifier()]
+    return ", ".join(f"[`{it}`]({target})" for it, target in found if target)
 
 
 def declaration(item):
