@@ -1,0 +1,3 @@
+pub mod DataLaws
+pub mod TextLaws
+pub mod KindLaws
