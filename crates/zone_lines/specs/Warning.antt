@@ -1,5 +1,5 @@
 -- What a zone file says and nobody means (RFC 1034 section 3.6.2, RFC 2181 section 10).
-use Rattle.std.specs.Prelude.{◌≡◌, ◌==◌, ◌&&◌, ◌||◌, ◌++◌, ℕ, nat_lt, not, Bool, true, false, List, [], ◌∷◌, length, map, flat_map, if◌then◌else◌, Option, Some, None, Result, Ok, Err}
+use Rattle.std.specs.Prelude.{◌==◌, ◌&&◌, ◌||◌, nat_lt, not, Bool, true, false, List, [], ◌∷◌, map, flat_map, if◌then◌else◌, Option, Some, None}
 use Rattle.std.specs.List.{filter, list_any}
 use Rattle.dns_codes.specs.RecordType.{type_number}
 use Rattle.dns_names.specs.Build.{append_name}

@@ -1,6 +1,6 @@
 //! The records of a zone file, with their lines (RFC 1035 section 5.1).
 
-ghost use Rattle.std.specs.Prelude.{◌≡◌, IfOk, OnOk, Ok, Err, map, option_copied};
+ghost use Rattle.std.specs.Prelude.{◌≡◌, ◌∷◌, IfOk, map, option_copied};
 ghost use Rattle.dns_text.specs.Lexer.{start};
 ghost use Rattle.dns_text.specs.Token.{lexeme};
 ghost use Rattle.zone_lines.specs.RecordLine.{Lists, owner_at, start_place};
@@ -135,10 +135,24 @@ pub(crate) fn read_record(
 ) -> Result<Reading, AllocError>
     ensures { IfOk result (Reads place.now line (map lexeme tokens.now)) }
 {
-    let [first, fields @ ..] = tokens else {
-        return Ok(Reading::Refused);
-    };
-    let owner = match parse_owner(alloc, place, *first)? {
+    match tokens {
+        [] => Ok(Reading::Refused),
+        [first, fields @ ..] => read_fields(alloc, place, line, *first, fields),
+    }
+}
+
+/// Reads the entry of a record from its first token and its further ones.
+fn read_fields(
+    alloc: Global,
+    place: &Place,
+    line: usize,
+    first: Token<'_>,
+    fields: &[Token<'_>],
+) -> Result<Reading, AllocError>
+    ensures { IfOk result
+        (Reads place.now line (lexeme first.entry ∷ map lexeme fields.now)) }
+{
+    let owner = match parse_owner(alloc, place, first)? {
         Some(owner) => owner,
         None => return Ok(Reading::Refused),
     };

@@ -1,6 +1,6 @@
 //! What a zone file says and nobody means (RFC 1034 section 3.6.2, RFC 2181 section 10).
 
-ghost use Rattle.std.specs.Prelude.{◌≡◌, ◌++◌, IfOk, OnOk, option_map, option_copied};
+ghost use Rattle.std.specs.Prelude.{◌≡◌, ◌∷◌, ◌++◌, [], if◌then◌else◌, IfOk, OnOk, option_copied};
 ghost use Rattle.zone_lines.specs.Warning.{applies, is_alias, is_single, has_other_data, has_earlier, has_address, doubled_origin, data_lies_below, lacks_address, name_lies_below, server_of, warnings_at, warnings_of};
 
 use crate::record_line::RecordLine;
@@ -43,9 +43,10 @@ pub fn warnings(
     ensures { IfOk result (λ found. found.items ≡ warnings_of origin.now records.now) }
 {
     let doubled = doubled_origin(origin)?;
+    let twice = doubled.as_ref();
     let mut found = Vec::new(alloc);
     for record_line in records {
-        push_warnings(&mut found, origin, doubled.as_ref(), records, record_line)?;
+        push_warnings(&mut found, origin, twice, records, record_line)?;
     }
     Ok(found)
 }
@@ -69,13 +70,25 @@ fn push_warnings(
         WarningKind::Delegation,
         WarningKind::MissingDot,
     ] {
-        if applies(kind, origin, doubled, records, record_line) {
-            found.push(Warning {
-                line: record_line.line,
-                kind,
-            })?;
-        }
+        let is_meant = applies(kind, origin, doubled, records, record_line);
+        let warning = Warning {
+            line: record_line.line,
+            kind,
+        };
+        push_if(found, is_meant, warning)?;
     }
+    Ok(())
+}
+
+/// Appends a warning, if it applies.
+fn push_if(found: &mut Vec<Warning>, is_meant: bool, warning: Warning) -> Result<(), AllocError>
+    ensures { OnOk result (found.new.items ≡ found.old.items
+        ++ (if is_meant then warning ∷ [] else [])) }
+{
+    if !is_meant {
+        return Ok(());
+    }
+    found.push(warning)?;
     Ok(())
 }
 
