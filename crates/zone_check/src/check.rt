@@ -6,10 +6,10 @@ ghost use Rattle.dns_zone.specs.Load.{ReadsZone};
 ghost use Rattle.zone_check.specs.Check.{warnings_if_zone};
 ghost use Rattle.zone_lines.specs.RecordLine.{Lists, start_place};
 
-use zone_lines::{RecordLine, Warning, read_records, warnings};
 use dns_names::Name;
 use dns_zone::{Zone, ZoneFault};
 use std::alloc::{AllocError, Global};
+use zone_lines::{RecordLine, Warning, read_records, warnings};
 
 /// What is to be said of a zone file.
 #[derive(Drop)]
@@ -24,11 +24,7 @@ pub struct ZoneCheck {
 
 /// Checks a zone file, in which no other is included. The origin completes relative names and is the zone's, as for
 /// [`Zone::from_text`].
-pub fn check_zone(
-    alloc: Global,
-    text: &str,
-    origin: Option<&Name>,
-) -> Result<ZoneCheck, AllocError>
+pub fn check_zone(alloc: Global, text: &str, origin: Option<&Name>) -> Result<ZoneCheck, AllocError>
     ensures outcome { IfOk result (λ check.
         ReadsZone [] (option_copied origin.entry) text.now check.outcome) }
     ensures records { IfOk result (λ check. Lists (start_place (option_copied origin.entry))

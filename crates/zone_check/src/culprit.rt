@@ -3,21 +3,17 @@
 ghost use Rattle.std.specs.Prelude.{◌≡◌, option_copied};
 ghost use Rattle.zone_check.specs.Culprit.{apex, first_culprit, first_soa, is_culprit, line_of_fault};
 
-use zone_lines::RecordLine;
 use dns_data::RData;
 use dns_names::Name;
 use dns_wire::DNSClass;
 use dns_zone::ZoneFault;
+use zone_lines::RecordLine;
 
 /// The greatest length of data that can be encoded (RFC 1035 section 3.2.1).
 const MAX_DATA_LENGTH: u128 = 65_535;
 
 /// Returns the line of a zone's fault, from 1: that of the text's fault, or of the first record that is at fault.
-pub fn fault_line(
-    fault: &ZoneFault,
-    origin: Option<&Name>,
-    records: &[RecordLine],
-) -> Option<usize>
+pub fn fault_line(fault: &ZoneFault, origin: Option<&Name>, records: &[RecordLine]) -> Option<usize>
     ensures { result ≡ line_of_fault fault.now (option_copied origin.entry) records.now }
 {
     match fault {
@@ -27,11 +23,7 @@ pub fn fault_line(
 }
 
 /// Returns the line of the first record that is at fault.
-fn first_culprit(
-    fault: &ZoneFault,
-    apex: Option<&Name>,
-    records: &[RecordLine],
-) -> Option<usize>
+fn first_culprit(fault: &ZoneFault, apex: Option<&Name>, records: &[RecordLine]) -> Option<usize>
     ensures { result ≡ first_culprit fault.now (option_copied apex.entry) records.now }
 {
     for record_line in records {

@@ -117,7 +117,10 @@ fn entry_text(fault: &EntryFault) -> (&'static str, &'static str) {
 /// Returns what the fault of a record's data says.
 fn data_text(error: &RDataParseError) -> (&'static str, &'static str) {
     match error {
-        RDataParseError::UnsupportedRecordType => ("a type whose data cannot be written here", TYPES),
+        RDataParseError::UnsupportedRecordType => (
+            "a type whose data cannot be written here",
+            TYPES,
+        ),
         RDataParseError::MissingToken => (
             "data that ends before its last value",
             "write all values of the type, the last ones perhaps on further lines between ( and )",

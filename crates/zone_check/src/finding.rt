@@ -61,7 +61,9 @@ impl Finding<'_> {
         file: &str,
     ) -> Result<(), AllocError> {
         let Finding {
-            severity, reason, ..
+            severity,
+            reason,
+            ..
         } = self;
         report.push_str(file)?;
         if let Some(line) = self.line {

@@ -1,10 +1,9 @@
 //! An SOA record whose owner lacks the dot at its end.
 
 use crate::culprit::is_soa;
-use zone_lines::RecordLine;
-use zone_lines::doubled_origin;
 use dns_names::Name;
 use std::alloc::AllocError;
+use zone_lines::{RecordLine, doubled_origin};
 
 /// Returns the line of the first SOA record if its owner is the origin twice: the one that is given, or else the last half of
 /// the owner.

@@ -3,17 +3,15 @@
 use crate::check::ZoneCheck;
 use crate::culprit::fault_line;
 use crate::fault_text::fault_text;
-use zone_lines::faulty_token;
 use crate::finding::{Finding, Severity};
 use crate::line::{line_at, lines_of};
-use crate::script_line::mistake_in;
 use crate::missing_dot::soa_without_dot;
-use zone_lines::RecordLine;
-use zone_lines::WarningKind;
+use crate::script_line::mistake_in;
 use crate::warning_text::warning_text;
 use dns_names::Name;
 use dns_zone::ZoneFault;
 use std::alloc::{AllocError, Global};
+use zone_lines::{RecordLine, WarningKind, faulty_token};
 
 /// What is said of a byte-order mark, which the server takes for the start of the first word.
 const BYTE_ORDER_MARK: (&str, &str) = (

@@ -132,11 +132,20 @@ fn is_link_word(word: &str) -> bool {
 /// Returns what is said of words that follow a form so far, and perhaps have one after that.
 fn explanation(fit: Fit, has_word: bool) -> (&'static str, &'static str) {
     match (fit.next, fit.count, has_word) {
-        ("DATA", _, _) => ("data that this type does not have, or an owner outside the origin", fit.form),
+        ("DATA", _, _) => (
+            "data that this type does not have, or an owner outside the origin",
+            fit.form,
+        ),
         ("", _, true) => ("a word too many", fit.form),
         ("", _, false) => ("a line that cannot be read", fit.form),
-        (_, 0, _) => ("not a moment", "MOMENT EVENT, where MOMENT is a number of seconds; # begins a comment"),
-        (_, 1, _) => ("not an event", "MOMENT lookup, ip, clear, clearall or update, and what belongs to it"),
+        (_, 0, _) => (
+            "not a moment",
+            "MOMENT EVENT, where MOMENT is a number of seconds; # begins a comment",
+        ),
+        (_, 1, _) => (
+            "not an event",
+            "MOMENT lookup, ip, clear, clearall or update, and what belongs to it",
+        ),
         ("NAME", _, true) => ("not a name", fit.form),
         ("TYPE", _, true) => ("not a type of records", fit.form),
         ("HOST", _, true) => ("not a host", fit.form),

@@ -5,10 +5,10 @@ ghost use Rattle.dns_text.specs.Token.{lexeme};
 ghost use Rattle.dns_zone_file.specs.Fields.{name_of, field_of, field_of_word, zone_class, fields_of};
 ghost use Rattle.zone_lines.specs.internal.Fields.{field_view, fields_view};
 
-use dns_zone_file::EntryFault;
 use dns_names::{Name, ParseError};
 use dns_text::{Token, parse_ttl_bytes};
 use dns_wire::{DNSClass, RecordType};
+use dns_zone_file::EntryFault;
 use std::alloc::{AllocError, Global};
 
 /// What a token between owner and data is.

@@ -169,11 +169,7 @@ fn read_fields(
 }
 
 /// Reads the tokens after an owner.
-fn read_data(
-    alloc: Global,
-    origin: &Name,
-    tokens: &[Token<'_>],
-) -> Result<DataReading, AllocError>
+fn read_data(alloc: Global, origin: &Name, tokens: &[Token<'_>]) -> Result<DataReading, AllocError>
     ensures { IfOk result (ReadsData origin.now (map lexeme tokens.now)) }
 {
     let fields = match parse_fields(tokens) {
@@ -182,7 +178,12 @@ fn read_data(
         Err(_) => return Ok(DataReading::Refused),
     };
     let dns_class = fields.dns_class.unwrap_or(DNSClass::IN);
-    match RData::parse(alloc, fields.record_type, &tokens[fields.count..], Some(origin)) {
+    match RData::parse(
+        alloc,
+        fields.record_type,
+        &tokens[fields.count..],
+        Some(origin),
+    ) {
         Ok(rdata) => Ok(DataReading::Data { dns_class, rdata }),
         // Memory for the data was refused.
         Err(RDataParseError::Memory) => Err(AllocError),
@@ -192,11 +193,7 @@ fn read_data(
 }
 
 /// Parses the owner of a record: its first token, or that of the record before.
-fn parse_owner(
-    alloc: Global,
-    place: &Place,
-    token: Token<'_>,
-) -> Result<Option<Name>, AllocError>
+fn parse_owner(alloc: Global, place: &Place, token: Token<'_>) -> Result<Option<Name>, AllocError>
     ensures { IfOk result (λ owner. owner ≡ owner_at place.now (lexeme token.entry)) }
 {
     match token {

@@ -113,8 +113,7 @@ fn applies(
         WarningKind::NoAddress => lacks_address(origin, records, &record_line.rdata),
         WarningKind::Wildcard => record_line.owner.is_wildcard(),
         WarningKind::Delegation => {
-            matches!(&record_line.rdata, RData::NS(_))
-                && !origin.eq_ignore_root(&record_line.owner)
+            matches!(&record_line.rdata, RData::NS(_)) && !origin.eq_ignore_root(&record_line.owner)
         }
         WarningKind::MissingDot => name_lies_below(doubled, record_line),
     }
