@@ -1,7 +1,7 @@
 //! The line of a fault, of which those of whole zones have none.
 
 ghost use Rattle.std.specs.Prelude.{◌≡◌, option_copied};
-ghost use Rattle.zone_check.specs.Culprit.{apex, first_culprit, first_soa, is_culprit, line_of_fault};
+ghost use Rattle.zone_check.specs.Culprit.{apex, first_culprit, first_soa, is_culprit, is_soa, line_of_fault};
 
 use dns_data::RData;
 use dns_names::Name;
