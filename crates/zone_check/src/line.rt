@@ -1,0 +1,22 @@
+//! The lines of a text.
+
+ghost use Rattle.std.specs.Prelude.{◌≡◌, IfOk, map, option_copied};
+ghost use Rattle.std.specs.Str.Lines.{lines};
+ghost use Rattle.zone_check.specs.Line.{line_numbered};
+
+use std::alloc::{AllocError, Global};
+
+/// Returns the lines of a text, without their ends.
+pub fn lines_of(alloc: Global, text: &str) -> Result<Vec<&str>, AllocError>
+    ensures { IfOk result (λ found. map (λ line. line.now) found.items ≡ lines text.now) }
+{
+    text.lines().collect(alloc)
+}
+
+/// Returns the line of a number, from 1.
+pub fn line_at<'a>(lines: &[&'a str], number: usize) -> Option<&'a str>
+    ensures { result ≡ line_numbered lines.now number }
+{
+    let index = number.checked_sub(1)?;
+    lines.get(index).copied()
+}

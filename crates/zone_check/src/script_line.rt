@@ -1,0 +1,159 @@
+//! The word at fault in a line of a script, which the faults of `stub_play` do not have.
+
+use dns_codes::parse_decimal;
+use dns_names::{Name, ParseError};
+use dns_text::parse_ip;
+use dns_wire::RecordType;
+use std::alloc::{AllocError, Global};
+
+/// How events are written. A word in capitals denotes a value, and any other itself.
+const FORMS: [&str; 10] = [
+    "MOMENT lookup NAME TYPE",
+    "MOMENT ip HOST",
+    "MOMENT clear NAME TYPE",
+    "MOMENT clearall",
+    "MOMENT update create NAME TTL TYPE DATA",
+    "MOMENT update append NAME TTL TYPE DATA",
+    "MOMENT update swap NAME TTL TYPE DATA -> DATA",
+    "MOMENT update delete-record NAME TYPE DATA",
+    "MOMENT update delete-set NAME TYPE",
+    "MOMENT update delete-name NAME",
+];
+
+/// What is wrong in a line.
+#[derive(Clone, Copy)]
+pub(crate) struct Mistake<'a> {
+    pub(crate) reason: &'static str,
+    /// The word at fault, if there is one.
+    pub(crate) word: Option<&'a str>,
+    /// How the line is written.
+    pub(crate) hint: &'static str,
+}
+
+/// How far the words of a line follow a form.
+#[derive(Clone, Copy)]
+struct Fit {
+    form: &'static str,
+    /// The number of words that follow it.
+    count: usize,
+    /// The word of the form after these, or an empty one at its end.
+    next: &'static str,
+}
+
+/// Returns what is wrong in a line that cannot be read.
+pub(crate) fn mistake_in(alloc: Global, line: &str) -> Result<Mistake<'_>, AllocError> {
+    let (event, link) = line.split_once(';').unwrap_or((line, ""));
+    let words: Vec<&str> = event.split_ascii_whitespace().collect(alloc)?;
+    let fit = best_fit(alloc, words.as_slice())?;
+    let word = words.get(fit.count).copied();
+    if let (None, "" | "DATA", Some(word)) = (word, fit.next, wrong_link_word(link)) {
+        return Ok(Mistake {
+            reason: "not a word of a link script",
+            word: Some(word),
+            hint: "write honest alone, or words of quiet, fail, qN, uN and rN, after the ;",
+        });
+    }
+    let (reason, hint) = explanation(fit, word.is_some());
+    Ok(Mistake { reason, word, hint })
+}
+
+/// Returns how far words follow the form that they follow farthest.
+fn best_fit(alloc: Global, words: &[&str]) -> Result<Fit, AllocError> {
+    let mut best = fit_of(alloc, FORMS[0], words)?;
+    for form in FORMS {
+        let fit = fit_of(alloc, form, words)?;
+        if fit.count > best.count {
+            best = fit;
+        }
+    }
+    Ok(best)
+}
+
+/// Returns how far words follow a form. Data is any words.
+fn fit_of(alloc: Global, form: &'static str, words: &[&str]) -> Result<Fit, AllocError> {
+    let mut count = 0_usize;
+    for next in form.split(' ') {
+        if next == "DATA" {
+            let count = words.len();
+            return Ok(Fit { form, count, next });
+        }
+        match words.get(count) {
+            Some(word) if fits(alloc, next, word)? => count += 1,
+            _ => return Ok(Fit { form, count, next }),
+        }
+    }
+    Ok(Fit {
+        form,
+        count,
+        next: "",
+    })
+}
+
+/// Returns `true` if a word of a line follows that of a form.
+fn fits(alloc: Global, kind: &str, word: &str) -> Result<bool, AllocError> {
+    match kind {
+        "MOMENT" => Ok(parse_decimal(word.as_bytes(), u64::MAX).is_some()),
+        "TTL" => Ok(parse_decimal(word.as_bytes(), u64::from(u32::MAX)).is_some()),
+        "TYPE" => Ok(RecordType::from_ascii_bytes(word.as_bytes()).is_some()),
+        "HOST" if parse_ip(word.as_bytes()).is_some() => Ok(true),
+        "NAME" | "HOST" => is_name(alloc, word),
+        _ => Ok(kind == word),
+    }
+}
+
+/// Returns `true` if a word is a name, or `@`.
+fn is_name(alloc: Global, word: &str) -> Result<bool, AllocError> {
+    match Name::from_ascii(alloc, word) {
+        Ok(_) => Ok(true),
+        // Memory for the name was refused.
+        Err(ParseError::Memory) => Err(AllocError),
+        Err(_) => Ok(word == "@"),
+    }
+}
+
+/// Returns the first word that is not one of a link script.
+fn wrong_link_word(link: &str) -> Option<&str> {
+    for word in link.split_ascii_whitespace() {
+        if !is_link_word(word) {
+            return Some(word);
+        }
+    }
+    None
+}
+
+/// Returns `true` if a word is one of a link script.
+fn is_link_word(word: &str) -> bool {
+    match word.as_bytes() {
+        [b'q' | b'u' | b'r', digits @ ..] if parse_decimal(digits, u64::MAX).is_some() => true,
+        _ => matches!(word, "honest" | "quiet" | "fail"),
+    }
+}
+
+/// Returns what is said of words that follow a form so far, and perhaps have one after that.
+fn explanation(fit: Fit, has_word: bool) -> (&'static str, &'static str) {
+    match (fit.next, fit.count, has_word) {
+        ("DATA", _, _) => (
+            "data that this type does not have, or an owner outside the origin",
+            fit.form,
+        ),
+        ("", _, true) => ("a word too many", fit.form),
+        ("", _, false) => ("a line that cannot be read", fit.form),
+        (_, 0, _) => (
+            "not a moment",
+            "MOMENT EVENT, where MOMENT is a number of seconds; # begins a comment",
+        ),
+        (_, 1, _) => (
+            "not an event",
+            "MOMENT lookup, ip, clear, clearall or update, and what belongs to it",
+        ),
+        ("NAME", _, true) => ("not a name", fit.form),
+        ("TYPE", _, true) => ("not a type of records", fit.form),
+        ("HOST", _, true) => ("not a host", fit.form),
+        ("TTL", _, true) => ("not a TTL in seconds", fit.form),
+        (_, 2, true) => (
+            "not an action of an update",
+            "MOMENT update create, append, swap, delete-record, delete-set or delete-name, and what belongs to it",
+        ),
+        _ => ("a line that ends too early", fit.form),
+    }
+}

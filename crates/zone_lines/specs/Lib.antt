@@ -1,0 +1,3 @@
+pub mod RecordLine
+pub mod Warning
+pub mod internal

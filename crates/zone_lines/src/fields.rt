@@ -1,0 +1,125 @@
+//! The fields of a record in a zone file, as `dns_zone_file` parses them, of which it exports no function.
+
+ghost use Rattle.std.specs.Prelude.{◌≡◌, ◌≤◌, map, length, IfOk, IfErr, Ok, Err};
+ghost use Rattle.dns_text.specs.Token.{lexeme};
+ghost use Rattle.dns_zone_file.specs.Fields.{name_of, field_of, field_of_word, zone_class, fields_of};
+ghost use Rattle.zone_lines.specs.internal.Fields.{field_view, fields_view};
+
+use dns_names::{Name, ParseError};
+use dns_text::{Token, parse_ttl_bytes};
+use dns_wire::{DNSClass, RecordType};
+use dns_zone_file::EntryFault;
+use std::alloc::{AllocError, Global};
+
+/// What a token between owner and data is.
+#[derive(Clone, Copy)]
+pub(crate) enum Field {
+    Ttl(u32),
+    /// A word that begins with a digit and is no TTL.
+    InvalidTtl,
+    Class(DNSClass),
+    RecordType(RecordType),
+    /// None of these.
+    Unknown,
+}
+
+/// The fields between owner and data. TTL and class may be omitted.
+#[derive(Clone, Copy)]
+pub(crate) struct Fields {
+    pub(crate) ttl: Option<u32>,
+    pub(crate) dns_class: Option<DNSClass>,
+    pub(crate) record_type: RecordType,
+    /// The number of the tokens of these fields.
+    pub(crate) count: usize,
+}
+
+/// Returns the name of a token, which the origin completes if it is relative, or `None` if the token is no name.
+pub(crate) fn parse_name(
+    alloc: Global,
+    token: Token<'_>,
+    origin: &Name,
+) -> Result<Option<Name>, AllocError>
+    ensures { IfOk result (λ name. name ≡ name_of origin.now (lexeme token.entry)) }
+{
+    match token {
+        Token::CharData(text) => match Name::parse_bytes(alloc, text, Some(origin)) {
+            Ok(name) => Ok(Some(name)),
+            // Memory for the name was refused.
+            Err(ParseError::Memory) => Err(AllocError),
+            Err(_) => Ok(None),
+        },
+        Token::At => Ok(Some(origin.clone()?)),
+        _ => Ok(None),
+    }
+}
+
+/// Returns the class of a word, in any case, if it is one of zone files.
+fn parse_class(text: &[u8]) -> Option<DNSClass>
+    ensures { result ≡ zone_class text.now }
+{
+    for class in [DNSClass::IN, DNSClass::CH, DNSClass::HS] {
+        if class.name().as_bytes().eq_ignore_ascii_case(text) {
+            return Some(class);
+        }
+    }
+    None
+}
+
+/// Returns what a word between owner and data is.
+fn field_of_word(text: &[u8]) -> Field
+    ensures { field_view result ≡ field_of_word text.now }
+{
+    if text.first().is_some_and(u8::is_ascii_digit) {
+        return match parse_ttl_bytes(text) {
+            Ok(ttl) => Field::Ttl(ttl),
+            Err(_) => Field::InvalidTtl,
+        };
+    }
+    if let Some(class) = parse_class(text) {
+        return Field::Class(class);
+    }
+    match RecordType::from_ascii_bytes(text) {
+        Some(record_type) => Field::RecordType(record_type),
+        None => Field::Unknown,
+    }
+}
+
+/// Returns what a token between owner and data is.
+fn field_of(token: Token<'_>) -> Field
+    ensures { field_view result ≡ field_of (lexeme token.entry) }
+{
+    match token {
+        Token::CharData(text) => field_of_word(text),
+        _ => Field::Unknown,
+    }
+}
+
+/// Parses the fields between owner and data: a TTL and a class, each at most once and in either order, and a type.
+pub(crate) fn parse_fields(tokens: &[Token<'_>]) -> Result<Fields, EntryFault>
+    ensures ok { IfOk result (λ f.
+        fields_of (map lexeme tokens.now) ≡ Ok (fields_view f (map lexeme tokens.now))) }
+    ensures within { IfOk result (λ f. f.count ≤ length tokens.now) }
+    ensures refused { IfErr result (λ fault. fields_of (map lexeme tokens.now) ≡ Err fault) }
+{
+    let mut ttl = None;
+    let mut dns_class = None;
+    for (i, token) in tokens.iter().enumerate() {
+        match field_of(*token) {
+            Field::Ttl(_) if ttl.is_some() => return Err(EntryFault::RepeatedField),
+            Field::Class(_) if dns_class.is_some() => return Err(EntryFault::RepeatedField),
+            Field::Ttl(seconds) => ttl = Some(seconds),
+            Field::Class(class) => dns_class = Some(class),
+            Field::InvalidTtl => return Err(EntryFault::InvalidTtl),
+            Field::Unknown => return Err(EntryFault::UnknownType),
+            Field::RecordType(record_type) => {
+                return Ok(Fields {
+                    ttl,
+                    dns_class,
+                    record_type,
+                    count: i + 1,
+                });
+            }
+        }
+    }
+    Err(EntryFault::MissingType)
+}

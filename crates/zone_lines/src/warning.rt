@@ -1,0 +1,246 @@
+//! What a zone file says and nobody means (RFC 1034 section 3.6.2, RFC 2181 section 10).
+
+ghost use Rattle.std.specs.Prelude.{◌≡◌, ◌∷◌, ◌++◌, [], if◌then◌else◌, IfOk, OnOk, option_copied};
+ghost use Rattle.zone_lines.specs.Warning.{applies, is_alias, is_single, has_other_data, has_earlier, has_address, doubled_origin, data_lies_below, lacks_address, name_lies_below, server_of, warnings_at, warnings_of};
+
+use crate::record_line::RecordLine;
+use dns_data::RData;
+use dns_names::{Name, ParseError};
+use dns_wire::RecordType;
+use std::alloc::{AllocError, Global};
+
+/// A kind of warning.
+#[derive(Clone, Copy, Debug, PartialEq, Eq)]
+pub enum WarningKind {
+    /// A CNAME record, of whose owner there is other data (RFC 1034 section 3.6.2, RFC 2181 section 10.1).
+    AliasBesideData,
+    /// A CNAME or SOA record after another of its owner, of which one is kept (RFC 2181 section 10.1, RFC 1035 section 5.2).
+    SecondRecord,
+    /// An NS or MX record whose target is in the zone, which has no address for it (RFC 2181 section 10.3).
+    NoAddress,
+    /// A record of a wildcard, which the server does not expand (RFC 1034 section 4.3.3).
+    Wildcard,
+    /// An NS record below the origin, with which the server treats no name otherwise (RFC 1034 section 4.2.1).
+    Delegation,
+    /// A record with a name that ends in the origin twice (RFC 1035 section 5.1).
+    MissingDot,
+}
+
+/// Something that is accepted and hardly meant.
+#[derive(Clone, Copy, Debug, PartialEq, Eq)]
+pub struct Warning {
+    /// The line of the record, from 1.
+    pub line: usize,
+    pub kind: WarningKind,
+}
+
+/// Returns the warnings that apply to the records of a zone with an origin, in the order of the records.
+pub fn warnings(
+    alloc: Global,
+    origin: &Name,
+    records: &[RecordLine],
+) -> Result<Vec<Warning>, AllocError>
+    ensures { IfOk result (λ found. found.items ≡ warnings_of origin.now records.now) }
+{
+    let doubled = doubled_origin(origin)?;
+    let twice = doubled.as_ref();
+    let mut found = Vec::new(alloc);
+    for record_line in records {
+        push_warnings(&mut found, origin, twice, records, record_line)?;
+    }
+    Ok(found)
+}
+
+/// Appends the warnings that apply to a record.
+fn push_warnings(
+    found: &mut Vec<Warning>,
+    origin: &Name,
+    doubled: Option<&Name>,
+    records: &[RecordLine],
+    record_line: &RecordLine,
+) -> Result<(), AllocError>
+    ensures { OnOk result (found.new.items ≡ found.old.items
+        ++ warnings_at origin.now (option_copied doubled.entry) records.now record_line.now) }
+{
+    for kind in [
+        WarningKind::AliasBesideData,
+        WarningKind::SecondRecord,
+        WarningKind::NoAddress,
+        WarningKind::Wildcard,
+        WarningKind::Delegation,
+        WarningKind::MissingDot,
+    ] {
+        let is_meant = applies(kind, origin, doubled, records, record_line);
+        let warning = Warning {
+            line: record_line.line,
+            kind,
+        };
+        push_if(found, is_meant, warning)?;
+    }
+    Ok(())
+}
+
+/// Appends a warning, if it applies.
+fn push_if(found: &mut Vec<Warning>, is_meant: bool, warning: Warning) -> Result<(), AllocError>
+    ensures { OnOk result (found.new.items ≡ found.old.items
+        ++ (if is_meant then warning ∷ [] else [])) }
+{
+    if !is_meant {
+        return Ok(());
+    }
+    found.push(warning)?;
+    Ok(())
+}
+
+/// Returns `true` if a kind of warning applies to a record.
+fn applies(
+    kind: WarningKind,
+    origin: &Name,
+    doubled: Option<&Name>,
+    records: &[RecordLine],
+    record_line: &RecordLine,
+) -> bool
+    ensures { result ≡ applies kind origin.now (option_copied doubled.entry) records.now
+        record_line.now }
+{
+    match kind {
+        WarningKind::AliasBesideData => {
+            is_alias(&record_line.rdata) && has_other_data(records, record_line)
+        }
+        WarningKind::SecondRecord => {
+            is_single(&record_line.rdata) && has_earlier(records, record_line)
+        }
+        WarningKind::NoAddress => lacks_address(origin, records, &record_line.rdata),
+        WarningKind::Wildcard => record_line.owner.is_wildcard(),
+        WarningKind::Delegation => {
+            matches!(&record_line.rdata, RData::NS(_)) && !origin.eq_ignore_root(&record_line.owner)
+        }
+        WarningKind::MissingDot => name_lies_below(doubled, record_line),
+    }
+}
+
+/// Returns `true` if data is an alias.
+fn is_alias(rdata: &RData) -> bool
+    ensures { result ≡ is_alias rdata.now }
+{
+    matches!(rdata, RData::CNAME(_))
+}
+
+/// Returns `true` if data is of a type of which an owner has one record.
+fn is_single(rdata: &RData) -> bool
+    ensures { result ≡ is_single rdata.now }
+{
+    matches!(rdata, RData::CNAME(_) | RData::SOA(_))
+}
+
+/// Returns `true` if the owner of a record has a record of another type.
+fn has_other_data(records: &[RecordLine], record_line: &RecordLine) -> bool
+    ensures { result ≡ has_other_data records.now record_line.now }
+{
+    for other in records {
+        if record_line.owner.eq_ignore_root(&other.owner)
+            && !record_line
+                .rdata
+                .record_type()
+                .is_same(other.rdata.record_type())
+        {
+            return true;
+        }
+    }
+    false
+}
+
+/// Returns `true` if the owner of a record has one of its type on an earlier line.
+fn has_earlier(records: &[RecordLine], record_line: &RecordLine) -> bool
+    ensures { result ≡ has_earlier records.now record_line.now }
+{
+    for other in records {
+        if other.line < record_line.line
+            && record_line.owner.eq_ignore_root(&other.owner)
+            && record_line
+                .rdata
+                .record_type()
+                .is_same(other.rdata.record_type())
+        {
+            return true;
+        }
+    }
+    false
+}
+
+/// Returns `true` if data names a server in a zone that has no address for it.
+fn lacks_address(origin: &Name, records: &[RecordLine], rdata: &RData) -> bool
+    ensures { result ≡ lacks_address origin.now records.now rdata.now }
+{
+    match server_of(rdata) {
+        Some(server) => origin.zone_of(server) && !has_address(records, server),
+        None => false,
+    }
+}
+
+/// Returns the server that data names.
+fn server_of(rdata: &RData) -> Option<&Name>
+    ensures { option_copied result ≡ server_of rdata.now }
+{
+    match rdata {
+        RData::NS(ns) => Some(&ns.0),
+        RData::MX(mx) => Some(&mx.exchange),
+        _ => None,
+    }
+}
+
+/// Returns `true` if a name has an address.
+fn has_address(records: &[RecordLine], name: &Name) -> bool
+    ensures { result ≡ has_address records.now name.now }
+{
+    for record_line in records {
+        if matches!(&record_line.rdata, RData::A(_) | RData::AAAA(_))
+            && name.eq_ignore_root(&record_line.owner)
+        {
+            return true;
+        }
+    }
+    false
+}
+
+/// Returns the origin with its labels once more, if that is a name and has a label.
+pub fn doubled_origin(origin: &Name) -> Result<Option<Name>, AllocError>
+    ensures { IfOk result (λ doubled. doubled ≡ doubled_origin origin.now) }
+{
+    if origin.num_labels() == 0 {
+        return Ok(None);
+    }
+    match origin.clone()?.append_name(origin) {
+        Ok(doubled) => Ok(Some(doubled)),
+        // Memory for the name was refused.
+        Err(ParseError::Memory) => Err(AllocError),
+        Err(_) => Ok(None),
+    }
+}
+
+/// Returns `true` if some name of a record is at or below another.
+fn name_lies_below(doubled: Option<&Name>, record_line: &RecordLine) -> bool
+    ensures { result ≡ name_lies_below (option_copied doubled.entry) record_line.now }
+{
+    match doubled {
+        Some(doubled) => {
+            doubled.zone_of(&record_line.owner) || data_lies_below(doubled, &record_line.rdata)
+        }
+        None => false,
+    }
+}
+
+/// Returns `true` if some name of data is at or below another.
+fn data_lies_below(doubled: &Name, rdata: &RData) -> bool
+    ensures { result ≡ data_lies_below doubled.now rdata.now }
+{
+    match rdata {
+        RData::CNAME(cname) => doubled.zone_of(&cname.0),
+        RData::NS(ns) => doubled.zone_of(&ns.0),
+        RData::PTR(ptr) => doubled.zone_of(&ptr.0),
+        RData::MX(mx) => doubled.zone_of(&mx.exchange),
+        RData::SRV(srv) => doubled.zone_of(&srv.target),
+        RData::SOA(soa) => doubled.zone_of(&soa.mname) || doubled.zone_of(&soa.rname),
+        _ => false,
+    }
+}

@@ -1,0 +1,45 @@
+//! The check of a script.
+
+use crate::arguments::Arguments;
+use crate::{Verdict, read_text, write_text};
+use dns_names::Name;
+use stub_play::{Ending, PlayFault, ScriptFault, ScriptText, read_script};
+use zone_check::{moment_report, script_report};
+
+/// The greatest moment of an event.
+const MAX_MOMENT: u64 = 1 << 62;
+
+/// Says what is wrong in a script. The names of its updates are completed by `--origin`, or else by the root.
+pub(crate) fn check_script(
+    rt: &HostRuntime,
+    path: &str,
+    arguments: &Arguments,
+) -> Result<Verdict, Ending> {
+    let alloc = rt.alloc();
+    let text = read_text(rt, path)?;
+    let root = Name::root(alloc);
+    let origin = arguments.origin.as_ref().unwrap_or(&root);
+    let report = match read_script(alloc, text.as_str(), origin) {
+        Ok(script) => match line_out_of_order(&script) {
+            Some(line) => moment_report(alloc, path, text.as_str(), line)?,
+            None => return Ok(Verdict::Accepted),
+        },
+        Err(ScriptFault::Line(line)) => script_report(alloc, path, text.as_str(), line)?,
+        // Memory was refused while the script was read.
+        Err(ScriptFault::Memory) => return Err(Ending::Memory),
+    };
+    write_text(rt, report.as_str())?;
+    Ok(Verdict::Refused)
+}
+
+/// Returns the line of the first event whose moment is before an earlier one, or above 2^62.
+fn line_out_of_order(script: &ScriptText) -> Option<usize> {
+    let mut latest = 0;
+    for (event, line) in script.events.iter().zip(script.lines.iter()) {
+        if event.at() < latest || event.at() > MAX_MOMENT {
+            return Some(*line);
+        }
+        latest = event.at();
+    }
+    None
+}

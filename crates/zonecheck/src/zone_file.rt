@@ -1,0 +1,36 @@
+//! The check of a zone file.
+
+use crate::arguments::Arguments;
+use crate::{Verdict, read_text, write_text};
+use dns_zone::Zone;
+use stub_play::Ending;
+use zone_check::{check_zone, zone_report};
+
+/// Says what is wrong in a zone file, and prints its zone if that was asked for.
+pub(crate) fn check_zone_file(
+    rt: &HostRuntime,
+    path: &str,
+    arguments: &Arguments,
+) -> Result<Verdict, Ending> {
+    let alloc = rt.alloc();
+    let text = read_text(rt, path)?;
+    let origin = arguments.origin.as_ref();
+    let check = check_zone(alloc, text.as_str(), origin)?;
+    let report = zone_report(alloc, path, text.as_str(), origin, &check)?;
+    write_text(rt, report.as_str())?;
+    match &check.outcome {
+        Ok(zone) => {
+            if arguments.print {
+                print_zone(rt, zone)?;
+            }
+            Ok(Verdict::Accepted)
+        }
+        Err(_) => Ok(Verdict::Refused),
+    }
+}
+
+/// Prints a zone as a zone file.
+fn print_zone(rt: &HostRuntime, zone: &Zone) -> Result<(), Ending> {
+    let text = zone.to_text()?;
+    write_text(rt, text.as_str())
+}
