@@ -7,7 +7,7 @@ pub(crate) fn warning_text(kind: WarningKind) -> (&'static str, &'static str) {
     match kind {
         WarningKind::AliasBesideData => (
             "an alias (CNAME) beside other records of its owner",
-            "keep the alias or the other records: whoever asks for the name follows the alias",
+            "keep the alias or the other records, and at the origin the other records: many servers answer with the alias alone",
         ),
         WarningKind::SecondRecord => (
             "a second CNAME or SOA record of its owner, of which only one is kept",

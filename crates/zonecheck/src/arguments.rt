@@ -77,13 +77,16 @@ fn text_in(
     }
 }
 
-/// Returns the origin, if its option has a value.
+/// Returns the origin, if its option has a value. It is fully qualified, with or without a dot at its end.
 fn origin_in(alloc: Global, matches: &ArgMatches<'_>) -> Result<Option<Name>, Ending> {
     let Some(text) = matches.get_str("origin") else {
         return Ok(None);
     };
     match Name::from_ascii(alloc, text) {
-        Ok(origin) => Ok(Some(origin)),
+        Ok(mut origin) => {
+            origin.set_fqdn(true);
+            Ok(Some(origin))
+        }
         // Memory for the name was refused.
         Err(ParseError::Memory) => Err(Ending::Memory),
         Err(_) => Err(Ending::BadWords),

@@ -10,6 +10,7 @@ mod zone_file;
 use crate::arguments::{Arguments, read_arguments};
 use crate::script_file::check_script;
 use crate::zone_file::check_zone_file;
+use dns_names::Name;
 use std::process::ExitCode;
 use std::rt::Files;
 use std::{env, fs, io};
@@ -39,16 +40,38 @@ fn main(rt: HostRuntime) -> ExitCode {
 /// Checks the files that the arguments name.
 fn run_program(rt: &HostRuntime) -> Result<Verdict, Ending> {
     let arguments = given_arguments(rt)?;
-    let mut verdict = Verdict::Accepted;
-    if let Some(path) = &arguments.file {
-        verdict = check_zone_file(rt, path.as_str(), &arguments)?;
-    }
-    if let Some(path) = &arguments.script {
-        if check_script(rt, path.as_str(), &arguments)? == Verdict::Refused {
-            verdict = Verdict::Refused;
+    match &arguments.file {
+        Some(path) => check_both(rt, path.as_str(), &arguments),
+        None => {
+            let root = Name::root(rt.alloc());
+            let origin = arguments.origin.as_ref().unwrap_or(&root);
+            check_script_file(rt, &arguments, origin)
         }
     }
-    Ok(verdict)
+}
+
+/// Checks a zone file, and the script, if there is one, as a script for its zone.
+fn check_both(rt: &HostRuntime, path: &str, arguments: &Arguments) -> Result<Verdict, Ending> {
+    match check_zone_file(rt, path, arguments)? {
+        Some(origin) => check_script_file(rt, arguments, &origin),
+        None => {
+            let root = Name::root(rt.alloc());
+            check_script_file(rt, arguments, arguments.origin.as_ref().unwrap_or(&root))?;
+            Ok(Verdict::Refused)
+        }
+    }
+}
+
+/// Checks the script, if there is one. The origin completes the names of its updates.
+fn check_script_file(
+    rt: &HostRuntime,
+    arguments: &Arguments,
+    origin: &Name,
+) -> Result<Verdict, Ending> {
+    match &arguments.script {
+        Some(path) => check_script(rt, path.as_str(), arguments, origin),
+        None => Ok(Verdict::Accepted),
+    }
 }
 
 /// Returns the arguments of the program.
@@ -75,6 +98,23 @@ pub(crate) fn read_text<R: Files + AllocGlobal>(rt: &R, path: &str) -> Result<St
         }
         Err(_) => Err(Ending::CannotRead(String::from_str(rt.alloc(), path)?)),
     }
+}
+
+/// Writes a report to standard output: as comments of a zone file, where the zone is printed after it.
+pub(crate) fn write_report(
+    rt: &HostRuntime,
+    report: &str,
+    arguments: &Arguments,
+) -> Result<(), Ending> {
+    if !arguments.print {
+        return write_text(rt, report);
+    }
+    for line in report.lines() {
+        write_text(rt, "; ")?;
+        write_text(rt, line)?;
+        write_text(rt, "\n")?;
+    }
+    Ok(())
 }
 
 /// Writes to standard output.

@@ -1,7 +1,7 @@
 //! The check of a script.
 
 use crate::arguments::Arguments;
-use crate::{Verdict, read_text, write_text};
+use crate::{Verdict, read_text, write_report};
 use dns_names::Name;
 use stub_play::{Ending, PlayFault, ScriptFault, ScriptText, read_script};
 use zone_check::{moment_report, script_report};
@@ -9,16 +9,15 @@ use zone_check::{moment_report, script_report};
 /// The greatest moment of an event.
 const MAX_MOMENT: u64 = 1 << 62;
 
-/// Says what is wrong in a script. The names of its updates are completed by `--origin`, or else by the root.
+/// Says what is wrong in a script. The origin completes the names of its updates.
 pub(crate) fn check_script(
     rt: &HostRuntime,
     path: &str,
     arguments: &Arguments,
+    origin: &Name,
 ) -> Result<Verdict, Ending> {
     let alloc = rt.alloc();
     let text = read_text(rt, path)?;
-    let root = Name::root(alloc);
-    let origin = arguments.origin.as_ref().unwrap_or(&root);
     let report = match read_script(alloc, text.as_str(), origin) {
         Ok(script) => match line_out_of_order(&script) {
             Some(line) => moment_report(alloc, path, text.as_str(), line)?,
@@ -28,7 +27,7 @@ pub(crate) fn check_script(
         // Memory was refused while the script was read.
         Err(ScriptFault::Memory) => return Err(Ending::Memory),
     };
-    write_text(rt, report.as_str())?;
+    write_report(rt, report.as_str(), arguments)?;
     Ok(Verdict::Refused)
 }
 

@@ -1,31 +1,33 @@
 //! The check of a zone file.
 
 use crate::arguments::Arguments;
-use crate::{Verdict, read_text, write_text};
+use crate::{read_text, write_report, write_text};
+use dns_names::Name;
 use dns_zone::Zone;
 use stub_play::Ending;
 use zone_check::{check_zone, zone_report};
 
-/// Says what is wrong in a zone file, and prints its zone if that was asked for.
+/// Says what is wrong in a zone file, and prints its zone if that was asked for. Returns the zone's origin, if the file has
+/// no fault.
 pub(crate) fn check_zone_file(
     rt: &HostRuntime,
     path: &str,
     arguments: &Arguments,
-) -> Result<Verdict, Ending> {
+) -> Result<Option<Name>, Ending> {
     let alloc = rt.alloc();
     let text = read_text(rt, path)?;
     let origin = arguments.origin.as_ref();
     let check = check_zone(alloc, text.as_str(), origin)?;
     let report = zone_report(alloc, path, text.as_str(), origin, &check)?;
-    write_text(rt, report.as_str())?;
+    write_report(rt, report.as_str(), arguments)?;
     match &check.outcome {
         Ok(zone) => {
             if arguments.print {
                 print_zone(rt, zone)?;
             }
-            Ok(Verdict::Accepted)
+            Ok(Some(zone.origin().clone()?))
         }
-        Err(_) => Ok(Verdict::Refused),
+        Err(_) => Ok(None),
     }
 }
 
