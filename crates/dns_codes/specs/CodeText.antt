@@ -12,8 +12,7 @@ use Rattle.dns_codes.specs.declared.dns_class.DNSClass.TheVariants as class
 
 -- ---- names
 
--- the name of a type, empty for a type without one; types later than RFC 1035 first
-
+-- the name of a type later than RFC 1035 (IANA registry of RR types), empty for any other type
 abbrev pub later_type_name : RecordType → List ℕ
 later_type_name SIG = codes "SIG"
 later_type_name KEY = codes "KEY"
@@ -44,6 +43,7 @@ later_type_name CAA = codes "CAA"
 later_type_name ZERO = codes "ZERO"
 later_type_name kind = []
 
+-- the name of a type (RFC 1035 section 3.2.2, and later types), empty for a type without one
 abbrev pub type_name : RecordType → List ℕ
 type_name A = codes "A"
 type_name NS = codes "NS"
@@ -58,9 +58,11 @@ type_name AXFR = codes "AXFR"
 type_name ANY = codes "ANY"
 type_name kind = later_type_name kind
 
+-- the types that have a name
 abbrev pub named_types : List RecordType
 named_types = A ∷ NS ∷ CNAME ∷ SOA ∷ NULL ∷ PTR ∷ HINFO ∷ MX ∷ TXT ∷ SIG ∷ KEY ∷ AAAA ∷ SRV ∷ NAPTR ∷ CERT ∷ DNAME ∷ OPT ∷ DS ∷ SSHFP ∷ RRSIG ∷ NSEC ∷ DNSKEY ∷ NSEC3 ∷ NSEC3PARAM ∷ TLSA ∷ SMIMEA ∷ CDS ∷ CDNSKEY ∷ OPENPGPKEY ∷ CSYNC ∷ SVCB ∷ HTTPS ∷ TSIG ∷ IXFR ∷ AXFR ∷ ANY ∷ CAA ∷ ZERO ∷ []
 
+-- the name of a class (RFC 1035 section 3.2.4, RFC 2136 section 1.3), empty for a class without one
 abbrev pub class_name : DNSClass → List ℕ
 class_name class.IN = codes "IN"
 class_name class.CH = codes "CH"
@@ -70,6 +72,7 @@ class_name class.ANY = codes "ANY"
 class_name (class.OPT payload) = []
 class_name (class.Unknown number) = []
 
+-- the classes that have a name
 abbrev pub named_classes : List DNSClass
 named_classes = class.IN ∷ class.CH ∷ class.HS ∷ class.NONE ∷ class.ANY ∷ []
 
@@ -93,6 +96,7 @@ numbered_text word text =
     else if str_eq_ignore_ascii_case (take (length word) text) word then decimal_up_to 65535 (drop (length word) text)
     else None
 
+-- the type with a number, if there is one
 abbrev pub numbered_type : Option ℕ → Option RecordType
 numbered_type None = None
 numbered_type (Some number) = Some (type_of number)
@@ -108,6 +112,7 @@ type_of_text text =
     or_else (find (λ kind. str_eq_ignore_ascii_case (type_name kind) text) named_types)
     (numbered_type (numbered_text (codes "TYPE") text))
 
+-- the class with a number, if there is one
 abbrev pub numbered_class : Option ℕ → Option DNSClass
 numbered_class None = None
 numbered_class (Some number) = Some (class_of number)

@@ -3,6 +3,7 @@ use Rattle.std.specs.Prelude.{ℕ, ◌==◌, if◌then◌else◌}
 use Rattle.dns_codes.specs.declared.dns_class.DNSClass.{DNSClass}
 use Rattle.dns_codes.specs.declared.dns_class.DNSClass.TheVariants.{IN, CH, HS, NONE, ANY, OPT, Unknown}
 
+-- the number of a class; that of `OPT` is the payload size (RFC 6891 section 6.1.2)
 abbrev pub class_number : DNSClass → ℕ
 class_number IN = 1
 class_number CH = 3

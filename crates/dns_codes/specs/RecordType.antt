@@ -3,8 +3,9 @@ use Rattle.std.specs.Prelude.{ℕ, ◌==◌, if◌then◌else◌, Bool, true, fa
 use Rattle.dns_codes.specs.declared.record_type.RecordType.{RecordType}
 use Rattle.dns_codes.specs.declared.record_type.RecordType.TheVariants.{A, NS, CNAME, SOA, NULL, PTR, HINFO, MX, TXT, SIG, KEY, AAAA, SRV, NAPTR, CERT, DNAME, OPT, DS, SSHFP, RRSIG, NSEC, DNSKEY, NSEC3, NSEC3PARAM, TLSA, SMIMEA, CDS, CDNSKEY, OPENPGPKEY, CSYNC, SVCB, HTTPS, TSIG, IXFR, AXFR, ANY, CAA, ZERO, Unknown}
 
--- ---- numbers: types of RFC 1035, and later ones, with 0 for any other
+-- ---- the number of a type
 
+-- the number of a type later than RFC 1035, 0 for any other type
 abbrev pub later_type_number : RecordType → ℕ
 later_type_number SIG = 24
 later_type_number KEY = 25
@@ -35,6 +36,7 @@ later_type_number CAA = 257
 later_type_number (Unknown number) = number
 later_type_number kind = 0
 
+-- the number of a type (RFC 1035 sections 3.2.2 and 3.2.3, and later types)
 abbrev pub type_number : RecordType → ℕ
 type_number A = 1
 type_number NS = 2
@@ -51,6 +53,7 @@ type_number kind = later_type_number kind
 
 -- ---- the type with a number
 
+-- the type later than RFC 1035 with a number, or `Unknown`
 abbrev pub later_type_of : ℕ → RecordType
 later_type_of number =
     if number == 24 then SIG
@@ -82,6 +85,7 @@ later_type_of number =
     else if number == 0 then ZERO
     else Unknown number
 
+-- the type with a number, `Unknown` if none is named (RFC 3597 section 3)
 abbrev pub type_of : ℕ → RecordType
 type_of number =
     if number == 1 then A

@@ -9,6 +9,8 @@ pub mod DataLaws
 pub mod UnambiguousLaws
 pub mod WritingLaws
 pub mod RefusalLaws
+pub mod MissingLaws
+pub mod EarlyLaws
 pub mod TypeLaws
 pub mod ParsedLaws
 pub mod ParsedSoundLaws

@@ -59,7 +59,7 @@ module _ (origin : Option DomainName) where
   token_same kind token a b h k = absurd h
 
   -- a kind takes one value from tokens, and leaves one rest
-  takes_same : (kind : Kind) (tokens : List Lexeme) (a b : ValueOf kind) (r s : List Lexeme) → Takes origin kind tokens a r → Takes origin kind tokens b s → (a ≡ b) × (r ≡ s)
+  pub takes_same : (kind : Kind) (tokens : List Lexeme) (a b : ValueOf kind) (r s : List Lexeme) → Takes origin kind tokens a r → Takes origin kind tokens b s → (a ≡ b) × (r ≡ s)
   takes_same Strings tokens a b r s h k = (strings_same h.1 k.1, h.2 ∙ sym k.2)
   takes_same kind [] a b r s h k = absurd h
   takes_same kind (token ∷ tokens) a b r s h k = (token_same kind token a b h.0 k.0, h.1 ∙ sym k.1)
@@ -77,7 +77,7 @@ module _ (origin : Option DomainName) where
   token_not_refused WholeName token a error h k = not_both _ a error h k
   token_not_refused kind token a error h k = k.0 a h
 
-  not_refused : (kind : Kind) (tokens : List Lexeme) (a : ValueOf kind) (rest : List Lexeme) (error : RDataParseError) → Takes origin kind tokens a rest → RefusesToken origin kind tokens error → ⊥
+  pub not_refused : (kind : Kind) (tokens : List Lexeme) (a : ValueOf kind) (rest : List Lexeme) (error : RDataParseError) → Takes origin kind tokens a rest → RefusesToken origin kind tokens error → ⊥
   not_refused Strings [] a rest error h k = h.0 refl
   not_refused Strings (token ∷ tokens) a rest error h k = strings_not_refused h.1 k
   not_refused kind [] a rest error h k = h
@@ -96,7 +96,7 @@ module _ (origin : Option DomainName) where
   token_refused_same WholeName token a b h k = err_same _ a b h k
   token_refused_same kind token a b h k = h.1 ∙ sym k.1
 
-  refused_same : (kind : Kind) (tokens : List Lexeme) (a b : RDataParseError) → RefusesToken origin kind tokens a → RefusesToken origin kind tokens b → a ≡ b
+  pub refused_same : (kind : Kind) (tokens : List Lexeme) (a b : RDataParseError) → RefusesToken origin kind tokens a → RefusesToken origin kind tokens b → a ≡ b
   refused_same Strings [] a b h k = h ∙ sym k
   refused_same Strings (token ∷ tokens) a b h k = strings_refused_same h k
   refused_same kind [] a b h k = h ∙ sym k

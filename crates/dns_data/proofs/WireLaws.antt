@@ -101,7 +101,7 @@ value_not_refused bytes data_end Strings place a end error h r = items_not_refus
 value_not_refused bytes data_end Options place a end error h r = items_not_refused (OptionAt bytes) (option_same bytes) h r.1
 value_not_refused bytes data_end Opaque place a end error h r = omega (arith, h.0.ends, h.0.within, h.1, r.1, length-drop place bytes)
 
-value_refusal_same : (bytes : List ℕ) (data_end : ℕ) (kind : Kind) (place : ℕ) (error error' : DecodeError) → RefusesValue bytes data_end kind place error → RefusesValue bytes data_end kind place error' → error ≡ error'
+pub value_refusal_same : (bytes : List ℕ) (data_end : ℕ) (kind : Kind) (place : ℕ) (error error' : DecodeError) → RefusesValue bytes data_end kind place error → RefusesValue bytes data_end kind place error' → error ≡ error'
 value_refusal_same bytes data_end CompressibleName place error error' r r' = refuses_same r r'
 value_refusal_same bytes data_end WholeName place error error' r r' = refuses_same r r'
 value_refusal_same bytes data_end kind place error error' r r' = r.0 ∙ sym r'.0

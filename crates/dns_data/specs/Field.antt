@@ -36,6 +36,7 @@ pub data Kind : Type 0 where
   Options : Kind
   Opaque : Kind
 
+-- what a value of a kind is
 abbrev pub ValueOf : Kind → Type 0
 ValueOf Number16 = ℕ
 ValueOf Number32 = ℕ
@@ -63,6 +64,7 @@ string_pieces string = Plain (length string ∷ []) ∷ Plain string ∷ []
 abbrev pub option_form : OptionValue → List ℕ
 option_form option = to_be_bytes w16 option.code ++ (to_be_bytes w16 (length option.bytes) ++ option.bytes)
 
+-- an option as three pieces: code, length and data
 abbrev pub option_pieces : OptionValue → List Piece
 option_pieces option =
     Plain (to_be_bytes w16 option.code) ∷ Plain (to_be_bytes w16 (length option.bytes)) ∷ Plain option.bytes ∷ []
@@ -100,6 +102,7 @@ lower_value CompressibleName name = lower_name name
 lower_value WholeName name = lower_name name
 lower_value kind value = value
 
+-- values of some kinds with their names in lower case
 abbrev pub lower_values : (kinds : List Kind) → Values kinds → Values kinds
 lower_values [] values = values
 lower_values (kind ∷ kinds) values = (lower_value kind values.0, lower_values kinds values.1)
@@ -120,6 +123,7 @@ IsSoundValue Strings strings = (strings ≢ []) × AllByRecursion (λ string. le
 IsSoundValue Options options = AllByRecursion (λ option. (option.code < 2 ^ 16) × (length option.bytes < 2 ^ 16)) options
 IsSoundValue Opaque bytes = bytes ≢ []
 
+-- each value is sound
 abbrev pub AreSoundValues : (kinds : List Kind) → Values kinds → Type 0
 AreSoundValues [] values = Unit {0}
 AreSoundValues (kind ∷ kinds) values = IsSoundValue kind values.0 × AreSoundValues kinds values.1

@@ -3,4 +3,5 @@ pub mod Error
 pub mod Field
 pub mod Wire
 pub mod Text
+pub mod Memory
 pub mod rdata

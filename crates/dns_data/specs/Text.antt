@@ -130,6 +130,7 @@ values_text [] values = []
 values_text (kind ∷ []) values = value_text kind values.0
 values_text (kind ∷ next ∷ kinds) values = value_text kind values.0 ++ 32 ∷ values_text (next ∷ kinds) values.1
 
+-- bytes in hexadecimal digits, two for each
 abbrev pub hex_text : List ℕ → List ℕ
 hex_text bytes = flat_map (λ byte. digit_char (byte / 16) ∷ digit_char (byte % 16) ∷ []) bytes
 
@@ -157,6 +158,7 @@ IsValidValue WholeName name = AreLabels name.labels × AllByRecursion AreOctets 
 IsValidValue Strings strings = AllByRecursion AreOctets strings
 IsValidValue kind value = Unit {0}
 
+-- each value is valid
 abbrev pub AreValidValues : (kinds : List Kind) → Values kinds → Type 0
 AreValidValues [] values = Unit {0}
 AreValidValues (kind ∷ kinds) values = IsValidValue kind values.0 × AreValidValues kinds values.1

@@ -28,6 +28,7 @@ use Rattle.dns_data.specs.Text.{AreParsed, RefusesTokens, values_text, has_text,
 use Rattle.dns_data.specs.declared.error.RDataParseError.{RDataParseError}
 use Rattle.dns_data.specs.declared.error.RDataParseError.TheVariants.{UnsupportedRecordType}
 use Rattle.dns_data.specs.Wire.{RefusesValues}
+use Rattle.dns_data.specs.Memory.{AreInlineValues, RefusesFieldsEarly, RefusesTokensEarly}
 use Rattle.dns_data.specs.contracts.rdata.RDataPartialEq.TheImpl.{eq-value}
 use Rattle.dns_data.specs.declared.rdata.RData.{RData}
 use Rattle.dns_data.specs.declared.rdata.RData.TheVariants as of
@@ -177,6 +178,29 @@ pub record ReadsData (bytes : List ℕ) (place : ℕ) (record_type : RecordType)
 abbrev pub RefusesData : List ℕ → ℕ → RecordType → ℕ → DecodeError → Type 0
 RefusesData bytes place record_type len error =
     (0 < len) × RefusesValues bytes (place + len) (kinds_of_type (type_of (type_number record_type))) place error
+
+-- ---- memory
+
+-- data whose values are all stored inline
+abbrev pub IsInlineData : RData → Type 0
+IsInlineData d = AreInlineValues (data_kinds d) (data_values d)
+
+-- the kinds of the fields of a type by its number
+abbrev pub kinds_of_number : RecordType → List Kind
+kinds_of_number record_type = kinds_of_type (type_of (type_number record_type))
+
+-- The first fault of data of a type, which is found before memory is taken.
+abbrev pub RefusesDataEarly : List ℕ → ℕ → RecordType → ℕ → DecodeError → Type 0
+RefusesDataEarly bytes place record_type len error =
+    (0 < len) × RefusesFieldsEarly bytes (place + len) (kinds_of_number record_type) place error
+
+-- The first fault of the tokens of data of a type, which is found before memory is taken.
+pub data RefusesTextEarly (origin : Option DomainName) (record_type : RecordType) (tokens : List Lexeme) : RDataParseError → Type 0 where
+  no_text_form : has_text (kinds_of_number record_type) ≡ false
+      → RefusesTextEarly origin record_type tokens UnsupportedRecordType
+  bad_early_tokens : {error : RDataParseError} → has_text (kinds_of_number record_type) ≡ true
+      → RefusesTokensEarly origin (kinds_of_number record_type) tokens error
+      → RefusesTextEarly origin record_type tokens error
 
 -- ---- text
 

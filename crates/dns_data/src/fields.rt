@@ -1,11 +1,13 @@
 //! The fields of record data one after another, on the wire and in text (RFC 1035 sections 3.3 and 5.1).
 
-ghost use Rattle.std.specs.Prelude.{◌≡◌, ◌≢◌, ◌+◌, ◌*◌, ◌<◌, ◌≤◌, ◌^◌, [], ◌∷◌, ℕ, List, length, IsOk, IfOk, IfErr, option_map};
+ghost use Rattle.std.specs.Prelude.{◌≡◌, ◌≢◌, ◌+◌, ◌*◌, ◌<◌, ◌≤◌, ◌^◌, [], ◌∷◌, ℕ, List, length, true, IsOk, IfOk, IfErr, Err, option_map};
+ghost use Rattle.std.specs.Result.{result_err};
 ghost use Rattle.dns_wire.specs.Encoder.{state_of, IsAtEnd};
 ghost use Rattle.dns_wire.specs.Encodable.{Emits, AreWritable};
 ghost use Rattle.dns_data.specs.Field.{Kind, Number16, Number32, Seconds, Address4, Address6, CompressibleName, WholeName, ValueOf, Values, value_pieces, values_pieces, values_len};
 ghost use Rattle.dns_data.specs.Wire.{ValueAt, ValuesAt, RefusesValue, RefusesFields};
 ghost use Rattle.dns_data.specs.Text.{Takes, AreParsed, RefusesToken, RefusesTokens};
+ghost use Rattle.dns_data.specs.Memory.{is_fixed, IsReadEarly, IsParsedEarly};
 
 use crate::error::RDataParseError;
 use crate::text::DataTokens;
@@ -27,6 +29,7 @@ pub(crate) trait Field: Drop {
             kind decoder.old.index (value field) decoder.new.index) }
         ensures refused { IfErr result (λ error. error ≢ DecodeError.Memory → (data_end : ℕ)
             → RefusesValue decoder.old.bytes data_end kind decoder.old.index error) }
+        ensures fixed { is_fixed kind ≡ true → IfErr result (λ error. error ≢ DecodeError.Memory) }
         ensures bytes { decoder.new.bytes ≡ decoder.old.bytes };
 
     /// Parses the field from the next token. A relative name ends in the origin.
@@ -38,7 +41,10 @@ pub(crate) trait Field: Drop {
         ensures ok { IfOk result (λ field. Takes (option_map (λ o. o.now) origin.entry)
             kind tokens.old (value field) tokens.new) }
         ensures refused { IfErr result (λ error. error ≢ RDataParseError.Memory
-            → RefusesToken (option_map (λ o. o.now) origin.entry) kind tokens.old error) };
+            → RefusesToken (option_map (λ o. o.now) origin.entry) kind tokens.old error) }
+        ensures fixed { is_fixed kind ≡ true
+            → IfErr result (λ error. error ≢ RDataParseError.Memory) }
+        ensures missing { tokens.old ≡ [] → result ≡ Err RDataParseError.MissingToken };
 }
 
 /// A time in seconds, which text may state with units.
@@ -58,8 +64,9 @@ impl Field for u16 {
 
     ghost value = { λ number. number };
 
-    fn read_field(alloc: Global, decoder: &mut BinDecoder<'_>) -> Result<u16, DecodeError> {
-        u16::read(alloc, decoder)
+    fn read_field(_alloc: Global, decoder: &mut BinDecoder<'_>) -> Result<u16, DecodeError> {
+        let number = decoder.read_u16()?;
+        Ok(number)
     }
 
     fn parse_field(
@@ -77,8 +84,9 @@ impl Field for u32 {
 
     ghost value = { λ number. number };
 
-    fn read_field(alloc: Global, decoder: &mut BinDecoder<'_>) -> Result<u32, DecodeError> {
-        u32::read(alloc, decoder)
+    fn read_field(_alloc: Global, decoder: &mut BinDecoder<'_>) -> Result<u32, DecodeError> {
+        let number = decoder.read_u32()?;
+        Ok(number)
     }
 
     fn parse_field(
@@ -96,8 +104,9 @@ impl Field for Time {
 
     ghost value = { λ time. time.0 };
 
-    fn read_field(alloc: Global, decoder: &mut BinDecoder<'_>) -> Result<Time, DecodeError> {
-        Ok(Time(u32::read(alloc, decoder)?))
+    fn read_field(_alloc: Global, decoder: &mut BinDecoder<'_>) -> Result<Time, DecodeError> {
+        let seconds = decoder.read_u32()?;
+        Ok(Time(seconds))
     }
 
     fn parse_field(
@@ -195,6 +204,8 @@ pub(crate) trait Fields: Drop {
             kinds decoder.old.index (values fields) decoder.new.index) }
         ensures refused { IfErr result (λ error. error ≢ DecodeError.Memory → (data_end : ℕ)
             → RefusesFields decoder.old.bytes data_end kinds decoder.old.index error) }
+        ensures early { (data_end : ℕ)
+            → IsReadEarly decoder.old.bytes data_end kinds decoder.old.index (result_err result) }
         ensures bytes { decoder.new.bytes ≡ decoder.old.bytes };
 
     /// Parses the fields from all tokens that are left.
@@ -206,7 +217,9 @@ pub(crate) trait Fields: Drop {
         ensures parsed { IfOk result (λ fields. AreParsed (option_map (λ o. o.now) origin.entry)
             kinds tokens.old (values fields)) }
         ensures refused { IfErr result (λ error. error ≢ RDataParseError.Memory
-            → RefusesTokens (option_map (λ o. o.now) origin.entry) kinds tokens.old error) };
+            → RefusesTokens (option_map (λ o. o.now) origin.entry) kinds tokens.old error) }
+        ensures early { IsParsedEarly (option_map (λ o. o.now) origin.entry)
+            kinds tokens.old (result_err result) };
 }
 
 impl Fields for () {
@@ -270,6 +283,8 @@ pub(crate) trait FixedData<F: Fields>: Drop {
         ensures refused { IfErr result (λ error. error ≢ DecodeError.Memory
             → RefusesFields decoder.old.bytes (decoder.old.index + _len)
             F.kinds decoder.old.index error) }
+        ensures early { IsReadEarly decoder.old.bytes (decoder.old.index + _len)
+            F.kinds decoder.old.index (result_err result) }
         ensures bytes { decoder.new.bytes ≡ decoder.old.bytes }
     {
         let given = F::read_fields(alloc, decoder)?;
@@ -287,6 +302,8 @@ pub(crate) trait FixedData<F: Fields>: Drop {
         ensures refused { IfErr result (λ error. error ≢ RDataParseError.Memory
             → RefusesTokens (option_map (λ o. o.now) origin.entry)
             F.kinds tokens.old error) }
+        ensures early { IsParsedEarly (option_map (λ o. o.now) origin.entry)
+            F.kinds tokens.old (result_err result) }
     {
         let given = F::parse_fields(alloc, tokens, origin)?;
         Ok(Self::from_fields(given))

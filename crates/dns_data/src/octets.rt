@@ -1,6 +1,6 @@
 //! Byte strings of bounded length.
 
-ghost use Rattle.std.specs.Prelude.{◌≡◌, ◌≤◌, ◌<◌, ◌↔◌, length, IfOk, OnErr, IsOk};
+ghost use Rattle.std.specs.Prelude.{◌≡◌, ◌≤◌, ◌<◌, ◌↔◌, [], length, IfOk, OnErr, IsOk};
 
 use std::alloc::AllocError;
 use std::cmp::Ordering;
@@ -63,14 +63,28 @@ impl<const MAX: usize> Octets<MAX> {
         self.bytes
     }
 
-    /// Clones the bytes.
+    /// Clones the bytes. No bytes take no memory.
     pub fn clone(&self) -> Result<Self, AllocError>
-        ensures { IfOk result (λ copy. copy ≡ self.now) }
+        ensures ok { IfOk result (λ copy. copy ≡ self.now) }
+        ensures empty { self.now ≡ [] → IsOk result }
     {
         Ok(Octets {
-            bytes: self.bytes.clone()?,
+            bytes: clone_items(&self.bytes)?,
         })
     }
+}
+
+/// Clones a vector. One without items takes no memory.
+pub(crate) fn clone_items<T: Clone>(items: &Vec<T>) -> Result<Vec<T>, AllocError>
+    ensures identical { IfOk result (λ copy.
+        ((x y : T) → T.is_clone x y → y ≡ x) → copy.items ≡ items.now.items) }
+    ensures empty { items.now.items ≡ [] → IsOk result }
+{
+    let alloc = *items.allocator();
+    if items.is_empty() {
+        return Ok(Vec::new(alloc));
+    }
+    Vec::from_clones(alloc, items.as_slice())
 }
 
 impl<const MAX: usize> Clone for Octets<MAX> {

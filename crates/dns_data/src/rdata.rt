@@ -1,9 +1,11 @@
 //! Record data.
 
-ghost use Rattle.std.specs.Prelude.{◌≡◌, ◌≢◌, ◌+◌, ◌<◌, ◌≤◌, length, IfOk, IfErr, OnErr, Some, map, option_map};
+ghost use Rattle.std.specs.Prelude.{◌≡◌, ◌≢◌, ◌+◌, ◌<◌, ◌≤◌, [], ◌∷◌, length, drop, true, IfOk, IfErr, IsOk, OnErr, Some, Err, map, option_map};
 ghost use Rattle.std.specs.declared.net.ip_addr.IpAddr.TheVariants.{V4, V6};
+ghost use Rattle.std.specs.Result.{result_err};
 ghost use Rattle.dns_text.specs.Token.{lexeme};
-ghost use Rattle.dns_data.specs.rdata.{IsParsedData, RefusesText};
+ghost use Rattle.dns_data.specs.Memory.{are_fixed, IsReadEarly};
+ghost use Rattle.dns_data.specs.rdata.{IsParsedData, RefusesText, RefusesTextEarly, IsInlineData, kinds_of_number};
 
 mod a;
 mod aaaa;
@@ -82,12 +84,14 @@ impl Drop for RData {
 impl RData {
     ghost use Rattle.dns_wire.specs.Decoder.{Advances};
     ghost use Rattle.dns_codes.specs.RecordType.{type_number, type_of};
+    ghost use Rattle.dns_data.specs.Field.{Opaque};
     ghost use Rattle.dns_data.specs.Wire.{ValuesAt, RefusesFields};
-    ghost use Rattle.dns_data.specs.rdata.{data_type, data_kinds, data_values, kinds_of_type, empty_data, ReadsData, RefusesData};
+    ghost use Rattle.dns_data.specs.rdata.{data_type, data_kinds, data_values, kinds_of_type, empty_data, ReadsData, RefusesData, RefusesDataEarly};
 
     /// Reads data of a type and of `len` bytes. On an error the decoder is unchanged.
     ///
-    /// Empty data is an `OPT` record's without options, or that of a record of an update (RFC 2136 section 2.4).
+    /// Empty data is an `OPT` record's without options, or that of a record of an update (RFC 2136 section 2.4). It takes no
+    /// memory, and neither do numbers and addresses. The bytes of opaque data are counted before memory is taken.
     pub fn read(
         alloc: Global,
         decoder: &mut BinDecoder<'_>,
@@ -99,6 +103,15 @@ impl RData {
         ensures moved { IfOk result (λ _. Advances decoder.old decoder.new len) }
         ensures refused { IfErr result (λ error. error ≢ DecodeError.Memory
             → RefusesData decoder.old.bytes decoder.old.index record_type len error) }
+        ensures empty { len ≡ 0 → IsOk result }
+        ensures fixed { are_fixed (kinds_of_number record_type) ≡ true
+            → IfErr result (λ error. error ≢ DecodeError.Memory) }
+        ensures fault { (error : DecodeError)
+            → RefusesDataEarly decoder.old.bytes decoder.old.index record_type len error
+            → result ≡ Err error }
+        ensures opaque { kinds_of_number record_type ≡ Opaque ∷ []
+            → length (drop decoder.old.index decoder.old.bytes) < len
+            → result ≡ Err DecodeError.InsufficientBytes }
         ensures err { OnErr result (decoder.new ≡ decoder.old) }
     {
         type_number_round_trips();
@@ -141,6 +154,11 @@ impl RData {
         ensures refused { IfErr result (λ error. error ≢ DecodeError.Memory
             → RefusesFields decoder.old.bytes (decoder.old.index + len)
             (kinds_of_type record_type) decoder.old.index error) }
+        ensures early { IsReadEarly decoder.old.bytes (decoder.old.index + len)
+            (kinds_of_type record_type) decoder.old.index (result_err result) }
+        ensures opaque { kinds_of_type record_type ≡ Opaque ∷ []
+            → length (drop decoder.old.index decoder.old.bytes) < len
+            → result ≡ Err DecodeError.InsufficientBytes }
         ensures bytes { decoder.new.bytes ≡ decoder.old.bytes }
     {
         match record_type {
@@ -260,9 +278,10 @@ impl RData {
         }
     }
 
-    /// Clones the data.
+    /// Clones the data. Numbers, addresses and short names take no memory.
     pub fn clone(&self) -> Result<RData, AllocError>
-        ensures { IfOk result (λ copy. copy ≡ self.now) }
+        ensures ok { IfOk result (λ copy. copy ≡ self.now) }
+        ensures inline { IsInlineData self.now → IsOk result }
     {
         Ok(match self {
             RData::A(a) => RData::A(*a),
@@ -328,7 +347,7 @@ impl From<IpAddr> for RData {
 impl RData {
     /// Parses the data of a record from the tokens after its type, all of which belong to the data (RFC 1035 section 5.1).
     /// Relative names end in the origin, if there is one. A type is taken by its number; `OPT` and types without fields
-    /// have no text that parses.
+    /// have no text that parses. Numbers and addresses take no memory.
     pub fn parse(
         alloc: Global,
         record_type: RecordType,
@@ -340,6 +359,11 @@ impl RData {
         ensures refused { IfErr result (λ error. error ≢ RDataParseError.Memory
             → RefusesText (option_map (λ o. o.now) origin.entry)
             record_type (map lexeme tokens.now) error) }
+        ensures fixed { are_fixed (kinds_of_number record_type) ≡ true
+            → IfErr result (λ error. error ≢ RDataParseError.Memory) }
+        ensures fault { (error : RDataParseError)
+            → RefusesTextEarly (option_map (λ o. o.now) origin.entry)
+            record_type (map lexeme tokens.now) error → result ≡ Err error }
     {
         let mut tokens = DataTokens::new(tokens);
         match record_type.canonical() {

@@ -1,6 +1,6 @@
 //! The tokens of record data in zone files (RFC 1035 section 5.1).
 
-ghost use Rattle.std.specs.Prelude.{◌≡◌, ◌≢◌, [], ◌∷◌, map, Option, option_map, IfOk, IfErr};
+ghost use Rattle.std.specs.Prelude.{◌≡◌, ◌≢◌, [], ◌∷◌, map, Option, option_map, IfOk, IfErr, Err};
 ghost use Rattle.dns_names.specs.Name.{DomainName};
 ghost use Rattle.dns_wire.specs.Error.{IsUnless};
 ghost use Rattle.dns_text.specs.Lexer.{CharData, At};
@@ -123,6 +123,7 @@ impl<'t, 'a> DataTokens<'t, 'a> {
         ensures refused { IfErr result (λ error. error ≢ RDataParseError.Memory
             → RefusesToken (option_map (λ o. o.now) origin.entry)
             CompressibleName self.old error) }
+        ensures missing { self.old ≡ [] → result ≡ Err RDataParseError.MissingToken }
     {
         let token = self.token()?;
         name_of_token(alloc, token, origin)
@@ -134,6 +135,7 @@ impl<'t, 'a> DataTokens<'t, 'a> {
             → IfOk result (λ v. Takes o Strings self.old v.items self.new) }
         ensures refused { (o : Option DomainName) → IfErr result (λ error.
             error ≢ RDataParseError.Memory → RefusesToken o Strings self.old error) }
+        ensures missing { self.old ≡ [] → result ≡ Err RDataParseError.MissingToken }
     {
         let tokens = self.tokens;
         if tokens.is_empty() {

@@ -1,6 +1,6 @@
 //! The fields of record data on the wire (RFC 1035 section 3.3).
 
-ghost use Rattle.std.specs.Prelude.{◌≡◌, ◌≢◌, ◌+◌, ◌<◌, ◌≤◌, ℕ, List, length, flat_map, IfOk, IfErr};
+ghost use Rattle.std.specs.Prelude.{◌≡◌, ◌≢◌, ◌+◌, ◌<◌, ◌≤◌, ℕ, List, length, drop, flat_map, IfOk, IfErr, Err};
 ghost use Rattle.std.specs.Net.Addr.{ipv6_octets};
 ghost use Rattle.dns_wire.specs.Encoder.{state_of, IsAtEnd};
 ghost use Rattle.dns_wire.specs.Encodable.{Piece, Emits, BytesAt};
@@ -63,6 +63,8 @@ pub(crate) fn read_octets<const MAX: usize>(
     ensures len { IfOk result (λ octets. length octets ≡ len) }
     ensures refused { IfErr result (λ error. error ≢ DecodeError.Memory
         → IsShort decoder.old.bytes decoder.old.index len error) }
+    ensures short { length (drop decoder.old.index decoder.old.bytes) < len
+        → result ≡ Err DecodeError.InsufficientBytes }
     ensures bytes { decoder.new.bytes ≡ decoder.old.bytes }
 {
     let bytes = decoder.read_vec(alloc, len)?;

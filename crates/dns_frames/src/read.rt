@@ -1,6 +1,6 @@
 //! Frames are read from a source.
 
-ghost use Rattle.std.specs.Prelude.{◌≡◌, ◌<◌, ◌≤◌, ◌++◌, [], length, take, IfOk, OnErr, Err};
+ghost use Rattle.std.specs.Prelude.{◌≡◌, ◌≢◌, ◌<◌, ◌≤◌, ◌++◌, [], length, take, IfOk, OnErr, Err};
 ghost use Rattle.dns_frames.specs.Frame.{Rises, ReadsFrame, frame_read};
 
 use crate::error::FrameError;
@@ -8,7 +8,8 @@ use crate::source::Source;
 use std::alloc::Global;
 
 /// Reads the next frame of a stream, whatever the pieces in which the source gives it, and returns its message, or `None` at
-/// the end of the stream. The bytes that follow the frame are not read.
+/// the end of the stream. The bytes that follow the frame are not read. Memory is allocated only after the two bytes of the
+/// length.
 ///
 /// # Errors
 ///
@@ -21,6 +22,7 @@ pub fn read_frame<S: Source>(alloc: Global, source: &mut S) -> Result<Option<Vec
     ensures kept { S.failure_count source.old ≤ S.failure_count source.new }
     ensures fails { result ≡ Err FrameError.Failed
         → Rises (S.failure_count source.old) (S.failure_count source.new) }
+    ensures decided { length (S.bytes_left source.old) < 2 → result ≢ Err FrameError.Memory }
 {
     let mut length = [0u8; 2];
     match fill(source, &mut length)? {

@@ -1,3 +1,4 @@
+pub mod BareLaws
 pub mod CutExamples
 pub mod DecodeLaws
 pub mod DecodedLaws

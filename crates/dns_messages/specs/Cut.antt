@@ -16,15 +16,19 @@ use Rattle.dns_messages.specs.Edns.{edns_pieces}
 
 -- ---- what is written for each part
 
+-- the pieces of a question, wherever it is written
 abbrev pub query_item : Query → Position → List Piece
 query_item q s = question_pieces q
 
+-- the pieces of a record that is written at a position
 abbrev pub record_item : Record → Position → List Piece
 record_item r s = record_pieces s r
 
+-- the pieces of an OPT record that is written at a position
 abbrev pub edns_item : Edns → Position → List Piece
 edns_item e s = edns_pieces s e
 
+-- an optional value as a list of at most one item: the OPT record and the signature are sections of one record
 abbrev pub listed : {X : Type 0} → Option X → List X
 listed None = []
 listed (Some x) = x ∷ []
@@ -38,6 +42,7 @@ fitting_item pieces limit s (Some x) = if nat_lt limit (reach s (pieces x s)) th
 abbrev pub with_code : ResponseCode → Edns → Edns
 with_code code e = record e { rcode_high = (code_number code / 16) % 256 }
 
+-- the OPT record of a message as it is written, with the upper bits of the response code of its header
 abbrev pub written_edns : Message → Option Edns
 written_edns m = option_map {T = Edns} {U = Edns} (with_code m.metadata.response_code) m.edns
 
@@ -47,21 +52,27 @@ written_edns m = option_map {T = Edns} {U = Edns} (with_code m.metadata.response
 abbrev pub header_end : Position
 header_end = record start_position { place = 12 }
 
+-- the pieces of the question section, which follows the header
 abbrev pub queries_pieces : Message → List Piece
 queries_pieces m = all_pieces query_item header_end m.queries
 
+-- the position after the question section
 abbrev pub queries_end : Message → Position
 queries_end m = after header_end (queries_pieces m)
 
+-- the position after the answers that fit a limit
 abbrev pub answers_end : ℕ → Message → Position
 answers_end limit m = position_behind record_item limit (queries_end m) m.answers
 
+-- the position after the authority records that fit a limit
 abbrev pub authorities_end : ℕ → Message → Position
 authorities_end limit m = position_behind record_item limit (answers_end limit m) m.authorities
 
+-- the position after the additional records that fit a limit, before the OPT record
 abbrev pub additionals_end : ℕ → Message → Position
 additionals_end limit m = position_behind record_item limit (authorities_end limit m) m.additionals
 
+-- the position after the OPT record, if that fits a limit, before the signature
 abbrev pub edns_end : ℕ → Message → Position
 edns_end limit m = position_behind edns_item limit (additionals_end limit m) (listed (written_edns m))
 
@@ -77,6 +88,7 @@ remaining limit m = record m {
   signature = fitting_item record_item limit (edns_end limit m) m.signature;
 }
 
+-- whether a list has fewer items than another
 abbrev pub is_shorter : {X : Type 0} → List X → List X → Bool
 is_shorter some all = nat_lt (length some) (length all)
 
@@ -107,6 +119,7 @@ cut limit m = record (remaining limit m) {
 abbrev pub last_count : Message → ℕ
 last_count m = length m.additionals + (length (listed m.edns) + length (listed m.signature))
 
+-- the twelve bytes of the header of a message, with its counts (RFC 1035 section 4.1.1)
 abbrev pub header_of : Message → List ℕ
 header_of m =
     header_form m.metadata (length m.queries) (length m.answers) (length m.authorities) (last_count m)
@@ -122,6 +135,7 @@ cut_form limit m =
     ++ (fitting_form edns_item limit (additionals_end limit m) (listed (written_edns m))
     ++ fitting_form record_item limit (edns_end limit m) (listed m.signature))))))
 
+-- what is in the place of the header until its counts are known
 abbrev pub twelve_zeros : List ℕ
 twelve_zeros = 0 ∷ 0 ∷ 0 ∷ 0 ∷ 0 ∷ 0 ∷ 0 ∷ 0 ∷ 0 ∷ 0 ∷ 0 ∷ 0 ∷ []
 

@@ -17,6 +17,7 @@ use Rattle.dns_messages.specs.declared.edns.Edns.{Edns}
 abbrev pub flags_number : EdnsFlags → ℕ
 flags_number f = 32768 * bit f.dnssec_ok + f.z % 32768
 
+-- the flags that 16 bits decode to
 abbrev pub flags_of : ℕ → EdnsFlags
 flags_of number = record { dnssec_ok = has_bit 32768 number; z = number % 32768 }
 
@@ -24,6 +25,7 @@ flags_of number = record { dnssec_ok = has_bit 32768 number; z = number % 32768 
 abbrev pub edns_ttl : Edns → ℕ
 edns_ttl e = 16777216 * e.rcode_high + (65536 * e.version + flags_number e.flags)
 
+-- the name of the root, which owns every OPT record (RFC 6891 section 6.1.2)
 abbrev pub root_name : DomainName
 root_name = record { is_fqdn = true; labels = [] }
 
@@ -36,10 +38,12 @@ opt_record e = record {
   rdata = of.OPT e.options;
 }
 
+-- whether data is that of an OPT record
 abbrev pub is_opt_data : RData → Bool
 is_opt_data (of.OPT options) = true
 is_opt_data other = false
 
+-- the options of an OPT record; other data has none
 abbrev pub options_of : RData → List OptionValue
 options_of (of.OPT options) = options
 options_of other = []
@@ -54,6 +58,7 @@ edns_of r = record {
   options = options_of r.rdata;
 }
 
+-- the pieces of an OPT record that is written at a position
 abbrev pub edns_pieces : Position → Edns → List Piece
 edns_pieces s e = record_pieces s (opt_record e)
 
@@ -67,5 +72,6 @@ pub record IsSoundEdns (e : Edns) : Type 0 where
   pub payload_fits : e.max_payload < 2 ^ 16
   pub options : IsSoundData (of.OPT e.options)
 
+-- whether an option has a code (RFC 6891 section 6.1.2)
 abbrev pub has_code : ℕ → OptionValue → Bool
 has_code code option = option.code == code

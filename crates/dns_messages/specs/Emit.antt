@@ -30,7 +30,8 @@ abbrev pub extended : ResponseCode → Option Edns → Option Edns
 extended code found = option_map {T = Edns} {U = Edns} (with_code code) found
 
 -- the message that has these parts
-abbrev pub message_of : Metadata → List Query → List Record → List Record → List Record → Option (Bor Edns) → Option (Bor Record) → Message
+abbrev pub message_of : Metadata → List Query → List Record → List Record → List Record
+    → Option (Bor Edns) → Option (Bor Record) → Message
 message_of metadata queries answers authorities additionals edns signature = record {
   metadata = metadata;
   queries = queries;
@@ -55,18 +56,23 @@ header_at limit m = record {
 
 -- ---- states between the sections of a message
 
+-- the encoder after the answers that fit
 abbrev pub answers_state : EncoderState → Message → EncoderState
 answers_state w m = append_fitting record_item w m.answers
 
+-- the encoder after the authority records that fit
 abbrev pub authorities_state : EncoderState → Message → EncoderState
 authorities_state w m = append_fitting record_item (answers_state w m) m.authorities
 
+-- the encoder after the additional records that fit
 abbrev pub additionals_state : EncoderState → Message → EncoderState
 additionals_state w m = append_fitting record_item (authorities_state w m) m.additionals
 
+-- the encoder after the OPT record, if it fits
 abbrev pub edns_state : EncoderState → Message → EncoderState
 edns_state w m = append_fitting edns_item (additionals_state w m) (listed (written_edns m))
 
+-- the encoder after the signature, if it fits
 abbrev pub signature_state : EncoderState → Message → EncoderState
 signature_state w m = append_fitting record_item (edns_state w m) (listed m.signature)
 
@@ -99,6 +105,7 @@ pub record SectionsAreWritable (w : EncoderState) (m : Message) : Type 0 where
 
 -- ---- the header
 
+-- whether something was dropped from one of the sections
 abbrev pub some_is_cut : SectionCounts → Bool
 some_is_cut k =
     k.answers.is_cut || (k.authorities.is_cut || (k.additionals.is_cut || (k.edns.is_cut || k.signature.is_cut)))

@@ -15,7 +15,7 @@ use Rattle.dns_messages.specs.declared.header.Header.{Header}
 use Rattle.dns_messages.specs.declared.query.Query.{Query}
 use Rattle.dns_messages.specs.declared.edns.Edns.{Edns}
 use Rattle.dns_messages.specs.declared.message.Message.{Message}
-use Rattle.dns_messages.specs.Header.{code_of, code_number, DecodesHeader}
+use Rattle.dns_messages.specs.Header.{code_of, code_number, no_counts, DecodesHeader}
 use Rattle.dns_messages.specs.Question.{question_pieces}
 use Rattle.dns_messages.specs.Section.{SectionKind, ReadsSection, RefusesSection, ordinary_records, edns_in, signature_in}
 use Rattle.dns_messages.specs.Sound.{IsSoundQuery, is_update_code}
@@ -56,6 +56,7 @@ kind_of op is_additional = record { is_update = is_update_code op; is_additional
 abbrev pub section_kind : Header → SectionKind
 section_kind h = kind_of h.metadata.op_code false
 
+-- the additional section of a message with this header
 abbrev pub additional_kind : Header → SectionKind
 additional_kind h = kind_of h.metadata.op_code true
 
@@ -81,6 +82,11 @@ pub record ReadsMessage (bytes : List ℕ) (m : Message) : Type 0 where
   pub edns : m.edns ≡ edns_in last
   pub signature : m.signature ≡ signature_in last
   pub metadata : m.metadata ≡ extended m.edns head.metadata
+
+-- Bytes begin with a header whose counts are all 0. They decode to a message that has nothing but this header.
+pub record IsBareHeader (bytes : List ℕ) (h : Header) : Type 0 where
+  pub header : DecodesHeader bytes 0 h 12
+  pub counts : h.counts ≡ no_counts
 
 -- How far a message was read when it was refused.
 pub data RefusesMessage (bytes : List ℕ) : DecodeError → Type 0 where

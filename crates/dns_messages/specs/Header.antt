@@ -39,6 +39,7 @@ response_metadata request = record (new_metadata request.id kinds.Response reque
   checking_disabled = request.checking_disabled;
 }
 
+-- the flags of a header, without QR
 abbrev pub flags_of : Metadata → Flags
 flags_of m = record {
   authoritative = m.authoritative;
@@ -55,6 +56,7 @@ flags_of m = record {
 abbrev pub bit : Bool → ℕ
 bit flag = if flag then 1 else 0
 
+-- QR: 0 for a query, 1 for a response
 abbrev pub kind_bit : MessageType → ℕ
 kind_bit kinds.Query = 0
 kind_bit kinds.Response = 1
@@ -77,9 +79,11 @@ header_layout id third fourth queries answers authorities additionals =
     to_be_bytes w16 id ++ (third ∷ fourth ∷ (to_be_bytes w16 queries ++ (to_be_bytes w16 answers
     ++ (to_be_bytes w16 authorities ++ to_be_bytes w16 additionals))))
 
+-- the bytes of a header with these counts
 abbrev pub header_form : Metadata → ℕ → ℕ → ℕ → ℕ → List ℕ
 header_form m = header_layout m.id (third_byte m) (fourth_byte m)
 
+-- the bytes of a header
 abbrev pub encoded_header : Header → List ℕ
 encoded_header h =
     header_form h.metadata
@@ -112,6 +116,10 @@ peeked_metadata (first ∷ second ∷ third ∷ fourth ∷ counts) =
     if nat_le 8 (length counts) then Some (metadata_of (256 * first + second) third fourth) else None
 peeked_metadata bytes = None
 
+-- the counts of a message that has nothing but its header
+abbrev pub no_counts : HeaderCounts
+no_counts = record { queries = 0; answers = 0; authorities = 0; additionals = 0 }
+
 -- the counts have 16 bits each
 pub record DoCountsFit (counts : HeaderCounts) : Type 0 where
   pub queries : counts.queries < 2 ^ 16
@@ -143,6 +151,7 @@ pub record FitsHeader (m : Metadata) : Type 0 where
   pub code_fits : code_number m.response_code < 16
   pub code_named : code_of (code_number m.response_code) ≡ m.response_code
 
+-- A header that decodes to itself: its opcode and its response code fit in four bits, and its counts in 16.
 pub record IsSoundHeader (h : Header) : Type 0 where
   pub metadata : FitsHeader h.metadata
   pub counts_fit : DoCountsFit h.counts

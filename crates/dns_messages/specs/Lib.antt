@@ -7,6 +7,7 @@ pub mod Header
 pub mod Lending
 pub mod Message
 pub mod OpCode
+pub mod Printed
 pub mod Question
 pub mod Response
 pub mod ResponseCode

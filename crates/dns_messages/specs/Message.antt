@@ -53,6 +53,7 @@ abbrev pub is_without_dnssec : RecordType → Record → Bool
 is_without_dnssec asked r =
     (type_number (data_type r.rdata) == type_number asked) || not (is_dnssec_type (data_type r.rdata))
 
+-- the message without the records that an asker for this type does not want
 abbrev pub strip_sections : RecordType → Message → Message
 strip_sections asked m = record m {
   answers = filter (is_without_dnssec asked) m.answers;
@@ -65,6 +66,7 @@ abbrev pub strip_for : List Query → Message → Message
 strip_for [] m = m
 strip_for (q ∷ qs) m = strip_sections q.query_type m
 
+-- the message as it is sent to an asker who has set DO, or has not (RFC 3225 section 3)
 abbrev pub stripped : Bool → Message → Message
 stripped dnssec_ok m = if dnssec_ok then m else strip_for m.queries m
 
@@ -75,6 +77,7 @@ abbrev pub payload_of : Option Edns → ℕ
 payload_of None = 512
 payload_of (Some e) = max e.max_payload 512
 
+-- the version of EDNS that a message announces: 0 without an OPT record (RFC 6891 section 6.1.3)
 abbrev pub version_of : Option Edns → ℕ
 version_of None = 0
 version_of (Some e) = e.version

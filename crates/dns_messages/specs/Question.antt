@@ -1,10 +1,12 @@
--- Questions: how they are encoded, and when two ask for the same (RFC 1035 section 4.1.2).
-use Rattle.std.specs.Prelude.{◌==◌, ◌&&◌, Bool, List, [], ◌∷◌}
+-- Questions: how they are encoded and printed, and when two ask for the same (RFC 1035 section 4.1.2).
+use Rattle.std.specs.Prelude.{◌==◌, ◌&&◌, Bool, ℕ, List, [], ◌∷◌, ◌++◌}
 use Rattle.std.specs.Int.{w16, to_be_bytes}
 use Rattle.dns_wire.specs.Encodable.{Piece, Plain, Domain}
 use Rattle.dns_codes.specs.RecordType.{type_number}
 use Rattle.dns_codes.specs.DNSClass.{class_number}
+use Rattle.dns_codes.specs.CodeText.{type_text, class_text}
 use Rattle.dns_names.specs.Compare.{same_labels}
+use Rattle.dns_names.specs.Print.{text_of_name}
 use Rattle.dns_messages.specs.declared.query.Query.{Query}
 
 -- a name, a type and a class
@@ -19,3 +21,7 @@ same_question a b =
     same_labels a.name.labels b.name.labels
     && ((type_number a.query_type == type_number b.query_type)
     && (class_number a.query_class == class_number b.query_class))
+
+-- a question as text, such as `a.t. IN A`: name, class and type, separated by single spaces
+abbrev pub question_text : Query → List ℕ
+question_text q = text_of_name q.name ++ 32 ∷ class_text q.query_class ++ 32 ∷ type_text q.query_type

@@ -14,10 +14,12 @@ use Rattle.dns_messages.specs.declared.message.Message.{Message}
 
 -- ---- negative answers
 
+-- whether data is that of an SOA record
 abbrev pub is_soa_data : RData → Bool
 is_soa_data (of.SOA soa) = true
 is_soa_data other = false
 
+-- whether a record is an SOA record
 abbrev pub is_soa : Record → Bool
 is_soa r = is_soa_data r.rdata
 
@@ -30,12 +32,14 @@ abbrev pub negative_ttl_of : ℕ → RData → Option ℕ
 negative_ttl_of ttl (of.SOA soa) = Some (min ttl soa.minimum)
 negative_ttl_of ttl other = None
 
+-- how long a negative answer with this SOA record may be cached, in seconds; not at all without one (RFC 2308 section 5)
 abbrev pub negative_ttl : Option Record → Option ℕ
 negative_ttl None = None
 negative_ttl (Some r) = negative_ttl_of r.ttl r.rdata
 
 -- ---- answers
 
+-- whether a record of the answer, authority or additional section passes a test
 abbrev pub in_sections : (Record → Bool) → Message → Bool
 in_sections test m =
     list_any test m.answers || (list_any test m.authorities || list_any test m.additionals)
@@ -44,6 +48,7 @@ in_sections test m =
 abbrev pub is_at : Query → Record → Bool
 is_at q r = same_labels r.name.labels q.name.labels
 
+-- whether a record is of a type, by the numbers of both
 abbrev pub has_type : RecordType → Record → Bool
 has_type kind r = type_number (data_type r.rdata) == type_number kind
 
@@ -51,10 +56,12 @@ has_type kind r = type_number (data_type r.rdata) == type_number kind
 abbrev pub is_soa_above : Query → Record → Bool
 is_soa_above q r = has_type types.SOA r && at_or_below r.name.labels q.name.labels
 
+-- whether a list has no items
 abbrev pub is_empty : {X : Type 0} → List X → Bool
 is_empty [] = true
 is_empty (x ∷ xs) = false
 
+-- whether there is an answer, or a record of the type at the name of the question in another section
 abbrev pub has_answer_of_type : RecordType → Query → Message → Bool
 has_answer_of_type kind q m =
     not (is_empty m.answers) || in_sections (λ r. has_type kind r && is_at q r) m
@@ -66,8 +73,10 @@ is_answer_of_type types.ANY q m = in_sections (is_at q) m
 is_answer_of_type types.SOA q m = in_sections (is_soa_above q) m
 is_answer_of_type kind q m = has_answer_of_type kind q m
 
+-- whether a message answers a question
 abbrev pub answers_question : Message → Query → Bool
 answers_question m q = is_answer_of_type q.query_type q m
 
+-- whether a message answers one of its questions
 abbrev pub contains_answer : Message → Bool
 contains_answer m = list_any (answers_question m) m.queries

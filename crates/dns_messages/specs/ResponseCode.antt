@@ -1,5 +1,6 @@
 -- Response codes, their numbers and their names (RFC 1035 section 4.1.1, RFC 6895 section 2.3).
-use Rattle.std.specs.Prelude.{◌≡◌, ◌==◌, ◌+◌, ◌*◌, ◌/◌, ◌%◌, ◌&&◌, ◌||◌, nat_le, if◌then◌else◌, Bool, false, ℕ, List, [], ◌++◌, codes}
+use Rattle.std.specs.Prelude.{◌≡◌, ◌==◌, ◌+◌, ◌*◌, ◌/◌, ◌%◌, ◌&&◌, ◌||◌, nat_le, if◌then◌else◌, Bool, false, ℕ, List, [], ◌++◌, map, codes}
+use Rattle.std.specs.Char.{to_ascii_uppercase}
 use Rattle.std.specs.Fmt.{decimal}
 use Rattle.dns_messages.specs.declared.response_code.ResponseCode.{ResponseCode}
 use Rattle.dns_messages.specs.declared.response_code.ResponseCode.TheVariants as code
@@ -64,9 +65,11 @@ IsDecodedCode c = Unit {0}
 
 -- ---- twelve bits: four in the header, eight in an OPT record (RFC 6891 section 6.1.3)
 
+-- the lowest four bits of a code, which the header has
 abbrev pub code_low : ResponseCode → ℕ
 code_low c = code_number c % 16
 
+-- the eight bits above them, which the OPT record has
 abbrev pub code_high : ResponseCode → ℕ
 code_high c = code_number c / 16 % 256
 
@@ -104,3 +107,10 @@ code_name (code.Unknown number) = []
 abbrev pub code_text : ResponseCode → List ℕ
 code_text (code.Unknown number) = codes "CODE" ++ decimal number
 code_text c = code_name c
+
+-- The status of a message: the name of its code in capitals, or CODE and its number. In a message, the code 16 is BADVERS (RFC
+-- 6891 section 9): BADSIG occurs in TSIG records alone (RFC 8945 section 4.3).
+abbrev pub status_text : ResponseCode → List ℕ
+status_text code.BADSIG = codes "BADVERS"
+status_text (code.Unknown number) = codes "CODE" ++ decimal number
+status_text c = map to_ascii_uppercase (code_name c)

@@ -18,14 +18,17 @@ use Rattle.dns_messages.specs.Edns.{edns_of}
 
 -- ---- records with a place of their own
 
+-- whether a type is OPT (RFC 6891 section 6.1.1)
 abbrev pub is_opt_type : RecordType → Bool
 is_opt_type types.OPT = true
 is_opt_type other = false
 
+-- whether a type is TSIG (RFC 8945 section 4.2)
 abbrev pub is_tsig_type : RecordType → Bool
 is_tsig_type types.TSIG = true
 is_tsig_type other = false
 
+-- whether a record is an OPT record
 abbrev pub is_opt : Record → Bool
 is_opt r = is_opt_type (data_type r.rdata)
 
@@ -46,7 +49,8 @@ opt_fault setting owner =
     else if length owner.labels == 0 then None
     else Some EdnsNameNotRoot
 
--- Data is empty only in an OPT record and in updates (RFC 2136 section 2.4); a TSIG record is the last of the additional section (RFC 8945 section 5.1).
+-- Data is empty only in an OPT record and in updates (RFC 2136 section 2.4); a TSIG record is the last of the additional section
+-- (RFC 8945 section 5.1).
 abbrev pub placement_fault : Setting → DomainName → RecordType → Bool → Option DecodeError
 placement_fault setting owner record_type is_empty =
     if is_opt_type record_type then opt_fault setting owner
@@ -55,9 +59,11 @@ placement_fault setting owner record_type is_empty =
     then Some RecordNotInAdditionalSection
     else None
 
+-- the fault of a record with this head at its place, if it has one
 abbrev pub head_fault : Setting → RecordHead → Option DecodeError
 head_fault setting h = placement_fault setting h.name h.record_type (h.len == 0)
 
+-- the fault of a record at its place, if it has one
 abbrev pub record_fault : Setting → Record → Option DecodeError
 record_fault setting r = placement_fault setting r.name (data_type r.rdata) (is_update_data r.rdata)
 
@@ -128,7 +134,9 @@ pub record IsPartition (rs : List Record) (s : SectionRecords) : Type 0 where
   pub edns : s.edns ≡ edns_in rs
   pub signature : s.signature ≡ signature_in rs
 
-pub record ReadsSectionRecords (bytes : List ℕ) (kind : SectionKind) (place count : ℕ) (s : SectionRecords) (end : ℕ) : Type 0 where
+-- A section is read, and its records are divided into ordinary ones, the OPT record and the signature.
+pub record ReadsSectionRecords (bytes : List ℕ) (kind : SectionKind) (place count : ℕ)
+    (s : SectionRecords) (end : ℕ) : Type 0 where
   pub all : List Record
   pub section : ReadsSection bytes kind place count all end
   pub partition : IsPartition all s

@@ -25,6 +25,7 @@ pub record IsSoundMetadata (m : Metadata) : Type 0 where
   pub code_fits : code_number m.response_code < 4096
   pub code_named : code_of (code_number m.response_code) ≡ m.response_code
 
+-- A question that decodes to itself: its name is fully qualified, and its type and class are the variants of their numbers.
 pub record IsSoundQuery (q : Query) : Type 0 where
   pub fqdn : q.name.is_fqdn ≡ true
   pub type_fits : type_number q.query_type < 2 ^ 16
@@ -32,6 +33,7 @@ pub record IsSoundQuery (q : Query) : Type 0 where
   pub class_fits : class_number q.query_class < 2 ^ 16
   pub class_named : class_of (class_number q.query_class) ≡ q.query_class
 
+-- whether an opcode is that of dynamic updates (RFC 2136 section 1.3)
 abbrev pub is_update_code : OpCode → Bool
 is_update_code ops.Update = true
 is_update_code other = false
@@ -53,6 +55,7 @@ pub record IsSoundSignature (r : Record) : Type 0 where
   pub sound : IsSoundRecord r
   pub signature : is_signature r ≡ true
 
+-- A message that decodes to itself, unless it is cut: each of its parts does, and its OPT record has the upper bits of its code.
 pub record IsSound (m : Message) : Type 0 where
   pub metadata : IsSoundMetadata m.metadata
   pub queries : AllByRecursion IsSoundQuery m.queries

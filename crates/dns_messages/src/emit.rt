@@ -62,6 +62,8 @@ fn emit_front<Q: EmitAndCount<Item = Query>>(
     ensures full { result ≡ Err EncodeError.MaxBufferSizeExceeded
         → (state_of encoder.old).limit < reach (position_of (state_of encoder.old))
         (Plain twelve_zeros ∷ all_pieces query_item header_end (Q.items queries.old)) }
+    ensures decided { (state_of encoder.old).limit < 12
+        → result ≡ Err EncodeError.MaxBufferSizeExceeded }
     ensures back { OnErr result (CanRollBack (state_of encoder.old) (state_of encoder.new)) }
     ensures lender { (state_of encoder.new).lender ≡ (state_of encoder.old).lender }
 {
@@ -281,7 +283,8 @@ impl SectionCounts {
 }
 
 /// Writes the message of these parts at the start of an encoder, as much of it as fits, and returns the header that was
-/// written. After an error, `set_offset(0)` and `trim` restore the encoder, except for the number of names that were tried.
+/// written. A limit below the 12 bytes of a header is refused before memory is allocated. After an error, `set_offset(0)`
+/// and `trim` restore the encoder, except for the number of names that were tried.
 pub fn emit_message_parts<
     Q: EmitAndCount<Item = Query>,
     A: EmitAndCount<Item = Record>,
@@ -321,6 +324,8 @@ pub fn emit_message_parts<
         → (state_of encoder.old).limit < front_reach
         (message_of metadata.now (Q.items queries.old) (A.items answers.old)
         (N.items authorities.old) (D.items additionals.old) edns.entry signature.entry) }
+    ensures decided { (state_of encoder.old).limit < 12
+        → result ≡ Err EncodeError.MaxBufferSizeExceeded }
     ensures back { OnErr result (CanRollBack (state_of encoder.old) (state_of encoder.new)) }
     ensures lender { (state_of encoder.new).lender ≡ (state_of encoder.old).lender }
 {

@@ -2,6 +2,7 @@
 
 ghost use Rattle.std.specs.Prelude.{◌≡◌, [], None};
 
+mod display;
 mod dnssec;
 mod encoding;
 mod extensions;

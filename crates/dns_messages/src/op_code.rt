@@ -1,7 +1,9 @@
 //! Opcodes (RFC 1035 section 4.1.1, and later ones of the IANA registry).
 
-ghost use Rattle.std.specs.Prelude.{◌≡◌};
-ghost use Rattle.dns_messages.specs.OpCode.{op_of};
+ghost use Rattle.std.specs.Prelude.{◌≡◌, Some};
+ghost use Rattle.dns_messages.specs.OpCode.{op_of, op_text};
+
+use std::fmt;
 
 /// The kind of a query.
 #[derive(Clone, Copy, Debug, PartialEq, Eq)]
@@ -57,6 +59,21 @@ impl From<OpCode> for u8 {
             OpCode::Notify => 4,
             OpCode::Update => 5,
             OpCode::Unknown(number) => number,
+        }
+    }
+}
+
+impl fmt::Display for OpCode {
+    ghost output = { λ code. Some (op_text code) };
+
+    /// Writes the name in capitals, or `OPCODE` and the number if it has none.
+    fn fmt<W: fmt::Write>(&self, f: &mut fmt::Formatter<W>) -> fmt::Result {
+        match self {
+            OpCode::Query => f.write_str("QUERY"),
+            OpCode::Status => f.write_str("STATUS"),
+            OpCode::Notify => f.write_str("NOTIFY"),
+            OpCode::Update => f.write_str("UPDATE"),
+            OpCode::Unknown(number) => write!(f, "OPCODE{number}"),
         }
     }
 }

@@ -1,6 +1,6 @@
 //! Questions (RFC 1035 section 4.1.2).
 
-ghost use Rattle.std.specs.Prelude.{◌≡◌, ◌≢◌, ◌<◌, ◌^◌, ◌↔◌, true, [], IfOk, IfErr, IsTrue};
+ghost use Rattle.std.specs.Prelude.{◌≡◌, ◌≢◌, ◌<◌, ◌≤◌, ◌+◌, ◌^◌, ◌↔◌, true, [], length, Ok, IfOk, IfErr, IsTrue};
 ghost use Rattle.dns_codes.specs.RecordType.{type_of, type_number};
 ghost use Rattle.dns_codes.specs.DNSClass.{class_of, class_number};
 
@@ -11,6 +11,7 @@ use dns_wire::{
     RecordType,
 };
 use std::alloc::{AllocError, Global};
+use std::fmt;
 
 /// A question: a name, a type and a class.
 ///
@@ -26,6 +27,7 @@ pub struct Query {
 }
 
 impl Query {
+    ghost use Rattle.dns_wire.specs.Name.{name_len};
     ghost use Rattle.dns_codes.specs.declared.dns_class.DNSClass.TheVariants.{IN};
     ghost use Rattle.dns_codes.specs.declared.record_type.RecordType.TheVariants.{A};
     ghost use Rattle.dns_messages.specs.Question.{same_question};
@@ -97,9 +99,13 @@ impl Query {
         self.query_class
     }
 
-    /// Clones the question. Fails if memory runs out.
+    /// Copies the question. It does not fail if the name has at most 24 labels of at most 32 bytes in all, which are stored
+    /// inline.
     pub fn clone(&self) -> Result<Query, AllocError>
-        ensures { IfOk result (λ copy. copy ≡ self.now) }
+        ensures ok { IfOk result (λ copy. copy ≡ self.now) }
+        ensures inline { length self.now.name.labels ≤ 24
+            → name_len self.now.name.labels ≤ length self.now.name.labels + 33
+            → result ≡ Ok self.now }
     {
         Ok(Query {
             name: self.name.clone()?,
@@ -213,5 +219,22 @@ impl BinEncodable for Query {
         self.name.emit(encoder)?;
         encoder.emit_u16(u16::from(self.query_type))?;
         encoder.emit_u16(u16::from(self.query_class))
+    }
+}
+
+impl fmt::Display for Query {
+    ghost use Rattle.std.specs.Prelude.{Some};
+    ghost use Rattle.dns_messages.specs.Question.{question_text};
+
+    ghost output = { λ question. Some (question_text question) };
+
+    /// Writes name, class and type, separated by single spaces, such as `a.t. IN A`.
+    fn fmt<W: fmt::Write>(&self, f: &mut fmt::Formatter<W>) -> fmt::Result {
+        let Query {
+            name,
+            query_type,
+            query_class,
+        } = self;
+        write!(f, "{name} {query_class} {query_type}")
     }
 }

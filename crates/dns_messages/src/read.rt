@@ -1,10 +1,12 @@
 //! Decoding messages (RFC 1035 section 4.1, RFC 6891 section 6.1).
 
-ghost use Rattle.std.specs.Prelude.{◌≡◌, ◌≢◌, ◌<◌, ◌+◌, false, true, length, Err, IfOk, IfErr, OnErr};
-ghost use Rattle.dns_messages.specs.Grammar.{extended, kind_of, ReadsMessage, RefusesMessage, ReadsQuestions, RefusesQuestions};
+ghost use Rattle.std.specs.Prelude.{◌≡◌, ◌≢◌, ◌<◌, ◌+◌, false, true, [], length, None, Ok, Err, IfOk, IfErr, OnErr};
+ghost use Rattle.dns_messages.specs.Grammar.{extended, kind_of, ReadsMessage, RefusesMessage, ReadsQuestions, RefusesQuestions, IsBareHeader};
 ghost use Rattle.dns_messages.specs.Section.{ReadsSection, ReadsSectionRecords, RefusesSection};
 ghost use Rattle.dns_messages.specs.Header.{code_number, DecodesHeader};
+ghost use Rattle.dns_messages.specs.Message.{empty_message};
 ghost use Rattle.dns_messages.specs.Sound.{IsSound};
+ghost use Rattle.dns_messages.specs.declared.header.Header.{Header};
 
 use crate::edns::Edns;
 use crate::header::{Header, Metadata};
@@ -24,8 +26,8 @@ const HEADER_LEN: usize = 12;
 impl Message {
     /// Decodes a message. Bytes after its last record are ignored.
     ///
-    /// Fewer than 12 bytes are refused before memory is allocated. Memory is allocated for an item when it is decoded, and
-    /// never for the counts of the header, which may be false.
+    /// Fewer than 12 bytes are refused before memory is allocated, and a header whose counts are all 0 takes none. Memory is
+    /// allocated for an item when it is decoded, and never for the counts of the header, which may be false.
     pub fn from_vec(alloc: Global, bytes: &[u8]) -> Result<Message, DecodeError>
         ensures read { IfOk result (λ message. ReadsMessage bytes.now message) }
         ensures sound { IfOk result (λ message. IsSound message) }
@@ -33,6 +35,8 @@ impl Message {
             → RefusesMessage bytes.now error) }
         ensures short { length bytes.now < HEADER_LEN
             → result ≡ Err DecodeError.InsufficientBytes }
+        ensures decided { (header : Header) → IsBareHeader bytes.now header
+            → result ≡ Ok (empty_message header.metadata) }
     {
         if bytes.len() < HEADER_LEN {
             return Err(DecodeError::InsufficientBytes);
@@ -41,7 +45,7 @@ impl Message {
         read_message(alloc, bytes)
     }
 
-    /// Decodes `count` questions. A failed read leaves the decoder unchanged.
+    /// Decodes `count` questions. A failed read leaves the decoder unchanged. No question takes no memory.
     pub fn read_queries(
         alloc: Global,
         decoder: &mut BinDecoder<'_>,
@@ -53,6 +57,7 @@ impl Message {
             → RefusesQuestions decoder.old.bytes decoder.old.index count error) }
         ensures bytes { decoder.new.bytes ≡ decoder.old.bytes }
         ensures err { OnErr result (decoder.new ≡ decoder.old) }
+        ensures decided { count ≡ 0 → result ≡ Ok [] }
     {
         let mut reader = decoder.clone(decoder.index());
         let queries = read_questions(alloc, &mut reader, count)?;
@@ -61,7 +66,8 @@ impl Message {
     }
 
     /// Decodes a section of `count` records of a message with this opcode. An OPT record and a signature are only in the
-    /// additional section (RFC 6891 section 6.1.1, RFC 8945 section 5.1). A failed read leaves the decoder unchanged.
+    /// additional section (RFC 6891 section 6.1.1, RFC 8945 section 5.1). A failed read leaves the decoder unchanged. No
+    /// record takes no memory.
     pub fn read_records(
         alloc: Global,
         decoder: &mut BinDecoder<'_>,
@@ -76,6 +82,8 @@ impl Message {
             (kind_of op_code is_additional) decoder.old.index count error) }
         ensures bytes { decoder.new.bytes ≡ decoder.old.bytes }
         ensures err { OnErr result (decoder.new ≡ decoder.old) }
+        ensures decided { count ≡ 0
+            → result ≡ Ok (record { records = []; edns = None; signature = None }) }
     {
         let mut reader = decoder.clone(decoder.index());
         let mut section = SectionRecords::new(alloc);
@@ -96,6 +104,7 @@ fn read_questions(
     ensures refused { IfErr result (λ error. error ≢ DecodeError.Memory
         → RefusesQuestions decoder.old.bytes decoder.old.index count error) }
     ensures bytes { decoder.new.bytes ≡ decoder.old.bytes }
+    ensures decided { count ≡ 0 → result ≡ Ok [] }
 {
     let mut queries = Sequence::new(alloc);
     for _nth in 0..count {
@@ -110,6 +119,8 @@ fn read_message(alloc: Global, bytes: &[u8]) -> Result<Message, DecodeError>
     ensures read { IfOk result (λ message. ReadsMessage bytes.now message) }
     ensures refused { IfErr result (λ error. error ≢ DecodeError.Memory
         → RefusesMessage bytes.now error) }
+    ensures decided { (header : Header) → IsBareHeader bytes.now header
+        → result ≡ Ok (empty_message header.metadata) }
 {
     let mut decoder = BinDecoder::new(bytes);
     let header = read_header(alloc, &mut decoder)?;
@@ -142,6 +153,7 @@ fn read_plain_section(
     ensures refused { IfErr result (λ error. error ≢ DecodeError.Memory
         → RefusesSection decoder.old.bytes (kind_of op_code false) decoder.old.index count error) }
     ensures bytes { decoder.new.bytes ≡ decoder.old.bytes }
+    ensures decided { count ≡ 0 → result ≡ Ok [] }
 {
     let section = Message::read_records(alloc, decoder, count, op_code, false)?;
     Ok(section.records)

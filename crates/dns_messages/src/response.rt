@@ -1,6 +1,6 @@
 //! Responses, and what they say.
 
-ghost use Rattle.std.specs.Prelude.{◌≡◌, ◌≢◌, ◌↔◌, IfOk, Err};
+ghost use Rattle.std.specs.Prelude.{◌≡◌, ◌≢◌, ◌<◌, ◌↔◌, length, IfOk, Err};
 ghost use Rattle.std.specs.List.{list_any};
 ghost use Rattle.dns_messages.specs.Response.{answers_question, has_answer_of_type, has_type, in_sections, is_at, is_soa_above};
 
@@ -35,7 +35,8 @@ impl DnsResponse {
     ghost use Rattle.dns_messages.specs.Lending.{LendsMessage};
     ghost use Rattle.dns_messages.specs.Response.{contains_answer, negative_ttl, soa_in};
     ghost use Rattle.dns_messages.specs.Encoding.{Encodes, IsTooLong};
-    ghost use Rattle.dns_messages.specs.Grammar.{ReadsMessage, RefusesMessage};
+    ghost use Rattle.dns_messages.specs.Grammar.{ReadsMessage, RefusesMessage, IsBareHeader};
+    ghost use Rattle.dns_messages.specs.declared.header.Header.{Header};
     ghost use Rattle.dns_messages.specs.declared.message.Message.{Message};
     ghost use Rattle.dns_messages.specs.declared.message_type.MessageType.TheVariants as kinds;
     ghost use Rattle.dns_wire.specs.Encoder.{max_message_len};
@@ -63,7 +64,8 @@ impl DnsResponse {
         }
     }
 
-    /// Decodes a response. A query is refused (RFC 1035 section 4.1.1).
+    /// Decodes a response. A query is refused (RFC 1035 section 4.1.1). Fewer than 12 bytes are refused before memory is
+    /// allocated, and a header whose counts are all 0 takes none.
     pub fn from_buffer(alloc: Global, buffer: Vec<u8>) -> Result<DnsResponse, ResponseError>
         ensures read { IfOk result (λ response. ReadsMessage buffer.items response.message) }
         ensures kind { IfOk result (λ response.
@@ -75,6 +77,10 @@ impl DnsResponse {
         ensures refused { (error : DecodeError) → result ≡ Err (ResponseError.Decode error)
             → error ≢ DecodeError.Memory → RefusesMessage buffer.items error }
         ensures decode { (error : EncodeError) → result ≢ Err (ResponseError.Encode error) }
+        ensures short { length buffer.items < 12
+            → result ≡ Err (ResponseError.Decode DecodeError.InsufficientBytes) }
+        ensures decided { (header : Header) → IsBareHeader buffer.items header
+            → result ≢ Err (ResponseError.Decode DecodeError.Memory) }
     {
         match Message::from_vec(alloc, buffer.as_slice()) {
             Ok(message) => match message.metadata.message_type {

@@ -1,6 +1,6 @@
 //! Sections of records: which record may be where, and what a section has.
 
-ghost use Rattle.std.specs.Prelude.{◌≡◌, ◌≢◌, true, [], None, IfOk, IfErr, OnOk};
+ghost use Rattle.std.specs.Prelude.{◌≡◌, ◌≢◌, true, [], None, Ok, IfOk, IfErr, OnOk};
 ghost use Rattle.dns_data.specs.rdata.{IsSoundData};
 ghost use Rattle.dns_records.specs.Record.{ReadsRecord};
 ghost use Rattle.dns_messages.specs.Section.{head_fault, opt_fault, record_fault, with_record, RefusesNext, ReadsSectionRecords, RefusesSection};
@@ -67,6 +67,7 @@ impl SectionRecords {
             → RefusesSection decoder.old.bytes
             (kind_of op_code is_additional) decoder.old.index count error) }
         ensures bytes { decoder.new.bytes ≡ decoder.old.bytes }
+        ensures decided { count ≡ 0 → (result ≡ Ok tt) × (self.new ≡ self.old) }
     {
         let is_update = is_update(op_code);
         for nth in 0..count {

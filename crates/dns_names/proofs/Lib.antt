@@ -9,7 +9,10 @@ pub mod EmitLaws
 pub mod GrammarCompleteness
 pub mod GrammarLaws
 pub mod HashLaws
+pub mod InlineLaws
+pub mod InlineText
 pub mod IterLaws
+pub mod Leading
 pub mod PartsLaws
 pub mod PrintingLaws
 pub mod ReverseLaws

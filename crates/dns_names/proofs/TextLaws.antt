@@ -33,7 +33,7 @@ symbols-at : (place : ℕ) (rest : List ℕ) → 0 < length rest → symbols_fro
 symbols-at place [] some = absurd (omega arith)
 symbols-at place (c ∷ cs) some = ap (λ (ps : List SymbolAt). record { place = place; symbol = symbol (c ∷ cs) } ∷ ps) (symbols-past (more_len (c ∷ cs)) (place + 1) cs)
 
-symbols-next : (place : ℕ) (text : List ℕ) → place < length text → symbols_from 0 place (drop place text)
+pub symbols-next : (place : ℕ) (text : List ℕ) → place < length text → symbols_from 0 place (drop place text)
     ≡ record { place = place; symbol = symbol (drop place text) } ∷ symbols_from 0 (place + (1 + more_len (drop place text))) (drop (place + (1 + more_len (drop place text))) text)
 symbols-next place text within =
     let more : ℕ = more_len (drop place text) in

@@ -42,7 +42,8 @@ parse_name text origin = elim (name_of_text text) [ Ok name ↦ complete name or
 -- the name with labels appended one after another, up to the first error
 abbrev pub append_each : {A : Type 0} → (A → Result (List ℕ) ParseError) → DomainName → List A → Result DomainName ParseError
 append_each label name [] = Ok name
-append_each label name (x ∷ xs) = elim (append_label name (label x)) [ Ok next ↦ append_each label next xs | Err error ↦ Err error ]
+append_each label name (x ∷ xs) =
+    elim (append_label name (label x)) [ Ok next ↦ append_each label next xs | Err error ↦ Err error ]
 
 -- the root
 abbrev pub root_name : DomainName

@@ -1,5 +1,5 @@
 -- Labels (RFC 1035 sections 2.3.1 and 2.3.4, RFC 2181 section 11).
-use Rattle.std.specs.Prelude.{ℕ, ◌+◌, ◌==◌, nat_lt, if◌then◌else◌, List, [], ◌∷◌, length, Option, Some, None, Result, Ok, Err}
+use Rattle.std.specs.Prelude.{ℕ, ◌+◌, ◌==◌, ◌≤◌, nat_lt, if◌then◌else◌, List, [], ◌∷◌, length, Option, Some, None, Result, Ok, Err}
 use Rattle.dns_names.specs.Parse.{is_plain_octet}
 use Rattle.dns_names.specs.declared.error.ParseError.{ParseError}
 use Rattle.dns_names.specs.declared.error.ParseError.TheVariants.{LabelBytesTooLong, EmptyLabel, Text}
@@ -26,3 +26,8 @@ label_of_text text = elim (label_of_bytes text) [
   | Ok bytes ↦ elim (refused_from 0 text) [ None ↦ Ok bytes | Some place ↦ Err (Text place) ]
   | Err error ↦ Err error
 ]
+
+-- an outcome that takes no memory: an error, or a label of at most 24 bytes, which are stored inline
+abbrev pub IsInlineLabel : Result (List ℕ) ParseError → Type 0
+IsInlineLabel (Ok label) = length label ≤ 24
+IsInlineLabel (Err error) = Unit {0}

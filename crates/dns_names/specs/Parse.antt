@@ -39,6 +39,7 @@ abbrev pub escape_len : List ℕ → ℕ
 escape_len [] = 0
 escape_len (c ∷ cs) = if is_digit c then 3 else 1
 
+-- how many characters the first symbol of a text takes after its first character
 abbrev pub more_len : List ℕ → ℕ
 more_len [] = 0
 more_len (c ∷ cs) = if c == 92 then escape_len cs else 0
@@ -51,7 +52,8 @@ pub record SymbolAt : Type 0 where
 -- the symbols of a text at a place, after `past` more characters of the symbol before
 abbrev pub symbols_from : ℕ → ℕ → List ℕ → List SymbolAt
 symbols_from past place [] = []
-symbols_from zero place (c ∷ cs) = record { place = place; symbol = symbol (c ∷ cs) } ∷ symbols_from (more_len (c ∷ cs)) (place + 1) cs
+symbols_from zero place (c ∷ cs) =
+    record { place = place; symbol = symbol (c ∷ cs) } ∷ symbols_from (more_len (c ∷ cs)) (place + 1) cs
 symbols_from (suc past) place (c ∷ cs) = symbols_from past (place + 1) cs
 
 -- ---- labels
@@ -60,6 +62,12 @@ symbols_from (suc past) place (c ∷ cs) = symbols_from past (place + 1) cs
 pub record PartialName : Type 0 where
   pub labels : List (List ℕ)
   pub label : List ℕ
+
+-- A partly parsed name that is stored inline, without memory: at most 24 complete labels, and at most 32 octets with those
+-- of the current label.
+pub record IsInlinePartial (b : PartialName) : Type 0 where
+  pub few : length b.labels ≤ 24
+  pub short : name_len b.labels + length b.label ≤ length b.labels + 33
 
 -- adds an octet to the current label, which may have 63
 abbrev pub push_octet : PartialName → ℕ → Result PartialName ParseError
@@ -72,6 +80,7 @@ end_label b =
     else if nat_lt max_name_len (name_len (b.labels ++ b.label ∷ [])) then Err DomainNameTooLong
     else Ok (record { labels = b.labels ++ b.label ∷ []; label = [] })
 
+-- whether a character is in a range
 abbrev pub is_between : ℕ → ℕ → ℕ → Bool
 is_between low high c = nat_le low c && nat_le c high
 
@@ -80,6 +89,7 @@ abbrev pub is_plain_octet : Bool → ℕ → Bool
 is_plain_octet is_first c =
     is_between 97 122 c || is_between 65 90 c || is_digit c || c == 95 || (if is_first then c == 42 else c == 45)
 
+-- the partly parsed name after a symbol: a dot ends a label, and an octet continues one
 abbrev pub push_symbol : PartialName → SymbolAt → Result PartialName ParseError
 push_symbol b p = elim p.symbol [
   | Dot ↦ end_label b

@@ -17,6 +17,7 @@ abbrev pub octets_text : Bool → List ℕ → List ℕ
 octets_text is_first [] = []
 octets_text is_first (c ∷ cs) = octet_text is_first c ++ octets_text false cs
 
+-- the text of a label
 abbrev pub label_text : List ℕ → List ℕ
 label_text = octets_text true
 
@@ -30,6 +31,7 @@ abbrev pub text_of_labels : Bool → List (List ℕ) → List ℕ
 text_of_labels is_fqdn [] = if is_fqdn then 46 ∷ [] else []
 text_of_labels is_fqdn (label ∷ labels) = label_text label ++ (dotted_labels labels ++ (if is_fqdn then 46 ∷ [] else []))
 
+-- the text of a name (RFC 1035 section 5.1)
 abbrev pub text_of_name : DomainName → List ℕ
 text_of_name name = text_of_labels name.is_fqdn name.labels
 

@@ -8,13 +8,15 @@ use Rattle.dns_names.specs.Compare.{same_labels}
 use Rattle.dns_codes.specs.Decimal.{is_digit, decimal_up_to}
 use Rattle.dns_names.specs.declared.reverse.AddrPrefix.{AddrPrefix}
 
--- an address with a prefix length, and its parts
+-- an address with a prefix length
 abbrev pub addr_prefix : IpAddr → ℕ → AddrPrefix
 addr_prefix addr prefix_len = record { addr = addr; prefix_len = prefix_len }
 
+-- the address of a prefix
 abbrev pub addr_of : AddrPrefix → IpAddr
 addr_of prefix = prefix.addr
 
+-- the length of a prefix in bits
 abbrev pub prefix_len_of : AddrPrefix → ℕ
 prefix_len_of prefix = prefix.prefix_len
 
@@ -22,6 +24,7 @@ prefix_len_of prefix = prefix.prefix_len
 abbrev pub in_addr : List (List ℕ)
 in_addr = codes "in-addr" ∷ codes "arpa" ∷ []
 
+-- the decimal label of an octet, without leading zeros (RFC 1035 section 3.5)
 abbrev pub decimal_label : ℕ → List ℕ
 decimal_label n =
     if nat_lt n 10 then (48 + n) ∷ []
@@ -32,6 +35,7 @@ decimal_label n =
 abbrev pub ip6 : List (List ℕ)
 ip6 = codes "ip6" ∷ codes "arpa" ∷ []
 
+-- the label of four bits, one hexadecimal digit in lower case (RFC 3596 section 2.5)
 abbrev pub hex_label : ℕ → List ℕ
 hex_label n = (if nat_lt n 10 then 48 + n else 87 + n) ∷ []
 
@@ -69,6 +73,7 @@ nibble (c ∷ d ∷ cs) = None
 abbrev pub number : Bool → List ℕ → Option ℕ
 number is_hex label = if is_hex then nibble label else decimal_up_to 255 label
 
+-- numbers with one more at the end, if there are both
 abbrev pub append_number : Option (List ℕ) → Option ℕ → Option (List ℕ)
 append_number None n = None
 append_number (Some ns) None = None
@@ -79,25 +84,31 @@ abbrev pub numbers : Bool → List (List ℕ) → Option (List ℕ)
 numbers is_hex [] = Some []
 numbers is_hex (label ∷ labels) = append_number (numbers is_hex labels) (number is_hex label)
 
--- the prefix of an address whose first octets or digits are given
+-- the prefix of an IPv4 address whose first octets are given
 abbrev pub v4_prefix : List ℕ → AddrPrefix
 v4_prefix ns = record {
   addr = V4 (record { octets = slice_index ns 0 ∷ slice_index ns 1 ∷ slice_index ns 2 ∷ slice_index ns 3 ∷ [] });
   prefix_len = 8 * length ns;
 }
 
+-- the segment of four hexadecimal digits from a place on
 abbrev pub segment_at : List ℕ → ℕ → ℕ
 segment_at ns k = 4096 * slice_index ns k + 256 * slice_index ns (k + 1) + 16 * slice_index ns (k + 2) + slice_index ns (k + 3)
 
+-- the prefix of an IPv6 address whose first hexadecimal digits are given
 abbrev pub v6_prefix : List ℕ → AddrPrefix
 v6_prefix ns = record {
-  addr = V6 (record { segments = segment_at ns 0 ∷ segment_at ns 4 ∷ segment_at ns 8 ∷ segment_at ns 12 ∷ segment_at ns 16 ∷ segment_at ns 20 ∷ segment_at ns 24 ∷ segment_at ns 28 ∷ [] });
+  addr = V6 (record {
+    segments = segment_at ns 0 ∷ segment_at ns 4 ∷ segment_at ns 8 ∷ segment_at ns 12
+        ∷ segment_at ns 16 ∷ segment_at ns 20 ∷ segment_at ns 24 ∷ segment_at ns 28 ∷ [];
+  });
   prefix_len = 4 * length ns;
 }
 
 -- whether there are one to `most` labels below a zone of two labels
 abbrev pub is_below_zone : List (List ℕ) → ℕ → List (List ℕ) → Bool
-is_below_zone zone most labels = nat_lt 2 (length labels) && nat_le (length labels) (most + 2) && same_labels zone (drop (length labels - 2) labels)
+is_below_zone zone most labels =
+    nat_lt 2 (length labels) && nat_le (length labels) (most + 2) && same_labels zone (drop (length labels - 2) labels)
 
 -- the labels below a zone of two labels
 abbrev pub labels_below_zone : List (List ℕ) → List (List ℕ)

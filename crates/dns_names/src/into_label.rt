@@ -1,7 +1,7 @@
 //! Conversion into labels.
 
 ghost use Rattle.std.specs.Prelude.{◌≡◌, ℕ, List, Result, Ok, Err, string_bytes};
-ghost use Rattle.dns_names.specs.Label.{label_of_bytes, label_of_text};
+ghost use Rattle.dns_names.specs.Label.{label_of_bytes, label_of_text, IsInlineLabel};
 ghost use Rattle.dns_names.specs.declared.error.ParseError.{ParseError};
 ghost use Rattle.dns_wire.specs.Error.{IsUnless};
 
@@ -14,10 +14,11 @@ pub trait IntoLabel: Sized {
     /// The label, or why there is none.
     ghost label: { Self → Result (List ℕ) ParseError };
 
-    /// Converts the value into a label.
+    /// Converts the value into a label. At most 24 bytes are stored inline, without memory.
     fn into_label(self, alloc: Global) -> Result<Label, ParseError>
         ensures outcome { IsUnless ParseError.Memory (label self) result }
-        ensures fault { (error : ParseError) → label self ≡ Err error → result ≡ Err error };
+        ensures fault { (error : ParseError) → label self ≡ Err error → result ≡ Err error }
+        ensures inline { IsInlineLabel (label self) → result ≡ label self };
 }
 
 impl IntoLabel for Label {

@@ -1,6 +1,6 @@
 //! Names in lower case.
 
-ghost use Rattle.std.specs.Prelude.{◌≡◌, ◌==◌, ◌&&◌, false, length, IfOk};
+ghost use Rattle.std.specs.Prelude.{◌≡◌, ◌==◌, ◌&&◌, false, length, IsOk, IfOk};
 ghost use Rattle.std.specs.Ordering.{as_partial_cmp};
 ghost use Rattle.std.proofs.Common.{refl};
 ghost use Rattle.dns_names.specs.Compare.{lower, at_or_below, same_name};
@@ -9,6 +9,7 @@ ghost use Rattle.dns_names.specs.Compare.{name_cmp, name_writes};
 ghost use Rattle.dns_names.specs.internal.Compare.{name_cmp-total, name_cmp-partial, names_agree, hashed_alike};
 ghost use Rattle.dns_names.specs.Labels.{begins_with_star, num_labels, labels_len};
 ghost use Rattle.dns_names.specs.Build.{base_name, into_wildcard};
+ghost use Rattle.dns_names.specs.Name.{IsInline};
 
 use crate::name::Name;
 use std::alloc::AllocError;
@@ -37,7 +38,9 @@ impl Model for LowerName {
 impl LowerName {
     /// Creates a copy of the name with its ASCII letters in lower case.
     pub fn new(name: &Name) -> Result<LowerName, AllocError>
-        ensures { IfOk result (λ made. made ≡ record name.now { labels = lower name.now.labels }) }
+        ensures ok { IfOk result (λ made. made
+            ≡ record name.now { labels = lower name.now.labels }) }
+        ensures inline { IsInline name.now.labels → IsOk result }
     {
         Ok(LowerName {
             name: name.to_lowercase()?,
@@ -68,7 +71,8 @@ impl LowerName {
 
     /// Returns the parent name, fully qualified, or a copy of a name without labels.
     pub fn base_name(&self) -> Result<LowerName, AllocError>
-        ensures { IfOk result (λ name. name ≡ base_name self.now) }
+        ensures ok { IfOk result (λ name. name ≡ base_name self.now) }
+        ensures inline { IsInline (base_name self.now).labels → IsOk result }
     {
         Ok(LowerName {
             name: self.name.base_name()?,
@@ -112,7 +116,8 @@ impl LowerName {
 
     /// Replaces the first label by `*`. A name without labels stays as it is.
     pub fn into_wildcard(self) -> Result<LowerName, AllocError>
-        ensures { IfOk result (λ name. name ≡ into_wildcard self) }
+        ensures ok { IfOk result (λ name. name ≡ into_wildcard self) }
+        ensures inline { IsInline (into_wildcard self).labels → IsOk result }
     {
         let LowerName { name } = self;
         Ok(LowerName {
@@ -122,7 +127,8 @@ impl LowerName {
 
     /// Returns a copy of the name.
     pub fn clone(&self) -> Result<LowerName, AllocError>
-        ensures { IfOk result (λ name. name ≡ self.now) }
+        ensures ok { IfOk result (λ name. name ≡ self.now) }
+        ensures inline { IsInline self.now.labels → IsOk result }
     {
         Ok(LowerName {
             name: self.name.clone()?,

@@ -3,6 +3,7 @@
 ghost use Rattle.std.specs.Prelude.{◌≡◌, ◌==◌, ◌+◌, ◌<◌, ◌≤◌, ◌&&◌, [], ◌∷◌, ◌++◌, false, true, length, slice_get, slice_index_or, IfOk, IsOk, OnOk, OnErr};
 ghost use Rattle.dns_wire.specs.Name.{IsLabel, AreLabels, name_len, max_name_len};
 ghost use Rattle.dns_names.specs.Compare.{lower};
+ghost use Rattle.dns_names.specs.Name.{IsInline};
 ghost use Rattle.dns_names.specs.internal.Name.{CutsFrom, labels_from};
 
 mod build;
@@ -155,14 +156,17 @@ impl Name {
         )
     }
 
-    /// Appends a label.
+    /// Appends a label. It does not fail if the labels are still stored inline.
     pub(crate) fn push(&mut self, label: &[u8]) -> Result<(), AllocError>
         requires is_label { IsLabel label.now }
         requires fits { name_len self.old.labels + (length label.now + 1) ≤ max_name_len }
         ensures ok { OnOk result (self.new
             ≡ record self.old { labels = self.old.labels ++ label.now ∷ [] }) }
+        ensures inline { IsInline (self.old.labels ++ label.now ∷ []) → IsOk result }
         ensures err { OnErr result (self.new ≡ self.old) }
     {
+        prove!(self.label_data.capacity() >= 32);
+        prove!(self.label_ends.capacity() >= 24);
         self.label_data.reserve(label.len())?;
         let end = self.label_data.len() + label.len();
         self.label_ends.push(end as u8)?;

@@ -1,6 +1,6 @@
 //! Names of addresses (RFC 1035 section 3.5, RFC 3596 section 2.5).
 
-ghost use Rattle.std.specs.Prelude.{◌≡◌, ◌+◌, ◌<◌, ◌≤◌, ◌++◌, ◌∷◌, [], Some, None, if◌then◌else◌, nat_le, length, IfOk, OnOk, false, true, option_map, codes, slice_index, ℕ, IfErr, IfSome};
+ghost use Rattle.std.specs.Prelude.{◌≡◌, ◌+◌, ◌<◌, ◌≤◌, ◌++◌, ◌∷◌, [], Some, None, if◌then◌else◌, nat_le, length, IsOk, IfOk, OnOk, false, true, option_map, codes, slice_index, ℕ, IfErr, IfSome};
 ghost use Rattle.std.specs.declared.net.ip_addr.IpAddr.TheVariants.{V4, V6};
 ghost use Rattle.dns_wire.specs.Name.{IsLabel, name_len, max_name_len};
 ghost use Rattle.dns_names.specs.Reverse.{addr_prefix, addr_of, prefix_len_of, reverse_name, decimal_label, hex_label, segment_labels, number, numbers, nibble, labels_below_zone, is_below_zone, arpa_prefix, v4_prefix, v6_prefix, segment_at, pad_with_zeros};
@@ -55,9 +55,11 @@ impl AddrPrefix {
 }
 
 impl Name {
-    /// Returns the reverse name of an address (RFC 1035 section 3.5, RFC 3596 section 2.5).
+    /// Returns the reverse name of an address (RFC 1035 section 3.5, RFC 3596 section 2.5). That of an IPv4 address takes
+    /// no memory.
     pub fn from(alloc: Global, address: IpAddr) -> Result<Name, AllocError>
-        ensures { IfOk result (λ name. name ≡ reverse_name address) }
+        ensures ok { IfOk result (λ name. name ≡ reverse_name address) }
+        ensures inline { (a : _) → address ≡ V4 a → IsOk result }
     {
         match address {
             IpAddr::V4(address) => Name::from_v4(alloc, address),
@@ -67,7 +69,8 @@ impl Name {
 
     /// Returns the reverse name of an IPv4 address.
     fn from_v4(alloc: Global, address: Ipv4Addr) -> Result<Name, AllocError>
-        ensures { IfOk result (λ name. name ≡ reverse_name (V4 address)) }
+        ensures ok { IfOk result (λ name. name ≡ reverse_name (V4 address)) }
+        ensures inline { IsOk result }
     {
         let octets = address.octets();
         let mut name = Name::root(alloc);
@@ -101,6 +104,10 @@ impl Name {
             ≡ record self.old { labels = self.old.labels ++ label.now ∷ [] }) }
         ensures len { OnOk result (name_len self.new.labels
             ≡ name_len self.old.labels + (length label.now + 1)) }
+        ensures count { OnOk result (length self.new.labels ≡ length self.old.labels + 1) }
+        ensures inline { length self.old.labels < 24
+            → name_len self.old.labels + length label.now ≤ length self.old.labels + 33
+            → IsOk result }
     {
         self.push(label)?;
         Ok(())
@@ -112,6 +119,9 @@ impl Name {
         ensures ok { OnOk result (self.new
             ≡ record self.old { labels = self.old.labels ++ decimal_label octet ∷ [] }) }
         ensures len { OnOk result (name_len self.new.labels ≤ name_len self.old.labels + 4) }
+        ensures count { OnOk result (length self.new.labels ≡ length self.old.labels + 1) }
+        ensures inline { length self.old.labels < 24
+            → name_len self.old.labels + 3 ≤ length self.old.labels + 33 → IsOk result }
     {
         if octet < 10 {
             self.push_short(&[b'0' + octet])

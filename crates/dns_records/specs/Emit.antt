@@ -8,6 +8,7 @@ use Rattle.dns_codes.specs.declared.record_type.RecordType.{RecordType}
 use Rattle.dns_codes.specs.DNSClass.{class_number}
 use Rattle.dns_codes.specs.declared.dns_class.DNSClass.{DNSClass}
 
+-- type, class and TTL (RFC 1035 section 4.1.3)
 abbrev pub fixed_pieces : RecordType → DNSClass → ℕ → List Piece
 fixed_pieces kind class ttl =
     Plain (to_be_bytes w16 (type_number kind))
@@ -23,6 +24,7 @@ data_position s kind class ttl = after s (fixed_pieces kind class ttl ++ Plain (
 abbrev pub len_of : Position → List Piece → ℕ
 len_of s pieces = length (form s pieces)
 
+-- type, class, TTL, the length of the data, and the data, whose encoding may depend on its position
 abbrev pub pieces_behind_owner : Position → RecordType → DNSClass → ℕ → (Position → List Piece) → List Piece
 pieces_behind_owner s kind class ttl rdata =
     fixed_pieces kind class ttl

@@ -1,5 +1,6 @@
 -- Records: what is written for them, and which bytes decode to them (RFC 1035 section 4.1.3).
-use Rattle.std.specs.Prelude.{◌≡◌, ◌+◌, ◌-◌, ◌++◌, ◌^◌, ◌<◌, Bool, true, List, [], ◌∷◌, ℕ, length}
+use Rattle.std.specs.Prelude.{◌≡◌, ◌+◌, ◌-◌, ◌++◌, ◌^◌, ◌<◌, Bool, true, List, [], ◌∷◌, ℕ, length, Option, option_map}
+use Rattle.std.specs.Fmt.{decimal}
 use Rattle.std.specs.declared.cmp.Ordering.{Ordering}
 use Rattle.std.specs.Ordering.{nat_cmp, on, eq_of_both, then_cmp}
 use Rattle.std.specs.Int.{w16, w32, to_be_bytes}
@@ -7,10 +8,14 @@ use Rattle.dns_wire.specs.Encodable.{Piece, Plain, Domain, Position, form, after
 use Rattle.dns_wire.specs.declared.error.DecodeError.{DecodeError}
 use Rattle.dns_codes.specs.RecordType.{type_number}
 use Rattle.dns_codes.specs.DNSClass.{class_number}
+use Rattle.dns_codes.specs.CodeText.{class_text, type_text}
+use Rattle.dns_codes.specs.declared.record_type.RecordType.{RecordType}
 use Rattle.dns_codes.specs.contracts.dns_class.DNSClassPartialEq.TheImpl as class
 use Rattle.dns_names.specs.Compare.{same_name, name_cmp}
+use Rattle.dns_names.specs.Print.{text_of_name}
 use Rattle.dns_data.specs.declared.rdata.RData.{RData}
-use Rattle.dns_data.specs.rdata.{data_type, data_pieces, IsSoundData, ReadsData, RefusesData}
+use Rattle.dns_data.specs.Memory.{IsInlineName}
+use Rattle.dns_data.specs.rdata.{data_type, data_pieces, data_text, IsInlineData, IsSoundData, ReadsData, RefusesData, RefusesDataEarly}
 use Rattle.dns_records.specs.declared.record_head.RecordHead.{RecordHead}
 use Rattle.dns_records.specs.declared.record.Record as generic
 use Rattle.dns_records.specs.RecordHead.{ReadsHead, RefusesHead, class_for}
@@ -52,9 +57,29 @@ pub record IsCopyOf {R : Type 0} (is_clone : R → R → Type 0) (r copy : gener
   pub ttl : copy.ttl ≡ r.ttl
   pub rdata : is_clone r.rdata copy.rdata
 
+-- a short owner, and data whose values are all stored inline: no part of the record takes memory
+abbrev pub IsInlineRecord : Record → Type 0
+IsInlineRecord r = IsInlineName r.name × IsInlineData r.rdata
+
 -- the record after some seconds: its TTL is reduced, to 0 at the least
 abbrev pub after_seconds : {R : Type 0} → ℕ → generic.Record R → generic.Record R
 after_seconds seconds r = record r { ttl = r.ttl - seconds }
+
+-- ---- printed
+
+-- A record of a type, with the text of its data, as a line of a zone file without the line's end (RFC 1035 section 5.1): owner,
+-- TTL, class, type and data, separated by single spaces.
+abbrev pub text_with_data : {R : Type 0} → RecordType → generic.Record R → List ℕ → List ℕ
+text_with_data record_type r text =
+    text_of_name r.name ++ 32 ∷ decimal r.ttl ++ 32 ∷ class_text r.dns_class ++ 32 ∷ type_text record_type ++ 32 ∷ text
+
+-- the line of a record with data of any type, such as `a.t. 60 IN A 10.0.0.1`
+abbrev pub record_text : Record → List ℕ
+record_text r = text_with_data (data_type r.rdata) r (data_text r.rdata)
+
+-- the line of a record with data of one type, if a text is stated for this data
+abbrev pub record_output : {R : Type 0} → (R → RData) → (R → Option (List ℕ)) → generic.Record R → Option (List ℕ)
+record_output rdata output r = option_map (text_with_data (data_type (rdata r.rdata)) r) (output r.rdata)
 
 -- ---- written
 
@@ -72,6 +97,7 @@ abbrev pub data_len : Position → Record → ℕ
 data_len s r =
     length (form (after s (head_pieces r ++ Plain (0 ∷ 0 ∷ []) ∷ [])) (data_pieces s.canonical r.rdata))
 
+-- the encoding of a record: its head, the length of its data, and the data
 abbrev pub record_pieces : Position → Record → List Piece
 record_pieces s r =
     head_pieces r ++ Plain (to_be_bytes w16 (data_len s r)) ∷ data_pieces s.canonical r.rdata
@@ -96,8 +122,13 @@ pub record ReadsDataOf (bytes : List ℕ) (place : ℕ) (h : RecordHead) (r : Re
   pub rdata : ReadsData bytes place h.record_type h.len r.rdata
   pub ends : place + h.len ≡ end
 
+-- The first fault of the data after a head.
 abbrev pub RefusesDataOf : List ℕ → ℕ → RecordHead → DecodeError → Type 0
 RefusesDataOf bytes place h error = RefusesData bytes place h.record_type h.len error
+
+-- The first fault of the data after a head, which is found before memory is taken.
+abbrev pub RefusesDataOfEarly : List ℕ → ℕ → RecordHead → DecodeError → Type 0
+RefusesDataOfEarly bytes place h error = RefusesDataEarly bytes place h.record_type h.len error
 
 -- a head, and data that takes exactly the length in the head
 pub record ReadsRecord (bytes : List ℕ) (place : ℕ) (r : Record) (end : ℕ) : Type 0 where

@@ -20,6 +20,7 @@ abbrev pub class_for : RecordType → ℕ → DNSClass
 class_for types.OPT number = classes.OPT (max number 512)
 class_for other number = class_of number
 
+-- the encoding of a head: owner, type, class, TTL and length, with the class as a number
 abbrev pub head_form : RecordHead → ℕ → List Piece
 head_form h class =
     Domain h.name.labels
@@ -29,6 +30,7 @@ head_form h class =
     ∷ Plain (to_be_bytes w16 h.len)
     ∷ []
 
+-- A fully qualified owner, and a type, class, TTL and length that fit their bytes. The class is what its number stands for.
 pub record ReadsHead (bytes : List ℕ) (place : ℕ) (h : RecordHead) (end : ℕ) : Type 0 where
   pub fqdn : h.name.is_fqdn ≡ true
   pub type_fits : type_number h.record_type < 2 ^ 16

@@ -89,6 +89,7 @@ pub record RecordSetValue : Type 0 where
   pub serial : ℕ
   pub records : List Record
 
+-- the data of a record
 abbrev pub record_data : Record → RData
 record_data r = r.rdata
 
@@ -111,6 +112,7 @@ record_for s d = record { name = s.name; dns_class = s.dns_class; ttl = s.ttl; r
 abbrev pub each_of_class : DNSClass → List Record → List Record
 each_of_class dns_class records = map (λ (r : Record). record r { dns_class = dns_class }) records
 
+-- records with a TTL
 abbrev pub each_with_ttl : ℕ → List Record → List Record
 each_with_ttl ttl records = map (λ (r : Record). record r { ttl = ttl }) records
 

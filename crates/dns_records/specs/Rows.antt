@@ -17,12 +17,15 @@ use Rattle.dns_records.specs.RecordSet.{RecordSetValue}
 abbrev pub Key : Type 0
 Key = List (List ℕ) × ℕ
 
+-- the order of keys: by labels, from the left, and then by type
 abbrev pub key_cmp : Key → Key → Ordering
 key_cmp a b = ordering_then (slice_cmp (slice_cmp nat_cmp) a.0 b.0) (nat_cmp a.1 b.1)
 
+-- the rows at each key
 abbrev pub Rows : Type 0
 Rows = rows_map.FinMap key_cmp (List Row)
 
+-- the key of an owner and a type
 abbrev pub key : List (List ℕ) → RecordType → Key
 key owner record_type = (lower owner, type_number record_type)
 
@@ -36,12 +39,15 @@ some_row_below rows name = list_any (λ k. at_or_below name k.0) (rows_map.keys 
 
 -- ---- rows of records
 
+-- the type of a record
 abbrev pub type_of_record : Record → RecordType
 type_of_record r = data_type r.rdata
 
+-- the TTL and the data of a record
 abbrev pub row_of : Record → Row
 row_of r = record { ttl = r.ttl; rdata = r.rdata }
 
+-- the rows of records
 abbrev pub rows_of : List Record → List Row
 rows_of records = map row_of records
 
@@ -49,6 +55,7 @@ rows_of records = map row_of records
 abbrev pub key_of : Record → Key
 key_of r = key r.name.labels (type_of_record r)
 
+-- the key of a set's rows
 abbrev pub set_key : RecordSetValue → Key
 set_key s = key s.name.labels s.record_type
 

@@ -19,6 +19,7 @@ use dns_wire::{
 };
 use std::alloc::{AllocError, Global};
 use std::cmp::Ordering;
+use std::fmt;
 
 /// A record, with data of one type or of any.
 pub struct Record<R: RecordData = RData> {
@@ -197,7 +198,7 @@ impl<R: RecordData + Clone> Clone for Record<R> {
 
 impl Record {
     ghost use Rattle.dns_codes.specs.declared.dns_class.DNSClass.TheVariants.{IN};
-    ghost use Rattle.dns_records.specs.Record.{head_pieces, record_of_rdata, ReadsRecord, RefusesRecord};
+    ghost use Rattle.dns_records.specs.Record.{head_pieces, record_of_rdata, IsInlineRecord, ReadsRecord, RefusesRecord};
     ghost use Rattle.dns_records.specs.RecordRef.{borrowed_record};
 
     /// Creates a record without data, as updates have them (RFC 2136 section 2.4).
@@ -222,9 +223,10 @@ impl Record {
         Some(RecordRef::new(&self.name, self.dns_class, self.ttl, rdata))
     }
 
-    /// Copies the record.
+    /// Copies the record. A short owner, numbers, addresses and short names take no memory.
     pub fn clone(&self) -> Result<Record, AllocError>
-        ensures { IfOk result (λ copy. copy ≡ self.now) }
+        ensures ok { IfOk result (λ copy. copy ≡ self.now) }
+        ensures inline { IsInlineRecord self.now → IsOk result }
     {
         Ok(Record {
             name: self.name.clone()?,
@@ -278,5 +280,19 @@ impl BinEncodable for Record {
         let kind = self.rdata.record_type();
         self.name.emit(encoder)?;
         emit_behind_owner(kind, self.dns_class, self.ttl, &self.rdata, encoder)
+    }
+}
+
+impl<R: RecordData + fmt::Display> fmt::Display for Record<R> {
+    ghost use Rattle.dns_records.specs.Record.{record_output};
+
+    ghost output = { record_output R.rdata R.output };
+
+    /// Writes the record as a line of a zone file, without the line's end: owner, TTL, class, type and data, separated by
+    /// single spaces, such as `a.t. 60 IN A 10.0.0.1` (RFC 1035 section 5.1).
+    fn fmt<W: fmt::Write>(&self, f: &mut fmt::Formatter<W>) -> fmt::Result {
+        let record_type = self.record_type();
+        let (name, dns_class, ttl, rdata) = (&self.name, self.dns_class, self.ttl, &self.rdata);
+        write!(f, "{name} {ttl} {dns_class} {record_type} {rdata}")
     }
 }

@@ -1,6 +1,6 @@
 //! What precedes the data of a record (RFC 1035 section 4.1.3).
 
-ghost use Rattle.std.specs.Prelude.{◌≡◌, ◌≢◌, IfOk, IfErr, OnErr};
+ghost use Rattle.std.specs.Prelude.{◌≡◌, ◌≢◌, ◌<◌, [], ◌∷◌, true, length, drop, IfOk, IfErr, IsOk, OnErr, Err};
 ghost use Rattle.dns_records.specs.RecordHead.{class_for};
 
 use crate::record::Record;
@@ -26,7 +26,10 @@ pub struct RecordHead {
 impl RecordHead {
     ghost use Rattle.dns_codes.specs.DNSClass.{class_number};
     ghost use Rattle.dns_records.specs.RecordHead.{ReadsHead, RefusesHead};
-    ghost use Rattle.dns_records.specs.Record.{ReadsDataOf, RefusesDataOf};
+    ghost use Rattle.dns_data.specs.Field.{Opaque};
+    ghost use Rattle.dns_data.specs.Memory.{are_fixed};
+    ghost use Rattle.dns_data.specs.rdata.{kinds_of_number};
+    ghost use Rattle.dns_records.specs.Record.{ReadsDataOf, RefusesDataOf, RefusesDataOfEarly};
 
     /// Reads owner, type, class, TTL and the length of the data. A failed read leaves the decoder unchanged.
     ///
@@ -69,7 +72,8 @@ impl RecordHead {
         })
     }
 
-    /// Reads the data of the record, which takes exactly its length. A failed read leaves the decoder unchanged.
+    /// Reads the data of the record, which takes exactly its length. A failed read leaves the decoder unchanged. Data without
+    /// bytes takes no memory, and neither do numbers and addresses.
     pub fn read_data(
         self,
         alloc: Global,
@@ -79,6 +83,15 @@ impl RecordHead {
             self found decoder.new.index) }
         ensures refused { IfErr result (λ error. error ≢ DecodeError.Memory
             → RefusesDataOf decoder.old.bytes decoder.old.index self error) }
+        ensures empty { self.len ≡ 0 → IsOk result }
+        ensures fixed { are_fixed (kinds_of_number self.record_type) ≡ true
+            → IfErr result (λ error. error ≢ DecodeError.Memory) }
+        ensures fault { (error : DecodeError)
+            → RefusesDataOfEarly decoder.old.bytes decoder.old.index self error
+            → result ≡ Err error }
+        ensures opaque { kinds_of_number self.record_type ≡ Opaque ∷ []
+            → length (drop decoder.old.index decoder.old.bytes) < self.len
+            → result ≡ Err DecodeError.InsufficientBytes }
         ensures bytes { decoder.new.bytes ≡ decoder.old.bytes }
         ensures err { OnErr result (decoder.new ≡ decoder.old) }
     {

@@ -9,6 +9,7 @@ use dns_data::RecordData;
 use dns_names::Name;
 use dns_wire::{DNSClass, RecordType};
 use std::alloc::AllocError;
+use std::fmt;
 
 /// A record whose owner and data are borrowed. The data is of one type.
 #[derive(Drop)]
@@ -88,5 +89,18 @@ impl<'a, R: RecordData + Clone> RecordRef<'a, R> {
             ttl: self.ttl,
             rdata: self.rdata.clone()?,
         })
+    }
+}
+
+impl<'a, R: RecordData + fmt::Display> fmt::Display for RecordRef<'a, R> {
+    ghost use Rattle.dns_records.specs.Record.{record_output};
+
+    ghost output = { λ r. record_output R.rdata R.output (borrowed_record r) };
+
+    /// Writes the record that is borrowed as a line of a zone file, without the line's end (RFC 1035 section 5.1).
+    fn fmt<W: fmt::Write>(&self, f: &mut fmt::Formatter<W>) -> fmt::Result {
+        let record_type = self.record_type();
+        let (name, dns_class, ttl, rdata) = (self.name, self.dns_class, self.ttl, self.rdata);
+        write!(f, "{name} {ttl} {dns_class} {record_type} {rdata}")
     }
 }

@@ -1,6 +1,6 @@
 //! Lists, as contracts see them.
 
-ghost use Rattle.std.specs.Prelude.{◌≡◌, ◌<◌, ◌==◌, [], ◌∷◌, ◌++◌, IfOk, OnOk, OnErr, length, option_copied, slice_get, slice_index_or, slice_set};
+ghost use Rattle.std.specs.Prelude.{◌≡◌, ◌<◌, ◌==◌, [], ◌∷◌, ◌++◌, IfOk, IsOk, OnOk, OnErr, length, option_copied, slice_get, slice_index_or, slice_set};
 ghost use Rattle.std.specs.Fn.{CalledAt};
 ghost use Rattle.std.specs.Iterator.Runs.{EveryRun, ItemsMapTo};
 ghost use Rattle.std.specs.List.{remove};
@@ -160,13 +160,18 @@ impl<T: Clone> Clone for Sequence<T> {
 
     ghost is_clone = { AllZip T.is_clone };
 
-    /// Copies each item, in order.
+    /// Copies each item, in order. An empty list takes no memory.
     fn clone(&self) -> Result<Sequence<T>, AllocError>
         ensures copies { IfOk result (AllZip T.is_clone self.now) }
         ensures identical { IfOk result (λ copy.
             ((x y : T) → T.is_clone x y → y ≡ x) → copy ≡ self.now) }
+        ensures empty { self.now ≡ [] → IsOk result }
     {
-        let items = Vec::from_clones(*self.items.allocator(), self.items.as_slice())?;
+        let alloc = *self.items.allocator();
+        if self.items.is_empty() {
+            return Ok(Sequence::new(alloc));
+        }
+        let items = Vec::from_clones(alloc, self.items.as_slice())?;
         Ok(Sequence { items })
     }
 }

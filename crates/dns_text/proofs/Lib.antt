@@ -7,3 +7,4 @@ pub mod TokenGrammarLaws
 pub mod TokenLaws
 pub mod ReadingLaws
 pub mod TtlLaws
+pub mod UsageLaws

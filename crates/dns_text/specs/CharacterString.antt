@@ -5,6 +5,7 @@ use Rattle.dns_names.specs.Print.{escape_sequence}
 
 -- ---- parsing
 
+-- the octet of an escape, if it is valid
 abbrev pub octet_of : Symbol → Option ℕ
 octet_of (Escaped octet) = Some octet
 octet_of _ = None
@@ -39,9 +40,11 @@ octet_text c =
     else if nat_le 32 c && nat_le c 126 then c ∷ []
     else escape_sequence c
 
+-- the text of octets between quotes
 abbrev pub escaped_text : List ℕ → List ℕ
 escaped_text [] = []
 escaped_text (c ∷ cs) = octet_text c ++ escaped_text cs
 
+-- the text of octets, with the quotes
 abbrev pub quoted_text : List ℕ → List ℕ
 quoted_text octets = 34 ∷ escaped_text octets ++ 34 ∷ []

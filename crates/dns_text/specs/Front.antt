@@ -4,6 +4,7 @@ use Rattle.std.specs.Str.{bytes_eq}
 
 -- ---- lines
 
+-- whether a text begins with a line feed
 abbrev pub begins_with_feed : List ℕ → Bool
 begins_with_feed [] = false
 begins_with_feed (c ∷ cs) = c == 10
@@ -67,6 +68,7 @@ abbrev pub quoted : Option ℕ → List ℕ → Front
 quoted None text = Broken
 quoted (Some n) text = if bytes_eq (take 1 (drop n text)) (34 ∷ []) then Quoted n else Unclosed
 
+-- a word of this length, unless its last backslash has nothing to escape
 abbrev pub word : Option ℕ → Front
 word None = Broken
 word (Some n) = Word n

@@ -45,6 +45,7 @@ pub data FrontItem : Type 0 where
   Unclosed : FrontItem
   Broken : FrontItem
 
+-- what a text begins with: its end, the end of a line, a blank, a comment, a parenthesis, a string, a word, or a fault
 pub data IsInFront : List ℕ → FrontItem → Type 0 where
   text_end : IsInFront [] TextEnd
   line_end : {text rest : List ℕ} → EndsLine text rest → IsInFront text (LineEnd rest)
@@ -53,13 +54,16 @@ pub data IsInFront : List ℕ → FrontItem → Type 0 where
   comment : {text rest : List ℕ} → LineGoesTo text rest → IsInFront (59 ∷ text) (Comment rest)
   opening : {rest : List ℕ} → IsInFront (40 ∷ rest) (Open rest)
   closing : {rest : List ℕ} → IsInFront (41 ∷ rest) (Close rest)
-  quoted_string : {text string rest : List ℕ} → RunGoesTo InQuotes text string (34 ∷ rest) → IsInFront (34 ∷ text) (Quoted string rest)
+  quoted_string : {text string rest : List ℕ} → RunGoesTo InQuotes text string (34 ∷ rest)
+      → IsInFront (34 ∷ text) (Quoted string rest)
   -- a word has at least one character
-  word : {c : ℕ} {text run rest : List ℕ} → RunGoesTo Bare text (c ∷ run) rest → IsRunOver Bare rest → IsInFront text (Word (c ∷ run) rest)
+  word : {c : ℕ} {text run rest : List ℕ} → RunGoesTo Bare text (c ∷ run) rest → IsRunOver Bare rest
+      → IsInFront text (Word (c ∷ run) rest)
   -- the line is over before a quoted string is closed
   unclosed : {text string rest : List ℕ} → RunGoesTo InQuotes text string rest → IsLineOver rest → IsInFront (34 ∷ text) Unclosed
   -- the line is over right after a backslash, which has nothing to escape
-  broken_string : {text string rest : List ℕ} → RunGoesTo InQuotes text string (92 ∷ rest) → IsLineOver rest → IsInFront (34 ∷ text) Broken
+  broken_string : {text string rest : List ℕ} → RunGoesTo InQuotes text string (92 ∷ rest) → IsLineOver rest
+      → IsInFront (34 ∷ text) Broken
   broken_word : {text run rest : List ℕ} → RunGoesTo Bare text run (92 ∷ rest) → IsLineOver rest → IsInFront text Broken
 
 -- the item of a text that `front` finds, with the rest of the text

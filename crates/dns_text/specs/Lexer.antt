@@ -17,6 +17,7 @@ pub data Lexeme : Type 0 where
   Ttl : Lexeme
   EOL : Lexeme
 
+-- the token of a word: `@`, a directive at the start of an entry, or the word itself (RFC 1035 section 5.1)
 abbrev pub word_token : Bool → List ℕ → Lexeme
 word_token is_front text =
     if bytes_eq text (codes "@") then At
@@ -35,6 +36,7 @@ pub record LexerState : Type 0 where
   pub is_open : Bool
   pub is_front : Bool
 
+-- the state at the start of a text
 abbrev pub start : List ℕ → LexerState
 start text = record { text = text; line = 1; entry = 1; is_open = false; is_front = true }
 
@@ -64,13 +66,15 @@ step_past (Word n) p = Yields (word_token p.is_front (take n p.text)) (past n p)
 step_past Unclosed p = Refuses (fault.UnclosedQuotedString p.line)
 step_past Broken p = Refuses (fault.LoneBackslash p.line)
 
+-- the outcome of scanning the item that the text of a state begins with
 abbrev pub step : LexerState → Step
 step p = step_past (front p.text) p
 
 -- The next token from a state on, or none at the end of the text, or the first fault, with the state after it. The end and
 -- a fault leave the state as it is.
 pub data NextToken : LexerState → Result (Option Lexeme) LexerError → LexerState → Type 0 where
-  past_nothing : {p next end : LexerState} {found : Result (Option Lexeme) LexerError} → step p ≡ Skips next → NextToken next found end → NextToken p found end
+  past_nothing : {p next end : LexerState} {found : Result (Option Lexeme) LexerError} → step p ≡ Skips next
+      → NextToken next found end → NextToken p found end
   at_token : {p next : LexerState} {token : Lexeme} → step p ≡ Yields token next → NextToken p (Ok (Some token)) next
   at_end : {p : LexerState} → step p ≡ Ends → NextToken p (Ok None) p
   at_fault : {p : LexerState} {error : LexerError} → step p ≡ Refuses error → NextToken p (Err error) p

@@ -5,6 +5,7 @@ use Rattle.dns_text.specs.declared.error.LexerError.{LexerError}
 use Rattle.dns_text.specs.declared.token.Token.{Token}
 use Rattle.dns_text.specs.declared.token.Token.TheVariants.{Blank, CharData, Quoted, At, Include, Origin, Ttl, EOL}
 
+-- the code's token as that of the definitions
 abbrev pub lexeme : Token → text.Lexeme
 lexeme Blank = text.Blank
 lexeme (CharData bytes) = text.CharData bytes.now

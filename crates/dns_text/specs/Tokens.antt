@@ -12,7 +12,8 @@ pub data LexesTo : LexerState → List Lexeme → LexerState → Type 0 where
 -- a run: characters that do not stop it, and pairs of a backslash and a character, none of which can end a line
 pub data IsRun : Run → List ℕ → Type 0 where
   no_character : {r : Run} → IsRun r []
-  one_character : {r : Run} {c : ℕ} {run : List ℕ} → c ≢ 10 → c ≢ 13 → stops r c ≡ false → c ≢ 92 → IsRun r run → IsRun r (c ∷ run)
+  one_character : {r : Run} {c : ℕ} {run : List ℕ} → c ≢ 10 → c ≢ 13 → stops r c ≡ false → c ≢ 92 → IsRun r run
+      → IsRun r (c ∷ run)
   one_escape : {r : Run} {c : ℕ} {run : List ℕ} → c ≢ 10 → c ≢ 13 → IsRun r run → IsRun r (92 ∷ c ∷ run)
 
 -- what the data of an entry consists of: a word that is neither `@` nor a directive, or a quoted string
@@ -21,6 +22,7 @@ IsDatum (CharData word) = (0 < length word) × IsRun Bare word × (word_token tr
 IsDatum (QuotedString string) = IsRun InQuotes string
 IsDatum _ = ⊥
 
+-- the text of a datum: a word as it is, and a string between quotes
 abbrev pub datum_text : Lexeme → List ℕ
 datum_text (CharData word) = word
 datum_text (QuotedString string) = 34 ∷ string ++ 34 ∷ []

@@ -40,6 +40,7 @@ abbrev pub product : Option ℕ → Option ℕ → Option ℕ
 product (Some a) (Some b) = Some (a * b)
 product _ _ = None
 
+-- the sum of two numbers, if there are two
 abbrev pub sum_of : Option ℕ → Option ℕ → Option ℕ
 sum_of (Some a) (Some b) = Some (a + b)
 sum_of _ _ = None

@@ -1,6 +1,6 @@
 //! Character strings in text (RFC 1035 section 5.1).
 
-ghost use Rattle.std.specs.Prelude.{◌≡◌, ◌+◌, ◌≤◌, ◌<◌, length, IfOk, IfSome, MatchOption, Option, Some, None, option_map};
+ghost use Rattle.std.specs.Prelude.{◌≡◌, ◌+◌, ◌≤◌, ◌<◌, [], length, IsOk, IfOk, IfSome, MatchOption, Option, Some, None, option_map};
 ghost use Rattle.std.specs.Fmt.{WritesOnOk};
 ghost use Rattle.dns_names.specs.Parse.{more_len};
 ghost use Rattle.dns_names.specs.Print.{escape_sequence};
@@ -14,8 +14,9 @@ use std::fmt;
 /// digits up to 255 denote an octet, a backslash and another printable ASCII character that character, and any other
 /// character itself. The result is `None` if the text has a backslash without a valid escape.
 pub fn unescape(alloc: Global, text: &[u8]) -> Result<Option<Vec<u8>>, AllocError>
-    ensures { IfOk result (λ found. MatchOption found (unescaped text.now ≡ None)
+    ensures ok { IfOk result (λ found. MatchOption found (unescaped text.now ≡ None)
         (λ octets. unescaped text.now ≡ Some octets.items)) }
+    ensures decided { text.now ≡ [] → IsOk result }
 {
     let mut octets = Vec::new(alloc);
     let mut place = 0;

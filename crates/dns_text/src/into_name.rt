@@ -1,10 +1,10 @@
 //! Conversion into names.
 
-ghost use Rattle.std.specs.Prelude.{◌≡◌, Result, Option, Ok, None, string_bytes};
+ghost use Rattle.std.specs.Prelude.{◌≡◌, Result, Option, Ok, None, IsOk, string_bytes};
 ghost use Rattle.dns_wire.specs.Error.{IsUnless};
 ghost use Rattle.std.specs.declared.net.ip_addr.IpAddr.{IpAddr};
 ghost use Rattle.dns_text.specs.Address.{IsTextOf};
-ghost use Rattle.dns_names.specs.Name.{DomainName};
+ghost use Rattle.dns_names.specs.Name.{DomainName, IsInline};
 ghost use Rattle.dns_names.specs.Parse.{name_of_text};
 ghost use Rattle.dns_names.specs.declared.error.ParseError.{ParseError};
 
@@ -21,9 +21,11 @@ pub trait IntoName: Sized {
     /// Whether this is the address that the value spells, or `None` if it spells none.
     ghost is_ip: { Self → Option IpAddr → Type 0 };
 
-    /// Converts the value into a name.
+    /// Converts the value into a name. A name that is stored inline takes no memory.
     fn into_name(self, alloc: Global) -> Result<Name, ParseError>
-        ensures { IsUnless ParseError.Memory (name self) result };
+        ensures outcome { IsUnless ParseError.Memory (name self) result }
+        ensures inline { (made : DomainName) → name self ≡ Ok made → IsInline made.labels
+            → IsOk result };
 
     /// Returns the address that the text spells, if it spells one.
     fn to_ip(&self) -> Option<IpAddr>

@@ -1,8 +1,9 @@
 //! Special-use names (RFC 6761).
 
-ghost use Rattle.std.specs.Prelude.{◌≡◌, ◌+◌, ◌≤◌, ◌++◌, ◌∷◌, [], IfOk};
+ghost use Rattle.std.specs.Prelude.{◌≡◌, ◌+◌, ◌≤◌, ◌++◌, ◌∷◌, [], length, IsOk, IfOk};
 ghost use Rattle.dns_wire.specs.Name.{IsLabel, name_len, max_name_len};
 ghost use Rattle.dns_names.specs.Compare.{at_or_below};
+ghost use Rattle.dns_names.specs.Name.{IsInline};
 ghost use Rattle.dns_text.specs.Usage.{is_loopback, is_nonexistent, zone_name, resolver_usage, localhost_zone, in_addr_arpa_127_zone, ip6_arpa_1_zone, local_zone, invalid_zone, onion_zone, root_zone};
 
 use dns_names::Name;
@@ -52,9 +53,10 @@ impl ZoneUsage {
     }
 }
 
-/// Returns the zone `localhost.`, whose names denote the local host (RFC 6761 section 6.3).
+/// Returns the zone `localhost.`, whose names denote the local host (RFC 6761 section 6.3). No memory is taken.
 pub fn localhost(alloc: Global) -> Result<ZoneUsage, AllocError>
-    ensures { IfOk result (λ usage. usage ≡ localhost_zone) }
+    ensures ok { IfOk result (λ usage. usage ≡ localhost_zone) }
+    ensures inline { IsOk result }
 {
     Ok(ZoneUsage {
         name: with_label(Name::root(alloc), b"localhost")?,
@@ -62,9 +64,11 @@ pub fn localhost(alloc: Global) -> Result<ZoneUsage, AllocError>
     })
 }
 
-/// Returns the zone `127.in-addr.arpa.`, whose names are those of the loopback addresses (RFC 6303 section 4.2).
+/// Returns the zone `127.in-addr.arpa.`, whose names are those of the loopback addresses (RFC 6303 section 4.2). No memory is
+/// taken.
 pub fn in_addr_arpa_127(alloc: Global) -> Result<ZoneUsage, AllocError>
-    ensures { IfOk result (λ usage. usage ≡ in_addr_arpa_127_zone) }
+    ensures ok { IfOk result (λ usage. usage ≡ in_addr_arpa_127_zone) }
+    ensures inline { IsOk result }
 {
     let name = with_label(Name::root(alloc), b"127")?;
     let name = with_label(name, b"in-addr")?;
@@ -84,9 +88,10 @@ pub fn ip6_arpa_1(alloc: Global) -> Result<ZoneUsage, AllocError>
     })
 }
 
-/// Returns the zone `local.`, whose names belong to the local link (RFC 6762 section 3).
+/// Returns the zone `local.`, whose names belong to the local link (RFC 6762 section 3). No memory is taken.
 pub fn local(alloc: Global) -> Result<ZoneUsage, AllocError>
-    ensures { IfOk result (λ usage. usage ≡ local_zone) }
+    ensures ok { IfOk result (λ usage. usage ≡ local_zone) }
+    ensures inline { IsOk result }
 {
     Ok(ZoneUsage {
         name: with_label(Name::root(alloc), b"local")?,
@@ -94,9 +99,10 @@ pub fn local(alloc: Global) -> Result<ZoneUsage, AllocError>
     })
 }
 
-/// Returns the zone `invalid.`, whose names do not exist (RFC 6761 section 6.4).
+/// Returns the zone `invalid.`, whose names do not exist (RFC 6761 section 6.4). No memory is taken.
 pub fn invalid(alloc: Global) -> Result<ZoneUsage, AllocError>
-    ensures { IfOk result (λ usage. usage ≡ invalid_zone) }
+    ensures ok { IfOk result (λ usage. usage ≡ invalid_zone) }
+    ensures inline { IsOk result }
 {
     Ok(ZoneUsage {
         name: with_label(Name::root(alloc), b"invalid")?,
@@ -104,9 +110,10 @@ pub fn invalid(alloc: Global) -> Result<ZoneUsage, AllocError>
     })
 }
 
-/// Returns the zone `onion.`, whose names do not exist in the DNS (RFC 7686 section 2).
+/// Returns the zone `onion.`, whose names do not exist in the DNS (RFC 7686 section 2). No memory is taken.
 pub fn onion(alloc: Global) -> Result<ZoneUsage, AllocError>
-    ensures { IfOk result (λ usage. usage ≡ onion_zone) }
+    ensures ok { IfOk result (λ usage. usage ≡ onion_zone) }
+    ensures inline { IsOk result }
 {
     Ok(ZoneUsage {
         name: with_label(Name::root(alloc), b"onion")?,
@@ -128,7 +135,10 @@ pub fn default(alloc: Global) -> ZoneUsage
 fn with_label(name: Name, label: &[u8]) -> Result<Name, AllocError>
     requires is_label { IsLabel label.now }
     requires fits { name_len (name.labels ++ label.now ∷ []) ≤ max_name_len }
-    ensures { IfOk result (λ made. made ≡ record name { labels = name.labels ++ label.now ∷ [] }) }
+    ensures ok { IfOk result (λ made. made
+        ≡ record name { labels = name.labels ++ label.now ∷ [] }) }
+    ensures inline { length label.now ≤ 24 → IsInline (name.labels ++ label.now ∷ [])
+        → IsOk result }
 {
     match name.append_label(label) {
         Ok(made) => Ok(made),

@@ -4,3 +4,4 @@ pub mod CodeLaws
 pub mod ChangeLaws
 pub mod UpdateLaws
 mod UpdateRows
+mod VoidLaws

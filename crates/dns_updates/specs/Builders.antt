@@ -45,6 +45,7 @@ default_edns = record {
 abbrev pub zone_section : DomainName → DNSClass → List Query
 zone_section origin dns_class = record { name = origin; query_type = types.SOA; query_class = dns_class } ∷ []
 
+-- an update with a zone section, prerequisites and updates, which has no additional records (RFC 2136 section 2)
 abbrev pub message_of : ℕ → List Query → Bool → List Record → List Record → Message
 message_of id zones use_edns prerequisites updates = record {
   metadata = update_metadata id;
@@ -71,34 +72,41 @@ as_deletions records = each_of_class classes.NONE (each_with_ttl 0 records)
 
 -- ---- the builders
 
+-- a set is added, if the zone has no records of its owner and type (RFC 2136 section 2.4.3)
 abbrev pub create_message : ℕ → RecordSetValue → DomainName → Bool → Message
 create_message id s origin use_edns =
     update_message id origin s.dns_class use_edns (empty_record classes.NONE s.name s.record_type ∷ []) s.records
 
+-- a set is added; if so asked, only to records of its owner and type (RFC 2136 section 2.4.1)
 abbrev pub append_message : ℕ → RecordSetValue → DomainName → Bool → Bool → Message
 append_message id s origin must_exist use_edns =
     update_message id origin s.dns_class use_edns
     (if must_exist then empty_record classes.ANY s.name s.record_type ∷ [] else []) s.records
 
+-- a set replaces another, if the zone has exactly the data of that one (RFC 2136 section 2.4.2)
 abbrev pub compare_and_swap_message : ℕ → RecordSetValue → RecordSetValue → DomainName → Bool → Message
 compare_and_swap_message id current new origin use_edns =
     update_message id origin new.dns_class use_edns
     (each_with_ttl 0 current.records) (as_deletions current.records ++ new.records)
 
+-- the records with the data of a set are deleted (RFC 2136 section 2.5.4)
 abbrev pub delete_by_rdata_message : ℕ → RecordSetValue → DomainName → Bool → Message
 delete_by_rdata_message id s origin use_edns =
     update_message id origin s.dns_class use_edns [] (as_deletions s.records)
 
+-- the records of a record's owner and type are deleted (RFC 2136 section 2.5.2)
 abbrev pub delete_rrset_message : ℕ → Record → DomainName → Bool → Message
 delete_rrset_message id r origin use_edns =
     update_message id origin r.dns_class use_edns [] (empty_record classes.ANY r.name (type_of_record r) ∷ [])
 
+-- all records of a name are deleted (RFC 2136 section 2.5.3)
 abbrev pub delete_all_message : ℕ → DomainName → DomainName → DNSClass → Bool → Message
 delete_all_message id owner origin dns_class use_edns =
     update_message id origin dns_class use_edns [] (empty_record classes.ANY owner types.ANY ∷ [])
 
 -- ---- what they change
 
+-- the data of records, in order
 abbrev pub data_of : List Record → List RData
 data_of records = map (λ r. r.rdata) records
 
@@ -106,6 +114,7 @@ data_of records = map (λ r. r.rdata) records
 abbrev pub present : Rows → RecordSetValue → List Row
 present rows s = rows_at rows s.name.labels s.record_type
 
+-- whether the zone has rows of the owner and type of a set
 abbrev pub is_present : Rows → RecordSetValue → Bool
 is_present rows s = has_set rows s.name s.record_type
 

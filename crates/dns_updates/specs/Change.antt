@@ -1,6 +1,6 @@
 -- What an update changes that is answered with NoError (RFC 2136 section 3.4.2).
 use Rattle.std.specs.Prelude.{◌==◌, ◌&&◌, ◌||◌, not, if◌then◌else◌, Bool, true, false, List, [], ◌∷◌, ℕ, length}
-use Rattle.std.specs.List.{filter, fold}
+use Rattle.std.specs.List.{filter, fold, list_all}
 use Rattle.std.specs.FinMap as rows_map
 use Rattle.dns_codes.specs.RecordType.{type_number}
 use Rattle.dns_codes.specs.SerialNumber.{serial_order}
@@ -28,6 +28,7 @@ abbrev pub with_row : List Row → Row → List Row
 with_row [] row = row ∷ []
 with_row (old ∷ more) row = if same_data old.rdata row.rdata then row ∷ more else old ∷ with_row more row
 
+-- whether one serial number precedes another; neither does if they are equal or 2^31 apart
 abbrev pub is_less : SerialOrder → Bool
 is_less order.Less = true
 is_less other = false
@@ -37,6 +38,7 @@ abbrev pub succeeds : RData → RData → Bool
 succeeds (of.SOA new) (of.SOA old) = is_less (serial_order old.serial new.serial)
 succeeds new old = false
 
+-- whether there is an SOA, and a record is an SOA with a greater serial number
 abbrev pub succeeds_soa : List Row → Record → Bool
 succeeds_soa [] r = false
 succeeds_soa (old ∷ more) r = succeeds r.rdata old.rdata
@@ -54,6 +56,7 @@ set_with rows r =
     if is_of_type types.CNAME r || is_of_type types.SOA r then row_of r ∷ []
     else with_row (set_of rows r) (row_of r)
 
+-- the rows after an addition
 abbrev pub added : Rows → Record → Rows
 added rows r = if is_ignored rows r then rows else with_set rows (key_of r) (set_with rows r)
 
@@ -74,6 +77,7 @@ abbrev pub without_set : DomainName → Rows → DomainName → RecordType → R
 without_set origin rows owner t =
     if is_kept_set origin owner (type_number t) then rows else rows_map.remove rows (key owner.labels t)
 
+-- rows without those of equal data
 abbrev pub without_data : List Row → RData → List Row
 without_data rows d = filter (λ row. not (same_data row.rdata d)) rows
 
@@ -83,12 +87,14 @@ keeps_rows origin rows r =
     is_of_type types.SOA r
     || (is_of_type types.NS r && (is_origin origin r.name && (length (set_of rows r) == 1)))
 
+-- the rows after the deletion of the rows with the data of a record
 abbrev pub without_row : DomainName → Rows → Record → Rows
 without_row origin rows r =
     if keeps_rows origin rows r then rows else with_set rows (key_of r) (without_data (set_of rows r) r.rdata)
 
 -- ---- updates
 
+-- the rows after an update of a class: IN adds, ANY deletes sets, and NONE deletes rows
 abbrev pub change_of_class : DomainName → Rows → DNSClass → Record → Rows
 change_of_class origin rows classes.IN r = added rows r
 change_of_class origin rows classes.ANY r =
@@ -97,8 +103,22 @@ change_of_class origin rows classes.ANY r =
 change_of_class origin rows classes.NONE r = without_row origin rows r
 change_of_class origin rows other r = rows
 
+-- the rows after an update
 abbrev pub change : DomainName → Rows → Record → Rows
 change origin rows r = change_of_class origin rows r.dns_class r
+
+-- Whether an update is without effect because its type, its class, a CNAME at its owner or its set forbids the change: an addition
+-- that is ignored and is no CNAME, a deletion of a set or a row that is kept, and an update of another class.
+abbrev pub is_void_in_class : DomainName → Rows → DNSClass → Record → Bool
+is_void_in_class origin rows classes.IN r = not (is_of_type types.CNAME r) && is_ignored rows r
+is_void_in_class origin rows classes.ANY r =
+    not (is_of_type types.ANY r) && is_kept_set origin r.name (type_number (type_of_record r))
+is_void_in_class origin rows classes.NONE r = keeps_rows origin rows r
+is_void_in_class origin rows other r = true
+
+-- whether all updates are without effect for these reasons
+abbrev pub are_void : DomainName → Rows → List Record → Bool
+are_void origin rows records = list_all (λ r. is_void_in_class origin rows r.dns_class r) records
 
 -- the rows after all updates, in order
 abbrev pub update_change : DomainName → Rows → Message → Rows

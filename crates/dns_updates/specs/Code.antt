@@ -15,14 +15,17 @@ use Rattle.dns_messages.specs.declared.query.Query.{Query}
 use Rattle.dns_messages.specs.declared.message.Message.{Message}
 use Rattle.dns_updates.specs.Records.{is_type, is_of_type, is_in_class, has_data, is_in_zone, is_origin, is_meta_type, is_transfer_type, has_set, has_rows, same_data_set}
 
+-- a fault, or else the code that comes next
 abbrev pub first_fault : ResponseCode → ResponseCode → ResponseCode
 first_fault NoError next = next
 first_fault fault next = fault
 
+-- the first fault of some items, in order, or NoError
 abbrev pub first_fault_of : {A : Type 0} → (A → ResponseCode) → List A → ResponseCode
 first_fault_of code [] = NoError
 first_fault_of code (x ∷ xs) = first_fault (code x) (first_fault_of code xs)
 
+-- a fault, if a test holds
 abbrev pub fault_if : Bool → ResponseCode → ResponseCode
 fault_if test fault = if test then fault else NoError
 
@@ -54,6 +57,7 @@ test_code rows classes.NONE r = first_fault (fault_if (has_data r) FormErr) (abs
 test_code rows classes.IN r = NoError
 test_code rows other r = FormErr
 
+-- the code of a prerequisite: its TTL is zero, its owner is in the zone, and its test passes
 abbrev pub prerequisite_code : DomainName → Rows → Record → ResponseCode
 prerequisite_code origin rows r =
     first_fault (fault_if (not (r.ttl == 0)) FormErr)
@@ -64,6 +68,7 @@ abbrev pub is_required_with : Record → Record → Bool
 is_required_with r p =
     is_in_class p.dns_class && (same_labels r.name.labels p.name.labels && is_type (type_of_record r) (type_of_record p))
 
+-- the data that prerequisites of class IN require of the owner and type of a record, in order
 abbrev pub required_data : List Record → Record → List RData
 required_data prerequisites r = map (λ p. p.rdata) (filter (is_required_with r) prerequisites)
 
@@ -72,6 +77,7 @@ abbrev pub has_required : Rows → List Record → Record → Bool
 has_required rows prerequisites r =
     same_data_set (required_data prerequisites r) (map (λ row. row.rdata) (rows_at rows r.name.labels (type_of_record r)))
 
+-- NXRRSet, unless the zone has every set of data that is required (RFC 2136 section 3.2.3)
 abbrev pub sets_code : Rows → List Record → ResponseCode
 sets_code rows prerequisites =
     fault_if (not (list_all (has_required rows prerequisites) (filter (λ r. is_in_class r.dns_class) prerequisites))) NXRRSet
@@ -90,12 +96,14 @@ is_bad_set_deletion r = not (r.ttl == 0) || (has_data r || is_transfer_type (typ
 abbrev pub is_bad_row_deletion : Record → Bool
 is_bad_row_deletion r = not (r.ttl == 0) || (is_of_type types.ANY r || is_transfer_type (type_of_record r))
 
+-- whether an update breaks the rules of its class, or has a class without rules (RFC 2136 section 3.4.1.2)
 abbrev pub is_malformed : DNSClass → Record → Bool
 is_malformed classes.IN r = is_bad_addition r
 is_malformed classes.ANY r = is_bad_set_deletion r
 is_malformed classes.NONE r = is_bad_row_deletion r
 is_malformed other r = true
 
+-- the code of an update before any is applied: its owner is in the zone, and it is not malformed (RFC 2136 section 3.4.1)
 abbrev pub prescan_code : DomainName → Record → ResponseCode
 prescan_code origin r =
     first_fault (fault_if (not (is_in_zone origin r.name)) NotZone) (fault_if (is_malformed r.dns_class r) FormErr)

@@ -20,19 +20,24 @@ use Rattle.dns_records.specs.Rows.{Key, Rows, key, type_of_record}
 abbrev pub is_type : RecordType → RecordType → Bool
 is_type t u = type_number t == type_number u
 
+-- whether a record is of a type
 abbrev pub is_of_type : RecordType → Record → Bool
 is_of_type t r = is_type t (type_of_record r)
 
+-- whether a class is IN, the class of the zones that are served here
 abbrev pub is_in_class : DNSClass → Bool
 is_in_class classes.IN = true
 is_in_class other = false
 
+-- whether a record has data, unlike most prerequisites and deletions (RFC 2136 section 2.4)
 abbrev pub has_data : Record → Bool
 has_data r = not (is_update_data r.rdata)
 
+-- whether a name is at or below the origin of a zone
 abbrev pub is_in_zone : DomainName → DomainName → Bool
 is_in_zone origin owner = at_or_below origin.labels owner.labels
 
+-- whether a name is the origin of a zone, ignoring ASCII case
 abbrev pub is_origin : DomainName → DomainName → Bool
 is_origin origin owner = same_labels origin.labels owner.labels
 
@@ -41,6 +46,7 @@ abbrev pub is_meta_number : ℕ → Bool
 is_meta_number number =
     (number == 0) || ((number == 24) || ((number == 41) || (nat_le 128 number && nat_le number 255)))
 
+-- whether a type is one that no row has
 abbrev pub is_meta_type : RecordType → Bool
 is_meta_type t = is_meta_number (type_number t)
 
@@ -74,6 +80,7 @@ AreAliasesAlone rows = (k : Key) → rows_map.contains_key rows (alias_key k) �
 
 -- ---- sets of data
 
+-- whether equal data is in a list
 abbrev pub is_among : List RData → RData → Bool
 is_among xs d = list_any (same_data d) xs
 

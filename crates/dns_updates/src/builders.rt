@@ -1,6 +1,7 @@
 //! Builders of dynamic updates (RFC 2136 sections 2.4 and 2.5).
 //!
-//! Each makes a message for the zone with an origin. Names must be fully qualified, and at or below the origin.
+//! Each makes a message with an id for the zone that has the origin as its name. Names must be fully qualified, and at or below
+//! the origin. `use_edns` adds an OPT record.
 
 ghost use Rattle.std.specs.Prelude.{◌≡◌, ◌++◌, ◌∷◌, [], if◌then◌else◌, IfOk};
 ghost use Rattle.dns_records.specs.RecordSet.{each_with_ttl};

@@ -1,7 +1,7 @@
 //! The changes of an update that is answered with `NoError` (RFC 2136 section 3.4.2).
 
-ghost use Rattle.std.specs.Prelude.{◌≡◌, IfOk, OnOk};
-ghost use Rattle.dns_updates.specs.Change.{change, update_change};
+ghost use Rattle.std.specs.Prelude.{◌≡◌, true, Ok, IsOk, IfOk, OnOk};
+ghost use Rattle.dns_updates.specs.Change.{are_void, change, is_void_in_class, update_change};
 ghost use Rattle.dns_updates.specs.Changes.{overlay};
 
 mod additions;
@@ -28,15 +28,18 @@ pub struct Changes {
     pub sets: Vec<ChangedSet>,
 }
 
-/// Returns what an update that is answered with `NoError` changes in the zone with an origin, which stays as it is.
+/// Returns what an update that is answered with `NoError` changes in the zone with an origin, which stays as it is. Updates
+/// that are without effect because a record, a CNAME or a set forbids the change take no memory.
 pub fn update_changes<Z: ZoneRows>(
     alloc: Global,
     zone: &Z,
     origin: &Name,
     message: &Message,
 ) -> Result<Changes, AllocError>
-    ensures { IfOk result (λ changes. overlay (Z.rows zone.now) changes.sets.items
+    ensures change { IfOk result (λ changes. overlay (Z.rows zone.now) changes.sets.items
         ≡ update_change origin.now (Z.rows zone.now) message.now) }
+    ensures decided { are_void origin.now (Z.rows zone.now) message.now.authorities ≡ true
+        → IsOk result }
 {
     let mut sets = Vec::new(alloc);
     for update in message.authorities.as_slice() {
@@ -53,8 +56,11 @@ fn apply<Z: ZoneRows>(
     sets: &mut Vec<ChangedSet>,
     update: &Record,
 ) -> Result<(), AllocError>
-    ensures { OnOk result (overlay (Z.rows zone.now) sets.new.items
+    ensures change { OnOk result (overlay (Z.rows zone.now) sets.new.items
         ≡ change origin.now (overlay (Z.rows zone.now) sets.old.items) update.now) }
+    ensures decided { is_void_in_class origin.now (overlay (Z.rows zone.now) sets.old.items)
+        update.now.dns_class update.now ≡ true
+        → (result ≡ Ok tt) × (sets.new.items ≡ sets.old.items) }
 {
     match update.dns_class {
         DNSClass::IN => add(alloc, zone, sets, update),

@@ -128,7 +128,7 @@ pub fn updates_leave_no_empty_set()
 {}
 
 /// An update adds no rows beside a CNAME, and no CNAME beside rows (RFC 2136 section 3.4.2.2).
-pub fn updates_leave_aliases_alone()
+pub fn updates_add_nothing_beside_aliases()
     ensures { (origin : DomainName) (rows : Rows) (m : Message) → AreAliasesAlone rows
         → AreAliasesAlone (update_change origin rows m) }
 {

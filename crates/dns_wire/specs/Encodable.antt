@@ -3,9 +3,9 @@
 -- The encoding of a piece depends on its position: the offset, how names are encoded, the remembered suffixes and the
 -- number of names that were tried. It depends on no byte that was written before. Which pieces a value has can depend on
 -- the position too: names in record data are written whole and in lower case in canonical form (RFC 4034 section 6.2).
-use Rattle.std.specs.Prelude.{◌≡◌, ℕ, ◌+◌, ◌<◌, ◌≤◌, ◌↔◌, ◌⊎◌, nat_lt, Bool, false, ◌&&◌, if◌then◌else◌, List, [], ◌∷◌, ◌++◌, length, max, Result, Ok, Err, OnOk, OnErr}
+use Rattle.std.specs.Prelude.{◌≡◌, ℕ, ◌+◌, ◌<◌, ◌≤◌, ◌↔◌, ◌⊎◌, nat_lt, Bool, false, ◌&&◌, if◌then◌else◌, List, [], ◌∷◌, ◌++◌, length, max, Result, Ok, Err, IsOk, OnOk, OnErr}
 use Rattle.std.specs.List.{AllByRecursion}
-use Rattle.dns_wire.specs.Encoder.{Suffix, EncoderState, IsAtEnd, CanRollBack, overwrite_at, max_compressed_names}
+use Rattle.dns_wire.specs.Encoder.{Suffix, EncoderState, IsAtEnd, Overwrites, CanRollBack, overwrite_at, max_compressed_names}
 pub use Rattle.dns_wire.specs.Decodable.{BytesAt}
 use Rattle.dns_wire.specs.Name.{AreLabels}
 use Rattle.dns_wire.specs.Reading.{ReadsName}
@@ -32,6 +32,7 @@ pub record Position : Type 0 where
   pub suffixes : List Suffix
   pub attempts : ℕ
 
+-- the position of an encoder: its offset, and what decides how the next name is encoded
 abbrev pub position_of : EncoderState → Position
 position_of w = record {
   place = w.offset;
@@ -61,6 +62,7 @@ name_form s labels =
     if is_compressed s then compressed_form s.suffixes labels
     else whole_form (spelling s.encoding labels)
 
+-- the encoding of a piece at a position
 abbrev pub piece_form : Position → Piece → List ℕ
 piece_form s (Plain bytes) = bytes
 piece_form s (Domain labels) = name_form s labels
@@ -147,24 +149,28 @@ pub record Emits (old : EncoderState) (pieces : List Piece)
   pub back : OnErr result (CanRollBack old new)
 
 -- Writing bytes at the offset: they overwrite or extend the buffer; or they would pass the limit, or memory runs out, and
--- nothing changes. At the end of the buffer this emits them as one piece.
+-- nothing changes. Memory is taken only to extend the buffer, and only for bytes within the limit. At the end of the
+-- buffer this emits them as one piece.
 pub record Puts (old : EncoderState) (bytes : List ℕ)
     (result : Result (Unit {0}) EncodeError) (new : EncoderState) : Type 0 where
   pub ok : OnOk result (new ≡ overwrite_at old bytes)
   pub room : OnOk result (old.offset + length bytes ≤ old.limit)
   pub full : (result ≡ Err MaxBufferSizeExceeded) ↔ (old.limit < old.offset + length bytes)
+  pub decided : Overwrites old (length bytes) → IsOk result
   pub err : OnErr result (new ≡ old)
   pub at_end : IsAtEnd old → Emits old (Plain bytes ∷ []) result new
 
 -- Writing a character string at the offset, a length byte and the bytes (RFC 1035 section 3.3): they overwrite or extend
--- the buffer; or they would pass the limit, and nothing changes; or memory runs out, and the length byte may remain. At
--- the end of the buffer they are two pieces, and a refused write can be rolled back.
+-- the buffer; or they would pass the limit, and nothing changes; or memory runs out, and the length byte may remain.
+-- Memory is taken only to extend the buffer. At the end of the buffer they are two pieces, and a refused write can be
+-- rolled back.
 pub record PutsCharacterString {E : Type 0} (too_large : E) (old : EncoderState) (bytes : List ℕ)
     (result : Result (Unit {0}) E) (new : EncoderState) : Type 0 where
   pub ok : OnOk result (new ≡ overwrite_at (overwrite_at old (length bytes ∷ [])) bytes)
   pub room : OnOk result (old.offset + 1 + length bytes ≤ old.limit)
   pub full : (result ≡ Err too_large) ↔ (old.limit < old.offset + 1 + length bytes)
   pub no_room : old.limit < old.offset + 1 + length bytes → new ≡ old
+  pub decided : Overwrites old (1 + length bytes) → IsOk result
   pub err : OnErr result ((new ≡ old) ⊎ (new ≡ overwrite_at old (length bytes ∷ [])))
   pub appended : IsAtEnd old
       → OnOk result (new ≡ append_pieces old (Plain (length bytes ∷ []) ∷ Plain bytes ∷ []))
@@ -195,6 +201,7 @@ IsWritable (Plain bytes) = Unit {0}
 IsWritable (Domain labels) = AreLabels labels
 IsWritable (Whole labels) = AreLabels labels
 
+-- each piece is writable
 abbrev pub AreWritable : List Piece → Type 0
 AreWritable ps = AllByRecursion IsWritable ps
 

@@ -42,6 +42,7 @@ pub record EncoderState : Type 0 where
   pub attempts : ℕ
   pub lender : GName
 
+-- the state of an encoder, from its fields
 abbrev pub state_of : BinEncoder → EncoderState
 state_of e = record {
   bytes = e.buffer.now.items;
@@ -57,6 +58,10 @@ state_of e = record {
 -- the next byte extends the buffer
 abbrev pub IsAtEnd : EncoderState → Type 0
 IsAtEnd w = w.offset ≡ length w.bytes
+
+-- so many bytes at the offset are within the buffer and its maximum size: writing them takes no memory
+abbrev pub Overwrites : EncoderState → ℕ → Type 0
+Overwrites w len = (w.offset + len ≤ length w.bytes) × (w.offset + len ≤ w.limit)
 
 -- ---- writing bytes
 

@@ -51,6 +51,7 @@ pointer_target suffixes [] = None
 pointer_target suffixes (label ∷ labels) =
     option_map_or Some (place_of suffixes (labels_form (label ∷ labels))) (pointer_target suffixes labels)
 
+-- the target of the pointer that a piece is written with, if there is one
 abbrev pub piece_target : Position → Piece → Option ℕ
 piece_target s (Plain bytes) = None
 piece_target s (Domain labels) = if is_compressed s then pointer_target s.suffixes labels else None

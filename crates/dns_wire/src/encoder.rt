@@ -40,7 +40,7 @@ pub struct BinEncoder<'a> {
 }
 
 impl<'a> BinEncoder<'a> {
-    ghost use Rattle.std.specs.Prelude.{◌≡◌, vec_len, ◌+◌, ◌<◌, ◌≤◌, ◌↔◌, ◌⊎◌, nat_lt, if◌then◌else◌, [], ◌∷◌, ◌++◌, false, length, replicate, slice_range, IsTrue, IfOk, IfErr, OnOk, OnErr, None};
+    ghost use Rattle.std.specs.Prelude.{◌≡◌, vec_len, ◌+◌, ◌<◌, ◌≤◌, ◌↔◌, ◌⊎◌, nat_lt, if◌then◌else◌, [], ◌∷◌, ◌++◌, false, length, replicate, slice_range, IsTrue, IsOk, IfOk, IfErr, OnOk, OnErr, None};
     ghost use Rattle.std.specs.Int.{w16, w32, to_be_bytes, cast_unsigned};
     ghost use Rattle.dns_wire.specs.Encoder.{max_message_len, max_compressed_names, max_character_string_len, state_of, overwrite_at, put_at, place_of, remember, trim_to_offset, IsAtEnd, CanRollBack};
     ghost use Rattle.dns_wire.specs.Encodable.{Plain, Emits, Puts, PutsCharacterString};
@@ -177,7 +177,8 @@ impl<'a> BinEncoder<'a> {
         self.canonical_form = canonical_form;
     }
 
-    /// Writes bytes at the offset. They overwrite what is there, and extend the buffer past its end.
+    /// Writes bytes at the offset. They overwrite what is there, and extend the buffer past its end. Nothing is allocated
+    /// if they would pass the maximum size, or if they only overwrite.
     pub fn emit_vec(&mut self, bytes: &[u8]) -> Result<(), EncodeError>
         ensures { Puts (state_of self.old) bytes.now result (state_of self.new) }
     {
@@ -199,6 +200,8 @@ impl<'a> BinEncoder<'a> {
         ensures ok { OnOk result (state_of self.new ≡ record (state_of self.old) {
           bytes = put_at (state_of self.old).offset bytes.now (state_of self.old).bytes;
         }) }
+        ensures decided { (state_of self.old).offset + length bytes.now
+            ≤ length (state_of self.old).bytes → IsOk result }
         ensures err { OnErr result (state_of self.new ≡ state_of self.old) }
     {
         let offset = self.offset;
@@ -308,15 +311,21 @@ impl<'a> BinEncoder<'a> {
         len <= self.max_size && self.offset <= self.max_size - len
     }
 
-    /// Writes `len` zero bytes. Nothing is allocated if they would pass the maximum size.
+    /// Writes `len` zero bytes. Nothing is allocated if they would pass the maximum size, or if they only overwrite.
     pub(crate) fn emit_zeros(&mut self, len: usize) -> Result<(), EncodeError>
         ensures { Puts (state_of self.old) (replicate len 0) result (state_of self.new) }
     {
         if !self.has_room(len) {
             return Err(EncodeError::MaxBufferSizeExceeded);
         }
-        let zeros = Vec::from_elem(self.suffixes.allocator(), 0, len)?;
-        self.emit_vec(&zeros)
+        let start = self.offset;
+        let end = start + len;
+        if end > self.buffer.len() {
+            self.buffer.resize(end, 0)?;
+        }
+        self.buffer[start..end].fill(0);
+        self.offset = end;
+        Ok(())
     }
 
     /// Returns the maximum size of the buffer.
@@ -365,6 +374,9 @@ impl<'a> BinEncoder<'a> {
           suffixes = remember (state_of self.old).suffixes start
               (slice_range (state_of self.old).bytes start end);
         }) }
+        ensures decided { remember (state_of self.old).suffixes start
+            (slice_range (state_of self.old).bytes start end) ≡ (state_of self.old).suffixes
+            → IsOk result }
         ensures err { OnErr result (state_of self.new ≡ state_of self.old) }
     {
         self.find_or_store_label_pointer(start, end)?;
@@ -387,6 +399,9 @@ impl<'a> BinEncoder<'a> {
           suffixes = remember (state_of self.old).suffixes start
               (slice_range (state_of self.old).bytes start end);
         }) }
+        ensures decided { remember (state_of self.old).suffixes start
+            (slice_range (state_of self.old).bytes start end) ≡ (state_of self.old).suffixes
+            → IsOk result }
         ensures err { OnErr result (state_of self.new ≡ state_of self.old) }
     {
         let found = self.get_label_pointer(start, end);
@@ -407,6 +422,9 @@ impl<'a> BinEncoder<'a> {
           suffixes = remember (state_of self.old).suffixes start
               (slice_range (state_of self.old).bytes start end);
         }) }
+        ensures decided { remember (state_of self.old).suffixes start
+            (slice_range (state_of self.old).bytes start end) ≡ (state_of self.old).suffixes
+            → IsOk result }
         ensures err { OnErr result (state_of self.new ≡ state_of self.old) }
     {
         if start >= SUFFIX_OFFSET_LIMIT || self.suffixes.len() >= MAX_SUFFIXES {

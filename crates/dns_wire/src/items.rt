@@ -26,6 +26,7 @@ impl<'a> BinEncoder<'a> {
             ⊎ ((error ≡ ProtoError.NotAllRecordsWritten
             (length (fitting_items T.pieces (state_of self.old) items.now)))
             × (length (fitting_items T.pieces (state_of self.old) items.now) < length items.now))) }
+        ensures decided { items.now ≡ [] → result ≡ Ok 0 }
         ensures wrote { result ≢ Err ProtoError.Memory
             → state_of self.new ≡ append_fitting T.pieces (state_of self.old) items.now }
         ensures writable { result ≢ Err ProtoError.Memory
@@ -54,6 +55,7 @@ impl<'a> BinEncoder<'a> {
             (length (fitting_items (lent_pieces T.pieces) (state_of self.old) items.now)))
             × (length (fitting_items (lent_pieces T.pieces) (state_of self.old) items.now)
             < length items.now))) }
+        ensures decided { items.now ≡ [] → result ≡ Ok 0 }
         ensures wrote { result ≢ Err ProtoError.Memory
             → state_of self.new
             ≡ append_fitting (lent_pieces T.pieces) (state_of self.old) items.now }
@@ -102,6 +104,7 @@ pub fn emit_fitting<T: BinEncodable>(
     requires behind { AllBehind (position_of (state_of encoder.old)) }
     ensures count { IfOk result
         (λ n. n ≡ length (fitting_items T.pieces (state_of encoder.old) items.now)) }
+    ensures decided { items.now ≡ [] → result ≡ Ok 0 }
     ensures wrote { IsOk result
         → state_of encoder.new ≡ append_fitting T.pieces (state_of encoder.old) items.now }
     ensures writable { IsOk result

@@ -68,11 +68,6 @@ impl Suffixes {
         }
     }
 
-    /// Returns the allocator.
-    pub(crate) fn allocator(&self) -> Global {
-        *self.stored.allocator()
-    }
-
     /// Returns the number of suffixes.
     pub(crate) fn len(&self) -> usize
         ensures { result ≡ length self.now }
@@ -223,10 +218,11 @@ fn link(stored: &[u8], entries: &mut Vec<Entry>, heads: &mut [usize; BUCKETS], a
     requires indexed { IsIndexed at (suffixes_of stored.now entries.old.items) entries.old.items
         heads.old }
     ensures stored { AreStoredFrom 0 (length stored.now) entries.new.items }
-    ensures same { suffixes_of stored.now entries.new.items ≡ suffixes_of stored.now entries.old.items }
+    ensures same { suffixes_of stored.now entries.new.items
+        ≡ suffixes_of stored.now entries.old.items }
     ensures entries { length entries.new.items ≡ length entries.old.items }
-    ensures indexed { IsIndexed (at + 1) (suffixes_of stored.now entries.old.items) entries.new.items
-        heads.new }
+    ensures indexed { IsIndexed (at + 1) (suffixes_of stored.now entries.old.items)
+        entries.new.items heads.new }
 {
     let bucket = hash_bucket(bytes_of(stored, &entries[at]));
     entries[at].next = heads[bucket];
@@ -237,9 +233,10 @@ fn link(stored: &[u8], entries: &mut Vec<Entry>, heads: &mut [usize; BUCKETS], a
 fn link_all(stored: &[u8], entries: &mut Vec<Entry>, heads: &mut [usize; BUCKETS])
     requires stored { AreStoredFrom 0 (length stored.now) entries.old.items }
     ensures stored { AreStoredFrom 0 (length stored.now) entries.new.items }
-    ensures same { suffixes_of stored.now entries.new.items ≡ suffixes_of stored.now entries.old.items }
-    ensures indexed { IsIndexed (length entries.new.items) (suffixes_of stored.now entries.old.items)
-        entries.new.items heads.new }
+    ensures same { suffixes_of stored.now entries.new.items
+        ≡ suffixes_of stored.now entries.old.items }
+    ensures indexed { IsIndexed (length entries.new.items)
+        (suffixes_of stored.now entries.old.items) entries.new.items heads.new }
 {
     *heads = [0; BUCKETS];
     for at in 0..entries.len() {

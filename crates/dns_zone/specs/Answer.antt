@@ -35,6 +35,7 @@ abbrev pub negative_ttl : ℕ → RData → ℕ
 negative_ttl ttl (of.SOA soa) = min ttl soa.minimum
 negative_ttl ttl other = ttl
 
+-- the SOA row of a negative answer: its TTL is the negative one (RFC 2308 section 3)
 abbrev pub authority_row : Row → Row
 authority_row row = record row { ttl = negative_ttl row.ttl row.rdata }
 
@@ -127,9 +128,11 @@ pub data IsChain (rows : Rows) (t : RecordType) : DomainName → List Record →
 
 -- ---- answers that can be encoded and decoded again
 
+-- each record can be encoded in a section of an answer and decoded again
 abbrev pub AreSoundRecords : List Record → Type 0
 AreSoundRecords records = AllByRecursion (IsSoundIn false) records
 
+-- An answer that can be encoded and decoded again: a code of four bits that its number names, and sound records.
 pub record IsSoundAnswer (a : Answer) : Type 0 where
   pub code_fits : code_number a.code < 16
   pub code_named : code_of (code_number a.code) ≡ a.code

@@ -19,15 +19,19 @@ abbrev pub zone_origin : Option DomainName → Option DomainName → Option Doma
 zone_origin (Some origin) soa_owner = Some (record origin { is_fqdn = true })
 zone_origin None soa_owner = soa_owner
 
+-- whether a set is of the class IN
 abbrev pub is_internet : RecordSetValue → Bool
 is_internet s = class_number s.dns_class == 1
 
+-- whether the owner of a set is at or below an origin
 abbrev pub is_inside : DomainName → RecordSetValue → Bool
 is_inside origin s = at_or_below origin.labels s.name.labels
 
+-- whether a set has the type SOA
 abbrev pub is_soa : RecordSetValue → Bool
 is_soa s = type_number s.record_type == 6
 
+-- whether the owner of a set is the origin
 abbrev pub is_apex : DomainName → RecordSetValue → Bool
 is_apex origin s = same_labels origin.labels s.name.labels
 

@@ -19,6 +19,7 @@ use Rattle.dns_zone.specs.Rows.{Key, ZoneContent, AreSoundSets, rows_of_sets}
 abbrev pub is_start : DomainName → RecordSetValue → Bool
 is_start origin s = is_soa s && is_apex origin s
 
+-- the first set is the start of authority
 abbrev pub BeginsWithStart : DomainName → List RecordSetValue → Type 0
 BeginsWithStart origin [] = ⊥
 BeginsWithStart origin (s ∷ sets) = is_start origin s ≡ true
@@ -36,6 +37,7 @@ pub record AreZoneSets (origin : DomainName) (sets : List RecordSetValue) : Type
 abbrev pub owner_lines : DomainName → List Record → List ℕ
 owner_lines owner records = flat_map (λ (r : Record). record_line owner r.ttl r.rdata) records
 
+-- the lines of a set, with its owner
 abbrev pub set_lines : RecordSetValue → List ℕ
 set_lines s = owner_lines s.name s.records
 
@@ -66,5 +68,6 @@ pub record ArePrintableAt (k : Key) (found : List Row) : Type 0 where
   pub octets : AllByRecursion AreOctets k.0
   pub rows : AllByRecursion IsPrintableRow found
 
+-- every row of a zone can be printed and parsed back
 abbrev pub IsPrintable : ZoneContent → Type 0
 IsPrintable zone = (k : Key) → IfSome (rows_map.get zone.rows k) (ArePrintableAt k)

@@ -37,13 +37,16 @@ pub record IsSoundRowData (d : RData) : Type 0 where
   pub not_tsig : is_tsig_type (data_type d) ≡ false
   pub has_data : is_update_data d ≡ false
 
+-- a TTL of 32 bits, and data that can be encoded and decoded again
 pub record IsSoundRow (row : Row) : Type 0 where
   pub ttl_fits : row.ttl < 2 ^ 32
   pub rdata : IsSoundRowData row.rdata
 
+-- the data of a row
 abbrev pub row_data : Row → RData
 row_data row = row.rdata
 
+-- each row can be encoded and decoded again
 abbrev pub AreSoundRows : List Row → Type 0
 AreSoundRows rows = AllByRecursion IsSoundRow rows
 
@@ -58,6 +61,7 @@ pub record IsSoundSet (s : RecordSetValue) : Type 0 where
   pub distinct : AreDistinct record_data s.records
   pub single : is_singleton_type s.record_type ≡ true → length s.records ≡ 1
 
+-- sets that a zone keeps
 abbrev pub AreSoundSets : List RecordSetValue → Type 0
 AreSoundSets sets = AllByRecursion IsSoundSet sets
 

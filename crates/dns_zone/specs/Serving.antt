@@ -23,6 +23,7 @@ use Rattle.dns_messages.specs.Grammar.{ReadsMessage}
 use Rattle.dns_updates.specs.Change.{update_change}
 use Rattle.dns_updates.specs.Code.{update_code}
 
+-- whether a header is there and is that of a query
 abbrev pub is_query : Option Metadata → Bool
 is_query (Some m) = elim m.message_type [ kinds.Query ↦ true | kinds.Response ↦ false ]
 is_query None = false
@@ -86,6 +87,7 @@ abbrev pub reply_to_queries : ZoneContent → Message → List Query → Message
 reply_to_queries zone m (q ∷ []) = query_reply zone m q
 reply_to_queries zone m queries = bare_reply m FormErr
 
+-- the reply to a request with an opcode
 abbrev pub reply_by_code : ZoneContent → Message → OpCode → Message
 reply_by_code zone m ops.Query = reply_to_queries zone m m.queries
 reply_by_code zone m ops.Update = bare_reply m (update_code zone.origin zone.rows m)
@@ -128,6 +130,7 @@ abbrev pub zone_by_code : ZoneContent → Message → ResponseCode → ZoneConte
 zone_by_code zone m NoError = record zone { rows = update_change zone.origin zone.rows m }
 zone_by_code zone m fault = zone
 
+-- the zone after a request with an opcode: only an update changes it
 abbrev pub zone_by_op : ZoneContent → Message → OpCode → ZoneContent
 zone_by_op zone m ops.Update = zone_by_code zone m (update_code zone.origin zone.rows m)
 zone_by_op zone m other = zone

@@ -28,6 +28,7 @@ with_records records (Some s) = Some (record s { records = records })
 abbrev pub lower_code : ℕ → ℕ
 lower_code lower = cond (nat_lt lower 65) (lower + 1) lower
 
+-- the code of a byte of a label, whose case is ignored
 abbrev pub byte_code : ℕ → ℕ
 byte_code byte = lower_code (to_ascii_lowercase byte)
 
@@ -43,6 +44,7 @@ owner_code labels = flat_map label_code (reverse labels)
 abbrev pub number_code : ℕ → ℕ
 number_code number = cond (number == 6) 0 (number + 1)
 
+-- the number of a type in the order of sets
 abbrev pub type_code : RecordType → ℕ
 type_code record_type = number_code (type_number record_type)
 
@@ -50,9 +52,11 @@ type_code record_type = number_code (type_number record_type)
 abbrev pub Place : Type 0
 Place = List ℕ × ℕ
 
+-- places compare by owner, and then by type
 abbrev pub place_cmp : Place → Place → Ordering
 place_cmp a b = ordering_then (slice_cmp nat_cmp a.0 b.0) (nat_cmp a.1 b.1)
 
+-- the place of a set in the order
 abbrev pub set_place : RecordSetValue → Place
 set_place s = (owner_code s.name.labels, type_code s.record_type)
 

@@ -3,6 +3,7 @@ pub mod ContextLaws
 pub mod DistinctLaws
 pub mod EntryLaws
 pub mod FieldsLaws
+pub mod FirstLaws
 pub mod LineLaws
 pub mod OctetLaws
 pub mod OutcomeLaws

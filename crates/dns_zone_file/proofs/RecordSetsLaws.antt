@@ -15,7 +15,7 @@ use Rattle.std.proofs.lemmas.List.Folds.{find_at}
 use Rattle.std.specs.Option.{option_map_or}
 use Rattle.dns_codes.specs.DNSClass.{class_number}
 use Rattle.dns_names.specs.Name.{DomainName}
-use Rattle.dns_zone_file.specs.RecordSets.{is_set_for, set_of, has_other_class, single_set, inserted_in, IsNamedType, HaveNamedTypes}
+use Rattle.dns_zone_file.specs.RecordSets.{is_set_for, set_of, has_other_class, records_count, single_set, inserted_in, IsNamedType, HaveNamedTypes}
 use Rattle.dns_zone_file.specs.declared.set_index.SetIndex.{SetIndex}
 use Rattle.dns_zone_file.specs.internal.SetIndex.{has_key, place_of, IsIndexOf}
 use Rattle.dns_zone_file.proofs.SetIndexLaws.{only_place, index_set}
@@ -182,3 +182,25 @@ indexed_at {index} {xs} {r} {place} {s} next p e is =
 -- a new set
 pub inserted_new : (xs : List RecordSetValue) (r : Record) → NonePasses (is_set_for r) xs → xs ++ single_set r ∷ [] ≡ inserted_in xs r
 inserted_new xs r none = inserted_last xs r (none_is_first (is_set_for r) xs none)
+
+-- ---- the number of records
+
+count_set : (xs : List RecordSetValue) (place : ℕ) (next d : RecordSetValue) → place < length xs → length (get_or xs place d).records < length next.records → records_count xs < records_count (set xs place next)
+count_set [] place next d h less = absurd (omega arith)
+count_set (x ∷ xs) zero next d h less = omega (arith, less)
+count_set (x ∷ xs) (suc i) next d h less = omega (arith, count_set xs i next d (omega arith) less)
+
+count_push : (xs : List RecordSetValue) (s : RecordSetValue) → records_count (xs ++ s ∷ []) ≡ records_count xs + length s.records
+count_push [] s = omega arith
+count_push (x ∷ xs) s = omega (arith, count_push xs s)
+
+-- it grows where it grows in the record's set
+pub count_at : {xs : List RecordSetValue} {r : Record} {place : ℕ} {s : RecordSetValue} → IsPlace xs r place s → length s.records < length (with_record s r 0).records → records_count xs < records_count (inserted_in xs r)
+count_at {xs} {r} {place} {s} p less =
+    let next : RecordSetValue = with_record s r 0 in
+    let there : length (get_or xs place s).records < length next.records = subst (λ (x : RecordSetValue). length x.records < length next.records) p.set_is less in
+    subst (λ (l : List RecordSetValue). records_count xs < records_count l) (inserted_at next p refl) (count_set xs place next s p.within there)
+
+-- and with a new set
+pub count_new : (xs : List RecordSetValue) (r : Record) → NonePasses (is_set_for r) xs → records_count xs < records_count (inserted_in xs r)
+count_new xs r none = subst (λ (l : List RecordSetValue). records_count xs < records_count l) (inserted_new xs r none) (omega (arith, count_push xs (single_set r)))

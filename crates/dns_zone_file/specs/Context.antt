@@ -19,6 +19,7 @@ use Rattle.dns_zone_file.specs.RecordSets.{inserted_in, has_other_class}
 
 -- ---- fields that may be omitted
 
+-- what is there, or else a fault
 abbrev pub or_fault : {X : Type 0} → EntryFault → Option X → Result X EntryFault
 or_fault fault (Some x) = Ok x
 or_fault fault None = Err fault
@@ -36,6 +37,7 @@ soa_of r = elim r.rdata [
   | other ↦ None
 ]
 
+-- the minimum of SOA data (RFC 2308 section 4)
 abbrev pub minimum_of : RData → Option ℕ
 minimum_of (of.SOA soa) = Some soa.minimum
 minimum_of other = None

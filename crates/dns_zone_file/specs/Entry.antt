@@ -32,6 +32,7 @@ pub data Entry : Type 0 where
   include_directive : List Lexeme → Entry
   record_entry : Entry
 
+-- What an entry is, by its first token: nothing if there is none or only blanks, a directive, or else a record.
 abbrev pub entry_of : List Lexeme → Entry
 entry_of [] = nothing
 entry_of (Blank ∷ []) = nothing
@@ -42,6 +43,7 @@ entry_of tokens = record_entry
 
 -- ---- arguments of directives
 
+-- what is there, or else the fault of an invalid directive
 abbrev pub or_invalid : {X : Type 0} → Option X → Result X EntryFault
 or_invalid (Some x) = Ok x
 or_invalid None = Err InvalidDirective
@@ -72,6 +74,7 @@ pub record Inclusion : Type 0 where
   pub name : List ℕ
   pub origin : DomainName
 
+-- a text to include with its origin, if both are valid
 abbrev pub inclusion : Option (List ℕ) → Option DomainName → Result Inclusion EntryFault
 inclusion (Some name) (Some origin) = Ok (record { name = name; origin = origin })
 inclusion _ _ = Err InvalidDirective

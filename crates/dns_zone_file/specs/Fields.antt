@@ -16,6 +16,7 @@ use Rattle.dns_zone_file.specs.declared.error.EntryFault.TheVariants.{InvalidTtl
 
 -- ---- names
 
+-- the name, if the text is one
 abbrev pub if_ok : Result DomainName ParseError → Option DomainName
 if_ok (Ok name) = Some name
 if_ok (Err error) = None
@@ -36,6 +37,7 @@ pub data Field : Type 0 where
   type_field : RecordType → Field
   no_field : Field
 
+-- whether a word begins with a digit, as every TTL does
 abbrev pub begins_with_digit : List ℕ → Bool
 begins_with_digit [] = false
 begins_with_digit (c ∷ cs) = is_digit c
@@ -45,10 +47,12 @@ abbrev pub zone_class : List ℕ → Option DNSClass
 zone_class text =
     find (λ class. str_eq_ignore_ascii_case (class_name class) text) (classes.IN ∷ classes.CH ∷ classes.HS ∷ [])
 
+-- a time as the TTL, or an invalid TTL
 abbrev pub ttl_or_bad : Option ℕ → Field
 ttl_or_bad (Some seconds) = ttl_field seconds
 ttl_or_bad None = bad_ttl
 
+-- a type, or no field if the word is none
 abbrev pub type_or_none : Option RecordType → Field
 type_or_none (Some record_type) = type_field record_type
 type_or_none None = no_field
@@ -59,6 +63,7 @@ field_of_word text =
     if begins_with_digit text then ttl_or_bad (time text)
     else elim (zone_class text) [ Some class ↦ class_field class | None ↦ type_or_none (type_of_text text) ]
 
+-- What a token between owner and data is: a word that begins with a digit is a TTL, and any other a class or a type.
 abbrev pub field_of : Lexeme → Field
 field_of (CharData text) = field_of_word text
 field_of other = no_field
@@ -81,5 +86,6 @@ fields_after ttl class (token ∷ tokens) = elim (field_of token) [
   | no_field ↦ Err UnknownType
 ]
 
+-- the fields between owner and data (RFC 1035 section 5.1), and the tokens of the data
 abbrev pub fields_of : List Lexeme → Result Fields EntryFault
 fields_of tokens = fields_after None None tokens

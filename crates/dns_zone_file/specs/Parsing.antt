@@ -89,6 +89,7 @@ abbrev pub start_origin : Option DomainName → DomainName
 start_origin None = root_name
 start_origin (Some origin) = record origin { is_fqdn = true }
 
+-- the context at the start of a file: no owner, no TTL and no record precedes it
 abbrev pub start_context : DomainName → Context
 start_context origin = record {
   origin = origin;

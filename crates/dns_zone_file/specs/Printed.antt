@@ -47,6 +47,7 @@ pub record IsPrintableRecord (r : Record) : Type 0 where
   pub ttl_fits : r.ttl < 2 ^ 32
   pub rdata : IsPrintableData r.rdata
 
+-- each record can be printed
 abbrev pub ArePrintableRecords : List Record → Type 0
 ArePrintableRecords records = AllByRecursion IsPrintableRecord records
 

@@ -1,5 +1,5 @@
 -- Record sets by owner and type (RFC 2181 section 5).
-use Rattle.std.specs.Prelude.{◌≡◌, ◌&&◌, ◌==◌, if◌then◌else◌, Bool, not, List, [], ◌∷◌, find, Option}
+use Rattle.std.specs.Prelude.{◌≡◌, ◌+◌, ◌&&◌, ◌==◌, if◌then◌else◌, Bool, not, ℕ, List, [], ◌∷◌, length, find, Option}
 use Rattle.std.specs.List.{list_any, AllByRecursion}
 use Rattle.dns_codes.specs.RecordType.{type_number, type_of}
 use Rattle.dns_codes.specs.declared.record_type.RecordType.{RecordType}
@@ -38,6 +38,11 @@ abbrev pub inserted_in : List RecordSetValue → Record → List RecordSetValue
 inserted_in [] r = single_set r ∷ []
 inserted_in (s ∷ more) r = if is_set_for r s then with_record s r 0 ∷ more else s ∷ inserted_in more r
 
+-- the number of records of all sets
+abbrev pub records_count : List RecordSetValue → ℕ
+records_count [] = 0
+records_count (s ∷ sets) = length s.records + records_count sets
+
 -- whether the set of a record's owner and type has another class
 abbrev pub has_other_class : List RecordSetValue → Record → Bool
 has_other_class sets r = list_any (λ s. is_set_for r s && not (class_number s.dns_class == class_number r.dns_class)) sets
@@ -46,5 +51,6 @@ has_other_class sets r = list_any (λ s. is_set_for r s && not (class_number s.d
 abbrev pub IsNamedType : RecordType → Type 0
 IsNamedType record_type = type_of (type_number record_type) ≡ record_type
 
+-- the type of each set is the one that its number names
 abbrev pub HaveNamedTypes : List RecordSetValue → Type 0
 HaveNamedTypes sets = AllByRecursion (λ s. IsNamedType s.record_type) sets

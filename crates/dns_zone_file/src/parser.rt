@@ -1,16 +1,16 @@
 //! The parser of zone files (RFC 1035 section 5.1).
 
-ghost use Rattle.std.specs.Prelude.{◌≡◌, ◌≢◌, ◌<◌, option_map, Ok, Err, Some, None, IfOk, IfErr, OnOk};
-ghost use Rattle.dns_text.specs.Lexer.{start};
+ghost use Rattle.std.specs.Prelude.{◌≡◌, ◌≢◌, ◌<◌, option_map, Ok, Err, Some, None, IfOk, IfErr, IsOk, OnOk};
+ghost use Rattle.dns_text.specs.Lexer.{LexerState, NextToken, start};
 ghost use Rattle.dns_zone_file.specs.Parsing.{Parses, max_includes, start_origin, text_of, zone_records};
-ghost use Rattle.dns_zone_file.specs.internal.Parsing.{includes_view, TakesStep, Ends, RefusesInclude};
+ghost use Rattle.dns_zone_file.specs.internal.Parsing.{includes_view, TakesStep, Ends, RefusesInclude, HasNoToken};
 
 use crate::context::{Context, StartOfAuthority};
 use crate::entry::{Inclusion, next_entry};
 use crate::error::{EntryFault, ZoneFileError};
 use crate::record_sets::RecordSets;
 use dns_names::Name;
-use dns_text::Lexer;
+use dns_text::{Lexer, LexerError};
 use std::alloc::Global;
 use std::marker::Model;
 
@@ -63,10 +63,11 @@ enum Step<'a> {
 }
 
 impl<'a> Parser<'a> {
+    ghost use Rattle.dns_text.specs.declared.error.LexerError.{LexerError};
     ghost use Rattle.dns_zone_file.specs.Parsing.{ParsesFile, HasRecords};
 
-    /// Creates a parser of a text, with texts to include by name, and an origin for relative names, which is the root if
-    /// there is none.
+    /// Creates a parser of a text. Each pair of `includes` is a name, as `$INCLUDE` states it, and the text that it stands
+    /// for. The origin completes relative names; it is the root if there is none.
     pub fn new(text: &'a str, includes: &'a [(String, String)], origin: Option<Name>) -> Self
         ensures { result ≡ record {
           text = text.now;
@@ -81,15 +82,36 @@ impl<'a> Parser<'a> {
         }
     }
 
-    /// Parses the text, to its end or the first fault. The origin is taken as fully qualified.
+    /// Parses the text, to its end or the first fault. The origin is taken as fully qualified. A text without tokens, and a
+    /// fault of the first token, are found before memory is taken.
     pub fn parse(self, alloc: Global) -> Result<ZoneRecords, ZoneFileError>
         ensures ok { IfOk result (HasRecords self.entry) }
         ensures refused { IfErr result (λ error. error ≢ ZoneFileError.Memory
             → ParsesFile self.entry.includes self.entry.origin self.entry.text (Err error)) }
+        ensures ended { (end : LexerState) → NextToken (start self.entry.text) (Ok None) end
+            → IsOk result }
+        ensures fault { (error : LexerError) (end : LexerState)
+            → NextToken (start self.entry.text) (Err error) end
+            → result ≡ Err (ZoneFileError.Lexer error) }
     {
         let mut context = Context::new(alloc, start_origin(alloc, self.origin));
+        let is_empty = has_no_token(self.text)?;
+        if is_empty {
+            return Ok(zone_records(context));
+        }
         parse_text(alloc, self.text, self.includes, 0, &mut context)?;
         Ok(zone_records(context))
+    }
+}
+
+/// Returns `true` if a text has no token, or else the fault of its first one, if that is one.
+fn has_no_token(text: &str) -> Result<bool, LexerError>
+    ensures { HasNoToken (start text.now) result }
+{
+    let mut lexer = Lexer::new(text);
+    match lexer.next_token()? {
+        Some(_token) => Ok(false),
+        None => Ok(true),
     }
 }
 

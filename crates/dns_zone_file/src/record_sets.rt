@@ -1,10 +1,10 @@
 //! Record sets by owner and type (RFC 2181 section 5).
 
-ghost use Rattle.std.specs.Prelude.{◌≡◌, ◌==◌, ◌∷◌, ◌++◌, [], length, None, OnOk, OnErr, option_copied};
+ghost use Rattle.std.specs.Prelude.{◌≡◌, ◌==◌, ◌<◌, ◌∷◌, ◌++◌, [], length, None, OnOk, OnErr, option_copied};
 ghost use Rattle.dns_data.specs.rdata.{data_type};
 ghost use Rattle.dns_codes.specs.RecordType.{type_number};
 ghost use Rattle.dns_zone_file.specs.internal.SetIndex.{IsIndexOf, place_of};
-ghost use Rattle.dns_zone_file.specs.RecordSets.{set_of, inserted_in, has_other_class, IsNamedType};
+ghost use Rattle.dns_zone_file.specs.RecordSets.{set_of, inserted_in, has_other_class, records_count, IsNamedType};
 
 use crate::set_index::SetIndex;
 use dns_names::Name;
@@ -110,11 +110,13 @@ impl RecordSets {
 
     /// Inserts a record in the set of its owner and type, as [`RecordSet::insert`] does, or in a new set, which is the last.
     ///
-    /// An error leaves the sets unchanged.
+    /// An error leaves the sets unchanged, and is possible only where the number of records would grow.
     pub fn insert(&mut self, resource_record: Record) -> Result<(), AllocError>
         requires { IsNamedType (data_type resource_record.rdata) }
         ensures ok { OnOk result (self.new ≡ inserted_in self.old resource_record) }
         ensures err { OnErr result (self.new ≡ self.old) }
+        ensures grows { OnErr result (records_count self.old
+            < records_count (inserted_in self.old resource_record)) }
     {
         match self
             .index

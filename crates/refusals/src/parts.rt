@@ -46,9 +46,7 @@ pub(crate) fn print_refusal<R: Print>(rt: &R) -> Result<()> {
 /// Prints records, one a line.
 pub(crate) fn print_records<R: Print>(rt: &R, records: &[Record]) -> Result<()> {
     for found in records {
-        let (name, ttl, dns_class) = (&found.name, found.ttl, found.dns_class);
-        let (kind, rdata) = (found.record_type(), &found.rdata);
-        println!(rt; "{name} {ttl} {dns_class} {kind} {rdata}")?;
+        println!(rt; "{found}")?;
     }
     Ok(())
 }

@@ -3,7 +3,8 @@
 //! - `operation`: the operations by their words; `header`, `question`, `message`: messages and their parts;
 //! - `pieces`: parts of messages by themselves; `rebuilt`: messages that are made from others, and responses;
 //! - `damaged`: messages of which bytes are missing or changed;
-//! - `record_set`, `answer_sets`, `update`, `changes`: sets of records, updates, and what they change.
+//! - `printed`: records and messages as text; `record_set`, `answer_sets`, `update`, `changes`: sets of records, updates,
+//!   and what they change.
 #![tactic(auto)]
 
 mod answer_sets;
@@ -13,9 +14,11 @@ mod header;
 mod message;
 mod operation;
 mod pieces;
+mod printed;
 mod question;
 mod rebuilt;
 mod record_set;
+mod text;
 mod update;
 
 use rows::{Answer, Notation, Operations};

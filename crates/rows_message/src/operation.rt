@@ -9,9 +9,11 @@ use crate::header::{
 };
 use crate::message::{copied, encoded, message, same_data, section};
 use crate::pieces::{behind_owner, emitted_parts, questions, section_records};
+use crate::printed::{line, printed};
 use crate::question::{equal_questions, new_question, same_question, sound};
 use crate::rebuilt::{all_records, parts, rebuilt, response, response_error, response_of};
 use crate::record_set::edited_set;
+use crate::text::printed;
 use crate::update::{name_deletion, set_deletion, set_update, swap};
 use rows::{Answer, RowFault};
 use std::alloc::Global;
@@ -32,6 +34,7 @@ pub(crate) fn answer(alloc: Global, word: &str, input: &str) -> Answer {
         "response-header" => response_header(alloc, input),
         "merge-code" => merge_code(alloc, input),
         "message" => message(alloc, input),
+        "print" => printed(alloc, input),
         "encode" => encoded(alloc, input),
         "rebuild"
         | "rebuild-singly"
@@ -47,6 +50,7 @@ pub(crate) fn answer(alloc: Global, word: &str, input: &str) -> Answer {
         "fronts" => fronts(alloc, input),
         "octets" => octets(alloc, input),
         "question" | "record" | "head" => copied(alloc, word, input),
+        "line" => line(alloc, input),
         "questions" => questions(alloc, input),
         "section-records" => section_records(alloc, input),
         "emit-parts" => emitted_parts(alloc, input),

@@ -19,8 +19,7 @@ pub fn push_questions(text: &mut String, queries: &[Query]) -> Result<(), AllocE
 
 /// Adds a question as a zone's text has it.
 pub fn push_question(text: &mut String, query: &Query) -> Result<(), AllocError> {
-    let (name, kind, class) = (&query.name, query.query_type, query.query_class);
-    write!(text, "{name} {class} {kind}")?;
+    write!(text, "{query}")?;
     Ok(())
 }
 

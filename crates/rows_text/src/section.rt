@@ -32,8 +32,6 @@ pub fn push_list(text: &mut String, records: &[Record]) -> Result<(), AllocError
 
 /// Adds a record as a zone's text has it.
 pub fn push_record(text: &mut String, found: &Record) -> Result<(), AllocError> {
-    let (owner, ttl, class) = (&found.name, found.ttl, found.dns_class);
-    let (kind, rdata) = (found.rdata.record_type(), &found.rdata);
-    write!(text, "{owner} {ttl} {class} {kind} {rdata}")?;
+    write!(text, "{found}")?;
     Ok(())
 }

@@ -58,6 +58,10 @@ pub record TtlConfigContent : Type 0 where
   pub default : TtlBounds
   pub by_query_type : List (ℕ × TtlBounds)
 
+-- the bounds that were set for a type, which is taken by its number
+abbrev pub own_bounds : TtlConfigContent → RecordType → Option TtlBounds
+own_bounds config kind = lookup (is_at (nat_cmp (type_number kind))) config.by_query_type
+
 -- the bounds of a type, which is taken by its number: its own, or the default ones
 abbrev pub bounds_of : TtlConfigContent → RecordType → TtlBounds
 bounds_of config kind = unwrap_or (lookup (is_at (nat_cmp (type_number kind))) config.by_query_type) config.default

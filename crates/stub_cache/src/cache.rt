@@ -1,6 +1,6 @@
 //! The cache of responses.
 
-ghost use Rattle.std.specs.Prelude.{◌≡◌, ◌≤◌, ◌^◌, [], IfOk, OnOk, OnErr, Ok, Err};
+ghost use Rattle.std.specs.Prelude.{◌≡◌, ◌⊎◌, ◌≤◌, ◌^◌, [], None, IfOk, IsOk, OnOk, OnErr, Ok, Err};
 
 mod ageing;
 mod clamping;
@@ -76,7 +76,7 @@ impl ResponseCache {
     /// authority sections. A negative answer is current for its `negative_ttl`, within the bounds of the type of the
     /// question (RFC 2308 section 5). An entry for the same question is replaced. If there is none and the cache is
     /// full, the entry with the earliest deadline is removed, the oldest of these. Other errors are not stored, nor is
-    /// anything in a cache of capacity 0. If memory runs out, the cache is left as it was.
+    /// anything in a cache of capacity 0, and neither takes memory. If memory runs out, the cache is left as it was.
     pub fn insert(
         &mut self,
         query: Query,
@@ -87,6 +87,7 @@ impl ResponseCache {
         ensures stored { OnOk result
             (self.new ≡ storing_any self.old query (kept_of_result reply) now) }
         ensures memory { OnErr result (self.new ≡ self.old) }
+        ensures decided { (self.old.capacity ≡ 0) ⊎ (kept_of_result reply ≡ None) → IsOk result }
     {
         match reply {
             Ok(message) => self.insert_message(query, message, now),
@@ -107,6 +108,7 @@ impl ResponseCache {
         requires { now ≤ 2 ^ 62 }
         ensures stored { OnOk result (self.new ≡ storing self.old query (Ok message) now) }
         ensures memory { OnErr result (self.new ≡ self.old) }
+        ensures decided { self.old.capacity ≡ 0 → IsOk result }
     {
         let entry = Entry::positive(&self.config, query, message, now);
         self.store(entry)
@@ -122,6 +124,7 @@ impl ResponseCache {
         requires { now ≤ 2 ^ 62 }
         ensures stored { OnOk result (self.new ≡ storing self.old query (Err answer) now) }
         ensures memory { OnErr result (self.new ≡ self.old) }
+        ensures decided { self.old.capacity ≡ 0 → IsOk result }
     {
         let entry = Entry::negative(&self.config, query, answer, now);
         self.store(entry)
@@ -133,6 +136,7 @@ impl ResponseCache {
           entries = inserted self.old.capacity self.old.entries entry;
         }) }
         ensures memory { OnErr result (self.new ≡ self.old) }
+        ensures decided { self.old.capacity ≡ 0 → IsOk result }
     {
         if self.capacity == 0 {
             return Ok(());
@@ -141,13 +145,14 @@ impl ResponseCache {
     }
 
     /// Returns a copy of what is stored for a question, if it is current at a moment. Its TTLs are reduced by the seconds
-    /// since it was stored, to 0 at the least.
+    /// since it was stored, to 0 at the least. Where nothing current is stored, no memory is taken.
     pub fn get(
         &self,
         query: &Query,
         now: Moment,
     ) -> Result<Option<Result<Message, NoRecords>>, AllocError>
-        ensures { IfOk result (λ found. found ≡ current self.now.entries query.now now) }
+        ensures found { IfOk result (λ found. found ≡ current self.now.entries query.now now) }
+        ensures decided { current self.now.entries query.now now ≡ None → result ≡ Ok None }
     {
         match self.table.find_current(query, now) {
             Some(entry) => Ok(Some(entry.reply_at(now)?)),

@@ -1,6 +1,6 @@
 //! Bounds of TTLs.
 
-ghost use Rattle.std.specs.Prelude.{◌≡◌, OnOk, OnErr};
+ghost use Rattle.std.specs.Prelude.{◌≡◌, IsOk, IsSome, OnOk, OnErr};
 
 use dns_wire::RecordType;
 use std::alloc::{AllocError, Global};
@@ -113,7 +113,7 @@ impl Model for TtlConfig {
 }
 
 impl TtlConfig {
-    ghost use Rattle.stub_cache.specs.Ttl.{bounds_of, checked_config, closed_range, config_with, default_bounds, negative_range, plain_config, positive_range};
+    ghost use Rattle.stub_cache.specs.Ttl.{bounds_of, checked_config, closed_range, config_with, default_bounds, negative_range, own_bounds, plain_config, positive_range};
 
     /// Creates bounds that are the same for all types.
     pub fn from(alloc: Global, default: TtlBounds) -> TtlConfig
@@ -145,7 +145,8 @@ impl TtlConfig {
         Ok(TtlConfig::from(alloc, bounds))
     }
 
-    /// Sets the bounds of a type, which is taken by its number. If memory runs out, the bounds stay as they were.
+    /// Sets the bounds of a type, which is taken by its number. If memory runs out, the bounds stay as they were. A type
+    /// that has bounds already takes no memory.
     pub fn with_query_type_ttl_bounds(
         &mut self,
         query_type: RecordType,
@@ -153,6 +154,7 @@ impl TtlConfig {
     ) -> Result<(), AllocError>
         ensures set { OnOk result (self.new ≡ config_with self.old query_type bounds) }
         ensures memory { OnErr result (self.new ≡ self.old) }
+        ensures decided { IsSome (own_bounds self.old query_type) → IsOk result }
     {
         self.by_query_type.insert(u16::from(query_type), bounds)?;
         Ok(())

@@ -1,13 +1,15 @@
 -- How the parts of a lookup make a lookup.
-use Rattle.std.proofs.Common.{◌≡◌, ◌⊎◌, inl, inr, refl, sym, subst, Bool, true, false, ℕ, suc, ◌+◌, ◌<◌, List, [], ◌∷◌, length, Option, Some, None, Err, arith}
+use Rattle.std.proofs.Common.{◌≡◌, ◌⊎◌, ◌∙◌, inl, inr, refl, sym, ap, subst, Bool, true, false, ℕ, suc, ◌+◌, ◌<◌, List, [], ◌∷◌, length, Option, Some, None, Err, arith}
 use Rattle.dns_records.specs.Record.{Record}
 use Rattle.dns_messages.specs.declared.message.Message.{Message}
 use Rattle.dns_messages.specs.declared.query.Query.{Query}
+use Rattle.dns_messages.specs.declared.response_code.ResponseCode.{ResponseCode}
+use Rattle.stub_lookup.specs.Error.{no_records}
 use Rattle.stub_config.specs.declared.request_options.DnsRequestOptions.{DnsRequestOptions}
 use Rattle.stub_lookup.specs.declared.error.NetError.TheVariants.{Memory}
 use Rattle.stub_cache.specs.Cache.{CacheContent, Kept, current}
 use Rattle.stub_client.specs.Handle.{Ask, Led, Outcome}
-use Rattle.stub_client.specs.Looks.{Answers, IsAnsweredHere, Looks, Proceeds, Reply, lookup_settings}
+use Rattle.stub_client.specs.Looks.{Answers, IsAnsweredHere, Looks, Proceeds, Reply, lookup_settings, negative}
 use Rattle.stub_client.specs.SpecialNames.{special_answer}
 use Rattle.dns_messages.specs.Message.{strip_for, stripped}
 use Rattle.stub_client.specs.Step.{chain_of, given_answers, given_message, max_depth, meaning, questions_or, step_of, with_question}
@@ -31,6 +33,13 @@ answered now q (Loopback r) hit reply h = cc
 answered now q (Nothing code) hit reply h = cc
 answered now q Ordinary (Some kept) reply h = cc
 answered now q Ordinary None reply h = absurd (cc)
+
+-- a name without records is answered with its code
+without_records : (now : ℕ) (q : Query) (special : SpecialAnswer) (hit : Option Kept) (reply : Reply)
+    → local_reply now q special hit ≡ Some reply → (code : ResponseCode) → special ≡ Nothing code → reply ≡ negative (no_records q code)
+without_records now q special hit reply h code is =
+    let said : Some (negative (no_records q code)) ≡ Some reply = sym (ap (λ (s : SpecialAnswer). local_reply now q s hit) is) ∙ h in
+    cc
 
 unanswered : (now : ℕ) (q : Query) (special : SpecialAnswer) (hit : Option Kept)
     → local_reply now q special hit ≡ None → (special ≡ Ordinary) × (hit ≡ None)
@@ -83,9 +92,21 @@ module _ {H : Type 0} (gives : H → DnsRequest → ℕ → Outcome → H → Ty
   abbrev pub Does : Reply → CachingClient H → Type 0
   Does reply new = LooksUp gives options now depth kept old q reply new
 
-  -- there is no memory to look into the cache
-  pub without-memory : Does (Err Memory) old
-  without-memory = record { asks = []; led = refl; looks = (refl, inl refl); settings = refl }
+  -- a question that is neither answered here nor asked has no name without records
+  ordinary : special_answer q ≡ Ordinary → (reply : Reply) (code : ResponseCode) → special_answer q ≡ Nothing code → reply ≡ negative (no_records q code)
+  ordinary is reply code nothing =
+      let both : Ordinary ≡ Nothing code = sym is ∙ nothing in
+      absurd (cc)
+
+  -- there is no memory for the reply
+  pub without-memory : ((code : ResponseCode) → special_answer q ≡ Nothing code → ⊥) → Does (Err Memory) old
+  without-memory other = record {
+    asks = [];
+    led = refl;
+    looks = (refl, inl refl);
+    settings = refl;
+    nothing = λ code is. absurd (other code is);
+  }
 
   -- the question is answered without the handle
   pub locally : (reply : Reply) → local_reply now q (special_answer q) (current old.cache.entries q now) ≡ Some reply → Does reply old
@@ -94,6 +115,7 @@ module _ {H : Type 0} (gives : H → DnsRequest → ℕ → Outcome → H → Ty
     led = refl;
     looks = (refl, inr (answered now q (special_answer q) (current old.cache.entries q now) reply h));
     settings = refl;
+    nothing = without_records now q (special_answer q) (current old.cache.entries q now) reply h;
   }
 
   -- this step is to be taken, by a client whose handle may have been asked
@@ -120,13 +142,14 @@ module _ {H : Type 0} (gives : H → DnsRequest → ℕ → Outcome → H → Ty
         let stops : (asks ≡ []) × (reply ≡ Err Memory) × (new.cache ≡ old.cache) =
         subst (λ (s : Step). Proceeds (λ target aliases inner c. Looks (lookup_settings old options) now (suc depth) aliases old.cache target asks inner c) now old.cache q s asks reply new.cache) none.0 goes in
         let at : new.handle ≡ handle = stopped-led handle asks new.handle stops.0 led in
-        record { asks = []; led = cc; looks = (stops.2, inl stops.1); settings = same }
+        record { asks = []; led = cc; looks = (stops.2, inl stops.1); settings = same; nothing = ordinary missed.0 reply }
     took step (inr asked) asks reply new led goes same = elim asked.is_step [
       | inl is ↦ record {
         asks = record { question = q; outcome = asked.outcome } ∷ asks;
         led = (handle, asked.given, led);
         looks = (refl, missed.0, missed.1, inr (subst (λ (s : Step). Proceeds (λ target aliases inner c. Looks (lookup_settings old options) now (suc depth) aliases old.cache target asks inner c) now old.cache q s asks reply new.cache) is goes));
         settings = same;
+        nothing = ordinary missed.0 reply;
       }
       | inr memory ↦
           let stops : (asks ≡ []) × (reply ≡ Err Memory) × (new.cache ≡ old.cache) =
@@ -137,6 +160,7 @@ module _ {H : Type 0} (gives : H → DnsRequest → ℕ → Outcome → H → Ty
             led = (handle, asked.given, at);
             looks = (refl, missed.0, missed.1, inl (refl, memory.1, stops.1, stops.2));
             settings = same;
+            nothing = ordinary missed.0 reply;
           }
     ]
 

@@ -23,6 +23,7 @@ use Rattle.stub_client.specs.declared.special_names.SpecialAnswer.TheVariants.{L
 abbrev pub value_of : Record → Record
 value_of r = record r { name = record r.name { labels = lower r.name.labels }; ttl = 0 }
 
+-- records without their TTLs, and with their owners in lower case
 abbrev pub values : List Record → List Record
 values records = map value_of records
 
@@ -45,10 +46,12 @@ pub record HasSpecialNames (comes_to : Query → Conclusion → Type 0) : Type 0
 
 -- ---- what is kept and returned
 
+-- what is stored for a question is what the question comes to
 abbrev pub KeptComesTo : (Query → Conclusion → Type 0) → Query → Kept → Type 0
 KeptComesTo comes_to q (Ok m) = comes_to q (Finds (values m.answers))
 KeptComesTo comes_to q (Err answer) = comes_to q (Lacks answer.response_code)
 
+-- what each entry of a cache has is what its question comes to
 abbrev pub CacheComesTo : (Query → Conclusion → Type 0) → CacheContent → Type 0
 CacheComesTo comes_to cache = All (λ e. KeptComesTo comes_to e.question e.kept) cache.entries
 
@@ -58,6 +61,7 @@ ErrorComesTo comes_to q (errors.Dns (dns.NoRecordsFound answer)) = comes_to q (L
 ErrorComesTo comes_to q (errors.Dns (dns.ResponseCode code)) = comes_to q (Refuses code)
 ErrorComesTo comes_to q error = Unit {0}
 
+-- a reply is what the question comes to, TTLs aside
 abbrev pub ReplyComesTo : (Query → Conclusion → Type 0) → Query → Reply → Type 0
 ReplyComesTo comes_to q (Ok lookup) = comes_to q (Finds (values lookup.message.answers))
 ReplyComesTo comes_to q (Err error) = ErrorComesTo comes_to q error

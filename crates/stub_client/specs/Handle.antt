@@ -37,6 +37,7 @@ abbrev pub IsMessage : {A : Type 0} → List ℕ → Result A NetError → Type 
 IsMessage text (Err (errors.Message message)) = message.now ≡ text
 IsMessage text other = ⊥
 
+-- the text of the error of a handle whose list of outcomes is used up
 abbrev pub no_outcome : List ℕ
 no_outcome = codes "no outcome is left"
 

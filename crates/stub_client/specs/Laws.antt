@@ -28,7 +28,8 @@ RecordClaim = Query → ℕ → Record → Type 0
 abbrev pub EachOf : RecordType → (Record → Type 0) → List Record → Type 0
 EachOf kind P records = All (λ r. has_type kind r ≡ true → P r) records
 
--- A claim outlasts the cache if it still holds while the TTL runs down, with a lower TTL, and for the question in another spelling.
+-- A claim outlasts the cache if it still holds while the TTL runs down, with a lower TTL, and for the question in another
+-- spelling.
 pub record Outlasts (holds : RecordClaim) : Type 0 where
   pub ages : (q : Query) (since now : ℕ) (r : Record) → holds q since r → since ≤ now → now ≤ since + r.ttl
       → holds q now (after_seconds (now - since) r)
@@ -46,8 +47,8 @@ HasNoMinimum config kind = (positive_range (bounds_of config kind)).least ≡ 0
 -- ---- replies that bear a claim out
 
 -- A reply to a question bears the claim out, with TTLs within their bounds: the claim holds of each answer of the type that was
--- asked for, whatever its owner and class, and of each record of this type that is found in another section; and a record of which
--- it holds at the end of the aliases is one of which it holds at the question.
+-- asked for, whatever its owner and class, and of each record of this type that is found in another section; and a record of
+-- which it holds at the end of the aliases is one of which it holds at the question.
 pub record BearsOut (holds : RecordClaim) (config : TtlConfigContent) (now : ℕ) (q : Query) (m : Message) : Type 0 where
   pub answers : EachOf q.query_type (λ r. holds q now (clamped_record config r)) m.answers
   pub others : EachOf q.query_type (λ r. is_found q (chain_of q m).name r ≡ true → holds q now (clamped_record config r))
@@ -65,7 +66,8 @@ pub record BearsOutClosely (holds : RecordClaim) (settings : LookupSettings) (co
       → EachOf q.query_type (λ r. is_found q (chain_of q m).name r ≡ true
       → holds q now (clamped_record config (lowered (chain_of q m).ttl r))) (all_records m)
   pub along : is_given q (chain_of q m) [] m ≡ false → is_negative_end q (chain_of q m) m ≡ false
-      → (chain_of q m).is_alias ≡ true → (r : Record) → has_type q.query_type r ≡ true → holds (next_question q (chain_of q m)) now r → holds q now r
+      → (chain_of q m).is_alias ≡ true → (r : Record) → has_type q.query_type r ≡ true
+      → holds (next_question q (chain_of q m)) now r → holds q now r
 
 -- each reply to one of the questions that is no error
 abbrev pub EachReply : (Query → Message → Type 0) → List Ask → Type 0
@@ -79,10 +81,12 @@ abbrev pub HoldsOfKept : RecordClaim → Query → ℕ → ℕ → Kept → Type
 HoldsOfKept holds q moment deadline (Ok m) = EachOf q.query_type (λ r. holds q moment r × (deadline ≤ moment + r.ttl)) m.answers
 HoldsOfKept holds q moment deadline (Err answer) = Unit {0}
 
+-- an entry was stored by this moment, and a claim holds of the records of the type that it was stored for, up to its deadline
 pub record HoldsOfEntry (holds : RecordClaim) (now : ℕ) (e : Entry) : Type 0 where
   pub past : e.moment ≤ now
   pub kept : HoldsOfKept holds e.question e.moment e.deadline e.kept
 
+-- the same of each entry of a cache
 abbrev pub HoldsOfCache : RecordClaim → ℕ → CacheContent → Type 0
 HoldsOfCache holds now cache = All (HoldsOfEntry holds now) cache.entries
 

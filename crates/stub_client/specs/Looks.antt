@@ -30,9 +30,11 @@ use Rattle.stub_client.specs.declared.special_names.SpecialAnswer.TheVariants.{O
 abbrev pub Reply : Type 0
 Reply = Result LookupContent NetError
 
+-- the reply where memory ran out
 abbrev pub out_of_memory : Reply
 out_of_memory = Err errors.Memory
 
+-- the reply of a negative answer (RFC 2308 section 2)
 abbrev pub negative : NoRecords → Reply
 negative answer = Err (errors.Dns (dns.NoRecordsFound answer))
 
@@ -114,6 +116,7 @@ Looks settings now depth kept old q (ask ∷ asks) reply new =
 
 -- ---- clients
 
+-- what a client, and the options of its requests, say of the answers that it returns
 abbrev pub lookup_settings : {H : Type 0} → CachingClient H → DnsRequestOptions → LookupSettings
 lookup_settings client options = record {
   preserve_intermediates = client.preserve_intermediates;

@@ -107,6 +107,7 @@ IsBroughtClosely config history = Comes (BringsClosely config) LeadsOnClosely hi
 abbrev pub CacheIsBrought : TtlConfigContent → List Asked → ℕ → CacheContent → Type 0
 CacheIsBrought config history now cache = HoldsOfCache (IsBrought config history) now cache
 
+-- the same where aliases are left out, with the least TTL of the aliases that led to a record
 abbrev pub CacheIsBroughtClosely : TtlConfigContent → List Asked → ℕ → CacheContent → Type 0
 CacheIsBroughtClosely config history now cache = HoldsOfCache (IsBroughtClosely config history) now cache
 
@@ -114,5 +115,6 @@ CacheIsBroughtClosely config history now cache = HoldsOfCache (IsBroughtClosely 
 abbrev pub ReplyIsBrought : TtlConfigContent → List Asked → Query → ℕ → Reply → Type 0
 ReplyIsBrought config history q now reply = HoldsOfReply (IsBrought config history) q now reply
 
+-- the same where aliases are left out, with the least TTL of the aliases that led to an answer
 abbrev pub ReplyIsBroughtClosely : TtlConfigContent → List Asked → Query → ℕ → Reply → Type 0
 ReplyIsBroughtClosely config history q now reply = HoldsOfReply (IsBroughtClosely config history) q now reply

@@ -26,6 +26,7 @@ request_edns options = record {
   options = [];
 }
 
+-- the OPT record, if the options say that requests have one
 abbrev pub edns_if_used : DnsRequestOptions → Option Edns
 edns_if_used options = if options.use_edns then Some (request_edns options) else None
 

@@ -33,6 +33,8 @@ abbrev pub loopback_answer : DomainName → Option RData → SpecialAnswer
 loopback_answer name None = Nothing NoError
 loopback_answer name (Some rdata) = Loopback (loopback_record name rdata)
 
+-- How a name is answered in the class of the Internet: with a record of the local host, or with no records, or as any other name
+-- (RFC 6761 section 6).
 abbrev pub name_answer : DomainName → RecordType → SpecialAnswer
 name_answer name record_type =
     if is_loopback name then loopback_answer name (loopback_data record_type)
@@ -43,6 +45,11 @@ name_answer name record_type =
 abbrev pub in_class : DNSClass → SpecialAnswer → SpecialAnswer
 in_class classes.IN answer = answer
 in_class other answer = Ordinary
+
+-- a question is answered with a record of the local host
+abbrev pub IsLoopback : SpecialAnswer → Type 0
+IsLoopback (Loopback r) = Unit {0}
+IsLoopback answer = ⊥
 
 -- How a question is answered without cache and servers, if it is. Its type and its class are taken by their numbers.
 abbrev pub special_answer : Query → SpecialAnswer

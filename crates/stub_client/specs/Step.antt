@@ -35,6 +35,7 @@ next_name name r (of.CNAME alias) = if same_name r.name name then Some alias.0 e
 next_name name r (of.SRV service) = Some service.target
 next_name name r other = None
 
+-- where aliases lead if the next one has a target, or none: its TTL bounds those of the records at the end
 abbrev pub extended : Chain → ℕ → Option DomainName → Chain
 extended chain ttl None = chain
 extended chain ttl (Some target) = record { name = target; ttl = min ttl chain.ttl; is_alias = true }
@@ -44,6 +45,7 @@ abbrev pub chain_over : Chain → List Record → Chain
 chain_over chain [] = chain
 chain_over chain (r ∷ rs) = chain_over (extended chain r.ttl (next_name chain.name r r.rdata)) rs
 
+-- where no alias leads: to the name of the question, for a day at most
 abbrev pub chain_start : Query → Chain
 chain_start q = record { name = q.name; ttl = max_ttl; is_alias = false }
 
@@ -51,6 +53,7 @@ chain_start q = record { name = q.name; ttl = max_ttl; is_alias = false }
 abbrev pub asks_for_aliases : Query → Bool
 asks_for_aliases q = (type_number q.query_type == 5) || (type_number q.query_type == 255)
 
+-- where the aliases among the answers of a message lead from the name of a question; one that asks for aliases follows none
 abbrev pub chain_of : Query → Message → Chain
 chain_of q m = if asks_for_aliases q then chain_start q else chain_over (chain_start q) m.answers
 
@@ -60,6 +63,7 @@ chain_of q m = if asks_for_aliases q then chain_start q else chain_over (chain_s
 abbrev pub asks_for : Query → Record → Bool
 asks_for q r = (type_number q.query_type == 255) || has_type q.query_type r
 
+-- whether a record has the class of a question, by its number
 abbrev pub has_class : Query → Record → Bool
 has_class q r = class_number r.dns_class == class_number q.query_class
 
@@ -71,6 +75,7 @@ is_at_either name q r = same_name r.name name || same_name r.name q.name
 abbrev pub is_found : Query → DomainName → Record → Bool
 is_found q name r = has_class q r && (asks_for q r && is_at_either name q r)
 
+-- the records of all sections that answer a question, at its name or at the end of the aliases
 abbrev pub found : Query → Chain → Message → List Record
 found q chain m = filter (is_found q chain.name) (all_records m)
 
@@ -103,6 +108,7 @@ abbrev pub selected_answers : LookupSettings → Query → Chain → List Record
 selected_answers settings q chain kept m =
     kept ++ map (lowered chain.ttl) (filter (λ r. is_found q chain.name r || is_kept_alias settings q r) (all_records m))
 
+-- the answers of the message that is returned: those of the message as it came, or selected ones
 abbrev pub given_answers : LookupSettings → Query → Chain → List Record → Message → List Record
 given_answers settings q chain kept m =
     if is_selected settings q chain kept m then selected_answers settings q chain kept m else m.answers
@@ -112,6 +118,7 @@ abbrev pub questions_or : Query → List Query → List Query
 questions_or q [] = q ∷ []
 questions_or q (p ∷ ps) = p ∷ ps
 
+-- a message with the question, if it has none
 abbrev pub with_question : Query → Message → Message
 with_question q m = record m { queries = questions_or q m.queries }
 
@@ -127,6 +134,7 @@ abbrev pub kept_aliases : LookupSettings → Query → Chain → List Record →
 kept_aliases settings q chain kept m =
     kept ++ map (lowered chain.ttl) (filter (is_kept_alias settings q) (all_records m))
 
+-- the question for the end of the aliases, with the type of the question, in the class of the Internet
 abbrev pub next_question : Query → Chain → Query
 next_question q chain = record { name = chain.name; query_type = q.query_type; query_class = IN }
 
@@ -143,7 +151,8 @@ nothing_found q m = record (no_records q m.metadata.response_code) {
   negative_ttl = negative_ttl (soa_in m.authorities);
 }
 
--- whether aliases end in nothing: no record is found, and the reply has the SOA record of a negative answer (RFC 2308 section 2.1)
+-- whether aliases end in nothing: no record is found, and the reply has the SOA record of a negative answer (RFC 2308 section
+-- 2.1)
 abbrev pub is_negative_end : Query → Chain → Message → Bool
 is_negative_end q chain m = chain.is_alias && (is_empty (found q chain m) && is_some (soa_in m.authorities))
 
@@ -167,5 +176,6 @@ abbrev pub meaning : Outcome → Outcome
 meaning (Ok response) = outcome response
 meaning (Err error) = Err error
 
+-- the step that the outcome of a question leads to
 abbrev pub step_of : LookupSettings → Query → List Record → ℕ → Outcome → Step
 step_of settings q kept depth out = step_on settings q kept depth (meaning out)

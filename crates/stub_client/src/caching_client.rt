@@ -10,13 +10,13 @@ mod storing;
 
 use crate::handle::DnsHandle;
 use dns_messages::{Query, Record, Sequence};
-use local_reply::local_reply;
+use local_reply::{LocalReply, local_reply};
 use std::alloc::{AllocError, Global};
 use step::{LookupSettings, Step, step_of};
 use storing::{store_answer, store_message, store_reply};
 use stub_cache::{ResponseCache, TtlConfig};
 use stub_config::DnsRequestOptions;
-use stub_lookup::{Lookup, Moment, NetError};
+use stub_lookup::{Lookup, Moment, NetError, NoRecords};
 
 /// A client of a handle, with a cache. It follows aliases.
 #[derive(Drop)]
@@ -58,7 +58,11 @@ impl<C> CachingClient<C> {
 impl<C: DnsHandle> CachingClient<C> {
     ghost use Rattle.stub_cache.specs.Cache.{cleared_of};
     ghost use Rattle.stub_cache.specs.Ttl.{default_bounds, plain_config};
-    ghost use Rattle.stub_client.specs.Looks.{Answers};
+    ghost use Rattle.dns_messages.specs.declared.response_code.ResponseCode.{ResponseCode};
+    ghost use Rattle.stub_lookup.specs.Error.{no_records};
+    ghost use Rattle.stub_client.specs.Looks.{Answers, negative};
+    ghost use Rattle.stub_client.specs.SpecialNames.{special_answer};
+    ghost use Rattle.stub_client.specs.declared.special_names.SpecialAnswer.TheVariants as special;
     ghost use Rattle.stub_client.specs.Step.{max_depth};
     ghost use Rattle.stub_client.specs.internal.Looks.{LooksUp, Tries, IsAsked, IsNotAsked};
 
@@ -131,7 +135,8 @@ impl<C: DnsHandle> CachingClient<C> {
     /// there are none, but the response has aliases and the SOA record of a negative answer, the question has this
     /// negative answer, which is stored (RFC 2308 section 2.1). Otherwise, the end of the aliases is looked up in the
     /// same way. What that returns is returned and stored for the question. At most seven aliases are followed. If there
-    /// is no record, the error is [`DnsError::NoRecordsFound`].
+    /// is no record, the error is [`DnsError::NoRecordsFound`]. A special-use name that does not exist, or has no records of
+    /// the type, is answered without memory.
     pub fn lookup(
         &mut self,
         query: Query,
@@ -139,7 +144,9 @@ impl<C: DnsHandle> CachingClient<C> {
         now: Moment,
     ) -> Result<Lookup, NetError>
         requires { now ≤ 2 ^ 62 }
-        ensures { Answers C.gives options now self.old query result self.new }
+        ensures lookup { Answers C.gives options now self.old query result self.new }
+        ensures decided { (code : ResponseCode) → special_answer query ≡ special.Nothing code
+            → result ≡ negative (no_records query code) }
     {
         let none = Sequence::new(self.alloc);
         self.look_up(query, none, 0, options, now)
@@ -159,8 +166,11 @@ impl<C: DnsHandle> CachingClient<C> {
         ensures { LooksUp C.gives options now depth kept self.old query result self.new }
     {
         match local_reply(self.alloc, &self.cache, &query, now) {
-            Ok(Some(reply)) => return reply,
-            Ok(None) => {}
+            Ok(LocalReply::Complete(reply)) => return reply,
+            Ok(LocalReply::Nothing(code)) => {
+                return Err(NetError::from(NoRecords::new(query, code)));
+            }
+            Ok(LocalReply::Asks) => {}
             // There was no memory for the reply.
             Err(_) => return Err(NetError::Memory),
         }

@@ -1,8 +1,8 @@
 //! The answers of special-use names (RFC 6303, RFC 6761, RFC 7686).
 
-ghost use Rattle.std.specs.Prelude.{◌≡◌, IfOk};
+ghost use Rattle.std.specs.Prelude.{◌≡◌, IfOk, OnErr};
 ghost use Rattle.dns_text.specs.Usage.{zone_name, localhost_zone};
-ghost use Rattle.stub_client.specs.SpecialNames.{loopback_data, loopback_answer, name_answer, special_answer};
+ghost use Rattle.stub_client.specs.SpecialNames.{IsLoopback, loopback_data, loopback_answer, name_answer, special_answer};
 
 use dns_data::{A, AAAA, PTR, RData};
 use dns_messages::{Query, Record, ResponseCode};
@@ -29,9 +29,10 @@ pub enum SpecialAnswer {
 /// In class `IN`, names at or below `localhost.`, `127.in-addr.arpa.` and the reverse name of `::1` have an A record
 /// with `127.0.0.1`, an AAAA record with `::1` and a PTR record with `localhost.`, each with a TTL of 86,400 seconds.
 /// Names at or below `invalid.` and `onion.` do not exist. Names below `local.` are asked for as any other. The class and
-/// the type are taken by their numbers.
+/// the type are taken by their numbers. Memory is taken for a record of the local host alone.
 pub fn special_answer(alloc: Global, query: &Query) -> Result<SpecialAnswer, AllocError>
-    ensures { IfOk result (λ answer. answer ≡ special_answer query.now) }
+    ensures answer { IfOk result (λ answer. answer ≡ special_answer query.now) }
+    ensures decided { OnErr result (IsLoopback (special_answer query.now)) }
 {
     match query.query_class.canonical() {
         DNSClass::IN => name_answer(alloc, &query.name, query.query_type.canonical()),
@@ -45,7 +46,8 @@ fn name_answer(
     name: &Name,
     record_type: RecordType,
 ) -> Result<SpecialAnswer, AllocError>
-    ensures { IfOk result (λ answer. answer ≡ name_answer name.now record_type) }
+    ensures answer { IfOk result (λ answer. answer ≡ name_answer name.now record_type) }
+    ensures decided { OnErr result (IsLoopback (name_answer name.now record_type)) }
 {
     if usage::is_loopback(name) {
         return loopback_answer(alloc, name, record_type);
@@ -62,8 +64,10 @@ fn loopback_answer(
     name: &Name,
     record_type: RecordType,
 ) -> Result<SpecialAnswer, AllocError>
-    ensures { IfOk result (λ answer.
+    ensures answer { IfOk result (λ answer.
         answer ≡ loopback_answer name.now (loopback_data record_type)) }
+    ensures decided { OnErr result
+        (IsLoopback (loopback_answer name.now (loopback_data record_type))) }
 {
     match loopback_data(alloc, record_type)? {
         Some(rdata) => {
@@ -76,7 +80,8 @@ fn loopback_answer(
 
 /// Returns the data of a type that a name of the local host has.
 fn loopback_data(alloc: Global, record_type: RecordType) -> Result<Option<RData>, AllocError>
-    ensures { IfOk result (λ rdata. rdata ≡ loopback_data record_type) }
+    ensures data { IfOk result (λ rdata. rdata ≡ loopback_data record_type) }
+    ensures decided { OnErr result (record_type ≡ RecordType.PTR) }
 {
     match record_type {
         RecordType::A => Ok(Some(RData::A(A(Ipv4Addr::LOCALHOST)))),

@@ -1,6 +1,6 @@
 //! Configuration of a resolver: its domain, its search list and its name servers.
 
-ghost use Rattle.std.specs.Prelude.{◌≡◌, ◌++◌, ◌∷◌, [], map, IfOk, OnOk, OnErr, Some, None, option_copied};
+ghost use Rattle.std.specs.Prelude.{◌≡◌, ◌++◌, ◌∷◌, [], map, IfOk, IsOk, OnOk, OnErr, Some, None, option_copied};
 
 mod connection;
 mod name_server;
@@ -40,13 +40,15 @@ impl ResolverConfig {
         }
     }
 
-    /// Creates a configuration with the servers of a group, each asked over UDP and TCP.
+    /// Creates a configuration with the servers of a group, each asked over UDP and TCP. A group without addresses takes
+    /// no memory.
     pub fn udp_and_tcp(
         alloc: Global,
         config: &ServerGroup<'_>,
     ) -> Result<ResolverConfig, AllocError>
-        ensures { IfOk result (λ made.
+        ensures made { IfOk result (λ made.
             made ≡ config_of_servers (map (server_of both_connections) config.now.ips.now)) }
+        ensures decided { config.now.ips.now ≡ [] → IsOk result }
     {
         let mut servers = Vec::new(alloc);
         for ip in config.ips {

@@ -45,6 +45,7 @@ abbrev pub AttemptsAll : {S : Type 0} → List ℕ → Lookups S DomainName → 
 AttemptsAll text tries old names reply new =
     (none : Reply) × IsMessage text none × Attempts tries none old names reply new
 
+-- the text of the error of a lookup of no names
 abbrev pub no_names : List ℕ
 no_names = codes "can not lookup for no names"
 
@@ -55,6 +56,7 @@ abbrev pub Unless : {S : Type 0} → Option LookupContent → (Reply → S → T
 Unless None asks old reply new = asks reply new
 Unless (Some lookup) asks old reply new = ((reply ≡ Ok lookup) ⊎ (reply ≡ out_of_memory)) × (new ≡ old)
 
+-- what the hosts have for a question, or else what asking it leads to
 abbrev pub WithHosts : {S : Type 0} → HostsContent → ℕ → Lookups S Query → S → Query → Reply → S → Type 0
 WithHosts hosts now asks old q reply new = Unless (static_lookup hosts q now) (λ reply new. asks old q reply new) old reply new
 

@@ -105,8 +105,8 @@ HostIsFrom Claim settings now address name reply =
 
 -- ---- lookups of a resolver
 
--- A lookup of a resolver asks these questions with these outcomes, none of them for a special-use name. In any history that has them and
--- brought what the cache has, the answers have an origin, and so has what the cache has afterwards.
+-- A lookup of a resolver asks these questions with these outcomes, none of them for a special-use name. In any history that has
+-- them and brought what the cache has, the answers have an origin, and so has what the cache has afterwards.
 pub record ComesFrom {H : Type 0} (Brought : List Asked → RecordClaim) (gives : Behavior H) (now : ℕ) (old new : Resolver H)
     (Answers : List Asked → Type 0) : Type 0 where
   pub asks : List Ask

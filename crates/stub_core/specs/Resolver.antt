@@ -71,6 +71,7 @@ abbrev pub owner_of : Result DomainName ParseError → DomainName
 owner_of (Ok name) = name
 owner_of (Err error) = record { is_fqdn = false; labels = [] }
 
+-- the lookup of a literal address: one record at the owner, for a day
 abbrev pub literal : DomainName → IpAddr → ℕ → LookupContent
 literal owner address now =
     let asked = question owner (address_type address) in

@@ -16,6 +16,7 @@ use Rattle.stub_core.specs.declared.resolver.Resolver.{Resolver}
 use Rattle.stub_core.specs.declared.resolver.builder.ResolverBuilder.{ResolverBuilder}
 use Rattle.stub_core.specs.declared.resolver.settings.Settings.{Settings}
 
+-- hosts without names
 abbrev pub no_hosts : HostsContent
 no_hosts = record { a = []; aaaa = [] }
 

@@ -44,6 +44,7 @@ Then {S} tries first second old reply new =
     (one : Reply) × (mid : S) × tries old first one mid
     × Continues (is_final one) (λ reply new. tries mid second reply new) one mid reply new
 
+-- the types of addresses that a strategy asks for, in its order: one, both, or the second only where the first has none
 abbrev pub ByStrategy : {S : Type 0} → LookupIpStrategy → Lookups S RecordType → S → Reply → S → Type 0
 ByStrategy Ipv4Only tries old reply new = tries old types.A reply new
 ByStrategy Ipv6Only tries old reply new = tries old types.AAAA reply new
@@ -60,6 +61,7 @@ LooksUpAddresses strategy hosts now asks old name reply new =
 
 -- ---- names
 
+-- the text of the error of a lookup of the addresses of no names
 abbrev pub no_addresses : List ℕ
 no_addresses = codes "can not lookup IPs for no names"
 
@@ -67,6 +69,7 @@ no_addresses = codes "can not lookup IPs for no names"
 abbrev pub fallback_record : RData → Record
 fallback_record rdata = record { name = record { is_fqdn = false; labels = [] }; dns_class = IN; ttl = max_ttl; rdata = rdata }
 
+-- a lookup with this record alone, for the addresses of the root
 abbrev pub fallback : RData → ℕ → LookupContent
 fallback rdata now =
     lookup_of (question (record { is_fqdn = true; labels = [] }) types.A) (fallback_record rdata ∷ []) (now + max_ttl)

@@ -10,7 +10,7 @@ use Rattle.dns_names.specs.Name.{DomainName}
 use Rattle.dns_records.specs.Record.{Record}
 use Rattle.dns_records.specs.Rows.{Rows}
 use Rattle.stub_link.specs.LinkState.{Version}
-use Rattle.stub_history.specs.Stands.{AreSame, BeginsBy, HasChain, HasChainFor, IsAliasChain, IsFresh, IsFreshFor, IsLoopback, IsReached, StandAt}
+use Rattle.stub_history.specs.Stands.{AreSame, BeginsNotBefore, HasChain, HasChainFor, IsAliasChain, IsFresh, IsFreshFor, IsLoopback, IsReached, StandAt}
 use Rattle.stub_history.specs.Stands.IsAliasChain.{no_alias, one_alias}
 use Rattle.stub_history.specs.Stands.IsReached.{here, by_alias}
 
@@ -43,11 +43,11 @@ contains-none x c = let less : c.0 < 0 = c.1 in omega arith
 
 -- ---- more versions
 
-begins-appended : (moment : ℕ) (after more : List Version) → BeginsBy moment after → BeginsBy moment more → BeginsBy moment (after ++ more)
+begins-appended : (moment : ℕ) (after more : List Version) → BeginsNotBefore moment after → BeginsNotBefore moment more → BeginsNotBefore moment (after ++ more)
 begins-appended moment [] more h k = k
 begins-appended moment (next ∷ after) more h k = h
 
-pub stand-still : (history more : List Version) (moment : ℕ) (rows : Rows) → StandAt history moment rows → BeginsBy moment more
+pub stand-still : (history more : List Version) (moment : ℕ) (rows : Rows) → StandAt history moment rows → BeginsNotBefore moment more
     → StandAt (history ++ more) moment rows
 stand-still history more moment rows s k = record {
   before = s.before;

@@ -19,13 +19,14 @@ use Rattle.stub_history.specs.Stands.{HoldSince, StandAt}
 
 -- ---- plain types
 
--- Whether claims are made of a type: it is a data type (RFC 6895 section 3.1), 1 to 127 or above 255, and none of CNAME, SOA, SIG, SRV and
--- OPT.
+-- Whether claims are made of a type: it is a data type (RFC 6895 section 3.1), 1 to 127 or above 255, and none of CNAME, SOA,
+-- SIG, SRV and OPT.
 abbrev pub is_plain_number : ℕ → Bool
 is_plain_number number =
     ((nat_le 1 number && nat_le number 127) || nat_lt 255 number)
     && not ((number == 5) || ((number == 6) || ((number == 24) || ((number == 33) || (number == 41)))))
 
+-- whether claims are made of a type, which is taken by its number
 abbrev pub is_plain : RecordType → Bool
 is_plain kind = is_plain_number (type_number kind)
 
@@ -35,6 +36,7 @@ greatest_ttl config kind = (positive_range (bounds_of config kind)).greatest
 
 -- ---- zones
 
+-- the zone at an origin with these rows
 abbrev pub zone_with : DomainName → Rows → ZoneContent
 zone_with origin rows = record { origin = origin; rows = rows }
 
@@ -44,7 +46,8 @@ AreZones origin history = All (λ version. IsZone (zone_with origin version.rows
 
 -- ---- answers
 
--- A message repeats a question and holds exactly the answer of a zone to it: its code, answers and authorities, and no additional record.
+-- A message repeats a question and holds exactly the answer of a zone to it: its code, answers and authorities, and no additional
+-- record.
 pub record HoldsAnswer (zone : ZoneContent) (q : Query) (m : Message) : Type 0 where
   pub queries : m.queries ≡ q ∷ []
   pub code : m.metadata.response_code ≡ (answer zone q).code

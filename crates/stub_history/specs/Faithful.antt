@@ -64,8 +64,8 @@ pub record IsMadeBy (origin : DomainName) (history : List Version) (moment : ℕ
   pub stand : StandAt history r.moment r.zone.rows
   pub past : r.moment ≤ moment
 
--- The server has a zone with this origin, and the last version of the history has its rows. Each version is a zone, and each reply was made
--- by rows that stood.
+-- The server has a zone with this origin, and the last version of the history has its rows. Each version is a zone, and each
+-- reply was made by rows that stood.
 pub record HasHistory (origin : DomainName) (state : LinkState) : Type 0 where
   pub zone : IsZone state.zone
   pub origin_is : state.zone.origin ≡ origin
@@ -75,7 +75,8 @@ pub record HasHistory (origin : DomainName) (state : LinkState) : Type 0 where
 
 -- ---- states
 
--- A state is faithful: its server has a history, and each datagram that was sent, or replied to, asks a question under its id or is an update.
+-- A state is faithful: its server has a history, and each datagram that was sent, or replied to, asks a question under its id or
+-- is an update.
 pub record IsFaithful (origin : DomainName) (state : AskState) : Type 0 where
   pub history : HasHistory origin state.link
   pub sent : EachSent (IsSentDatagram state.sent) state.link
@@ -83,10 +84,11 @@ pub record IsFaithful (origin : DomainName) (state : AskState) : Type 0 where
 
 -- what stood by the moment of a state still stands
 abbrev pub KeepsStanding : LinkState → LinkState → Type 0
-KeepsStanding old new = (moment : ℕ) (rows : Rows) → moment ≤ old.moment → StandAt old.history moment rows → StandAt new.history moment rows
+KeepsStanding old new =
+    (moment : ℕ) (rows : Rows) → moment ≤ old.moment → StandAt old.history moment rows → StandAt new.history moment rows
 
--- A state is faithful if another one is, at the same moment; its history goes on, what stood still stands, and no id that was drawn is
--- forgotten.
+-- A state is faithful if another one is, at the same moment; its history goes on, what stood still stands, and no id that was
+-- drawn is forgotten.
 pub record StaysFaithful (origin : DomainName) (old new : AskState) : Type 0 where
   pub faithful : IsFaithful origin new
   pub moment_is : new.link.moment ≡ old.link.moment
@@ -95,5 +97,6 @@ pub record StaysFaithful (origin : DomainName) (old new : AskState) : Type 0 whe
   pub drawn : List (ℕ × Query)
   pub sent_is : new.sent ≡ old.sent ++ drawn
 
+-- a state stays faithful, unless the link or its server runs out of memory
 abbrev pub StaysFaithfulUnlessOut : DomainName → AskState → AskState → Type 0
 StaysFaithfulUnlessOut origin old new = (new.link.out_of_memory ≡ true) ⊎ StaysFaithful origin old new

@@ -15,26 +15,27 @@ use Rattle.stub_link.specs.LinkState.{Version}
 
 -- ---- what stood
 
--- the next version, if there is one, begins at a moment or later
-abbrev pub BeginsBy : ℕ → List Version → Type 0
-BeginsBy moment [] = Unit {0}
-BeginsBy moment (next ∷ more) = moment ≤ next.moment
+-- the next version, if there is one, begins at a moment or after it
+abbrev pub BeginsNotBefore : ℕ → List Version → Type 0
+BeginsNotBefore moment [] = Unit {0}
+BeginsNotBefore moment (next ∷ more) = moment ≤ next.moment
 
--- Rows stand at a moment: they hold by then, and the next version does not hold before it. Several rows may stand at one moment.
+-- Rows stand at a moment: their version begins at it or before it, and the next version, if there is one, at it or after it. So at the
+-- moment of a change both versions stand.
 pub record StandAt (history : List Version) (moment : ℕ) (rows : Rows) : Type 0 where
   pub before : List Version
   pub since : ℕ
   pub after : List Version
   pub split : history ≡ before ++ record { moment = since; rows = rows } ∷ after
   pub begun : since ≤ moment
-  pub lasts : BeginsBy moment after
+  pub lasts : BeginsNotBefore moment after
 
 -- a history goes on after earlier versions
 abbrev pub Extends : List Version → List Version → Type 0
 Extends earlier history = (more : List Version) × (history ≡ earlier ++ more)
 
--- Rows hold since earlier versions of a history: those of the last of them, or of a version after them. At one moment several rows may
--- stand; these are not among those that were replaced before.
+-- Rows hold since earlier versions of a history: those of the last of them, or of a version after them. At one moment several
+-- rows may stand; these are not among those that were replaced before.
 pub record HoldSince (earlier history : List Version) (rows : Rows) : Type 0 where
   pub before : List Version
   pub since : ℕ
@@ -46,8 +47,8 @@ pub record HoldSince (earlier history : List Version) (rows : Rows) : Type 0 whe
 abbrev pub AreSame : DomainName → DomainName → Type 0
 AreSame a b = lower a.labels ≡ lower b.labels
 
--- A record is fresh: rows that stood have its data at its owner, and its TTL, at most the greatest that is kept, counts from a moment at
--- which they stood.
+-- A record is fresh: rows that stood have its data at its owner, and its TTL, at most the greatest that is kept, counts from a
+-- moment at which they stood.
 pub record IsFresh (history : List Version) (greatest now : ℕ) (r : Record) : Type 0 where
   pub moment : ℕ
   pub rows : Rows
@@ -75,8 +76,8 @@ pub data IsAliasChain (rows : Rows) (bound : ℕ) (from : DomainName) : ℕ → 
       → Contains (rows_at rows owner.labels types.CNAME) row → row.rdata ≡ of.CNAME alias → AreSame alias.0 name
       → IsAliasChain rows bound from (min least row.ttl) name
 
--- The chain bound: a record and the aliases that lead to it stood in the same rows, and its TTL, at most that of each alias and the
--- greatest that is kept, counts from one moment at which they stood.
+-- The chain bound: a record and the aliases that lead to it stood in the same rows, and its TTL, at most that of each alias and
+-- the greatest that is kept, counts from one moment at which they stood.
 pub record HasChain (history : List Version) (greatest now : ℕ) (from : DomainName) (r : Record) : Type 0 where
   pub moment : ℕ
   pub rows : Rows
@@ -120,6 +121,7 @@ abbrev pub IsFreshFor : List Version → ℕ → ℕ → DomainName → Record �
 IsFreshFor history greatest now from r =
     (IsFresh history greatest now r × IsReached history now from r.name) ⊎ IsLoopback history now from r
 
--- The same where aliases bound the TTL too: a record that is returned for a name has the chain bound, or it is one of the local host.
+-- The same where aliases bound the TTL too: a record that is returned for a name has the chain bound, or it is one of the local
+-- host.
 abbrev pub HasChainFor : List Version → ℕ → ℕ → DomainName → Record → Type 0
 HasChainFor history greatest now from r = HasChain history greatest now from r ⊎ IsLoopback history now from r

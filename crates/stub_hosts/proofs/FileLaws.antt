@@ -1,6 +1,6 @@
 -- What reading the parts of a hosts file inserts.
-use Rattle.std.proofs.Common.{◌≡◌, ℕ, Bool, true, false, List, [], ◌∷◌, ◌++◌, Option, Some, None, Result, Ok, Err, refl, ap, sym, ◌∙◌, subst, append_assoc, append-nil}
-use Rattle.std.specs.Prelude.{map}
+use Rattle.std.proofs.Common.{◌≡◌, ◌≢◌, ℕ, Bool, true, false, List, [], ◌∷◌, ◌++◌, Option, Some, None, Result, Ok, Err, refl, ap, sym, ◌∙◌, subst, append_assoc, append-nil}
+use Rattle.std.specs.Prelude.{map, OnErr}
 use Rattle.std.specs.List.{filter_map, cons_option}
 use Rattle.std.specs.Str.{IsUtf8, is_utf8}
 use Rattle.std.specs.declared.alloc.AllocError.{AllocError}
@@ -9,7 +9,7 @@ use Rattle.std.proofs.lemmas.Str.{IsUtf8-from_is_utf8, is_utf8-from_IsUtf8}
 use Rattle.dns_names.specs.Name.{DomainName}
 use Rattle.dns_text.specs.Address.{IsTextOf}
 use Rattle.stub_hosts.specs.Hosts.{HostsContent, with_host, with_hosts}
-use Rattle.stub_hosts.specs.HostsFile.{Host, host_name, hosts_at, words, AreHostsOfWords, AreHostsOfLine, ReadsLine}
+use Rattle.stub_hosts.specs.HostsFile.{Host, host_name, hosts_at, words, without_comment, AreHostsOfWords, AreHostsOfLine, HaveNames, ReadsLine}
 use Rattle.stub_hosts.specs.internal.HostsFile.{InsertsHosts}
 use Rattle.stub_hosts.specs.declared.hosts.file.HostsFault.TheVariants.{Utf8, Memory}
 use Rattle.stub_hosts.proofs.WordsLaws.{OneWord}
@@ -36,6 +36,7 @@ pub record NamesBefore (address : IpAddr) (now : ℕ) (old new : HostsContent) (
   pub done : List Host
   pub inserted : new ≡ with_hosts now old done
   pub split : hosts_at address (words all) ≡ done ++ hosts_at address (words rest)
+  pub some : words rest ≢ [] → words all ≢ []
   pub utf8 : IsUtf8 rest
 
 pub names_begin : (address : IpAddr) (now : ℕ) (old : HostsContent) (all rest : List ℕ) → IsUtf8 all → rest ≡ all → NamesBefore address now old old all rest
@@ -43,10 +44,15 @@ names_begin address now old all rest utf8 same = record {
   done = [];
   inserted = refl;
   split = ap (λ (text : List ℕ). hosts_at address (words text)) (sym same);
+  some = λ left none. left (ap (λ (text : List ℕ). words text) same ∙ none);
   utf8 = subst IsUtf8 (sym same) utf8;
 }
 
 module _ {address : IpAddr} {now : ℕ} {old cur : HostsContent} {all rest : List ℕ} (before : NamesBefore address now old cur all rest) where
+  -- where a word is left, there is one
+  pub names_some : (w next : List ℕ) → OneWord rest w next → words all ≢ []
+  names_some w next one = before.some (λ none. let is : w ∷ words next ≡ [] = sym one.words_are ∙ none in cc)
+
   pub names_next : (new : HostsContent) (w next : List ℕ) → OneWord rest w next → new ≡ with_hosts now cur (hosts_at address (w ∷ [])) → NamesBefore address now old new all next
   names_next new w next one is = record {
     done = before.done ++ hosts_at address (w ∷ []);
@@ -55,6 +61,7 @@ module _ {address : IpAddr} {now : ℕ} {old cur : HostsContent} {all rest : Lis
     split = before.split ∙ (ap (λ ws. before.done ++ hosts_at address ws) one.words_are
         ∙ (ap (λ hs. before.done ++ hs) (hosts_at-cons address w (words next))
         ∙ sym (append_assoc before.done (hosts_at address (w ∷ [])) (hosts_at address (words next)))));
+    some = λ left. names_some w next one;
     utf8 = one.utf8;
   }
 
@@ -107,6 +114,11 @@ an_address text w rest address now old new result one is names = record {
   all = names.all;
 }
 
+pub some_names : (text w rest : List ℕ) (address : IpAddr) (result : Result (Unit {0}) AllocError) → OneWord text w rest → IsTextOf w (Some address)
+    → OnErr result (words rest ≢ []) → OnErr result (HaveNames (words text))
+some_names text w rest address (Ok done) one is some = tt
+some_names text w rest address (Err error) one is some = subst HaveNames (sym one.words_are) (some, address, is)
+
 -- ---- a line
 
 pub line_ok : (line : List ℕ) (now : ℕ) (old new : HostsContent) → IsUtf8 line
@@ -118,8 +130,9 @@ line_ok line now old new utf8 i = (
 )
 
 pub line_memory : (line : List ℕ) (now : ℕ) (old new : HostsContent) (error : AllocError) → IsUtf8 line
-    → InsertsHosts (AreHostsOfLine line) now old new (Err error) → (hosts : List Host) × ReadsLine line hosts (Err Memory) × (new ≡ with_hosts now old hosts)
-line_memory line now old new error utf8 i = (i.hosts, (is_utf8-from_IsUtf8 line utf8, i.unread, i.are), i.inserted)
+    → InsertsHosts (AreHostsOfLine line) now old new (Err error) → HaveNames (words (without_comment line))
+    → (hosts : List Host) × ReadsLine line hosts (Err Memory) × (new ≡ with_hosts now old hosts)
+line_memory line now old new error utf8 i have = (i.hosts, (is_utf8-from_IsUtf8 line utf8, i.unread, i.are, have), i.inserted)
 
 pub other_bytes : (line : List ℕ) (now : ℕ) (old : HostsContent) → ¬ (IsUtf8 line) → (hosts : List Host) × ReadsLine line hosts (Err Utf8) × (old ≡ with_hosts now old hosts)
 other_bytes line now old not_utf8 = ([], (is_false (is_utf8 line) refl, refl), refl)

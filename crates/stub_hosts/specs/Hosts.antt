@@ -58,7 +58,8 @@ with_entry name new lookup (e ∷ es) = elim (name_cmp name e.name) [
 
 -- the entries of a type with a lookup for a name
 abbrev pub with_lookup_of : RecordType → DomainName → LookupContent → ℕ → List HostEntry → List HostEntry
-with_lookup_of record_type name lookup now entries = with_entry (qualified name) (fresh (qualified name) record_type now) lookup entries
+with_lookup_of record_type name lookup now entries =
+    with_entry (qualified name) (fresh (qualified name) record_type now) lookup entries
 
 -- The hosts with a lookup for a name and a type, A or AAAA.
 abbrev pub with_lookup : HostsContent → DomainName → RecordType → LookupContent → ℕ → HostsContent
@@ -138,7 +139,8 @@ pointers owner address entries = map (pointer owner) (filter (has_address addres
 abbrev pub pointer_lookup : Option AddrPrefix → HostsContent → Query → ℕ → Option LookupContent
 pointer_lookup None hosts query now = None
 pointer_lookup (Some prefix) hosts query now =
-    answered (lookup_of query (pointers (qualified query.name) (addr_of prefix) (entries_of (addr_of prefix) hosts)) (now + max_ttl))
+    answered (lookup_of query (pointers (qualified query.name) (addr_of prefix) (entries_of (addr_of prefix) hosts))
+    (now + max_ttl))
 
 -- what hosts answer to a question, by its type
 abbrev pub lookup_of_type : RecordType → HostsContent → Query → ℕ → Option LookupContent

@@ -1,5 +1,5 @@
 -- Hosts files: lines of an address and the names that it has.
-use Rattle.std.specs.Prelude.{◌≡◌, ℕ, ◌==◌, nat_eq, Bool, true, false, List, [], ◌∷◌, ◌++◌, drop, map, Option, Some, None, Result, Ok, Err, if◌then◌else◌}
+use Rattle.std.specs.Prelude.{◌≡◌, ◌≢◌, ℕ, ◌==◌, nat_eq, Bool, true, false, List, [], ◌∷◌, ◌++◌, drop, map, Option, Some, None, Result, Ok, Err, if◌then◌else◌}
 use Rattle.std.specs.List.{filter, filter_map, slice_split, before_first, starts_with}
 use Rattle.std.specs.Str.{chars, encode_utf8_all, is_utf8}
 use Rattle.std.specs.Char.{is_whitespace}
@@ -47,7 +47,10 @@ pub record Host : Type 0 where
 
 -- the name that a word spells, if it spells one: in lower case and fully qualified
 abbrev pub host_name : List ℕ → Option DomainName
-host_name word = elim (name_of_text word) [ Ok name ↦ Some (record { is_fqdn = true; labels = lower name.labels }) | Err error ↦ None ]
+host_name word = elim (name_of_text word) [
+  | Ok name ↦ Some (record { is_fqdn = true; labels = lower name.labels })
+  | Err error ↦ None
+]
 
 -- the hosts of an address and the words after it; a word that spells no name is skipped
 abbrev pub hosts_at : IpAddr → List (List ℕ) → List Host
@@ -63,16 +66,23 @@ abbrev pub AreHostsOfWords : List (List ℕ) → List Host → Type 0
 AreHostsOfWords [] hosts = hosts ≡ []
 AreHostsOfWords (word ∷ names) hosts = (address : Option IpAddr) × IsTextOf word address × (hosts ≡ hosts_of address names)
 
+-- the words of a line are an address, and words after it
+abbrev pub HaveNames : List (List ℕ) → Type 0
+HaveNames [] = ⊥
+HaveNames (word ∷ names) = (names ≢ []) × (address : IpAddr) × IsTextOf word (Some address)
+
 -- the hosts of a line
 abbrev pub AreHostsOfLine : List ℕ → List Host → Type 0
 AreHostsOfLine line hosts = AreHostsOfWords (words (without_comment line)) hosts
 
--- What reading a line inserts, and its outcome: all hosts of the line, none if it is not UTF-8, and those before the one for which
--- there was no memory.
+-- What reading a line inserts, and its outcome: all hosts of the line, none if it is not UTF-8, and those before the one for
+-- which there was no memory. Only a line with an address and a word after it takes memory.
 abbrev pub ReadsLine : List ℕ → List Host → Result (Unit {0}) HostsFault → Type 0
 ReadsLine line hosts (Ok done) = (is_utf8 line ≡ true) × AreHostsOfLine line hosts
 ReadsLine line hosts (Err Utf8) = (is_utf8 line ≡ false) × (hosts ≡ [])
-ReadsLine line hosts (Err Memory) = (is_utf8 line ≡ true) × (unread : List Host) × AreHostsOfLine line (hosts ++ unread)
+ReadsLine line hosts (Err Memory) =
+    (is_utf8 line ≡ true) × (unread : List Host) × AreHostsOfLine line (hosts ++ unread)
+    × HaveNames (words (without_comment line))
 
 -- the same for lines, of which reading ends at the first fault
 pub data ReadsLines : List (List ℕ) → List Host → Result (Unit {0}) HostsFault → Type 0 where

@@ -1,6 +1,6 @@
 //! Names and addresses that are known without asking.
 
-ghost use Rattle.std.specs.Prelude.{◌≡◌, ◌⊎◌, ◌+◌, ◌≤◌, ◌^◌, [], IfOk, OnOk, OnErr};
+ghost use Rattle.std.specs.Prelude.{◌≡◌, ◌⊎◌, ◌+◌, ◌≤◌, ◌^◌, [], true, None, Ok, IfOk, OnOk, OnErr};
 ghost use Rattle.dns_codes.specs.RecordType.{type_number, type_of};
 ghost use Rattle.stub_lookup.specs.Lookup.{lookup_of, max_ttl};
 
@@ -78,14 +78,17 @@ impl Hosts {
 
     /// Returns what is known for a question of any class. The name is taken as fully qualified. For `A` and `AAAA` that is
     /// the lookup of the name if it has answers; for `PTR` the names of the address of which the name is the reverse name,
-    /// where a reverse name of a network stands for its first address; and for other types nothing.
+    /// where a reverse name of a network stands for its first address; and for other types nothing. If nothing is known for
+    /// a fully qualified name, the result is `Ok(None)`, whatever memory there is.
     pub fn lookup_static_host(
         &self,
         query: &Query,
         now: Moment,
     ) -> Result<Option<Lookup>, AllocError>
         requires { now ≤ 2 ^ 62 }
-        ensures { IfOk result (λ found. found ≡ static_lookup self.now query.now now) }
+        ensures found { IfOk result (λ found. found ≡ static_lookup self.now query.now now) }
+        ensures decided { query.now.name.is_fqdn ≡ true
+            → static_lookup self.now query.now now ≡ None → result ≡ Ok None }
     {
         match query.query_type.canonical() {
             RecordType::A => self.a.lookup(&query.name),
@@ -98,13 +101,36 @@ impl Hosts {
     /// Returns the names of the address that a name, taken as fully qualified, is the reverse name of.
     fn lookup_pointers(&self, query: &Query, now: Moment) -> Result<Option<Lookup>, AllocError>
         requires { now ≤ 2 ^ 62 }
-        ensures { IfOk result (λ found. found
+        ensures found { IfOk result (λ found. found
             ≡ pointer_lookup (arpa_prefix (qualified query.now.name)) self.now query.now now) }
+        ensures decided { query.now.name.is_fqdn ≡ true
+            → pointer_lookup (arpa_prefix (qualified query.now.name)) self.now query.now now ≡ None
+            → result ≡ Ok None }
     {
+        if query.name.is_fqdn() {
+            return self.pointers_at(query, &query.name, now);
+        }
         let mut owner = query.name.clone()?;
         owner.set_fqdn(true);
+        self.pointers_at(query, &owner, now)
+    }
+
+    /// Returns the pointers from the name of a question, which is fully qualified, as the answer to the question.
+    fn pointers_at(
+        &self,
+        query: &Query,
+        owner: &Name,
+        now: Moment,
+    ) -> Result<Option<Lookup>, AllocError>
+        requires moment { now ≤ 2 ^ 62 }
+        requires owner { owner.now ≡ qualified query.now.name }
+        ensures found { IfOk result (λ found. found
+            ≡ pointer_lookup (arpa_prefix owner.now) self.now query.now now) }
+        ensures decided { pointer_lookup (arpa_prefix owner.now) self.now query.now now ≡ None
+            → result ≡ Ok None }
+    {
         match owner.parse_arpa_name() {
-            Ok(prefix) => self.pointers_of(query, &owner, prefix.addr(), now),
+            Ok(prefix) => self.pointers_of(query, owner, prefix.addr(), now),
             Err(_) => Ok(None),
         }
     }
@@ -118,8 +144,10 @@ impl Hosts {
         now: Moment,
     ) -> Result<Option<Lookup>, AllocError>
         requires { now ≤ 2 ^ 62 }
-        ensures { IfOk result (λ found. found ≡ answered (lookup_of query.now
+        ensures found { IfOk result (λ found. found ≡ answered (lookup_of query.now
             (pointers owner.now address (entries_of address self.now)) (now + max_ttl))) }
+        ensures decided { pointers owner.now address (entries_of address self.now) ≡ []
+            → result ≡ Ok None }
     {
         let pointers = self.entries(address).pointers(owner, address)?;
         if pointers.is_empty() {

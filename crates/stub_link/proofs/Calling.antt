@@ -108,14 +108,16 @@ unfailed-shows old mid state t shown = (
 pub sends-failed : (old new : ScriptedLink) (bytes : List ℕ) → Failed-call old new → Sends old bytes (Err Failed) new
 sends-failed old new bytes f = record {
   memory = failed-memory old new f;
+  fault = λ first. refl;
   states = λ state m at lives r.
       let l = failed-leads old new state f at lives in
       (fail state, l.1, (l.0, refl));
 }
 
-pub sends-memory : (old new : ScriptedLink) (bytes : List ℕ) → new.out_of_memory ≡ true → Sends old bytes (Err Memory) new
-sends-memory old new bytes out = record {
+pub sends-memory : (old mid new : ScriptedLink) (bytes : List ℕ) → TakesFail old false mid → new.out_of_memory ≡ true → Sends old bytes (Err Memory) new
+sends-memory old mid new bytes t out = record {
   memory = record { stays = λ was. out; reported = λ lives now. refl };
+  fault = λ first. absurd (true≢false (sym first ∙ sym t.front));
   states = λ state m at lives r. (out_of state, at-out new state out, out-is state);
 }
   where
@@ -136,6 +138,7 @@ sends-ok old mid new bytes done t sends same = record {
     stays = λ out. memory ∙ out;
     reported = λ lives out. absurd (true≢false (sym out ∙ memory ∙ lives));
   };
+  fault = λ first. absurd (true≢false (sym first ∙ sym t.front));
   states = λ state m at lives r.
       let shown = unfailed-shows old mid state t (at.shows lives) in
       (send m state, record { memory = memory ∙ at.memory ∙ sym (send-memory m state); shows = λ alive. sends state m shown.1 r }, (shown.0, refl));
@@ -176,14 +179,16 @@ receives-by old new received other receives same = record {
 pub streams-failed : (old new : ScriptedLink) (bytes : List ℕ) → Failed-call old new → Streams old bytes (Err Failed) new
 streams-failed old new bytes f = record {
   memory = failed-memory old new f;
+  fault = λ first. refl;
   states = λ state m at lives r within.
       let l = failed-leads old new state f at lives in
       (Err Failed, refl, (fail state, l.1, (l.0, refl)));
 }
 
-pub streams-memory : (old new : ScriptedLink) (bytes : List ℕ) → new.out_of_memory ≡ true → Streams old bytes (Err Memory) new
-streams-memory old new bytes out = record {
+pub streams-memory : (old mid new : ScriptedLink) (bytes : List ℕ) → TakesFail old false mid → new.out_of_memory ≡ true → Streams old bytes (Err Memory) new
+streams-memory old mid new bytes t out = record {
   memory = record { stays = λ was. out; reported = λ lives now. refl };
+  fault = λ first. absurd (true≢false (sym first ∙ sym t.front));
   states = λ state m at lives r within. (Err Memory, refl, (out_of state, at-out new state out, refl));
 }
 
@@ -209,6 +214,7 @@ streams-ok old mid new bytes reply t e serves = record {
     stays = λ out. memory ∙ out;
     reported = λ lives out. absurd (true≢false (sym out ∙ memory ∙ lives));
   };
+  fault = λ first. absurd (true≢false (sym first ∙ sym t.front));
   states = λ state m at lives r within.
       let shown = unfailed-shows old mid state t (at.shows lives) in
       let s = serves state m shown.1.sent.server r within in (
@@ -230,6 +236,7 @@ streams-none old mid new bytes server t same serves = record {
     stays = λ out. memory ∙ out;
     reported = λ lives out. absurd (true≢false (sym out ∙ memory ∙ lives));
   };
+  fault = λ first. refl;
   states = λ state m at lives r within.
       let shown = unfailed-shows old mid state t (at.shows lives) in
       absurd (serves state m shown.1.sent.server r within).0;

@@ -1,5 +1,5 @@
 -- Scripted links: what was sent, and what is left of a script.
-use Rattle.std.proofs.Common.{◌≡◌, ◌≢◌, ◌+◌, ◌-◌, ◌<◌, ◌≤◌, ℕ, zero, suc, List, [], ◌∷◌, ◌++◌, Bool, true, false, length, reverse, map, take, Option, Some, None, Result, Ok, Err, OnOk, OnErr, option_map, refl, sym, ap, subst, ◌∙◌, inl, inr, arith, length-append}
+use Rattle.std.proofs.Common.{◌≡◌, ◌≢◌, ◌+◌, ◌-◌, ◌<◌, ◌≤◌, ℕ, zero, suc, List, [], ◌∷◌, ◌++◌, Bool, true, false, length, reverse, map, take, Option, Some, None, Result, Ok, Err, IsOk, OnOk, OnErr, option_map, refl, sym, ap, subst, ◌∙◌, inl, inr, arith, length-append}
 use Rattle.std.specs.Prelude.{◌⊎◌, slice_get}
 use Rattle.std.specs.Global.{Vec}
 use Rattle.std.specs.declared.alloc.AllocError.{AllocError}
@@ -18,7 +18,7 @@ use Rattle.stub_link.specs.declared.link.script.Script.{Script}
 use Rattle.stub_link.specs.declared.link.server.Server.{Server}
 use Rattle.stub_link.specs.declared.link.scripted.ScriptedLink.{ScriptedLink}
 use Rattle.stub_link.specs.LinkState.{Course, Honest, Listed, LinkState, Received, ServerReply, begin_event, begin_update, begins_with_fail, course_of, deliver, deliver_event, deliver_named, deliver_rest, end_event, first_link_state, message_of, named_update, receive_listed, receive_reply, receives_in, with_last, without_first}
-use Rattle.stub_link.specs.ScriptedLink.{AreRelated, HasSent, IsAt, IsBegun, IsCourse, IsEnded, IsPlace, IsReceived, IsRequest, IsServerOf, ReceivesListed, bytes_of, named_place, places_of}
+use Rattle.stub_link.specs.ScriptedLink.{AreRelated, HasSent, IsAt, IsBegun, IsCourse, IsDelivered, IsEnded, IsPlace, IsReceived, IsRequest, IsServerOf, ReceivesListed, bytes_of, named_place, places_of}
 use Rattle.stub_link.proofs.Delivering.{AreAt, at_none, at_some, related-append, related-at}
 
 -- ---- a delivery
@@ -354,10 +354,11 @@ rest-delivered-by old mid new (Err error) delivers datagrams updates events ends
 -- an event ends
 pub event-ended : (old mid new : ScriptedLink) (done result : Result (Unit {0}) AllocError)
     → OnOk done ((state : LinkState) (course : Course) → HasSent old state → IsCourse old course → HasSent mid (deliver_rest course state))
-    → OnOk done ((mid.under_way.items ≡ []) × (mid.events.items ≡ [])) → mid ≡ record old { server = mid.server; under_way = mid.under_way; events = mid.events } → result ≡ done
+    → OnOk done ((mid.under_way.items ≡ []) × (mid.events.items ≡ [])) → (IsDelivered old → IsOk done)
+    → mid ≡ record old { server = mid.server; under_way = mid.under_way; events = mid.events } → result ≡ done
     → OnOk done (new ≡ record mid { is_honest = true }) → OnErr done (new ≡ record mid { is_honest = true; out_of_memory = true })
     → IsEnded old result new
-event-ended old mid new (Ok done) result ends empty rest same ok err =
+event-ended old mid new (Ok done) result ends empty decided rest same ok err =
     subst (λ (r : Result (Unit {0}) AllocError). IsEnded old r new) (sym same)
     (record {
       ends = λ state at.
@@ -375,13 +376,15 @@ event-ended old mid new (Ok done) result ends empty rest same ok err =
                   is_update = ap (λ (l : ScriptedLink). l.is_update) ok ∙ ap (λ (l : ScriptedLink). l.is_update) rest ∙ shown.is_update ∙ sym keeps.is_update;
                 };
           };
+      decided = λ left. refl;
       refused = tt;
       failures = ap (λ (l : ScriptedLink). l.failures) ok ∙ ap (λ (l : ScriptedLink). l.failures) rest;
     })
-event-ended old mid new (Err error) result ends empty rest same ok err =
+event-ended old mid new (Err error) result ends empty decided rest same ok err =
     subst (λ (r : Result (Unit {0}) AllocError). IsEnded old r new) (sym same)
     (record {
       ends = tt;
+      decided = decided;
       refused = ap (λ (l : ScriptedLink). l.out_of_memory) err;
       failures = ap (λ (l : ScriptedLink). l.failures) err ∙ ap (λ (l : ScriptedLink). l.failures) rest;
     })
@@ -402,9 +405,15 @@ event-delivered old server bytes (Ok done) event place at is delivers = λ state
 pub record EventsLeft (first link : ScriptedLink) : Type 0 where
   pub leads : (state : LinkState) → HasSent first state → EventsLead link (reverse link.events.items) (fold deliver_event state (reverse first.events.items))
   pub rest : link ≡ record first { server = link.server; events = link.events }
+  pub none : first.events.items ≡ [] → link.events.items ≡ []
 
 pub events-begun : (link : ScriptedLink) → EventsLeft link link
-events-begun link = record { leads = λ state h. record { now = state; sent = h; same = refl }; rest = refl }
+events-begun link = record { leads = λ state h. record { now = state; sent = h; same = refl }; rest = refl; none = λ is. is }
+
+-- a list with a last event has one
+pub not-empty : (events : List LinkEvent) (event : LinkEvent) → events ++ event ∷ [] ≡ [] → ⊥
+not-empty [] event is = cc
+not-empty (e ∷ es) event is = cc
 
 -- the server and the list alone change
 pub events-rest : (first link new : ScriptedLink) (popped : Vec LinkEvent) → link ≡ record first { server = link.server; events = link.events } → new ≡ record link { server = new.server; events = popped } → new ≡ record first { server = new.server; events = new.events }
@@ -423,6 +432,7 @@ events-taken first link new popped event e last delivers same = record {
             ∙ ap (λ (es : List LinkEvent). fold deliver_event r.now es) (sym (reverse-last link.events.items popped.items event last)) ∙ r.same;
       };
   rest = events-rest first link new popped e.rest same;
+  none = λ is. absurd (not-empty popped.items event (sym last ∙ e.none is));
 }
 
 pub events-ended : (first link new : ScriptedLink) → EventsLeft first link → link.events.items ≡ [] → new.server ≡ link.server → new.datagrams ≡ link.datagrams → new.updates ≡ link.updates

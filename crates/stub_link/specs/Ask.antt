@@ -1,5 +1,5 @@
--- One question (RFC 1035 section 7.3, RFC 5452 section 3, RFC 7766 section 5): a datagram, its reply, and a stream if the reply is
--- truncated. One definition for every link, and for the scripted link without bytes. Faults are numbered F1 to F9.
+-- One question (RFC 1035 section 7.3, RFC 5452 section 3, RFC 7766 section 5): a datagram, its reply, and a stream if the reply
+-- is truncated. One definition for every link, and for the scripted link without bytes. Faults are numbered F1 to F9.
 use Rattle.std.specs.Prelude.{◌≡◌, ◌⊎◌, Bool, true, false, [], ◌∷◌, ◌++◌, List, ℕ, length, slice_get, if◌then◌else◌, Option, Some, None, Result, Ok, Err}
 use Rattle.dns_messages.specs.declared.query.Query.{Query}
 use Rattle.dns_messages.specs.declared.message.Message.{Message}
@@ -17,8 +17,8 @@ use Rattle.stub_link.specs.Wait.{Wait, one_more}
 
 -- ---- who asks
 
--- An asker: its link, its ids, those that it has drawn, each with its question, and its counts: of the datagrams that were dropped, of
--- the requests that ended in a fault, and of the questions that were sent.
+-- An asker: its link, its ids, those that it has drawn, each with its question, and its counts: of the datagrams that were
+-- dropped, of the requests that ended in a fault, and of the questions that were sent.
 pub record Asker (L : Type 0) : Type 0 where
   pub link : L
   pub ids : List ℕ
@@ -47,8 +47,8 @@ pub record IsAwaited {L D : Type 0} (carrier : Carrier D) (calls : Calls L D) (i
   pub new_is : new ≡ record mid { link = link; dropped = dropped; questions = questions_after question mid.questions }
 
 -- the datagram was sent, or was not: F1
-abbrev pub AfterSending : {L D : Type 0} → Carrier D → Calls L D → ℕ → Option Query → Result (Unit {0}) LinkError → Asker L → Outcome
-    → Asker L → Type 0
+abbrev pub AfterSending : {L D : Type 0} → Carrier D → Calls L D → ℕ → Option Query → Result (Unit {0}) LinkError → Asker L
+    → Outcome → Asker L → Type 0
 AfterSending carrier calls id question (Ok done) mid outcome new = IsAwaited carrier calls id question mid outcome new
 AfterSending carrier calls id question (Err Failed) mid outcome new = (outcome ≡ Err (net.Link fault.NotSent)) × (new ≡ mid)
 AfterSending carrier calls id question (Err Memory) mid outcome new = (outcome ≡ Err net.Memory) × (new ≡ mid)
@@ -68,8 +68,8 @@ pub record IsSent {L D : Type 0} (carrier : Carrier D) (calls : Calls L D) (m : 
 abbrev pub stream_outcome : DnsResponse → Outcome
 stream_outcome response = if response.message.metadata.truncation then Err (net.Link fault.Truncated) else Ok response
 
--- The reply over the stream to the question, or F6 if it is truncated, too; F7 if it does not decode; F8 if it is another message.
--- There may be no memory to decode it.
+-- The reply over the stream to the question, or F6 if it is truncated, too; F7 if it does not decode; F8 if it is another
+-- message. There may be no memory to decode it.
 pub data IsStreamReply {D : Type 0} (carrier : Carrier D) (id : ℕ) (q : Query) (reply : D) (outcome : Outcome) : Type 0 where
   matching : (response : DnsResponse) → carrier.responds reply response → matches id (Some q) response.message ≡ true
       → outcome ≡ stream_outcome response → IsStreamReply carrier id q reply outcome
@@ -100,6 +100,7 @@ abbrev pub AfterReply : {L D : Type 0} → Carrier D → Calls L D → ℕ → Q
 AfterReply carrier calls id q datagram false response mid outcome new = (outcome ≡ Ok response) × (new ≡ mid)
 AfterReply carrier calls id q datagram true response mid outcome new = IsStreamed carrier calls id q datagram mid outcome new
 
+-- a reply was received, or waiting for it ended in a fault, which is the outcome
 abbrev pub AfterWaiting : {L D : Type 0} → Carrier D → Calls L D → ℕ → Query → D → Outcome → Asker L → Outcome → Asker L → Type 0
 AfterWaiting carrier calls id q datagram (Ok response) mid outcome new =
     AfterReply carrier calls id q datagram response.message.metadata.truncation response mid outcome new
@@ -108,16 +109,16 @@ AfterWaiting carrier calls id q datagram (Err error) mid outcome new = (outcome 
 -- ---- one question
 
 -- the request is sent under its id
-pub record IsAsked {L D : Type 0} (carrier : Carrier D) (calls : Calls L D) (m : Message) (q : Query) (old : Asker L) (outcome : Outcome)
-    (new : Asker L) : Type 0 where
+pub record IsAsked {L D : Type 0} (carrier : Carrier D) (calls : Calls L D) (m : Message) (q : Query) (old : Asker L)
+    (outcome : Outcome) (new : Asker L) : Type 0 where
   pub datagram : D
   pub waited : Outcome
   pub mid : Asker L
   pub sent : IsSent carrier calls m (Some q) datagram old waited mid
   pub ends : AfterWaiting carrier calls m.metadata.id q datagram waited mid outcome new
 
--- The next id is drawn, if one is left, or else F9, and the request is sent under it. There may be no memory for the question, and
--- none for the datagram.
+-- The next id is drawn, if one is left, or else F9, and the request is sent under it. There may be no memory for the question,
+-- and none for the datagram.
 abbrev pub AskUnder : {L D : Type 0} → Carrier D → Calls L D → Option ℕ → Message → Query → Asker L → Outcome → Asker L → Type 0
 AskUnder carrier calls None m q old outcome new = (outcome ≡ Err (net.Link fault.NoId)) × (new ≡ old)
 AskUnder carrier calls (Some id) m q old outcome new =
@@ -142,6 +143,7 @@ abbrev pub faults_after : {X : Type 0} → Result X NetError → ℕ → ℕ
 faults_after (Err (net.Link error)) faults = one_more faults
 faults_after outcome faults = faults
 
+-- the fault of an outcome is counted, if it is one
 abbrev pub count_fault : {L X : Type 0} → Result X NetError → Asker L → Asker L
 count_fault outcome asker = record asker { faults = faults_after outcome asker.faults }
 

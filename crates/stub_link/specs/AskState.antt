@@ -12,9 +12,11 @@ use Rattle.stub_link.specs.Ask.{Ask, Asker}
 use Rattle.stub_link.specs.Update.{SendUpdate}
 use Rattle.stub_link.specs.LinkState.{LinkState, begin_event, begin_update, end_event, first_link_state, link_calls}
 
+-- an asker over the scripted link without bytes
 abbrev pub AskState : Type 0
 AskState = Asker LinkState
 
+-- before any event: the link is in its first state, and nothing was asked
 abbrev pub first_asks : ZoneContent → ℕ → List ℕ → AskState
 first_asks zone limit ids = record {
   link = first_link_state zone limit;
@@ -29,10 +31,12 @@ first_asks zone limit ids = record {
 abbrev pub begin : ℕ → Script → AskState → AskState
 begin moment script state = record state { link = begin_event moment script state.link; faults = 0; questions = 0 }
 
+-- an event that sends an update begins, and what it counts is counted anew
 abbrev pub begin_with_update : ℕ → Script → AskState → AskState
 begin_with_update moment script state =
     record state { link = begin_update moment script state.link; faults = 0; questions = 0 }
 
+-- an event ends on the link
 abbrev pub end : AskState → AskState
 end state = record state { link = end_event state.link }
 

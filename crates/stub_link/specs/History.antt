@@ -17,9 +17,11 @@ pub record Past : Type 0 where
   pub history : List Version
   pub updates : List (Option Message)
 
+-- before any event: the rows of the zone hold from moment 0 on
 abbrev pub first_past : ZoneContent → Past
 first_past zone = record { zone = zone; history = record { moment = 0; rows = zone.rows } ∷ []; updates = [] }
 
+-- what a state of the link knows of the past
 abbrev pub past_of : LinkState → Past
 past_of state = record { zone = state.zone; history = state.history; updates = state.updates }
 
@@ -45,19 +47,21 @@ past_after_script moment (script.Listed events) sent past = fold (past_after_eve
 abbrev pub sent_update : Script → Option Message → Option Message
 sent_update s update = if begins_with_fail (course_of s) then None else update
 
--- What the link sees of an event: its moment, its script, and whether it is an update, with its message, or none if there was no memory
--- for its datagram.
+-- What the link sees of an event: its moment, its script, and whether it is an update, with its message, or none if there was no
+-- memory for its datagram.
 pub record Occasion : Type 0 where
   pub moment : ℕ
   pub script : Script
   pub update : Option (Option Message)
 
+-- what an event leads to: if it sends an update, this has the next place among the updates, empty if it was not sent
 abbrev pub past_after_update : ℕ → Script → Option (Option Message) → Past → Past
 past_after_update moment s None past = past_after_script moment s None past
 past_after_update moment s (Some update) past =
     let sent : Option Message = sent_update s update in
     past_after_script moment s sent (record past { updates = past.updates ++ sent ∷ [] })
 
+-- what an event leads to, as the link sees it
 abbrev pub past_after_occasion : Past → Occasion → Past
 past_after_occasion past occasion = past_after_update occasion.moment occasion.script occasion.update past
 
@@ -72,6 +76,7 @@ abbrev pub AreQuestions : List Message → Type 0
 AreQuestions [] = Unit {0}
 AreQuestions (m ∷ ms) = (m.metadata.op_code ≡ ops.Query) × AreQuestions ms
 
+-- the datagrams that the honest script has not delivered yet ask questions
 abbrev pub HasQuestions : Course → Type 0
 HasQuestions (Honest under_way) = AreQuestions under_way
 HasQuestions (Listed events) = Unit {0}
@@ -91,5 +96,6 @@ pub record KeepsHistory (old new : LinkState) : Type 0 where
   pub asking : IsAsking new
   pub same : past_to_come new ≡ past_to_come old
 
+-- the history is kept, unless the link or its server runs out of memory
 abbrev pub KeepsUnlessOut : LinkState → LinkState → Type 0
 KeepsUnlessOut old new = (new.out_of_memory ≡ true) ⊎ KeepsHistory old new

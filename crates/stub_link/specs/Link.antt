@@ -33,6 +33,7 @@ pub record Calls (L D : Type 0) : Type 1 where
   pub receives : L → Result (Option D) LinkError → L → Type 0
   pub streams : L → D → Result D LinkError → L → Type 0
 
+-- the calls of a link by its three relations
 abbrev pub calls_of : {L D : Type 0} → (L → D → Result (Unit {0}) LinkError → L → Type 0)
     → (L → Result (Option D) LinkError → L → Type 0) → (L → D → Result D LinkError → L → Type 0) → Calls L D
 calls_of sends receives streams = record { sends = sends; receives = receives; streams = streams }

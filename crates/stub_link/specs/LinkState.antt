@@ -36,9 +36,9 @@ pub data Course : Type 0 where
   Listed : (events : List LinkEvent) → Course
 
 -- The server: its zone, the versions of the rows so far, the oldest first, and the maximum size of its datagrams. The event: its
--- moment, what is left of its script, and whether it is an update. What was sent: the datagrams of questions, the newest first, and
--- for each update event, the oldest first, its datagram, or none if it was not sent. What was replied to datagrams, the newest first.
--- Whether the link or its server has run out of memory.
+-- moment, what is left of its script, and whether it is an update. What was sent: the datagrams of questions, the newest first,
+-- and for each update event, the oldest first, its datagram, or none if it was not sent. What was replied to datagrams, the
+-- newest first. Whether the link or its server has run out of memory.
 pub record LinkState : Type 0 where
   pub zone : ZoneContent
   pub history : List Version
@@ -72,6 +72,7 @@ first_link_state zone limit = record {
 abbrev pub message_of : ℕ → ServerReply → Message
 message_of limit r = sent_reply r.zone (Datagram limit) r.datagram
 
+-- whether a response code is NoError (RFC 1035 section 4.1.1)
 abbrev pub is_no_error : ResponseCode → Bool
 is_no_error NoError = true
 is_no_error code = false
@@ -103,6 +104,7 @@ abbrev pub deliver_named : Option Message → LinkState → LinkState
 deliver_named (Some m) state = deliver m state
 deliver_named None state = state
 
+-- the datagram at the place that an event names, if there is such a place and it is not empty
 abbrev pub named_update : Option (Option Message) → Option Message
 named_update (Some place) = place
 named_update None = None
@@ -115,6 +117,7 @@ deliver_event state event = state
 
 -- ---- events
 
+-- a script at its beginning
 abbrev pub course_of : Script → Course
 course_of script.Honest = Honest []
 course_of (script.Listed events) = Listed events.items
@@ -123,6 +126,7 @@ course_of (script.Listed events) = Listed events.items
 abbrev pub begin_event : ℕ → Script → LinkState → LinkState
 begin_event moment s state = record state { moment = moment; course = course_of s; is_update = false }
 
+-- an event that sends an update begins: as any other, and with an empty place for its datagram
 abbrev pub begin_update : ℕ → Script → LinkState → LinkState
 begin_update moment s state =
     record state { moment = moment; course = course_of s; is_update = true; updates = state.updates ++ None ∷ [] }
@@ -132,15 +136,18 @@ abbrev pub deliver_rest : Course → LinkState → LinkState
 deliver_rest (Honest under_way) state = fold (λ now m. deliver m now) state under_way
 deliver_rest (Listed events) state = fold deliver_event state events
 
+-- An event ends: what is left of its script is delivered, and the honest script is followed again.
 abbrev pub end_event : LinkState → LinkState
 end_event state = deliver_rest state.course (record state { course = Honest [] })
 
 -- ---- sending
 
+-- whether `Fail` is in front of what is left of a script
 abbrev pub begins_with_fail : Course → Bool
 begins_with_fail (Listed (Fail ∷ events)) = true
 begins_with_fail course = false
 
+-- what is left of a listed script behind its first event
 abbrev pub without_first : Course → Course
 without_first (Listed (event ∷ events)) = Listed events
 without_first course = course
@@ -149,6 +156,7 @@ without_first course = course
 abbrev pub fail : LinkState → LinkState
 fail state = record state { course = without_first state.course }
 
+-- a datagram is sent: the honest script has yet to deliver it, and a listed one delivers what it names
 abbrev pub with_under_way : Message → Course → Course
 with_under_way m (Honest under_way) = Honest (under_way ++ m ∷ [])
 with_under_way m (Listed events) = Listed events
@@ -171,6 +179,7 @@ pub record Received : Type 0 where
   pub datagram : Result (Option Message) LinkError
   pub state : LinkState
 
+-- a receive that brings this, and leaves this of the script
 abbrev pub receives_in : Result (Option Message) LinkError → Course → LinkState → Received
 receives_in datagram course state = record { datagram = datagram; state = record state { course = course } }
 
@@ -195,6 +204,7 @@ receive_by (Honest (m ∷ under_way)) state =
     receives_in (Ok (Some (sent_reply state.zone (Datagram state.limit) m))) (Honest under_way) (deliver m state)
 receive_by (Listed events) state = receive_listed events state
 
+-- a receive by the script of the event
 abbrev pub receive : LinkState → Received
 receive state = receive_by state.course state
 
@@ -206,6 +216,7 @@ Sends old m (Ok done) new = (begins_with_fail old.course ≡ false) × (new ≡ 
 Sends old m (Err Failed) new = (begins_with_fail old.course ≡ true) × (new ≡ fail old)
 Sends old m (Err Memory) new = new.out_of_memory ≡ true
 
+-- A receive brings what the script says. If the link or its server runs out of memory, that is known from then on.
 abbrev pub Receives : LinkState → Result (Option Message) LinkError → LinkState → Type 0
 Receives old (Ok datagram) new = receive old ≡ record { datagram = Ok datagram; state = new }
 Receives old (Err Failed) new = receive old ≡ record { datagram = Err Failed; state = new }
@@ -218,6 +229,7 @@ Streams old m (Ok answer) new =
 Streams old m (Err Failed) new = (begins_with_fail old.course ≡ true) × (new ≡ fail old)
 Streams old m (Err Memory) new = new.out_of_memory ≡ true
 
+-- the calls of the scripted link without bytes
 abbrev pub link_calls : Calls LinkState Message
 link_calls = record {
   sends = λ old m result new. Sends old m result new;

@@ -11,6 +11,7 @@ use Rattle.dns_messages.specs.Question.{same_question}
 
 -- A request is known by its id, and by its question if it is a query; an update has none.
 
+-- whether a message is a response, by its QR bit (RFC 1035 section 4.1.1)
 abbrev pub is_response : MessageType → Bool
 is_response kinds.Response = true
 is_response kinds.Query = false
@@ -25,6 +26,7 @@ is_reply_code question code = false
 abbrev pub is_reply_header : ℕ → Option Query → Metadata → Bool
 is_reply_header id question m = is_response m.message_type && (is_reply_code question m.op_code && (m.id == id))
 
+-- whether a datagram begins with a header, and with one of a reply to the request
 abbrev pub has_reply_header : ℕ → Option Query → Option Metadata → Bool
 has_reply_header id question (Some m) = is_reply_header id question m
 has_reply_header id question None = false

@@ -34,5 +34,6 @@ pub record IsUpdate (m : Message) : Type 0 where
 abbrev pub whole_update : (m : Message) → IsUpdate m → IsWhole m
 whole_update m u = record { sound = u.update.sound; fits = u.fits }
 
+-- a message with this id (RFC 1035 section 4.1.1)
 abbrev pub with_id : ℕ → Message → Message
 with_id id m = record m { metadata = record m.metadata { id = id } }

@@ -1,5 +1,5 @@
 -- The scripted link with its bytes, and the states without bytes that it is in.
-use Rattle.std.specs.Prelude.{◌≡◌, ◌≤◌, length, List, [], ◌∷◌, ℕ, map, reverse, Bool, true, false, Option, Some, None, Result, Ok, Err, OnOk, OnErr, option_map}
+use Rattle.std.specs.Prelude.{◌≡◌, ◌≤◌, length, List, [], ◌∷◌, ℕ, map, reverse, Bool, true, false, Option, Some, None, Result, Ok, Err, IsOk, OnOk, OnErr, option_map}
 use Rattle.std.specs.Global.{Vec}
 use Rattle.std.specs.declared.alloc.AllocError.{AllocError}
 use Rattle.dns_messages.specs.declared.message_type.MessageType.TheVariants as kinds
@@ -26,9 +26,11 @@ AreRelated R [] [] = Unit {0}
 AreRelated R (x ∷ xs) (y ∷ ys) = R x y × AreRelated R xs ys
 AreRelated R xs ys = ⊥
 
+-- the bytes of some datagrams
 abbrev pub bytes_of : Vec (Vec ℕ) → List (List ℕ)
 bytes_of v = map (λ bytes. bytes.items) v.items
 
+-- the bytes at the places of updates
 abbrev pub places_of : Vec (Option (Vec ℕ)) → List (Option (List ℕ))
 places_of v = map (option_map (λ bytes. bytes.items)) v.items
 
@@ -38,6 +40,7 @@ IsPlace (Some bytes) (Some m) = IsRequest bytes m
 IsPlace None None = Unit {0}
 IsPlace bytes m = ⊥
 
+-- the bytes at a place, if there is such a place and it is not empty
 abbrev pub named_place : Option (Option (List ℕ)) → Option (List ℕ)
 named_place (Some bytes) = bytes
 named_place None = None
@@ -48,10 +51,12 @@ named_place None = None
 pub record IsServerOf (server : Server) (state : LinkState) : Type 0 where
   pub zone : server.zone ≡ state.zone
   pub limit : server.limit ≡ state.limit
-  pub replies : AreRelated (λ bytes r. ReadsMessage bytes (message_of state.limit r)) (reverse (bytes_of server.replies)) state.replies
+  pub replies : AreRelated (λ bytes r. ReadsMessage bytes (message_of state.limit r)) (reverse (bytes_of server.replies))
+      state.replies
 
 -- ---- the link
 
+-- what a link has of a script: of the honest one what is under way, and of a listed one its events, the next one last
 abbrev pub IsCourse : ScriptedLink → Course → Type 0
 IsCourse link (Honest under_way) =
     (link.is_honest ≡ true) × AreRelated IsRequest (bytes_of link.under_way) under_way × (link.events.items ≡ [])
@@ -74,6 +79,7 @@ pub record IsAt (link : ScriptedLink) (state : LinkState) : Type 0 where
   pub memory : link.out_of_memory ≡ state.out_of_memory
   pub shows : link.out_of_memory ≡ false → Shows link state
 
+-- whether the link or its server has run out of memory
 abbrev pub is_out_of_memory : ScriptedLink → Bool
 is_out_of_memory link = link.out_of_memory
 
@@ -100,9 +106,14 @@ pub record IsBegun (old : ScriptedLink) (result : Result (Unit {0}) AllocError) 
   pub refused : OnErr result (new.out_of_memory ≡ true)
   pub failures : new.failures ≡ old.failures
 
--- an event ends; the server may run out of memory
+-- nothing is left to deliver
+abbrev pub IsDelivered : ScriptedLink → Type 0
+IsDelivered link = (link.under_way.items ≡ []) × (link.events.items ≡ [])
+
+-- an event ends; the server may run out of memory if something is left to deliver
 pub record IsEnded (old : ScriptedLink) (result : Result (Unit {0}) AllocError) (new : ScriptedLink) : Type 0 where
   pub ends : OnOk result ((state : LinkState) → IsAt old state → IsAt new (end_event state))
+  pub decided : IsDelivered old → IsOk result
   pub refused : OnErr result (new.out_of_memory ≡ true)
   pub failures : new.failures ≡ old.failures
 
@@ -111,9 +122,14 @@ abbrev pub IsStreamReply : Message → Option (Vec ℕ) → Type 0
 IsStreamReply m (Some bytes) = ReadsMessage bytes.items m
 IsStreamReply m None = ⊥
 
+-- a call that finds `Fail` in front of the script fails, whatever memory there is
+abbrev pub FailsFirst : {X : Type 0} → ScriptedLink → Result X LinkError → Type 0
+FailsFirst link result = begins_with_fail (Listed (reverse link.events.items)) ≡ true → result ≡ Err Failed
+
 -- A request is sent as its message is, from each state in which the link is.
 pub record Sends (old : ScriptedLink) (bytes : List ℕ) (result : Result (Unit {0}) LinkError) (new : ScriptedLink) : Type 0 where
   pub memory : KeepsMemory old result new
+  pub fault : FailsFirst old result
   pub states : (state : LinkState) (m : Message) → IsAt old state → old.out_of_memory ≡ false → IsRequest bytes m
       → LeadsTo new (λ after. SendsMessage state m result after)
 
@@ -124,14 +140,15 @@ IsReceived (Ok None) (Ok None) = Unit {0}
 IsReceived (Err error) (Err other) = error ≡ other
 IsReceived received other = ⊥
 
+-- what holds of a result unless it is want of memory
 abbrev pub UnlessMemory : {X : Type 0} → Result X LinkError → Type 0 → Type 0
 UnlessMemory (Err Memory) P = Unit {0}
 UnlessMemory (Err Failed) P = P
 UnlessMemory (Ok x) P = P
 
 -- a receive by a listed script, whose next event is last
-pub record ReceivesListed (old : ScriptedLink) (received : Result (Option (List ℕ)) LinkError) (new : ScriptedLink) (state : LinkState)
-    : Type 0 where
+pub record ReceivesListed (old : ScriptedLink) (received : Result (Option (List ℕ)) LinkError) (new : ScriptedLink)
+    (state : LinkState) : Type 0 where
   pub received_is : IsReceived received (receive_listed (reverse old.events.items) state).datagram
   pub sent : HasSent new (receive_listed (reverse old.events.items) state).state
   pub course : (receive_listed (reverse old.events.items) state).state.course ≡ Listed (reverse new.events.items)
@@ -168,5 +185,7 @@ IsStreamed result other = ⊥
 -- A request over a stream, of at most 65,535 bytes, has the bytes of the reply to its message.
 pub record Streams (old : ScriptedLink) (bytes : List ℕ) (result : Result (List ℕ) LinkError) (new : ScriptedLink) : Type 0 where
   pub memory : KeepsMemory old result new
-  pub states : (state : LinkState) (m : Message) → IsAt old state → old.out_of_memory ≡ false → IsRequest bytes m → length bytes ≤ 65535
-      → (answer : Result Message LinkError) × IsStreamed result answer × LeadsTo new (λ after. StreamsMessage state m answer after)
+  pub fault : FailsFirst old result
+  pub states : (state : LinkState) (m : Message) → IsAt old state → old.out_of_memory ≡ false → IsRequest bytes m
+      → length bytes ≤ 65535 → (answer : Result Message LinkError) × IsStreamed result answer
+      × LeadsTo new (λ after. StreamsMessage state m answer after)

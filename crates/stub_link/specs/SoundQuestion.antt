@@ -19,8 +19,8 @@ use Rattle.stub_link.specs.Wait.{one_more}
 abbrev pub IsShort : DomainName → Type 0
 IsShort name = name_len name.labels ≤ max_name_len
 
--- A question that can be sent whatever the options of its request are: its name is fully qualified and short, and its type and class
--- are those of their numbers.
+-- A question that can be sent whatever the options of its request are: its name is fully qualified and short, and its type and
+-- class are those of their numbers.
 pub record IsSoundQuestion (q : Query) : Type 0 where
   pub sound : IsSoundQuery q
   pub short : IsShort q.name

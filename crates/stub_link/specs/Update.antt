@@ -1,5 +1,5 @@
--- Sending an update (RFC 2136 section 2): a datagram, and the response code of its reply. One definition for every link, and for the
--- scripted link without bytes.
+-- Sending an update (RFC 2136 section 2): a datagram, and the response code of its reply. One definition for every link, and for
+-- the scripted link without bytes.
 use Rattle.std.specs.Prelude.{◌≡◌, ◌⊎◌, None, Result, Ok, Err}
 use Rattle.dns_messages.specs.declared.response_code.ResponseCode.{ResponseCode}
 use Rattle.dns_messages.specs.declared.message.Message.{Message}
@@ -22,7 +22,8 @@ pub record IsUpdateSent {L D : Type 0} (carrier : Carrier D) (calls : Calls L D)
   pub sent : IsSent carrier calls m None datagram old waited new
   pub reply_is : reply ≡ code_of waited
 
--- An update, the response code that its reply has or the fault, and the asker afterwards. There may be no memory for the datagram.
+-- An update, the response code that its reply has or the fault, and the asker afterwards. There may be no memory for the
+-- datagram.
 pub record SendUpdate {L D : Type 0} (carrier : Carrier D) (calls : Calls L D) (m : Message) (old : Asker L)
     (reply : Result ResponseCode NetError) (new : Asker L) : Type 0 where
   pub uncounted : Asker L

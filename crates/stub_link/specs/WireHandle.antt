@@ -22,6 +22,7 @@ use Rattle.stub_link.specs.ScriptedLink.{IsAt}
 
 -- ---- any link
 
+-- a handle as an asker
 abbrev pub asker_of : {L : Type 0} → WireHandle L → Asker L
 asker_of handle = record {
   link = handle.link;
@@ -45,16 +46,17 @@ FailsByLink outcome old new = ⊤
 
 -- A handle is asked what a request asks.
 pub record Asks {L : Type 0} (sends : L → List ℕ → Result (Unit {0}) LinkError → L → Type 0)
-    (receives : L → Result (Option (List ℕ)) LinkError → L → Type 0) (streams : L → List ℕ → Result (List ℕ) LinkError → L → Type 0)
-    (failure_count : L → ℕ) (old : WireHandle L) (request : DnsRequest) (now : ℕ) (outcome : Outcome) (new : WireHandle L) : Type 0 where
+    (receives : L → Result (Option (List ℕ)) LinkError → L → Type 0)
+    (streams : L → List ℕ → Result (List ℕ) LinkError → L → Type 0) (failure_count : L → ℕ)
+    (old : WireHandle L) (request : DnsRequest) (now : ℕ) (outcome : Outcome) (new : WireHandle L) : Type 0 where
   pub ask : Ask wire (calls_of sends receives streams) request.message (asker_of old) outcome (asker_of new)
   pub failed : FailsByLink outcome (failure_count old.link) (failure_count new.link)
 
 -- A handle sends an update.
 pub record SendsUpdate {L : Type 0} (sends : L → List ℕ → Result (Unit {0}) LinkError → L → Type 0)
-    (receives : L → Result (Option (List ℕ)) LinkError → L → Type 0) (streams : L → List ℕ → Result (List ℕ) LinkError → L → Type 0)
-    (failure_count : L → ℕ) (old : WireHandle L) (update : Message) (reply : Result ResponseCode NetError) (new : WireHandle L)
-    : Type 0 where
+    (receives : L → Result (Option (List ℕ)) LinkError → L → Type 0)
+    (streams : L → List ℕ → Result (List ℕ) LinkError → L → Type 0) (failure_count : L → ℕ)
+    (old : WireHandle L) (update : Message) (reply : Result ResponseCode NetError) (new : WireHandle L) : Type 0 where
   pub sent : SendUpdate wire (calls_of sends receives streams) update (asker_of old) reply (asker_of new)
   pub failed : FailsByLink reply (failure_count old.link) (failure_count new.link)
 
@@ -70,6 +72,7 @@ pub record StreamsTo {L : Type 0} (streams : L → List ℕ → Result (List ℕ
   pub streamed : streams old request result new
   pub after : AfterStream wire id q result outcome
 
+-- whether an outcome is a truncated reply (RFC 1035 section 4.1.1)
 abbrev pub is_truncated : Outcome → Bool
 is_truncated (Ok response) = response.message.metadata.truncation
 is_truncated (Err error) = false

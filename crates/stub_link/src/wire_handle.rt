@@ -1,6 +1,6 @@
 //! A handle that asks questions, and sends updates, over a link.
 
-ghost use Rattle.std.specs.Prelude.{◌≡◌, ◌+◌, ◌-◌, ◌≤◌, ◌∷◌, ◌++◌, ◌⊎◌, [], length, OnOk, OnErr, Err, None, vec_len, vec_capacity};
+ghost use Rattle.std.specs.Prelude.{◌≡◌, ◌+◌, ◌-◌, ◌≤◌, ◌∷◌, ◌++◌, ◌⊎◌, [], length, IsOk, OnOk, OnErr, Err, None, vec_len, vec_capacity};
 ghost use Rattle.std.specs.Option.{option_copied};
 ghost use Rattle.dns_messages.specs.declared.message.Message.{Message};
 ghost use Rattle.dns_messages.specs.declared.query.Query.{Query};
@@ -50,7 +50,8 @@ impl<L: Link> WireHandle<L> {
     ghost use Rattle.std.specs.Borrow.{sem, Lends};
     ghost use Rattle.stub_link.specs.contracts.wire_handle.WireHandle.{the_row as handle_row};
 
-    /// Creates a handle over a link that draws the ids in order, one for each question.
+    /// Creates a handle over a link. It draws the ids in order, one for each question; when none is left, a question fails with
+    /// [`LinkFault::NoId`]. Over a network they must be unpredictable (RFC 5452 section 9.2).
     pub fn new(alloc: Global, link: L, ids: Vec<u16>) -> Self
         ensures { asker_of result ≡ record {
           link = link;
@@ -110,12 +111,14 @@ impl<L: Link> WireHandle<L> {
         self.ids.len().saturating_sub(self.sent.len())
     }
 
-    /// Reserves capacity for `additional` more ids that are drawn.
+    /// Reserves capacity for `additional` more ids that are drawn. If there is enough, no memory is taken.
     pub fn reserve(&mut self, additional: usize) -> Result<(), AllocError>
         ensures room { OnOk result (
             vec_len self.new.sent + additional ≤ vec_capacity self.new.sent) }
         ensures sent { self.new.sent.items ≡ self.old.sent.items }
         ensures rest { self.new ≡ record self.old { sent = self.new.sent } }
+        ensures decided { vec_len self.old.sent + additional ≤ vec_capacity self.old.sent
+            → IsOk result }
     {
         self.sent.reserve(additional)
     }
@@ -145,8 +148,8 @@ impl<L: Link> WireHandle<L> {
     /// The error is a [`LinkFault`]: `NotSent` or `NotReceived` if the link failed; `Quiet` if nothing was received; `NoMatch`
     /// if none of sixteen datagrams is the reply.
     pub fn send_update(&mut self, update: &UpdateEvent) -> Result<ResponseCode, NetError>
-        ensures { SendsUpdate L.sends L.receives L.streams L.failure_count self.old update.now result
-            self.new }
+        ensures { SendsUpdate L.sends L.receives L.streams L.failure_count self.old update.now
+            result self.new }
     {
         let reply = self.exchange_update(update.message());
         self.count_fault(&reply);

@@ -1,5 +1,5 @@
 -- Why a lookup found nothing.
-use Rattle.std.specs.Prelude.{ℕ, None, Result, Ok, Err}
+use Rattle.std.specs.Prelude.{◌≡◌, ℕ, None, Result, Ok, Err}
 use Rattle.dns_names.specs.declared.error.ParseError.{ParseError}
 use Rattle.dns_names.specs.declared.error.ParseError.TheVariants as names
 use Rattle.dns_messages.specs.declared.query.Query.{Query}
@@ -33,6 +33,12 @@ no_records query code = record {
   response_code = code;
   authorities = None;
 }
+
+-- A negative answer consists of a question and a code: it has no SOA record, no name servers and no other records.
+pub record HasNoRecords (answer : NoRecords) : Type 0 where
+  pub soa : answer.soa ≡ None
+  pub ns : answer.ns ≡ None
+  pub authorities : answer.authorities ≡ None
 
 -- a text is not a name, or there was no memory for the name
 abbrev pub error_of_name : ParseError → NetError

@@ -1,6 +1,8 @@
 //! Copies of negative answers, and of records.
 
-ghost use Rattle.std.specs.Prelude.{◌≡◌, IfOk};
+ghost use Rattle.std.specs.Prelude.{◌≡◌, ◌≤◌, ◌+◌, length, Ok, None, IfOk, IsOk};
+ghost use Rattle.dns_wire.specs.Name.{name_len};
+ghost use Rattle.stub_lookup.specs.Error.{HasNoRecords};
 
 use crate::error::{ForwardNSData, NoRecords};
 use dns_data::SOA;
@@ -17,9 +19,13 @@ pub fn copy_records(records: &Sequence<Record>) -> Result<Sequence<Record>, Allo
 }
 
 impl NoRecords {
-    /// Copies the negative answer.
+    /// Copies the negative answer. It does not fail if there are no records and the name of the question has at most 24
+    /// labels of at most 32 bytes in all, which are stored inline.
     pub fn clone(&self) -> Result<NoRecords, AllocError>
-        ensures { IfOk result (λ copy. copy ≡ self.now) }
+        ensures ok { IfOk result (λ copy. copy ≡ self.now) }
+        ensures inline { length self.now.query.name.labels ≤ 24
+            → name_len self.now.query.name.labels ≤ length self.now.query.name.labels + 33
+            → HasNoRecords self.now → result ≡ Ok self.now }
     {
         Ok(NoRecords {
             query: self.query.clone()?,
@@ -34,7 +40,8 @@ impl NoRecords {
 
 /// Copies an SOA record, if there is one.
 fn clone_soa(soa: &Option<Record<SOA>>) -> Result<Option<Record<SOA>>, AllocError>
-    ensures { IfOk result (λ copy. copy ≡ soa.now) }
+    ensures ok { IfOk result (λ copy. copy ≡ soa.now) }
+    ensures decided { soa.now ≡ None → IsOk result }
 {
     match soa {
         Some(soa) => Ok(Some(soa.clone()?)),
@@ -46,7 +53,8 @@ fn clone_soa(soa: &Option<Record<SOA>>) -> Result<Option<Record<SOA>>, AllocErro
 fn clone_name_servers(
     ns: &Option<Sequence<ForwardNSData>>,
 ) -> Result<Option<Sequence<ForwardNSData>>, AllocError>
-    ensures { IfOk result (λ copy. copy ≡ ns.now) }
+    ensures ok { IfOk result (λ copy. copy ≡ ns.now) }
+    ensures decided { ns.now ≡ None → IsOk result }
 {
     match ns {
         Some(name_servers) => Ok(Some(name_servers.clone()?)),
@@ -58,7 +66,8 @@ fn clone_name_servers(
 fn clone_authorities(
     authorities: &Option<Sequence<Record>>,
 ) -> Result<Option<Sequence<Record>>, AllocError>
-    ensures { IfOk result (λ copy. copy ≡ authorities.now) }
+    ensures ok { IfOk result (λ copy. copy ≡ authorities.now) }
+    ensures decided { authorities.now ≡ None → IsOk result }
 {
     match authorities {
         Some(authorities) => Ok(Some(copy_records(authorities)?)),

@@ -1,6 +1,6 @@
 //! What a reply means: records, a negative answer, or an error.
 
-ghost use Rattle.std.specs.Prelude.{◌≡◌, IfOk, Err, true};
+ghost use Rattle.std.specs.Prelude.{◌≡◌, IfOk, IsOk, Ok, Err, None, true};
 ghost use Rattle.dns_wire.specs.Error.{IsUnless};
 ghost use Rattle.dns_messages.specs.Response.{soa_in};
 ghost use Rattle.stub_lookup.specs.Outcome.{any_records, as_soa, error_in, first_question, is_negative, no_records_in, outcome, with_soa_data};
@@ -16,11 +16,13 @@ impl DnsError {
     ///
     /// A response with the code `NoError` or `NXDomain` that is not truncated and contains no answer is a negative
     /// answer. One with another code that has a name is [`DnsError::ResponseCode`]. A response that is not an error is
-    /// returned as it is, without taking memory.
+    /// returned as it is, without taking memory. A negative answer takes memory only for a copy of its SOA record.
     pub fn from_response(alloc: Global, response: DnsResponse) -> Result<DnsResponse, NetError>
         ensures outcome { IsUnless Memory (outcome response) result }
         ensures memory { result ≡ Err Memory
             → is_negative (error_in response.message) ≡ true }
+        ensures decided { soa_in response.message.authorities ≡ None
+            → result ≡ outcome response }
     {
         match response.message().metadata.response_code {
             ResponseCode::NoError | ResponseCode::NXDomain => {
@@ -38,7 +40,8 @@ impl DnsError {
 
 /// Returns the negative answer of a response.
 fn no_records(alloc: Global, response: DnsResponse) -> Result<NoRecords, AllocError>
-    ensures { IfOk result (λ answer. answer ≡ no_records_in response.message) }
+    ensures answer { IfOk result (λ answer. answer ≡ no_records_in response.message) }
+    ensures decided { soa_in response.message.authorities ≡ None → IsOk result }
 {
     let soa = copy_soa(&response)?;
     let negative_ttl = response.negative_ttl();
@@ -53,9 +56,10 @@ fn no_records(alloc: Global, response: DnsResponse) -> Result<NoRecords, AllocEr
     })
 }
 
-/// Copies the first SOA record of the authority section of a response (RFC 2308 section 3).
+/// Copies the first SOA record of the authority section of a response (RFC 2308 section 3), if there is one.
 pub fn copy_soa(response: &DnsResponse) -> Result<Option<Record<SOA>>, AllocError>
-    ensures { IfOk result (λ soa. soa ≡ as_soa (soa_in response.now.message.authorities)) }
+    ensures ok { IfOk result (λ soa. soa ≡ as_soa (soa_in response.now.message.authorities)) }
+    ensures decided { soa_in response.now.message.authorities ≡ None → result ≡ Ok None }
 {
     match response.soa() {
         Some(found) => copy_with_soa_data(found),

@@ -1,5 +1,5 @@
 -- Runs over any link: an event begins and ends, the ids that were drawn stay, and a run goes on, event by event, and is reported.
-use Rattle.std.proofs.Common.{◌≡◌, ◌++◌, ℕ, List, [], ◌∷◌, Bool, Option, Some, None, Result, Ok, Err, OnOk, OnErr, IfSome, is_err, false, true, length, take, get_or, refl, sym, ap, subst, ◌∙◌, arith, inr, ◌<◌}
+use Rattle.std.proofs.Common.{◌≡◌, ◌++◌, ℕ, List, [], ◌∷◌, Bool, Option, Some, None, Result, Ok, Err, IsOk, OnOk, OnErr, IfSome, is_err, false, true, length, take, get_or, refl, sym, ap, subst, ◌∙◌, arith, inr, ◌<◌}
 use Rattle.std.proofs.lemmas.List.{take_all}
 use Rattle.std.proofs.lemmas.Option.{slice_get_read}
 use Rattle.std.specs.declared.alloc.AllocError.{AllocError}
@@ -35,6 +35,15 @@ if-ok (Err error) Holds h holds = absurd (cc)
 pub if-err : {A E : Type 0} (result : Result A E) (Holds : Type 0) → is_err result ≡ true → OnErr result Holds → Holds
 if-err (Ok done) Holds h holds = absurd (cc)
 if-err (Err error) Holds h holds = holds
+
+-- what is not an error has a value
+pub ok-or-err : {A E : Type 0} (result : Result A E) → is_err result ≡ true → IsOk result → ⊥
+ok-or-err (Ok done) h ok = cc h
+ok-or-err (Err error) h ok = cc ok
+
+-- there is no event in an empty list
+pub no-event : {E : Type 0} (events : List E) (i : ℕ) → events ≡ [] → i < length events → ⊥
+no-event events i none within = let len : length events ≡ 0 = ap length none in absurd (omega (arith, len, within))
 
 -- what is known of a report, if there is one
 pub if-some : {A : Type 0} (P Q : A → Type 0) (o : Option A) → ((x : A) → P x → Q x) → IfSome o P → IfSome o Q

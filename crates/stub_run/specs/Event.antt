@@ -7,6 +7,7 @@ use Rattle.stub_link.specs.declared.link.script.Script.TheVariants.{Honest}
 use Rattle.stub_run.specs.declared.event.Event.{Event}
 use Rattle.stub_run.specs.declared.event.Event.TheVariants.{Lookup, LookupIp, Clear, ClearAll, Update}
 
+-- when an event happens, in seconds
 abbrev pub moment_of : Event → ℕ
 moment_of (Lookup at name rtype script) = at
 moment_of (LookupIp at host script) = at
@@ -14,6 +15,7 @@ moment_of (Clear at name rtype script) = at
 moment_of (ClearAll at script) = at
 moment_of (Update at update script) = at
 
+-- what the link does during an event
 abbrev pub script_of : Event → Script
 script_of (Lookup at name rtype script) = script
 script_of (LookupIp at host script) = script

@@ -1,5 +1,5 @@
--- What a run promises of the records that its lookups return: each of them stood in the zone. It is stated by the world and the events
--- alone: nothing here speaks of a cache, of datagrams or of handles.
+-- What a run promises of the records that its lookups return: each of them stood in the zone. It is stated by the world and the
+-- events alone: nothing here speaks of a cache, of datagrams or of handles.
 use Rattle.std.specs.Prelude.{◌≡◌, ◌<◌, ◌^◌, true, string_bytes, take, length, List, [], ◌∷◌, ℕ, Option, Some, None, Result, Ok, Err}
 use Rattle.std.specs.declared.net.ip_addr.IpAddr.{IpAddr}
 use Rattle.dns_names.specs.Parse.{name_of_text}
@@ -76,8 +76,8 @@ IsFreshBy ttls history q now r = IsFreshFor history (greatest_ttl ttls q.query_t
 abbrev pub HasChainBy : TtlConfigContent → HistoryClaim
 HasChainBy ttls history q now r = HasChainFor history (greatest_ttl ttls q.query_type) now q.name r
 
--- A claim holds of the reply to an event: of each answer of the asked type, if this is plain, and of each address of a host. Excepted are
--- records of the hosts for the names and types at which they are asked, and literal addresses.
+-- A claim holds of the reply to an event: of each answer of the asked type, if this is plain, and of each address of a host.
+-- Excepted are records of the hosts for the names and types at which they are asked, and literal addresses.
 abbrev pub HoldsOfEvent : RecordClaim → Settings → Event → EventReply → Type 0
 HoldsOfEvent Claim settings (event.Lookup at name kind script) (replies.Lookup found) =
     is_plain (known_type kind) ≡ true → NameIsFrom Claim settings at (Ok name) kind found
@@ -96,15 +96,15 @@ HoldsOfEvents Claim settings past events reports occasions = ⊥
 
 -- ---- runs
 
--- Bounded staleness of a run: each record that is returned stood in the zone, was reached by aliases that stood there, and its TTL counts
--- from such a moment. The versions of the zone are those that the events make.
+-- Bounded staleness of a run: each record that is returned stood in the zone, was reached by aliases that stood there, and its
+-- TTL counts from such a moment. The versions of the zone are those that the events make.
 pub record AreFresh (content : WorldContent) (events : List Event) (reports : List EventReport) : Type 0 where
   pub occasions : List Occasion
   pub are_events : AreOccasions events reports occasions
   pub holds : HoldsOfEvents (IsFreshBy (ttls_of content)) (settings_of content) (first_past content.zone) events reports occasions
 
--- The chain bound of a run: if no chain of aliases passes seven links in any version of the zone, each record that is returned and the
--- aliases that lead to it stood at one moment, from which none of their TTLs is exceeded.
+-- The chain bound of a run: if no chain of aliases passes seven links in any version of the zone, each record that is returned
+-- and the aliases that lead to it stood at one moment, from which none of their TTLs is exceeded.
 pub record HaveChainBounds (content : WorldContent) (events : List Event) (reports : List EventReport) : Type 0 where
   pub occasions : List Occasion
   pub are_events : AreOccasions events reports occasions

@@ -34,6 +34,7 @@ abbrev pub IsAskable : Event → Type 0
 IsAskable (event.Lookup at name kind script) = IsShort name × (type_number kind < 2 ^ 16)
 IsAskable e = Unit {0}
 
+-- the same of each of some events
 abbrev pub AreAskable : List Event → Type 0
 AreAskable [] = Unit {0}
 AreAskable (e ∷ events) = IsAskable e × AreAskable events

@@ -1,5 +1,5 @@
--- Runs: what events lead to, one after another, by the definitions of the zone's server, of questions and updates over the link, and
--- of a resolver.
+-- Runs: what events lead to, one after another, by the definitions of the zone's server, of questions and updates over the link,
+-- and of a resolver.
 use Rattle.std.specs.Prelude.{◌≡◌, ◌≤◌, ◌⊎◌, ◌^◌, true, false, string_bytes, List, [], ◌∷◌, ℕ, slice_get, take, Option, Some, None, Result, Ok, Err}
 use Rattle.dns_codes.specs.declared.record_type.RecordType.{RecordType}
 use Rattle.dns_names.specs.Name.{DomainName}
@@ -38,6 +38,7 @@ InOrder last (e ∷ events) = (last ≤ moment_of e) × (moment_of e ≤ 2 ^ 62)
 abbrev pub RunState : Type 0
 RunState = Resolver AskState
 
+-- what the handle of a resolver knows
 abbrev pub asks_of : RunState → AskState
 asks_of state = state.client.handle
 
@@ -49,6 +50,7 @@ begin_asks (event.Clear at name kind script) asks = begin at script asks
 begin_asks (event.ClearAll at script) asks = begin at script asks
 begin_asks (event.Update at update script) asks = begin_with_update at script asks
 
+-- an event begins on the link, and what it counts is counted anew
 abbrev pub begin_event : Event → RunState → RunState
 begin_event e state = with_handle state (begin_asks e (asks_of state))
 
@@ -66,8 +68,8 @@ Clears name kind old (Err net.Memory) new = new ≡ old
 Clears name kind old (Err error) new = ⊥
 
 -- A sound update is sent by the handle alone: settings and cache stay.
-pub record Updates {H : Type 0} (sends : H → Message → Result ResponseCode NetError → H → Type 0) (update : Message) (old : Resolver H)
-    (reply : Result ResponseCode NetError) (new : Resolver H) : Type 0 where
+pub record Updates {H : Type 0} (sends : H → Message → Result ResponseCode NetError → H → Type 0) (update : Message)
+    (old : Resolver H) (reply : Result ResponseCode NetError) (new : Resolver H) : Type 0 where
   pub sound : IsUpdate update
   pub sent : sends old.client.handle update reply new.client.handle
   pub rest : new ≡ with_handle old new.client.handle
@@ -91,8 +93,8 @@ RepliesByZone old e reply new =
     Replies (λ asks request now outcome after. AskZone asks request now outcome after)
     (λ asks update reply after. UpdateZone asks update reply after) old e reply new
 
--- An event, its report and the state afterwards: it begins, the resolver replies, and it ends. The link and the server have not run out
--- of memory.
+-- An event, its report and the state afterwards: it begins, the resolver replies, and it ends. The link and the server have not
+-- run out of memory.
 pub record Step (old : RunState) (e : Event) (report : EventReport) (new : RunState) : Type 0 where
   pub mid : RunState
   pub replies : RepliesByZone (begin_event e old) e report.reply mid
@@ -103,7 +105,8 @@ pub record Step (old : RunState) (e : Event) (report : EventReport) (new : RunSt
 
 -- ---- runs
 
--- Runs old events reports states new: event by event, with the report of each and the state after it, from the old state to the new one.
+-- Runs old events reports states new: event by event, with the report of each and the state after it, from the old state to the
+-- new one.
 abbrev pub Runs : RunState → List Event → List EventReport → List RunState → RunState → Type 0
 Runs old [] [] [] new = new ≡ old
 Runs old (e ∷ events) (report ∷ reports) (state ∷ states) new = Step old e report state × Runs state events reports states new
@@ -117,8 +120,8 @@ pub record IsReportOf (first : RunState) (events : List Event) (report : Report)
   pub sent : report.sent.items ≡ (asks_of last).sent
   pub dropped : report.dropped ≡ (asks_of last).dropped
 
--- An event during which the link or its server runs out of memory: as the event begins, if that takes memory; as the resolver asks; or
--- as the event ends.
+-- An event during which the link or its server runs out of memory: as the event begins, if that takes memory; as the resolver
+-- asks; or as the event ends.
 pub data RunsOut (old : RunState) (e : Event) : Type 0 where
   at_begin : TakesMemory e → RunsOut old e
   at_ask : (reply : EventReply) (new : RunState) → RepliesByZone (begin_event e old) e reply new

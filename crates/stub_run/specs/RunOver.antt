@@ -29,6 +29,7 @@ pub record LinkRules (L : Type 0) : Type 1 where
   pub asks : WireHandle L → DnsRequest → ℕ → Outcome → WireHandle L → Type 0
   pub updates : WireHandle L → Message → Result ResponseCode NetError → WireHandle L → Type 0
 
+-- the rules of a link by its relations, with the handle that asks and updates over it
 abbrev pub rules_of : {L : Type 0} → (L → Event → L → Type 0) → (L → L → Type 0) → (L → Bool)
     → (L → List ℕ → Result (Unit {0}) LinkError → L → Type 0) → (L → Result (Option (List ℕ)) LinkError → L → Type 0)
     → (L → List ℕ → Result (List ℕ) LinkError → L → Type 0) → (L → ℕ) → LinkRules L
@@ -47,8 +48,8 @@ abbrev pub begun_handle : {L : Type 0} → WireHandle L → L → WireHandle L
 begun_handle handle link = record handle { link = link; faults = 0; questions = 0 }
 
 -- An event begins: only the link and the counts of the handle change.
-pub record BeginsOver {L : Type 0} (rules : LinkRules L) (old : Resolver (WireHandle L)) (e : Event) (new : Resolver (WireHandle L))
-    : Type 0 where
+pub record BeginsOver {L : Type 0} (rules : LinkRules L) (old : Resolver (WireHandle L)) (e : Event)
+    (new : Resolver (WireHandle L)) : Type 0 where
   pub link : rules.begins old.client.handle.link e new.client.handle.link
   pub rest : new ≡ with_handle old (begun_handle old.client.handle new.client.handle.link)
 
@@ -64,7 +65,8 @@ pub record Happens {L : Type 0} (rules : LinkRules L) (old : Resolver (WireHandl
   pub begins : BeginsOver rules old e begun
   pub replies : Replies rules.asks rules.updates begun e reply new
 
--- An event, its report and the resolver afterwards: it begins, the resolver replies, and it ends. The link has not run out of memory.
+-- An event, its report and the resolver afterwards: it begins, the resolver replies, and it ends. The link has not run out of
+-- memory.
 pub record StepOver {L : Type 0} (rules : LinkRules L) (old : Resolver (WireHandle L)) (e : Event) (report : EventReport)
     (new : Resolver (WireHandle L)) : Type 0 where
   pub replied : Resolver (WireHandle L)
@@ -104,8 +106,8 @@ pub record HasRunOver {L : Type 0} (rules : LinkRules L) (first : Resolver (Wire
   pub runs : RunsOver rules (with_sent first ids) events reports states last
 
 -- a report of events from a resolver on, with the ids that were drawn and the datagrams that were dropped by then
-pub record IsReportOver {L : Type 0} (rules : LinkRules L) (first : Resolver (WireHandle L)) (events : List Event) (report : Report)
-    : Type 0 where
+pub record IsReportOver {L : Type 0} (rules : LinkRules L) (first : Resolver (WireHandle L)) (events : List Event)
+    (report : Report) : Type 0 where
   pub last : Resolver (WireHandle L)
   pub has_run : HasRunOver rules first events report.events.items last
   pub sent : report.sent.items ≡ last.client.handle.sent.items

@@ -1,5 +1,5 @@
--- What a run promises where the rows of the zone do not change: its lookups return what walks over the zone come to. Neither the cache, nor
--- the size of datagrams, nor ids make a difference.
+-- What a run promises where the rows of the zone do not change: its lookups return what walks over the zone come to. Neither the
+-- cache, nor the size of datagrams, nor ids make a difference.
 use Rattle.std.specs.Prelude.{◌≡◌, ◌≢◌, ◌++◌, true, string_bytes, All, List, [], ◌∷◌, ℕ, Option, Ok, Err}
 use Rattle.std.specs.declared.net.ip_addr.IpAddr.{IpAddr}
 use Rattle.dns_names.specs.Parse.{name_of_text}
@@ -36,7 +36,8 @@ IsUnchanged first history =
 
 -- ---- replies
 
--- A lookup of a plain type, or of a host, is one in which each question is walked over the zone. A walk has neither a cache nor a link.
+-- A lookup of a plain type, or of a host, is one in which each question is walked over the zone. A walk has neither a cache nor a
+-- link.
 abbrev pub IsWalkedReply : ZoneContent → Settings → Event → EventReply → Type 0
 IsWalkedReply zone settings (event.Lookup at name kind script) (replies.Lookup found) =
     is_plain (known_type kind) ≡ true → LooksUp settings at (ByWalk zone) (Ok name) kind tt found tt
@@ -45,8 +46,8 @@ IsWalkedReply zone settings (event.LookupIp at host script) (replies.LookupIp fo
     × LooksUpHost settings at (ByWalk zone) address (name_of_text (string_bytes host)) tt found tt
 IsWalkedReply zone settings e reply = Unit {0}
 
--- If no delivery changed the rows since the last full clear, or the start, up to the end of the event, no chain of aliases in the zone
--- passes seven links, and the link met no fault in this event, its reply is walked.
+-- If no delivery changed the rows since the last full clear, or the start, up to the end of the event, no chain of aliases in the
+-- zone passes seven links, and the link met no fault in this event, its reply is walked.
 abbrev pub IsWalkedEvent : Settings → Past → Past → Event → EventReport → Type 0
 IsWalkedEvent settings first after e report =
     IsUnchanged first after.history → HasShortAliases first.zone → report.faults ≡ 0
@@ -62,7 +63,8 @@ AreWalkedEvents settings first past events reports occasions = ⊥
 
 -- ---- runs
 
--- Equality of roads: where nothing was updated and the link met no fault, the lookups of a run return what walks over the zone come to.
+-- Equality of roads: where nothing was updated and the link met no fault, the lookups of a run return what walks over the zone
+-- come to.
 pub record AreWalked (content : WorldContent) (events : List Event) (reports : List EventReport) : Type 0 where
   pub occasions : List Occasion
   pub are_events : AreOccasions events reports occasions
@@ -92,12 +94,13 @@ AgreeOn e one other = Unit {0}
 abbrev pub HasSentUpdate : EventReport → Type 0
 HasSentUpdate report = report.reply ≢ replies.Update (Err net.Memory)
 
--- If the zone is unchanged, its chains of aliases are short and the link met no fault in either run, the replies agree; event by event.
+-- If the zone is unchanged, its chains of aliases are short and the link met no fault in either run, the replies agree; event by
+-- event.
 abbrev pub AreAgreedEvents : Past → Past → List Event → List EventReport → List EventReport → List Occasion → Type 0
 AreAgreedEvents first past [] [] [] [] = Unit {0}
 AreAgreedEvents first past (e ∷ events) (one ∷ reports) (other ∷ others) (occasion ∷ occasions) =
-    (IsUnchanged (past_since e first past) (past_after_occasion past occasion).history → HasShortAliases (past_since e first past).zone
-    → one.faults ≡ 0 → other.faults ≡ 0 → AgreeOn e one.reply other.reply)
+    (IsUnchanged (past_since e first past) (past_after_occasion past occasion).history
+    → HasShortAliases (past_since e first past).zone → one.faults ≡ 0 → other.faults ≡ 0 → AgreeOn e one.reply other.reply)
     × AreAgreedEvents (past_since e first past) (past_after_occasion past occasion) events reports others occasions
 AreAgreedEvents first past events reports others occasions = ⊥
 

@@ -27,8 +27,8 @@ pub record BeginsWith (world : World) (state : RunState) : Type 0 where
   pub memory : (asks_of state).link.out_of_memory ≡ false
 
 -- A resolver over any link begins: its handle has asked nothing, and its cache is empty.
-pub record IsFirstOver {L : Type 0} (link : L) (ids : List ℕ) (config : ResolverConfig) (options : ResolverOpts) (hosts : HostsContent)
-    (resolver : Resolver (WireHandle L)) : Type 0 where
+pub record IsFirstOver {L : Type 0} (link : L) (ids : List ℕ) (config : ResolverConfig) (options : ResolverOpts)
+    (hosts : HostsContent) (resolver : Resolver (WireHandle L)) : Type 0 where
   pub asker : asker_of resolver.client.handle
       ≡ record { link = link; ids = ids; sent = []; dropped = 0; faults = 0; questions = 0 }
   pub settings : resolver.settings ≡ with_used_hosts (record { config = config; options = options; hosts = hosts })

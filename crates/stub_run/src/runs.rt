@@ -1,6 +1,6 @@
 //! Runs: events one after another, in a world, and for a resolver over any link.
 
-ghost use Rattle.std.specs.Prelude.{◌≡◌, ◌≤◌, ◌<◌, ◌+◌, ◌++◌, ◌∷◌, ◌↔◌, ◌^◌, ◌*◌, ◌-◌, min, IfOk, OnOk, OnErr, IfSome, IsTrue, true, false, [], length, take, vec_len, vec_capacity, Err, None};
+ghost use Rattle.std.specs.Prelude.{◌≡◌, ◌≤◌, ◌<◌, ◌+◌, ◌++◌, ◌∷◌, ◌↔◌, ◌^◌, ◌*◌, ◌-◌, min, IfOk, IsOk, OnOk, OnErr, IfSome, IsTrue, true, false, [], length, take, vec_len, vec_capacity, Err, None};
 ghost use Rattle.stub_link.specs.WireHandle.{Asks, SendsUpdate};
 ghost use Rattle.stub_run.specs.Event.{TakesMemory, moment_of};
 ghost use Rattle.stub_history.specs.Faithful.{HasNoReuse};
@@ -28,14 +28,16 @@ const MAX_MOMENT: u64 = 1 << 62;
 
 /// Runs the events in a world, in order.
 ///
-/// Memory for all reports, and for the ids that the events draw, is taken before the first event. The error is
-/// [`Stopped::Moments`] if a moment is before an earlier one or after 2^62; then nothing happens. It is
+/// Memory for all reports, and for the ids that the events draw, is taken before the first event; without events, none is
+/// taken. The error is [`Stopped::Moments`] if a moment is before an earlier one or after 2^62; then nothing happens. It is
 /// [`Stopped::Memory`] if there is no memory for the reports and the ids, or if the link or its server runs out of memory;
 /// it has the report of the events before. If memory runs out elsewhere, the reply to the event is
 /// [`NetError::Memory`](stub_lookup::NetError::Memory), and the run goes on.
 ///
-/// Whatever the link loses, repeats, delays or reorders, every record of the type that was asked for stood in the zone, was
-/// reached by aliases that stood there, and its TTL counts from such a moment (`fresh`). If aliases are left out, the TTLs of
+/// If no id serves two equal questions and the minimum TTL of positive answers is 0, whatever the link loses, repeats, delays or
+/// reorders, every record of a plain type (any type of data but CNAME, SOA, SIG and SRV) that was asked for stood in the zone,
+/// was reached by aliases that stood there, and its TTL counts from such a moment (`fresh`). Excepted are records of the hosts
+/// file, loopback records and literal addresses. If aliases are left out, the TTLs of
 /// these aliases bound it, too (`chain_bound`). And where nothing was updated since the last full clear, or the start, and the
 /// link met no fault in an event, its lookup of a plain type, or of a host, returns exactly what a walk over the zone comes to,
 /// whatever was cached and however large datagrams may be (`walked`). All of this also holds of the report of a run that stopped
@@ -57,6 +59,7 @@ pub fn run(world: World, events: &[Event]) -> Result<Report, Stopped>
         → IsMadeOf world content → HasNoReuse report.sent.items
         → content.options.preserve_intermediates ≡ false
         → AreWalked content (reported events.now report) report.events.items) }
+    ensures decided { events.now ≡ [] → IsOk result }
 {
     every_record_stood();
     unchanged_zones_are_walked();
@@ -82,6 +85,7 @@ fn run_world(world: World, events: &[Event]) -> Result<Report, Stopped>
     ensures stopped { IfSome (memory_report result) (λ report. (state : RunState)
         → BeginsWith world state → IsReportBefore state events.now report) }
     ensures order { IfSome (report_in result) (λ report. InOrder 0 events.now) }
+    ensures decided { events.now ≡ [] → IsOk result }
 {
     handles_over_the_scripted_link_ask_the_zone();
     handles_over_the_scripted_link_update_the_zone();
@@ -105,6 +109,7 @@ pub fn run_events<L: EventLink + Drop>(
         L.begins L.ends L.is_out L.sends L.receives L.streams L.failure_count) resolver events.now
         report) }
     ensures order { IfSome (report_in result) (λ report. InOrder 0 events.now) }
+    ensures decided { events.now ≡ [] → IsOk result }
 {
     if !is_in_order(events) {
         return Err(Stopped::Moments);
@@ -155,6 +160,7 @@ fn reserve_ids<L: Link>(
         + min (event_count * max_questions) (length resolver.old.client.handle.ids.items
         - length resolver.old.client.handle.sent.items)
         ≤ vec_capacity resolver.new.client.handle.sent) }
+    ensures decided { event_count ≡ 0 → IsOk result }
 {
     let questions = event_count.saturating_mul(max_questions);
     let handle = resolver.handle_mut();

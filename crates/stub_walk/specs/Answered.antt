@@ -29,8 +29,8 @@ pub record IsZoneReply (zone : ZoneContent) (q : Query) (m : Message) : Type 0 w
   pub repeats : m.queries ≡ q ∷ []
   pub holds : HoldsAnswer zone q m
 
--- The outcome of a question that a zone answers: a response is the zone's, and an error is not the meaning of a response, but a fault
--- of the link or want of memory.
+-- The outcome of a question that a zone answers: a response is the zone's, and an error is not the meaning of a response, but a
+-- fault of the link or want of memory.
 abbrev pub IsZoneOutcome : ZoneContent → Query → Outcome → Type 0
 IsZoneOutcome zone q (Ok response) = IsZoneReply zone q response.message
 IsZoneOutcome zone q (Err (errors.Dns error)) = ⊥
@@ -61,8 +61,9 @@ pub record IsPlainAsk (ask : Ask) : Type 0 where
 
 -- ---- lookups of a resolver
 
--- A lookup of a resolver asks these questions with these outcomes, none of them for a special-use name. If the zone answers them, what is
--- kept still agrees with walks over the zone; and if the link met no fault, the lookup is one in which each question is walked.
+-- A lookup of a resolver asks these questions with these outcomes, none of them for a special-use name. If the zone answers them,
+-- what is kept still agrees with walks over the zone; and if the link met no fault, the lookup is one in which each question is
+-- walked.
 pub record ComesToWalk {H : Type 0} (zone : ZoneContent) (gives : Behavior H) (now : ℕ) (old new : Resolver H)
     (looks : Lookups (Unit {0}) Query → Type 0) : Type 0 where
   pub asks : List Ask

@@ -1,5 +1,5 @@
--- Walks over a zone: what a name comes to for a type, by the rows of the zone alone (RFC 1034 section 4.3.2). A walk has neither a cache
--- nor messages nor TTLs.
+-- Walks over a zone: what a name comes to for a type, by the rows of the zone alone (RFC 1034 section 4.3.2). A walk has neither
+-- a cache nor messages nor TTLs.
 use Rattle.std.specs.Prelude.{◌≡◌, true, false, suc, map, List, [], ◌∷◌, ℕ, Ok, Err}
 use Rattle.dns_codes.specs.DNSClass.{class_number}
 use Rattle.dns_codes.specs.declared.record_type.RecordType.{RecordType}
@@ -52,7 +52,8 @@ pub data Walk (zone : ZoneContent) (kind : RecordType) : ℕ → DomainName → 
       → at_or_below zone.origin.labels name.labels ≡ false → Walk zone kind budget name (Refuses Refused)
   -- a name with rows of the type
   at_rows : (budget : ℕ) (name : DomainName) (row : Row) (more : List Row) → IsOfZone zone kind name
-      → rows_at zone.rows name.labels kind ≡ row ∷ more → Walk zone kind budget name (Finds (values (map (record_of name) (row ∷ more))))
+      → rows_at zone.rows name.labels kind ≡ row ∷ more
+      → Walk zone kind budget name (Finds (values (map (record_of name) (row ∷ more))))
   -- a name with an alias alone: its target is next (RFC 1034 section 3.6.2)
   at_alias : (budget : ℕ) (name : DomainName) (row : Row) (more : List Row) (target : CNAME) (conclusion : Conclusion)
       → HasNoRows zone kind name → rows_at zone.rows name.labels types.CNAME ≡ row ∷ more → row.rdata ≡ of.CNAME target
@@ -74,8 +75,8 @@ WalksTo zone q conclusion = Walk zone q.query_type most_aliases q.name conclusio
 
 -- ---- lookups that agree with walks
 
--- A reply is what the walk of a question comes to: records up to TTLs and ASCII case of owners, a negative answer, or an error by its
--- response code. Or memory ran out; there is no other error.
+-- A reply is what the walk of a question comes to: records up to TTLs and ASCII case of owners, a negative answer, or an error by
+-- its response code. Or memory ran out; there is no other error.
 abbrev pub IsWalked : ZoneContent → Query → Reply → Type 0
 IsWalked zone q (Ok lookup) = WalksTo zone q (Finds (values lookup.message.answers))
 IsWalked zone q (Err (errors.Dns (dns.NoRecordsFound answer))) = WalksTo zone q (Lacks answer.response_code)

@@ -22,9 +22,7 @@ fn answer_lines(alloc: Global, message: &[u8]) -> Result<String, DecodeError> {
     let message = Message::from_vec(alloc, message)?;
     let mut lines = String::new(alloc);
     for record in message.answers.as_slice() {
-        let rtype = record.rdata.record_type();
-        let (name, ttl, rdata) = (&record.name, record.ttl, &record.rdata);
-        writeln!(lines, "{name} {ttl} IN {rtype} {rdata}")?;
+        writeln!(lines, "{record}")?;
     }
     Ok(lines)
 }

@@ -138,6 +138,7 @@ derived (of.A x) (of.A y) = refl
 derived x (of.A y) = refl
 derived x y = refl
 
+-- the order of data is total
 pub data_cmp-total : IsTotalOrder data_cmp
 data_cmp-total = subst IsTotalOrder (λ i x y. derived x y i) derived_cmp-total
 
@@ -155,6 +156,7 @@ numbers = tie nat_cmp unsigned_ties
 names : Tied same_name name_cmp
 names = tie name_cmp names_agree
 
+-- data compare as equal where they are equal
 pub data_tie : (x y : RData) → same_data x y ≡ is_eq (data_cmp x y)
 data_tie (of.A x) (of.A y) = texts_ties (ipv4_octets x.0) (ipv4_octets y.0)
 data_tie (of.AAAA x) (of.AAAA y) = texts_ties (ipv6_segments x.0) (ipv6_segments y.0)
@@ -180,5 +182,6 @@ data_tie (of.Unknown t x) (of.Unknown u y) =
     both_tied (type.eq-value.it t u) (bytes_eq x y) (type_cmp t u) (slice_cmp nat_cmp x y) (type_tie t u) (texts_ties x y)
 data_tie x y = refl
 
+-- the order of data agrees with their equality
 pub data_cmp-partial : IsPartialOrder same_data (as_partial_cmp data_cmp)
 data_cmp-partial = po data_cmp-total data_tie

@@ -25,15 +25,18 @@ is_number t = false
 abbrev pub type_cmp : RecordType → RecordType → Ordering
 type_cmp = then_cmp (on is_number bool_cmp) (on type_number nat_cmp)
 
+-- MX data compare by preference, and then by exchange
 abbrev pub mx_cmp : MX → MX → Ordering
 mx_cmp = then_cmp (on (λ mx. mx.preference) nat_cmp) (on (λ mx. mx.exchange) name_cmp)
 
+-- SRV data compare by priority, weight and port, and then by target
 abbrev pub srv_cmp : SRV → SRV → Ordering
 srv_cmp =
     then_cmp (on (λ srv. srv.priority) nat_cmp)
     (then_cmp (on (λ srv. srv.weight) nat_cmp)
     (then_cmp (on (λ srv. srv.port) nat_cmp) (on (λ srv. srv.target) name_cmp)))
 
+-- SOA data compare by their fields, in the order of their encoding
 abbrev pub soa_cmp : SOA → SOA → Ordering
 soa_cmp =
     then_cmp (on (λ soa. soa.mname) name_cmp)

@@ -1,6 +1,6 @@
 //! Canonical names of aliases (RFC 1035 section 3.3.1).
 
-ghost use Rattle.std.specs.Prelude.{◌≡◌, IfOk};
+ghost use Rattle.std.specs.Prelude.{◌≡◌, IfOk, IsOk};
 ghost use Rattle.dns_data.specs.rdata.CNAME.{cname_kinds, cname_values};
 
 use crate::fields::{FixedData, WriteFields};
@@ -23,11 +23,13 @@ impl FixedData<(Name, ())> for CNAME {
 
 impl CNAME {
     ghost use Rattle.dns_data.specs.Field.{values_len};
+    ghost use Rattle.dns_data.specs.Memory.{AreInlineValues};
     ghost use Rattle.dns_data.specs.declared.rdata.cname.CNAME.{CNAME};
 
-    /// Clones the data.
+    /// Clones the data. A short name takes no memory.
     pub fn clone(&self) -> Result<CNAME, AllocError>
-        ensures { IfOk result (λ copy. copy ≡ self.now) }
+        ensures ok { IfOk result (λ copy. copy ≡ self.now) }
+        ensures inline { AreInlineValues cname_kinds (cname_values self.now) → IsOk result }
     {
         Ok(CNAME(self.0.clone()?))
     }

@@ -1,6 +1,6 @@
 //! Mail exchanges (RFC 1035 section 3.3.9).
 
-ghost use Rattle.std.specs.Prelude.{◌≡◌, IfOk};
+ghost use Rattle.std.specs.Prelude.{◌≡◌, IfOk, IsOk};
 ghost use Rattle.dns_data.specs.rdata.MX.{mx_kinds, mx_values};
 
 use crate::fields::{FixedData, WriteFields};
@@ -32,11 +32,13 @@ impl FixedData<(u16, (Name, ()))> for MX {
 
 impl MX {
     ghost use Rattle.dns_data.specs.Field.{values_len};
+    ghost use Rattle.dns_data.specs.Memory.{AreInlineValues};
     ghost use Rattle.dns_data.specs.declared.rdata.mx.MX.{MX};
 
-    /// Clones the data.
+    /// Clones the data. A short name takes no memory.
     pub fn clone(&self) -> Result<MX, AllocError>
-        ensures { IfOk result (λ copy. copy ≡ self.now) }
+        ensures ok { IfOk result (λ copy. copy ≡ self.now) }
+        ensures inline { AreInlineValues mx_kinds (mx_values self.now) → IsOk result }
     {
         Ok(MX {
             preference: self.preference,

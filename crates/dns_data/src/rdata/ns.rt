@@ -1,6 +1,6 @@
 //! Name servers (RFC 1035 section 3.3.11).
 
-ghost use Rattle.std.specs.Prelude.{◌≡◌, IfOk};
+ghost use Rattle.std.specs.Prelude.{◌≡◌, IfOk, IsOk};
 ghost use Rattle.dns_data.specs.rdata.NS.{ns_kinds, ns_values};
 
 use crate::fields::{FixedData, WriteFields};
@@ -23,11 +23,13 @@ impl FixedData<(Name, ())> for NS {
 
 impl NS {
     ghost use Rattle.dns_data.specs.Field.{values_len};
+    ghost use Rattle.dns_data.specs.Memory.{AreInlineValues};
     ghost use Rattle.dns_data.specs.declared.rdata.ns.NS.{NS};
 
-    /// Clones the data.
+    /// Clones the data. A short name takes no memory.
     pub fn clone(&self) -> Result<NS, AllocError>
-        ensures { IfOk result (λ copy. copy ≡ self.now) }
+        ensures ok { IfOk result (λ copy. copy ≡ self.now) }
+        ensures inline { AreInlineValues ns_kinds (ns_values self.now) → IsOk result }
     {
         Ok(NS(self.0.clone()?))
     }

@@ -1,6 +1,6 @@
 //! Options of a message's extension (RFC 6891 section 6.1.2).
 
-ghost use Rattle.std.specs.Prelude.{◌≡◌, ◌≢◌, ◌+◌, IfOk, IfErr, ◌++◌, ◌<◌, ◌^◌, List, length, flat_map};
+ghost use Rattle.std.specs.Prelude.{◌≡◌, ◌≢◌, ◌+◌, [], IfOk, IfErr, IsOk, ◌++◌, ◌<◌, ◌^◌, List, length, flat_map};
 ghost use Rattle.dns_data.specs.Wire.{ValuesAt, RefusesFields};
 ghost use Rattle.dns_data.specs.rdata.OPT.{opt_kinds, opt_values};
 ghost use Rattle.std.specs.Int.{w16, to_be_bytes};
@@ -9,7 +9,7 @@ ghost use Rattle.dns_data.specs.Field.{option_form};
 ghost use Rattle.dns_data.specs.Text.{hex_text};
 
 use crate::generic::write_hex;
-use crate::octets::OptionData;
+use crate::octets::{OptionData, clone_items};
 use crate::wire::{emit_items, read_items};
 use dns_wire::{BinDecoder, BinEncodable, BinEncoder, DecodeError, EncodeError};
 use std::alloc::{AllocError, Global};
@@ -62,9 +62,10 @@ impl EdnsOption {
         (self.code, self.value)
     }
 
-    /// Clones the option.
+    /// Clones the option. Without data it takes no memory.
     pub fn clone(&self) -> Result<EdnsOption, AllocError>
-        ensures { IfOk result (λ copy. copy ≡ self.now) }
+        ensures ok { IfOk result (λ copy. copy ≡ self.now) }
+        ensures empty { self.now.bytes ≡ [] → IsOk result }
     {
         Ok(EdnsOption {
             code: self.code,
@@ -209,6 +210,7 @@ impl BinEncodable for OPT {
 
 impl OPT {
     ghost use Rattle.dns_data.specs.Field.{values_len};
+    ghost use Rattle.dns_data.specs.Memory.{AreInlineValues};
 
     /// Returns the length of the data's uncompressed encoding.
     pub fn encoded_len(&self) -> u128
@@ -224,12 +226,13 @@ impl OPT {
         self.options
     }
 
-    /// Clones the data.
+    /// Clones the data. No options take no memory.
     pub fn clone(&self) -> Result<OPT, AllocError>
-        ensures { IfOk result (λ copy. copy ≡ self.now) }
+        ensures ok { IfOk result (λ copy. copy ≡ self.now) }
+        ensures inline { AreInlineValues opt_kinds (opt_values self.now) → IsOk result }
     {
         Ok(OPT {
-            options: self.options.clone()?,
+            options: clone_items(&self.options)?,
         })
     }
 }

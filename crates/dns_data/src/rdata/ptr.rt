@@ -1,6 +1,6 @@
 //! Pointers to names (RFC 1035 section 3.3.12).
 
-ghost use Rattle.std.specs.Prelude.{◌≡◌, IfOk};
+ghost use Rattle.std.specs.Prelude.{◌≡◌, IfOk, IsOk};
 ghost use Rattle.dns_data.specs.rdata.PTR.{ptr_kinds, ptr_values};
 
 use crate::fields::{FixedData, WriteFields};
@@ -23,11 +23,13 @@ impl FixedData<(Name, ())> for PTR {
 
 impl PTR {
     ghost use Rattle.dns_data.specs.Field.{values_len};
+    ghost use Rattle.dns_data.specs.Memory.{AreInlineValues};
     ghost use Rattle.dns_data.specs.declared.rdata.ptr.PTR.{PTR};
 
-    /// Clones the data.
+    /// Clones the data. A short name takes no memory.
     pub fn clone(&self) -> Result<PTR, AllocError>
-        ensures { IfOk result (λ copy. copy ≡ self.now) }
+        ensures ok { IfOk result (λ copy. copy ≡ self.now) }
+        ensures inline { AreInlineValues ptr_kinds (ptr_values self.now) → IsOk result }
     {
         Ok(PTR(self.0.clone()?))
     }

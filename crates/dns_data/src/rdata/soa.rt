@@ -1,6 +1,6 @@
 //! Starts of authority (RFC 1035 section 3.3.13).
 
-ghost use Rattle.std.specs.Prelude.{◌≡◌, IfOk};
+ghost use Rattle.std.specs.Prelude.{◌≡◌, IfOk, IsOk};
 ghost use Rattle.dns_data.specs.Field.{values_pieces};
 ghost use Rattle.dns_data.specs.rdata.SOA.{soa_kinds, soa_values};
 
@@ -61,11 +61,13 @@ impl FixedData<(Name, (Name, (u32, (Time, (Time, (Time, (Time, ())))))))> for SO
 
 impl SOA {
     ghost use Rattle.dns_data.specs.Field.{values_len};
+    ghost use Rattle.dns_data.specs.Memory.{AreInlineValues};
     ghost use Rattle.dns_data.specs.declared.rdata.soa.SOA.{SOA};
 
-    /// Clones the data.
+    /// Clones the data. Short names take no memory.
     pub fn clone(&self) -> Result<SOA, AllocError>
-        ensures { IfOk result (λ copy. copy ≡ self.now) }
+        ensures ok { IfOk result (λ copy. copy ≡ self.now) }
+        ensures inline { AreInlineValues soa_kinds (soa_values self.now) → IsOk result }
     {
         Ok(SOA {
             mname: self.mname.clone()?,

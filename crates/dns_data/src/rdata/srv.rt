@@ -1,6 +1,6 @@
 //! Locations of services (RFC 2782).
 
-ghost use Rattle.std.specs.Prelude.{◌≡◌, IfOk};
+ghost use Rattle.std.specs.Prelude.{◌≡◌, IfOk, IsOk};
 ghost use Rattle.dns_data.specs.rdata.SRV.{srv_kinds, srv_values};
 
 use crate::fields::{FixedData, Whole, WholeRef, WriteFields};
@@ -37,11 +37,13 @@ impl FixedData<(u16, (u16, (u16, (Whole, ()))))> for SRV {
 
 impl SRV {
     ghost use Rattle.dns_data.specs.Field.{values_len};
+    ghost use Rattle.dns_data.specs.Memory.{AreInlineValues};
     ghost use Rattle.dns_data.specs.declared.rdata.srv.SRV.{SRV};
 
-    /// Clones the data.
+    /// Clones the data. A short name takes no memory.
     pub fn clone(&self) -> Result<SRV, AllocError>
-        ensures { IfOk result (λ copy. copy ≡ self.now) }
+        ensures ok { IfOk result (λ copy. copy ≡ self.now) }
+        ensures inline { AreInlineValues srv_kinds (srv_values self.now) → IsOk result }
     {
         Ok(SRV {
             priority: self.priority,

@@ -1,16 +1,18 @@
 //! Texts (RFC 1035 section 3.3.14).
 
-ghost use Rattle.std.specs.Prelude.{◌≡◌, ◌≢◌, ◌+◌, IfOk, IfErr, ◌∷◌, Option};
+ghost use Rattle.std.specs.Prelude.{◌≡◌, ◌≢◌, ◌+◌, IfOk, IfErr, IsOk, ◌∷◌, Option};
+ghost use Rattle.std.specs.Result.{result_err};
 ghost use Rattle.dns_data.specs.Wire.{ValuesAt, RefusesFields};
 ghost use Rattle.dns_data.specs.rdata.TXT.{txt_kinds, txt_values};
 ghost use Rattle.std.specs.Fmt.{WritesOnOk};
 ghost use Rattle.dns_names.specs.Name.{DomainName};
 ghost use Rattle.dns_text.specs.CharacterString.{quoted_text};
+ghost use Rattle.dns_data.specs.Memory.{IsParsedEarly};
 ghost use Rattle.dns_data.specs.Text.{AreParsed, RefusesTokens};
 ghost use Rattle.dns_data.specs.internal.Text.{more_strings_text};
 
 use crate::error::RDataParseError;
-use crate::octets::CharacterString;
+use crate::octets::{CharacterString, clone_items};
 use crate::text::DataTokens;
 use crate::wire::{emit_items, read_items};
 use dns_text::QuotedString;
@@ -86,6 +88,7 @@ impl BinEncodable for TXT {
 
 impl TXT {
     ghost use Rattle.dns_data.specs.Field.{values_len};
+    ghost use Rattle.dns_data.specs.Memory.{AreInlineValues};
 
     /// Returns the length of the data's uncompressed encoding.
     pub fn encoded_len(&self) -> u128
@@ -99,12 +102,13 @@ impl TXT {
         len
     }
 
-    /// Clones the data.
+    /// Clones the data. No strings take no memory.
     pub fn clone(&self) -> Result<TXT, AllocError>
-        ensures { IfOk result (λ copy. copy ≡ self.now) }
+        ensures ok { IfOk result (λ copy. copy ≡ self.now) }
+        ensures inline { AreInlineValues txt_kinds (txt_values self.now) → IsOk result }
     {
         Ok(TXT {
-            strings: self.strings.clone()?,
+            strings: clone_items(&self.strings)?,
         })
     }
 }
@@ -179,6 +183,8 @@ impl TXT {
             → IfOk result (λ t. AreParsed o txt_kinds tokens.old (txt_values t)) }
         ensures refused { (o : Option DomainName) → IfErr result (λ error.
             error ≢ RDataParseError.Memory → RefusesTokens o txt_kinds tokens.old error) }
+        ensures early { (o : Option DomainName)
+            → IsParsedEarly o txt_kinds tokens.old (result_err result) }
     {
         Ok(TXT {
             strings: tokens.strings(alloc)?,

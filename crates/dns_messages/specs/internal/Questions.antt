@@ -13,7 +13,9 @@ use Rattle.dns_messages.specs.declared.query.Query.{Query}
 use Rattle.dns_messages.specs.Question.{question_pieces}
 use Rattle.dns_messages.specs.Grammar.{ReadsQuestion, RefusesQuestion, bad_question_name, short_question}
 
-pub question_same : (bytes : List ℕ) (place : ℕ) (a b : Query) (end end' : ℕ) → ReadsQuestion bytes place a end → ReadsQuestion bytes place b end' → (a ≡ b) × (end ≡ end')
+-- at most one question, and one end
+pub question_same : (bytes : List ℕ) (place : ℕ) (a b : Query) (end end' : ℕ) → ReadsQuestion bytes place a end
+    → ReadsQuestion bytes place b end' → (a ≡ b) × (end ≡ end')
 question_same bytes place a b end end' r r' =
     let same = pieces_same bytes place end end' (question_pieces a) (question_pieces b) (refl, (refl, tt)) r.there r'.there in
     let e : question_pieces a ≡ question_pieces b = same.0 in
@@ -28,7 +30,9 @@ question_same bytes place a b end end' r r' =
       same.1,
     )
 
-pub question_not_refused : (bytes : List ℕ) (place : ℕ) (q : Query) (end : ℕ) (error : DecodeError) → ReadsQuestion bytes place q end → RefusesQuestion bytes place error → ⊥
+-- what decodes to a question is not refused
+pub question_not_refused : (bytes : List ℕ) (place : ℕ) (q : Query) (end : ℕ) (error : DecodeError)
+    → ReadsQuestion bytes place q end → RefusesQuestion bytes place error → ⊥
 question_not_refused bytes place q end error r (bad_question_name refused) = reads_not_refused r.there.1 refused
 question_not_refused bytes place q end error r (short_question {labels} {name_end} name short) =
     let same = reads_same r.there.1 name in

@@ -20,8 +20,8 @@ impl Message {
     /// Each section is written up to its first record that does not fit, and the OPT record and the signature if they
     /// fit. TC is set if something was dropped. Without the OPT record, only the lower four bits of the response code
     /// remain (RFC 6891 section 6.1.3). The questions must fit: if they do not, the error is
-    /// [`EncodeError::MaxBufferSizeExceeded`]. After an error, `set_offset(0)` and `trim` restore the encoder, except for
-    /// the number of names that were tried.
+    /// [`EncodeError::MaxBufferSizeExceeded`], for a limit below the 12 bytes of a header before memory is allocated. After
+    /// an error, `set_offset(0)` and `trim` restore the encoder, except for the number of names that were tried.
     pub fn emit(&self, encoder: &mut BinEncoder<'_>) -> Result<(), EncodeError>
         requires fresh { IsFresh (state_of encoder.old) }
         ensures bytes { OnOk result ((state_of encoder.new).bytes
@@ -33,6 +33,8 @@ impl Message {
         ensures room { OnOk result (front_reach self.now ≤ (state_of encoder.old).limit) }
         ensures full { result ≡ Err EncodeError.MaxBufferSizeExceeded
             → (state_of encoder.old).limit < front_reach self.now }
+        ensures decided { (state_of encoder.old).limit < 12
+            → result ≡ Err EncodeError.MaxBufferSizeExceeded }
         ensures back { OnErr result (CanRollBack (state_of encoder.old) (state_of encoder.new)) }
         ensures lender { (state_of encoder.new).lender ≡ (state_of encoder.old).lender }
     {
@@ -60,6 +62,8 @@ impl Message {
             (Encodes (state_of encoder.old).limit self.now (state_of encoder.new).bytes) }
         ensures full { result ≡ Err EncodeError.MaxBufferSizeExceeded
             → IsTooLong (state_of encoder.old).limit self.now }
+        ensures decided { (state_of encoder.old).limit < 12
+            → result ≡ Err EncodeError.MaxBufferSizeExceeded }
         ensures lender { (state_of encoder.new).lender ≡ (state_of encoder.old).lender }
     {
         self.emit(encoder)?;
@@ -75,11 +79,13 @@ impl Message {
         self.to_vec_within(alloc, u16::MAX)
     }
 
-    /// Encodes the message, as much of it as fits `limit` bytes.
+    /// Encodes the message, as much of it as fits `limit` bytes. A limit below the 12 bytes of a header is refused before
+    /// memory is allocated.
     pub fn to_vec_within(&self, alloc: Global, limit: u16) -> Result<Vec<u8>, EncodeError>
         ensures encodes { IfOk result (λ bytes. Encodes limit self.now bytes.items) }
         ensures full { result ≡ Err EncodeError.MaxBufferSizeExceeded
             → IsTooLong limit self.now }
+        ensures decided { limit < 12 → result ≡ Err EncodeError.MaxBufferSizeExceeded }
     {
         let mut buffer = Vec::new(alloc);
         let mut encoder = BinEncoder::new(alloc, &mut buffer);

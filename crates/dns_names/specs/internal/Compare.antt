@@ -27,7 +27,8 @@ pub same_labels-equivalence : IsEquivalence same_labels
 same_labels-equivalence = lists_equiv (on_equiv str_to_ascii_lowercase nat_list_eq_equiv)
 
 pub same_name-equivalence : IsEquivalence same_name
-same_name-equivalence = and_equiv (on_equiv (λ (n : DomainName). n.is_fqdn) bool_eq_equiv) (on_equiv (λ (n : DomainName). n.labels) same_labels-equivalence)
+same_name-equivalence =
+    and_equiv (on_equiv (λ (n : DomainName). n.is_fqdn) bool_eq_equiv) (on_equiv (λ (n : DomainName). n.labels) same_labels-equivalence)
 
 pub same_name-partial : IsPartialEquivalence same_name
 same_name-partial = partial_equiv_from_equiv same_name-equivalence
@@ -38,7 +39,8 @@ pub labels_total : (bytes : ℕ → ℕ → Ordering) → IsTotalOrder bytes →
 labels_total bytes t = on_total reverse (lists_total (lists_total t))
 
 pub name_total : (bytes : ℕ → ℕ → Ordering) → IsTotalOrder bytes → IsTotalOrder (name_order bytes)
-name_total bytes t = then_total (on_total (λ (n : DomainName). n.is_fqdn) bool_cmp_total) (on_total (λ (n : DomainName). n.labels) (labels_total bytes t))
+name_total bytes t =
+    then_total (on_total (λ (n : DomainName). n.is_fqdn) bool_cmp_total) (on_total (λ (n : DomainName). n.labels) (labels_total bytes t))
 
 pub name_cmp-total : IsTotalOrder name_cmp
 name_cmp-total = name_total lower_cmp lower_cmp-total
@@ -72,7 +74,8 @@ module _ {A B : Type 0} (f : A → B) where
       ap (map f) (reverse-cons x xs) ∙ map-append f (reverse xs) (x ∷ [])
       ∙ ap (λ (l : List B). l ++ f x ∷ []) (map-reverse xs) ∙ sym (reverse-cons-of (f x) (map f xs))
 
-pub order_lower : (a b : List (List ℕ)) → labels_order lower_cmp a b ≡ slice_cmp (slice_cmp nat_cmp) (reverse (lower a)) (reverse (lower b))
+pub order_lower : (a b : List (List ℕ))
+    → labels_order lower_cmp a b ≡ slice_cmp (slice_cmp nat_cmp) (reverse (lower a)) (reverse (lower b))
 order_lower a b =
     each_lower (reverse a) (reverse b)
     ∙ ap (λ (l : List (List ℕ)). slice_cmp (slice_cmp nat_cmp) l (lower (reverse b))) (map-reverse str_to_ascii_lowercase a)
@@ -86,7 +89,8 @@ same-lower [] (y ∷ ys) e = absurd (cc)
 same-lower (x ∷ xs) [] e = absurd (cc)
 same-lower (x ∷ xs) (y ∷ ys) e =
     let first : str_to_ascii_lowercase x ≡ str_to_ascii_lowercase y =
-    (bytes_eq-Decides (str_to_ascii_lowercase x) (str_to_ascii_lowercase y)).0 (first_so (str_eq_ignore_ascii_case x y) (same_labels xs ys) e) in
+    (bytes_eq-Decides (str_to_ascii_lowercase x) (str_to_ascii_lowercase y)).0
+    (first_so (str_eq_ignore_ascii_case x y) (same_labels xs ys) e) in
     let others : lower xs ≡ lower ys = same-lower xs ys (second_so (str_eq_ignore_ascii_case x y) (same_labels xs ys) e) in
     cc
 
@@ -146,7 +150,9 @@ labels_tie : (a b : List (List ℕ)) → labels_order lower_cmp a b ≡ Equal �
 labels_tie a b e = unreversed (lower a) (lower b) (labels_equal (reverse (lower a)) (reverse (lower b)) (sym (order_lower a b) ∙ e))
 
 tie_labels : (a b : List (List ℕ)) → lower a ≡ lower b → labels_order lower_cmp a b ≡ Equal
-tie_labels a b e = order_lower a b ∙ ap (λ (l : List (List ℕ)). slice_cmp (slice_cmp nat_cmp) (reverse l) (reverse (lower b))) e ∙ tied_itself (lists_total (lists_total nat_cmp_total)) (reverse (lower b))
+tie_labels a b e =
+    order_lower a b ∙ ap (λ (l : List (List ℕ)). slice_cmp (slice_cmp nat_cmp) (reverse l) (reverse (lower b))) e
+    ∙ tied_itself (lists_total (lists_total nat_cmp_total)) (reverse (lower b))
 
 labels_agree : (a b : List (List ℕ)) → same_labels a b ≡ is_eq (labels_order lower_cmp a b)
 labels_agree a b = both_ways (same_labels a b) (is_eq (labels_order lower_cmp a b))
@@ -183,5 +189,7 @@ same_flag false false e = refl
 
 pub hashed_alike : (x y : DomainName) → same_name x y ≡ true → name_writes x ≡ name_writes y
 hashed_alike x y e =
-    ap (λ (b : Bool). fed.bool b ++ flat_map label_writes (lower x.labels)) (same_flag x.is_fqdn y.is_fqdn (first_so (beq x.is_fqdn y.is_fqdn) (same_labels x.labels y.labels) e))
-    ∙ ap (λ (l : List (List ℕ)). fed.bool y.is_fqdn ++ flat_map label_writes l) (same-lower x.labels y.labels (second_so (beq x.is_fqdn y.is_fqdn) (same_labels x.labels y.labels) e))
+    ap (λ (b : Bool). fed.bool b ++ flat_map label_writes (lower x.labels))
+    (same_flag x.is_fqdn y.is_fqdn (first_so (beq x.is_fqdn y.is_fqdn) (same_labels x.labels y.labels) e))
+    ∙ ap (λ (l : List (List ℕ)). fed.bool y.is_fqdn ++ flat_map label_writes l)
+    (same-lower x.labels y.labels (second_so (beq x.is_fqdn y.is_fqdn) (same_labels x.labels y.labels) e))

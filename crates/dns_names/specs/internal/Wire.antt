@@ -12,6 +12,7 @@ use Rattle.dns_wire.proofs.ReadingLaws.{reads_same}
 use Rattle.dns_names.specs.Name.{DomainName}
 use Rattle.dns_wire.specs.Element as wire
 
+-- the code's element as that of the grammar
 abbrev pub element_of : Part → wire.Element
 element_of Closing = wire.Closing
 element_of (Label bytes) = wire.Label bytes.now
@@ -31,6 +32,7 @@ MatchesElement read element = MatchResult read (λ part. element ≡ Ok (element
 abbrev pub label_pieces : List ℕ → List Piece
 label_pieces label = Plain (length label ∷ []) ∷ Plain label ∷ []
 
+-- labels, each preceded by its length (RFC 1035 section 3.1)
 abbrev pub labels_pieces : List (List ℕ) → List Piece
 labels_pieces [] = []
 labels_pieces (label ∷ labels) = label_pieces label ++ labels_pieces labels
@@ -51,7 +53,9 @@ append_compressed w labels = record w {
 abbrev pub compressed_reach : EncoderState → List (List ℕ) → ℕ
 compressed_reach w labels = w.offset + max (length (labels_form labels)) (length (compressed_form w.suffixes labels))
 
-pub one_name : (buffer : List ℕ) (place : ℕ) (a b : DomainName) (end end' : ℕ) → ReadsName buffer place a.labels end × (a.is_fqdn ≡ true) → ReadsName buffer place b.labels end' × (b.is_fqdn ≡ true) → (a ≡ b) × (end ≡ end')
+pub one_name : (buffer : List ℕ) (place : ℕ) (a b : DomainName) (end end' : ℕ)
+    → ReadsName buffer place a.labels end × (a.is_fqdn ≡ true) → ReadsName buffer place b.labels end' × (b.is_fqdn ≡ true)
+    → (a ≡ b) × (end ≡ end')
 one_name buffer place a b end end' s t =
     let same = reads_same s.0 t.0 in
     (λ i. record { is_fqdn = (s.1 ∙ sym t.1) i; labels = same.0 i }, same.1)

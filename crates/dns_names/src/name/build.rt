@@ -1,10 +1,11 @@
 //! Names built from labels and other names (RFC 1035 sections 2.3.4 and 3.1).
 
-ghost use Rattle.std.specs.Prelude.{◌≡◌, ◌≢◌, ◌≤◌, ◌++◌, ◌∷◌, [], Ok, Err, drop, IfOk, IfErr, OnOk, List, ◌+◌, ◌<◌, length};
+ghost use Rattle.std.specs.Prelude.{◌≡◌, ◌≢◌, ◌≤◌, ◌++◌, ◌∷◌, [], Ok, Err, drop, IfOk, IfErr, IsOk, OnOk, List, ◌+◌, ◌<◌, length};
 ghost use Rattle.dns_wire.specs.Name.{IsLabel, name_len, AreLabels, max_name_len};
 ghost use Rattle.dns_names.specs.Build.{append_label, prepend_label, append_name, append_domain, append_each, root_name};
 ghost use Rattle.std.specs.Iterator.{Drains, Yields, IsFinite};
-ghost use Rattle.dns_names.specs.Name.{DomainName};
+ghost use Rattle.dns_names.specs.Name.{DomainName, IsInline, IsInlineOutcome};
+ghost use Rattle.dns_names.specs.Label.{IsInlineLabel};
 ghost use Rattle.dns_names.specs.Build.{trim_to, base_name, into_wildcard};
 ghost use Rattle.dns_wire.specs.Error.{IsUnless};
 
@@ -15,7 +16,8 @@ use std::alloc::{AllocError, Global};
 
 impl Name {
     /// Builds a fully qualified name from labels, left to right. The error is that of the first label that is refused;
-    /// it is the last label taken from the iterator.
+    /// it is the last label taken from the iterator. Labels of at most 24 bytes take no memory, while the name is stored
+    /// inline.
     pub fn from_labels<I: IntoIterator<Item = L>, L: IntoLabel + Drop>(
         alloc: Global,
         labels: I,
@@ -33,6 +35,13 @@ impl Name {
             × Yields I.IntoIter.next_gives it (given ++ last ∷ []) rest
             × (append_each L.label root_name given ≡ Ok name)
             × (append_label name (L.label last) ≡ Err error)) }
+        ensures inline { IfErr result (λ error. (it : I.IntoIter) × (given : List L)
+            × (last : L) × (rest : I.IntoIter) × (name : DomainName)
+            × I.into_iter_gives labels it
+            × Yields I.IntoIter.next_gives it (given ++ last ∷ []) rest
+            × (append_each L.label root_name given ≡ Ok name)
+            × (IsInlineLabel (L.label last) → IsInlineOutcome (append_label name (L.label last))
+            → append_label name (L.label last) ≡ Err error)) }
     {
         let mut name = Name::root(alloc);
         for label in labels {
@@ -41,10 +50,14 @@ impl Name {
         Ok(name)
     }
 
-    /// Appends a label at the right.
+    /// Appends a label at the right. This takes no memory if the label has at most 24 bytes, and the name that is made is
+    /// stored inline.
     pub fn append_label<L: IntoLabel>(self, label: L) -> Result<Name, ParseError>
         ensures outcome { IsUnless ParseError.Memory (append_label self (L.label label)) result }
         ensures fault { (error : ParseError) → L.label label ≡ Err error → result ≡ Err error }
+        ensures inline { IsInlineLabel (L.label label)
+            → IsInlineOutcome (append_label self (L.label label))
+            → result ≡ append_label self (L.label label) }
     {
         let label = label.into_label(self.allocator())?;
         self.append_bytes(label.as_bytes())
@@ -53,7 +66,9 @@ impl Name {
     /// Appends a label of these bytes.
     fn append_bytes(mut self, label: &[u8]) -> Result<Name, ParseError>
         requires { IsLabel label.now }
-        ensures { IsUnless ParseError.Memory (append_label self (Ok label.now)) result }
+        ensures outcome { IsUnless ParseError.Memory (append_label self (Ok label.now)) result }
+        ensures inline { IsInlineOutcome (append_label self (Ok label.now))
+            → result ≡ append_label self (Ok label.now) }
     {
         if self.encoded_len() + label.len() + 1 > Name::MAX_LENGTH {
             return Err(ParseError::DomainNameTooLong);
@@ -62,11 +77,15 @@ impl Name {
         Ok(self)
     }
 
-    /// Returns the name with a label prepended at the left.
+    /// Returns the name with a label prepended at the left. This takes no memory if the label has at most 24 bytes, and
+    /// the name that is made is stored inline.
     pub fn prepend_label<L: IntoLabel>(&self, label: L) -> Result<Name, ParseError>
         ensures outcome { IsUnless ParseError.Memory
             (prepend_label (L.label label) self.now) result }
         ensures fault { (error : ParseError) → L.label label ≡ Err error → result ≡ Err error }
+        ensures inline { IsInlineLabel (L.label label)
+            → IsInlineOutcome (prepend_label (L.label label) self.now)
+            → result ≡ prepend_label (L.label label) self.now }
     {
         let label = label.into_label(self.allocator())?;
         self.prepend_bytes(label.as_bytes())
@@ -75,7 +94,10 @@ impl Name {
     /// Returns the name with a label of these bytes prepended.
     fn prepend_bytes(&self, label: &[u8]) -> Result<Name, ParseError>
         requires { IsLabel label.now }
-        ensures { IsUnless ParseError.Memory (prepend_label (Ok label.now) self.now) result }
+        ensures outcome { IsUnless ParseError.Memory
+            (prepend_label (Ok label.now) self.now) result }
+        ensures inline { IsInlineOutcome (prepend_label (Ok label.now) self.now)
+            → result ≡ prepend_label (Ok label.now) self.now }
     {
         if self.encoded_len() + label.len() + 1 > Name::MAX_LENGTH {
             return Err(ParseError::DomainNameTooLong);
@@ -92,6 +114,8 @@ impl Name {
         ensures outcome { IsUnless ParseError.Memory (append_name self other.now) result }
         ensures fault { (error : ParseError) → append_name self other.now ≡ Err error
             → result ≡ Err error }
+        ensures inline { IsInlineOutcome (append_name self other.now)
+            → result ≡ append_name self other.now }
     {
         if self.encoded_len() + other.encoded_len() > Name::MAX_LENGTH + 1 {
             return Err(ParseError::DomainNameTooLong);
@@ -106,6 +130,8 @@ impl Name {
         ensures outcome { IsUnless ParseError.Memory (append_domain self domain.now) result }
         ensures fault { (error : ParseError) → append_domain self domain.now ≡ Err error
             → result ≡ Err error }
+        ensures inline { IsInlineOutcome (append_domain self domain.now)
+            → result ≡ append_domain self domain.now }
     {
         let mut name = self.append_name(domain)?;
         name.set_fqdn(true);
@@ -114,7 +140,8 @@ impl Name {
 
     /// Returns the parent name, fully qualified, or a copy of a name without labels.
     pub fn base_name(&self) -> Result<Name, AllocError>
-        ensures { IfOk result (λ name. name ≡ base_name self.now) }
+        ensures ok { IfOk result (λ name. name ≡ base_name self.now) }
+        ensures inline { IsInline (base_name self.now).labels → IsOk result }
     {
         let count = self.label_count();
         if count == 0 {
@@ -125,7 +152,8 @@ impl Name {
 
     /// Returns the last `num_labels` labels as a fully qualified name, or a copy if the name has fewer.
     pub fn trim_to(&self, num_labels: usize) -> Result<Name, AllocError>
-        ensures { IfOk result (λ name. name ≡ trim_to self.now num_labels) }
+        ensures ok { IfOk result (λ name. name ≡ trim_to self.now num_labels) }
+        ensures inline { IsInline (trim_to self.now num_labels).labels → IsOk result }
     {
         let count = self.label_count();
         if num_labels > count {
@@ -138,7 +166,8 @@ impl Name {
 
     /// Replaces the first label by `*` (RFC 4592 section 2.1.1). A name without labels stays as it is.
     pub fn into_wildcard(self) -> Result<Name, AllocError>
-        ensures { IfOk result (λ name. name ≡ into_wildcard self) }
+        ensures ok { IfOk result (λ name. name ≡ into_wildcard self) }
+        ensures inline { IsInline (into_wildcard self).labels → IsOk result }
     {
         if self.label_count() == 0 {
             return Ok(self);
@@ -150,7 +179,8 @@ impl Name {
     fn with_star(&self) -> Result<Name, AllocError>
         requires some { 0 < length self.now.labels }
         requires labels { AreLabels self.now.labels }
-        ensures { IfOk result (λ name. name ≡ into_wildcard self.now) }
+        ensures ok { IfOk result (λ name. name ≡ into_wildcard self.now) }
+        ensures inline { IsInline (into_wildcard self.now).labels → IsOk result }
     {
         let is_fqdn = self.is_fqdn();
         let mut name = Name::new(self.allocator());
@@ -163,8 +193,10 @@ impl Name {
     /// Appends the labels of another name, without the first `skipped` of them.
     pub(crate) fn push_labels(&mut self, other: &Name, skipped: usize) -> Result<(), AllocError>
         requires { name_len (self.old.labels ++ drop skipped other.now.labels) ≤ max_name_len }
-        ensures { OnOk result (self.new
+        ensures ok { OnOk result (self.new
             ≡ record self.old { labels = self.old.labels ++ drop skipped other.now.labels }) }
+        ensures inline { IsInline (self.old.labels ++ drop skipped other.now.labels)
+            → IsOk result }
     {
         for index in skipped..other.label_count() {
             self.push(other.label(index))?;

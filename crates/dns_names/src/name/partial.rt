@@ -25,8 +25,9 @@ impl Model for PartialName {
 }
 
 impl PartialName {
-    ghost use Rattle.std.specs.Prelude.{◌≡◌, ◌+◌, ◌<◌, ◌≤◌, [], ◌∷◌, ◌++◌, length, OnOk, OnErr};
+    ghost use Rattle.std.specs.Prelude.{◌≡◌, ◌+◌, ◌<◌, ◌≤◌, [], ◌∷◌, ◌++◌, length, IsOk, OnOk, OnErr};
     ghost use Rattle.dns_wire.specs.Name.{name_len, max_name_len};
+    ghost use Rattle.dns_names.specs.Parse.{IsInlinePartial};
 
     /// Creates a partial name without labels and octets.
     pub(crate) fn new(alloc: Global) -> Self
@@ -65,8 +66,11 @@ impl PartialName {
         requires { length self.old.label < 63 }
         ensures ok { OnOk result (self.new
             ≡ record self.old { label = self.old.label ++ octet ∷ [] }) }
+        ensures inline { IsInlinePartial (record self.old { label = self.old.label ++ octet ∷ [] })
+            → IsOk result }
         ensures err { OnErr result (self.new ≡ self.old) }
     {
+        prove!(self.label_data.capacity() >= 32);
         self.label_data.push(octet)?;
         Ok(())
     }
@@ -77,8 +81,10 @@ impl PartialName {
         requires fits { name_len self.old.labels + (length self.old.label + 1) ≤ max_name_len }
         ensures ok { OnOk result (self.new
             ≡ record { labels = self.old.labels ++ self.old.label ∷ []; label = [] }) }
+        ensures inline { length self.old.labels < 24 → IsOk result }
         ensures err { OnErr result (self.new ≡ self.old) }
     {
+        prove!(self.label_ends.capacity() >= 24);
         let end = self.label_data.len();
         self.label_ends.push(end as u8)?;
         self.label_start = end;

@@ -1,12 +1,13 @@
 //! Names on the wire (RFC 1035 sections 3.1 and 4.1.4).
 
-ghost use Rattle.std.specs.Prelude.{◌≡◌, ◌≢◌, ℕ, List, true, length, ◌≤◌, MatchResult, IfOk, IfErr, OnErr, ◌<◌, OnOk};
+ghost use Rattle.std.specs.Prelude.{◌≡◌, ◌≢◌, ℕ, List, true, length, ◌≤◌, MatchResult, Err, IsOk, IfOk, IfErr, OnErr, ◌<◌, OnOk};
 ghost use Rattle.dns_wire.specs.Decoder.{rest, Advances};
-ghost use Rattle.dns_wire.specs.Element.{element};
+ghost use Rattle.dns_wire.specs.Element.{element, element_at};
 ghost use Rattle.dns_wire.specs.Reading.{ReadsName, RefusesName};
 ghost use Rattle.dns_names.specs.internal.Wire.{MatchesElement, part_len};
 ghost use Rattle.dns_wire.specs.Encoder.{state_of, IsAtEnd, CanRollBack};
 ghost use Rattle.dns_wire.specs.Name.{IsLabel, AreLabels};
+ghost use Rattle.dns_names.specs.Name.{IsInline};
 ghost use Rattle.dns_wire.specs.Encodable.{Emits};
 ghost use Rattle.dns_names.specs.internal.Wire.{label_pieces, labels_pieces, whole_pieces, append_compressed, compressed_reach};
 
@@ -57,6 +58,13 @@ impl Name {
             → ReadsName decoder.old.bytes decoder.old.index labels end
             → MatchResult result (λ name. (name.labels ≡ labels) × (decoder.new.index ≡ end))
             (λ error. error ≡ DecodeError.Memory) }
+        // A name that is stored inline takes no memory.
+        ensures inline { (labels : List (List ℕ)) (end : ℕ)
+            → ReadsName decoder.old.bytes decoder.old.index labels end
+            → IsInline labels → IsOk result }
+        // A fault of the first element is found before memory is taken.
+        ensures fault { (error : DecodeError)
+            → element_at decoder.old.bytes decoder.old.index ≡ Err error → result ≡ Err error }
         // The error is the first fault of the bytes.
         ensures refused { IfErr result (λ error. error ≢ DecodeError.Memory
             → RefusesName decoder.old.bytes decoder.old.index error) }
@@ -95,6 +103,11 @@ fn read_at(alloc: Global, decoder: BinDecoder<'_>) -> Result<(Name, usize), Deco
         (λ found. ReadsName decoder.entry.bytes decoder.entry.index found.0.labels found.1) }
     ensures fqdn { IfOk result (λ found. found.0.is_fqdn ≡ true) }
     ensures end { IfOk result (λ found. found.1 ≤ length decoder.entry.bytes) }
+    ensures inline { (labels : List (List ℕ)) (end : ℕ)
+        → ReadsName decoder.entry.bytes decoder.entry.index labels end
+        → IsInline labels → IsOk result }
+    ensures fault { (error : DecodeError)
+        → element_at decoder.entry.bytes decoder.entry.index ≡ Err error → result ≡ Err error }
     ensures refused { IfErr result (λ error. error ≢ DecodeError.Memory
         → RefusesName decoder.entry.bytes decoder.entry.index error) }
 {

@@ -20,7 +20,8 @@ AreLike (Plain a ∷ ps) (Plain b ∷ qs) = (length a ≡ length b) × AreLike p
 AreLike (Domain a ∷ ps) (Domain b ∷ qs) = AreLike ps qs
 AreLike ps qs = ⊥
 
-pub pieces_same : (buffer : List ℕ) (place end end' : ℕ) (ps qs : List Piece) → AreLike ps qs → PiecesAt Uncompressed buffer place ps end → PiecesAt Uncompressed buffer place qs end' → (ps ≡ qs) × (end ≡ end')
+pub pieces_same : (buffer : List ℕ) (place end end' : ℕ) (ps qs : List Piece) → AreLike ps qs
+    → PiecesAt Uncompressed buffer place ps end → PiecesAt Uncompressed buffer place qs end' → (ps ≡ qs) × (end ≡ end')
 pieces_same buffer place end end' [] [] like a b = (refl, sym a ∙ b)
 pieces_same buffer place end end' (Plain x ∷ ps) (Plain y ∷ qs) like a b =
     let one = same_bytes buffer place x y a.0 b.0 like.0 a.1 b.1 in
@@ -42,10 +43,15 @@ pieces_same buffer place end end' (Whole x ∷ ps) qs like a b = absurd like
 -- ---- names, types, classes
 
 pub same_domain : (a b : DomainName) → a.is_fqdn ≡ true → b.is_fqdn ≡ true → a.labels ≡ b.labels → a ≡ b
-same_domain a b fqdn fqdn' e = ap (λ (ls : List (List ℕ)). record a { labels = ls }) e ∙ ap (λ (f : Bool). record b { is_fqdn = f }) (fqdn ∙ sym fqdn')
+same_domain a b fqdn fqdn' e = ap (λ (ls : List (List ℕ)). record a { labels = ls }) e
+    ∙ ap (λ (f : Bool). record b { is_fqdn = f }) (fqdn ∙ sym fqdn')
 
-pub same_type : (a b : RecordType) → type_number a < 2 ^ 16 → type_number b < 2 ^ 16 → type_of (type_number a) ≡ a → type_of (type_number b) ≡ b → to_be_bytes w16 (type_number a) ≡ to_be_bytes w16 (type_number b) → a ≡ b
-same_type a b fits fits' named named' e = sym named ∙ ap type_of (same_number_2 (type_number a) (type_number b) fits fits' e) ∙ named'
+pub same_type : (a b : RecordType) → type_number a < 2 ^ 16 → type_number b < 2 ^ 16 → type_of (type_number a) ≡ a
+    → type_of (type_number b) ≡ b → to_be_bytes w16 (type_number a) ≡ to_be_bytes w16 (type_number b) → a ≡ b
+same_type a b fits fits' named named' e = sym named ∙ ap type_of (same_number_2 (type_number a) (type_number b) fits fits' e)
+    ∙ named'
 
-pub same_class : (a b : DNSClass) → class_number a < 2 ^ 16 → class_number b < 2 ^ 16 → class_of (class_number a) ≡ a → class_of (class_number b) ≡ b → to_be_bytes w16 (class_number a) ≡ to_be_bytes w16 (class_number b) → a ≡ b
-same_class a b fits fits' named named' e = sym named ∙ ap class_of (same_number_2 (class_number a) (class_number b) fits fits' e) ∙ named'
+pub same_class : (a b : DNSClass) → class_number a < 2 ^ 16 → class_number b < 2 ^ 16 → class_of (class_number a) ≡ a
+    → class_of (class_number b) ≡ b → to_be_bytes w16 (class_number a) ≡ to_be_bytes w16 (class_number b) → a ≡ b
+same_class a b fits fits' named named' e = sym named
+    ∙ ap class_of (same_number_2 (class_number a) (class_number b) fits fits' e) ∙ named'

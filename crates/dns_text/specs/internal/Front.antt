@@ -6,6 +6,7 @@ use Rattle.dns_text.specs.declared.front.Front.TheVariants.{TextEnd, LineEnd, Ga
 use Rattle.dns_text.specs.declared.front.Run.{Run}
 use Rattle.dns_text.specs.declared.front.Run.TheVariants.{Bare, InQuotes}
 
+-- the code's `Front` as that of the definitions
 abbrev pub front_of : Front → text.Front
 front_of TextEnd = text.TextEnd
 front_of (LineEnd n) = text.LineEnd n
@@ -18,6 +19,7 @@ front_of (Word n) = text.Word n
 front_of Unclosed = text.Unclosed
 front_of Broken = text.Broken
 
+-- the code's `Run` as that of the definitions
 abbrev pub run_of : Run → text.Run
 run_of Bare = text.Bare
 run_of InQuotes = text.InQuotes

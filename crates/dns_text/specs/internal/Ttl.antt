@@ -8,7 +8,13 @@ use Rattle.dns_text.specs.declared.ttl.TtlSum.{TtlSum}
 abbrev pub add_character : TtlSum → ℕ → Option TtlSum
 add_character t c =
     if is_digit c then Some (record t { run = Some (10 * unwrap_or t.run 0 + (c - 48)) })
-    else elim t.run [ None ↦ None | Some number ↦ elim (unit_seconds c) [ None ↦ None | Some seconds ↦ Some (record { sum = t.sum + seconds * number; run = None }) ] ]
+    else elim t.run [
+      | None ↦ None
+      | Some number ↦ elim (unit_seconds c) [
+        | None ↦ None
+        | Some seconds ↦ Some (record { sum = t.sum + seconds * number; run = None })
+      ]
+    ]
 
 -- a last run without a unit is in seconds
 abbrev pub total : TtlSum → ℕ

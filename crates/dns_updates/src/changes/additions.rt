@@ -1,6 +1,6 @@
 //! Additions (RFC 2136 section 3.4.2.2).
 
-ghost use Rattle.std.specs.Prelude.{◌≡◌, [], List, if◌then◌else◌, IfOk, OnOk, ◌||◌};
+ghost use Rattle.std.specs.Prelude.{◌≡◌, true, false, [], List, if◌then◌else◌, Ok, IsOk, IfOk, OnOk, ◌||◌};
 ghost use Rattle.dns_codes.specs.declared.record_type.RecordType.TheVariants as types;
 ghost use Rattle.dns_codes.specs.SerialNumber.{serial_order};
 ghost use Rattle.dns_records.specs.declared.row.Row.{Row};
@@ -20,15 +20,18 @@ use dns_records::Record;
 use dns_wire::{RecordType, SerialNumber, SerialOrder};
 use std::alloc::{AllocError, Global};
 
-/// Adds a record, unless it is ignored.
+/// Adds a record, unless it is ignored. An ignored record that is no CNAME takes no memory.
 pub fn add<Z: ZoneRows>(
     alloc: Global,
     zone: &Z,
     sets: &mut Vec<ChangedSet>,
     update: &Record,
 ) -> Result<(), AllocError>
-    ensures { OnOk result (overlay (Z.rows zone.now) sets.new.items
+    ensures change { OnOk result (overlay (Z.rows zone.now) sets.new.items
         ≡ added (overlay (Z.rows zone.now) sets.old.items) update.now) }
+    ensures decided { is_of_type types.CNAME update.now ≡ false
+        → is_ignored (overlay (Z.rows zone.now) sets.old.items) update.now ≡ true
+        → (result ≡ Ok tt) × (sets.new.items ≡ sets.old.items) }
 {
     if is_ignored(alloc, zone, sets.as_slice(), update)? {
         return Ok(());
@@ -68,8 +71,9 @@ fn is_ignored<Z: ZoneRows>(
     sets: &[ChangedSet],
     update: &Record,
 ) -> Result<bool, AllocError>
-    ensures { IfOk result (λ ignored.
+    ensures ignored { IfOk result (λ ignored.
         ignored ≡ is_ignored (overlay (Z.rows zone.now) sets.now) update.now) }
+    ensures decided { is_of_type types.CNAME update.now ≡ false → IsOk result }
 {
     let owner = &update.name;
     if is_of_type(RecordType::CNAME, update) {

@@ -1,11 +1,11 @@
 //! Deletions (RFC 2136 sections 3.4.2.3 and 3.4.2.4).
 
-ghost use Rattle.std.specs.Prelude.{◌≡◌, ◌==◌, ◌&&◌, length, OnOk};
+ghost use Rattle.std.specs.Prelude.{◌≡◌, ◌==◌, ◌&&◌, true, false, length, Ok, OnOk};
 ghost use Rattle.std.specs.List.{fold};
 ghost use Rattle.dns_codes.specs.RecordType.{type_number};
 ghost use Rattle.dns_codes.specs.declared.dns_class.DNSClass.TheVariants.{ANY};
 ghost use Rattle.dns_codes.specs.declared.record_type.RecordType.TheVariants as types;
-ghost use Rattle.dns_records.specs.Rows.{Rows, set_of};
+ghost use Rattle.dns_records.specs.Rows.{Rows, set_of, type_of_record};
 ghost use Rattle.dns_updates.specs.Records.{is_of_type, is_origin};
 ghost use Rattle.dns_updates.specs.Change.{change_of_class, is_kept_set, keeps_rows, without_name, without_row, without_set};
 ghost use Rattle.dns_updates.specs.Changes.{overlay};
@@ -21,7 +21,7 @@ use dns_records::Record;
 use dns_wire::RecordType;
 use std::alloc::{AllocError, Global};
 
-/// Deletes the sets of a name, or that of a type.
+/// Deletes the sets of a name, or that of a type. A set that is kept takes no memory.
 pub fn delete_sets<Z: ZoneRows>(
     alloc: Global,
     zone: &Z,
@@ -29,8 +29,11 @@ pub fn delete_sets<Z: ZoneRows>(
     sets: &mut Vec<ChangedSet>,
     update: &Record,
 ) -> Result<(), AllocError>
-    ensures { OnOk result (overlay (Z.rows zone.now) sets.new.items
+    ensures change { OnOk result (overlay (Z.rows zone.now) sets.new.items
         ≡ change_of_class origin.now (overlay (Z.rows zone.now) sets.old.items) ANY update.now) }
+    ensures decided { is_of_type types.ANY update.now ≡ false
+        → is_kept_set origin.now update.now.name (type_number (type_of_record update.now)) ≡ true
+        → (result ≡ Ok tt) × (sets.new.items ≡ sets.old.items) }
 {
     let owner = &update.name;
     if is_of_type(RecordType::ANY, update) {
@@ -83,8 +86,10 @@ fn delete_set(
     owner: &Name,
     record_type: RecordType,
 ) -> Result<(), AllocError>
-    ensures { OnOk result ((rows : Rows) → overlay rows sets.new.items
+    ensures change { OnOk result ((rows : Rows) → overlay rows sets.new.items
         ≡ without_set origin.now (overlay rows sets.old.items) owner.now record_type) }
+    ensures decided { is_kept_set origin.now owner.now (type_number record_type) ≡ true
+        → (result ≡ Ok tt) × (sets.new.items ≡ sets.old.items) }
 {
     if is_kept_set(origin, owner, record_type) {
         return Ok(());
@@ -101,7 +106,7 @@ fn is_kept_set(origin: &Name, owner: &Name, record_type: RecordType) -> bool
         && (record_type.is_same(RecordType::SOA) || record_type.is_same(RecordType::NS))
 }
 
-/// Deletes the rows with the data of a record from those of its owner and type, unless they are kept.
+/// Deletes the rows with the data of a record from those of its owner and type, unless they are kept, which takes no memory.
 pub fn delete_row<Z: ZoneRows>(
     alloc: Global,
     zone: &Z,
@@ -109,8 +114,10 @@ pub fn delete_row<Z: ZoneRows>(
     sets: &mut Vec<ChangedSet>,
     update: &Record,
 ) -> Result<(), AllocError>
-    ensures { OnOk result (overlay (Z.rows zone.now) sets.new.items
+    ensures change { OnOk result (overlay (Z.rows zone.now) sets.new.items
         ≡ without_row origin.now (overlay (Z.rows zone.now) sets.old.items) update.now) }
+    ensures decided { keeps_rows origin.now (overlay (Z.rows zone.now) sets.old.items) update.now
+        ≡ true → (result ≡ Ok tt) × (sets.new.items ≡ sets.old.items) }
 {
     if keeps_rows(zone, origin, sets.as_slice(), update) {
         return Ok(());

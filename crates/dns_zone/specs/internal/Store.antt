@@ -14,6 +14,7 @@ use Rattle.dns_zone.specs.Sets.{with_records}
 abbrev pub has_key : Key → ChangedSet → Bool
 has_key k c = eq_by_cmp key_cmp k (changed_key c)
 
+-- the keys of the changed sets
 abbrev pub changed_keys : List ChangedSet → List Key
 changed_keys changed = map changed_key changed
 
@@ -33,6 +34,7 @@ or_reserved (Some c) None = Some (reserved_set c)
 abbrev pub is_reserved : Key → ChangedSet → Bool
 is_reserved k c = not (length c.records == 0) && has_key k c
 
+-- the set at a key, or else an empty one if a changed set with records has the key
 abbrev pub reserved_at : List ChangedSet → Key → Option RecordSetValue → Option RecordSetValue
 reserved_at changed k o = or_reserved (find (is_reserved k) changed) o
 
@@ -47,6 +49,7 @@ abbrev pub or_stored : Option ChangedSet → Option RecordSetValue → Option Re
 or_stored None o = o
 or_stored (Some c) o = with_records c.records o
 
+-- the set at a key, with the records of the changed set that has the key, if there is one
 abbrev pub stored_at : List ChangedSet → Key → Option RecordSetValue → Option RecordSetValue
 stored_at changed k o = or_stored (find (has_key k) changed) o
 
@@ -56,6 +59,7 @@ one_stored c k o = or_stored (if has_key k c then Some c else None) o
 
 -- ---- releasing
 
+-- whether a set is there and has no records
 abbrev pub is_empty_set : Option RecordSetValue → Bool
 is_empty_set None = false
 is_empty_set (Some s) = length s.records == 0
@@ -66,6 +70,7 @@ released_at keys k o = if list_any (eq_by_cmp key_cmp k) keys && is_empty_set o 
 
 -- ---- all steps
 
+-- the set at a key after all three steps
 abbrev pub changed_at : List ChangedSet → Key → Option RecordSetValue → Option RecordSetValue
 changed_at changed k o =
     released_at (changed_keys changed) k (stored_at changed k (reserved_at changed k o))

@@ -24,8 +24,9 @@ use std::alloc::{AllocError, Global};
 const MAX_DATA_LENGTH: u128 = 65_535;
 
 impl Zone {
-    /// Parses a zone file, with texts to include by name. The origin completes relative names and is the zone's. Without
-    /// it relative names end at the root, and the zone's origin is the owner of the first SOA record.
+    /// Parses a zone file. Each pair of `includes` is a name, as `$INCLUDE` states it, and the text that it stands for. The
+    /// origin completes relative names and is the zone's. Without it relative names end at the root, and the zone's origin is
+    /// the owner of the first SOA record.
     ///
     /// The records must be of the class `IN`, at or below the origin, and have an SOA record at the origin and nowhere else.
     pub fn from_text(

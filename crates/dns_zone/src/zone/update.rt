@@ -1,6 +1,6 @@
 //! Dynamic updates of a zone (RFC 2136 section 3).
 
-ghost use Rattle.std.specs.Prelude.{◌≡◌, IfOk, OnOk, OnErr};
+ghost use Rattle.std.specs.Prelude.{◌≡◌, ◌≢◌, Ok, IfOk, OnOk, OnErr};
 ghost use Rattle.dns_messages.specs.declared.response_code.ResponseCode.TheVariants.{NoError};
 
 use crate::zone::Zone;
@@ -17,13 +17,15 @@ impl Zone {
     ghost use Rattle.dns_zone.specs.Serving.{zone_by_code};
 
     /// Applies a dynamic update, and returns its response code: that of the first test that fails, or `NoError` if the records
-    /// are changed. The zone is unchanged under any other code, and after an error.
+    /// are changed. The zone is unchanged under any other code, and after an error. No code but `NoError` takes memory.
     ///
     /// The cost grows with the update and the sets that it names, and with the zone only by a logarithm.
     pub fn apply(&mut self, update: &Message) -> Result<ResponseCode, AllocError>
         requires { IsSound update.now }
         ensures code { IfOk result (λ code.
             code ≡ update_code self.old.origin self.old.rows update.now) }
+        ensures decided { update_code self.old.origin self.old.rows update.now ≢ NoError
+            → result ≡ Ok (update_code self.old.origin self.old.rows update.now) }
         ensures ok { IfOk result (λ code. self.new ≡ zone_by_code self.old update.now code) }
         ensures err { OnErr result (self.new ≡ self.old) }
         ensures well_formed { IsZone self.new }

@@ -9,6 +9,7 @@ use Rattle.dns_zone_file.specs.declared.error.ZoneFileError.{ZoneFileError}
 use Rattle.dns_zone_file.specs.declared.error.ZoneFileError.TheVariants as error
 use Rattle.dns_text.specs.Lexer.{LexerState}
 
+-- an entry with its arguments as lexemes
 abbrev pub entry_view : Entry → text.Entry
 entry_view Nothing = text.nothing
 entry_view (Origin arguments) = text.origin_directive (map lexeme arguments.now)
@@ -16,6 +17,7 @@ entry_view (Ttl arguments) = text.ttl_directive (map lexeme arguments.now)
 entry_view (Include arguments) = text.include_directive (map lexeme arguments.now)
 entry_view Record = text.record_entry
 
+-- a text to include with its name as bytes
 abbrev pub inclusion_view : Inclusion → text.Inclusion
 inclusion_view i = record { name = i.name.now; origin = i.origin }
 

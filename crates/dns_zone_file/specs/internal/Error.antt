@@ -6,6 +6,7 @@ use Rattle.dns_zone_file.specs.declared.error.EntryError.TheVariants as of
 use Rattle.dns_zone_file.specs.declared.error.ZoneFileError.{ZoneFileError}
 use Rattle.dns_zone_file.specs.declared.error.ZoneFileError.TheVariants.{Entry, Memory}
 
+-- the error of an entry on a line
 abbrev pub at_line : ℕ → EntryError → ZoneFileError
 at_line line (of.Fault refusal) = Entry line refusal
 at_line line of.Memory = Memory

@@ -6,6 +6,7 @@ use Rattle.dns_zone_file.specs.declared.fields.Field.{Field}
 use Rattle.dns_zone_file.specs.declared.fields.Field.TheVariants as of
 use Rattle.dns_zone_file.specs.declared.fields.Fields.{Fields}
 
+-- a field as contracts see it
 abbrev pub field_view : Field → text.Field
 field_view (of.Ttl seconds) = text.ttl_field seconds
 field_view of.InvalidTtl = text.bad_ttl

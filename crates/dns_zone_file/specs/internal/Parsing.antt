@@ -1,7 +1,8 @@
 -- Parsing of zone files, as the code divides it.
-use Rattle.std.specs.Prelude.{◌≡◌, ◌<◌, ◌≤◌, ℕ, List, map, length, None, Result, Ok, String, string_bytes}
+use Rattle.std.specs.Prelude.{◌≡◌, ◌<◌, ◌≤◌, ℕ, Bool, true, false, List, map, length, Some, None, Result, Ok, Err, String, string_bytes}
 use Rattle.std.specs.declared.alloc.Global.{Global}
-use Rattle.dns_text.specs.Lexer.{Lexeme, LexerState}
+use Rattle.dns_text.specs.Lexer.{Lexeme, LexerState, NextToken}
+use Rattle.dns_text.specs.declared.error.LexerError.{LexerError}
 use Rattle.dns_zone_file.specs.declared.error.EntryFault.TheVariants.{TooManyIncludes}
 use Rattle.dns_zone_file.specs.declared.error.ZoneFileError.{ZoneFileError}
 use Rattle.dns_zone_file.specs.declared.error.ZoneFileError.TheVariants.{Entry, IncludeNotFound}
@@ -46,3 +47,9 @@ RefusesInclude includes depth line name (Entry at refusal) =
 RefusesInclude includes depth line name (IncludeNotFound at) =
     (at ≡ line) × (depth < max_includes) × (text_of includes name ≡ None)
 RefusesInclude includes depth line name other = ⊥
+
+-- whether no token follows, or the fault of the first one
+abbrev pub HasNoToken : LexerState → Result Bool LexerError → Type 0
+HasNoToken p (Ok true) = (end : LexerState) × NextToken p (Ok None) end
+HasNoToken p (Ok false) = (token : Lexeme) × ((end : LexerState) × NextToken p (Ok (Some token)) end)
+HasNoToken p (Err error) = (end : LexerState) × NextToken p (Err error) end

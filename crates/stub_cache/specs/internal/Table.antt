@@ -49,9 +49,11 @@ has_deadline deadline (Some e) = e.deadline == deadline
 -- missing from the index of questions.
 pub record IsIndexed (leaving : Option ℕ) (t : EntryTable) : Type 0 where
   -- a key leads to an entry for it
-  pub sound : (key : List ℕ) (stamp : ℕ) → stamp_at t key ≡ Some stamp → option_map (λ e. key_of e.question) (entry_at t stamp) ≡ Some key
+  pub sound : (key : List ℕ) (stamp : ℕ) → stamp_at t key ≡ Some stamp
+      → option_map (λ e. key_of e.question) (entry_at t stamp) ≡ Some key
   -- the key of an entry leads to it
-  pub known : (stamp : ℕ) (e : Entry) → entry_at t stamp ≡ Some e → leaving ≢ Some stamp → stamp_at t (key_of e.question) ≡ Some stamp
+  pub known : (stamp : ℕ) (e : Entry) → entry_at t stamp ≡ Some e → leaving ≢ Some stamp
+      → stamp_at t (key_of e.question) ≡ Some stamp
   -- each entry is in the index of deadlines, and nothing else
   pub timely : (deadline stamp : ℕ) → is_due t deadline stamp ≡ has_deadline deadline (entry_at t stamp)
   -- no entry has the next stamp or a later one

@@ -1,8 +1,9 @@
 -- The parts of a lookup of a client.
-use Rattle.std.specs.Prelude.{◌≡◌, ◌+◌, ◌⊎◌, List, [], ◌∷◌, ℕ, Option, Some, option_map, Result, Ok, Err}
+use Rattle.std.specs.Prelude.{◌≡◌, ◌+◌, ◌⊎◌, List, [], ◌∷◌, ℕ, Option, Some, None, option_map, Result, Ok, Err}
 use Rattle.std.specs.declared.alloc.AllocError.{AllocError}
 use Rattle.dns_records.specs.Record.{Record}
 use Rattle.dns_messages.specs.declared.query.Query.{Query}
+use Rattle.dns_messages.specs.declared.response_code.ResponseCode.{ResponseCode}
 use Rattle.stub_config.specs.declared.request_options.DnsRequestOptions.{DnsRequestOptions}
 use Rattle.stub_lookup.specs.Error.{no_records}
 use Rattle.stub_lookup.specs.Lookup.{lookup_of, max_ttl}
@@ -10,8 +11,11 @@ use Rattle.stub_lookup.specs.declared.error.NetError.TheVariants.{Memory}
 use Rattle.stub_cache.specs.Cache.{Kept}
 use Rattle.stub_client.specs.Handle.{Ask, Led, Outcome, request_for}
 use Rattle.stub_client.specs.Looks.{Looks, MayRunOut, Reply, cached_reply, lookup_settings, negative, out_of_memory}
+use Rattle.stub_client.specs.SpecialNames.{special_answer}
 use Rattle.stub_client.specs.Step.{meaning, step_of}
 use Rattle.stub_client.specs.declared.caching_client.CachingClient.{CachingClient}
+use Rattle.stub_client.specs.declared.caching_client.local_reply.LocalReply.{LocalReply}
+use Rattle.stub_client.specs.declared.caching_client.local_reply.LocalReply.TheVariants as local
 use Rattle.stub_client.specs.declared.caching_client.step.Step.{Step}
 use Rattle.stub_client.specs.declared.caching_client.step.Step.TheVariants.{Stops}
 use Rattle.stub_client.specs.declared.request.DnsRequest.{DnsRequest}
@@ -23,6 +27,12 @@ abbrev pub local_reply : ℕ → Query → SpecialAnswer → Option Kept → Opt
 local_reply now q (Loopback r) hit = Some (Ok (lookup_of q (r ∷ []) (now + max_ttl)))
 local_reply now q (Nothing code) hit = Some (negative (no_records q code))
 local_reply now q Ordinary hit = option_map (cached_reply now q) hit
+
+-- the reply to a question by how it is answered without the handle, if it is
+abbrev pub reply_of : Query → LocalReply → Option Reply
+reply_of q (local.Complete reply) = Some reply
+reply_of q (local.Nothing code) = Some (negative (no_records q code))
+reply_of q local.Asks = None
 
 -- the reply of what was copied before it was stored, or want of memory for either
 abbrev pub reply_if_stored : {A S E F : Type 0} → (A → Reply) → Result S E → Result A F → Reply
@@ -61,3 +71,5 @@ pub record LooksUp {H : Type 0} (gives : H → DnsRequest → ℕ → Outcome �
   pub led : Led gives options now old.handle asks new.handle
   pub looks : Looks (lookup_settings old options) now depth kept old.cache q asks reply new.cache
   pub settings : new.preserve_intermediates ≡ old.preserve_intermediates
+  -- a name without records needs no memory
+  pub nothing : (code : ResponseCode) → special_answer q ≡ Nothing code → reply ≡ negative (no_records q code)

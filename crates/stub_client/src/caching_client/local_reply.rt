@@ -1,6 +1,7 @@
 //! Questions that a client answers without its handle: those for special-use names, and those that its cache answers.
 
 ghost use Rattle.std.specs.Prelude.{◌≡◌, ◌≤◌, ◌<◌, ◌+◌, ◌^◌, ◌∷◌, [], length, IfOk, Ok, option_map};
+ghost use Rattle.dns_messages.specs.declared.response_code.ResponseCode.{ResponseCode};
 ghost use Rattle.std.specs.Option.{unwrap_or};
 ghost use Rattle.stub_lookup.specs.Lookup.{lookup_of, max_ttl};
 ghost use Rattle.stub_cache.specs.Cache.{current};
@@ -8,32 +9,46 @@ ghost use Rattle.stub_cache.specs.Ttl.{least_ttl, lesser};
 ghost use Rattle.stub_client.specs.Looks.{cached_reply};
 ghost use Rattle.stub_client.specs.SpecialNames.{special_answer};
 ghost use Rattle.stub_client.specs.Step.{with_question};
-ghost use Rattle.stub_client.specs.internal.Looks.{local_reply};
+ghost use Rattle.stub_client.specs.declared.special_names.SpecialAnswer.TheVariants as special;
+ghost use Rattle.stub_client.specs.internal.Looks.{local_reply, reply_of};
 
 use crate::special_names::{SpecialAnswer, special_answer};
-use dns_messages::{Message, Query, Record};
+use dns_messages::{Message, Query, Record, ResponseCode};
 use std::alloc::{AllocError, Global};
 use stub_cache::ResponseCache;
-use stub_lookup::{Lookup, MAX_TTL, Moment, NetError, NoRecords};
+use stub_lookup::{Lookup, MAX_TTL, Moment, NetError};
 
-/// Returns the reply to a question that is answered without the handle, if it is.
+/// How a question is answered without the handle.
+#[derive(Drop)]
+pub enum LocalReply {
+    /// With this reply.
+    Complete(Result<Lookup, NetError>),
+    /// With no records and a response code, by its name alone.
+    Nothing(ResponseCode),
+    /// It is not: the handle is asked.
+    Asks,
+}
+
+/// Returns how a question is answered without the handle. For a name without records no memory is taken.
 pub(super) fn local_reply(
     alloc: Global,
     cache: &ResponseCache,
     query: &Query,
     now: Moment,
-) -> Result<Option<Result<Lookup, NetError>>, AllocError>
+) -> Result<LocalReply, AllocError>
     requires { now ≤ 2 ^ 62 }
-    ensures { IfOk result (λ reply. reply ≡ local_reply now query.now (special_answer query.now)
-        (current cache.now.entries query.now now)) }
+    ensures reply { IfOk result (λ reply. reply_of query.now reply ≡ local_reply now query.now
+        (special_answer query.now) (current cache.now.entries query.now now)) }
+    ensures decided { (code : ResponseCode) → special_answer query.now ≡ special.Nothing code
+        → result ≡ Ok (LocalReply.Nothing code) }
 {
     match special_answer(alloc, query)? {
         SpecialAnswer::Ordinary => cached_reply(alloc, cache, query, now),
-        SpecialAnswer::Loopback(entry) => Ok(Some(Ok(loopback_lookup(alloc, query, entry, now)?))),
-        SpecialAnswer::Nothing(code) => {
-            let answer = NoRecords::new(query.clone()?, code);
-            Ok(Some(Err(NetError::from(answer))))
+        SpecialAnswer::Loopback(entry) => {
+            let lookup = loopback_lookup(alloc, query, entry, now)?;
+            Ok(LocalReply::Complete(Ok(lookup)))
         }
+        SpecialAnswer::Nothing(code) => Ok(LocalReply::Nothing(code)),
     }
 }
 
@@ -59,15 +74,18 @@ fn cached_reply(
     cache: &ResponseCache,
     query: &Query,
     now: Moment,
-) -> Result<Option<Result<Lookup, NetError>>, AllocError>
+) -> Result<LocalReply, AllocError>
     requires { now ≤ 2 ^ 62 }
-    ensures { IfOk result (λ reply. reply ≡ option_map (cached_reply now query.now)
-        (current cache.now.entries query.now now)) }
+    ensures { IfOk result (λ reply. reply_of query.now reply ≡ option_map
+        (cached_reply now query.now) (current cache.now.entries query.now now)) }
 {
     match cache.get(query, now)? {
-        Some(Ok(message)) => Ok(Some(Ok(cached_lookup(alloc, query, message, now)?))),
-        Some(Err(answer)) => Ok(Some(Err(NetError::from(answer)))),
-        None => Ok(None),
+        Some(Ok(message)) => {
+            let cached = cached_lookup(alloc, query, message, now)?;
+            Ok(LocalReply::Complete(Ok(cached)))
+        }
+        Some(Err(answer)) => Ok(LocalReply::Complete(Err(NetError::from(answer)))),
+        None => Ok(LocalReply::Asks),
     }
 }
 

@@ -18,8 +18,8 @@ impl<H: DnsHandle> Resolver<H> {
 
     /// Looks up the addresses of a host, by the strategy of the options. The hosts are asked for each name and type.
     ///
-    /// A literal address is answered at once, with a TTL of [`MAX_TTL`](stub_lookup::MAX_TTL), unless it is a name and
-    /// `ndots` is above 4; then it is returned where no name has an address. If a text is neither an address nor a name,
+    /// A literal address is answered at once, with a TTL of [`MAX_TTL`](stub_lookup::MAX_TTL). But an IPv4 address is a name of
+    /// four labels, too: if `ndots` is above 4, it is looked up as one, and the address is returned where none is found. If a text is neither an address nor a name,
     /// the error is [`NetError::Proto`].
     pub fn lookup_ip<N: IntoName>(&mut self, host: N, now: Moment) -> Result<LookupIp, NetError>
         requires { now ≤ 2 ^ 62 }

@@ -14,7 +14,7 @@ ghost use Rattle.stub_client.specs.Step.{meaning};
 ghost use Rattle.stub_link.specs.LinkState.{LinkState, Version};
 ghost use Rattle.stub_history.specs.Answered.{AreOrdinary, AreZones, IsAnsweredBy, greatest_ttl, is_plain};
 ghost use Rattle.stub_history.specs.Faithful.{KeepsStanding};
-ghost use Rattle.stub_history.specs.Stands.{BeginsBy, HasChainFor, HasShortChains, IsFreshFor, StandAt};
+ghost use Rattle.stub_history.specs.Stands.{BeginsNotBefore, HasChainFor, HasShortChains, IsFreshFor, StandAt};
 
 use dns_zone::laws::answers_are_alias_chains;
 
@@ -60,7 +60,7 @@ pub fn answers_that_stood_have_asked_types()
 /// What stood at a moment still stands when later versions are added, and so outcomes still hold answers that stood.
 pub fn later_versions_keep_what_stood()
     ensures rows { (history more : List Version) (moment : ℕ) (rows : Rows)
-        → StandAt history moment rows → BeginsBy moment more
+        → StandAt history moment rows → BeginsNotBefore moment more
         → StandAt (history ++ more) moment rows }
     ensures outcomes { (origin : DomainName) (old new : LinkState) (asked : Asked)
         → asked.moment ≤ old.moment → KeepsStanding old new

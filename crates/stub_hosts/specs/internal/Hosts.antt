@@ -61,7 +61,9 @@ with_name name (n ∷ ns) = match_ordering (name_cmp name n) (name ∷ n ∷ ns)
 
 -- a name is added at the addresses for which there is a test
 abbrev pub AddsName : DomainName → (IpAddr → Bool) → List (List ℕ × DomainName) → List (List ℕ × DomainName) → Type 0
-AddsName name test old new = (address : IpAddr) → names_at address new ≡ cond (test address) (with_name name (names_at address old)) (names_at address old)
+AddsName name test old new =
+    (address : IpAddr)
+    → names_at address new ≡ cond (test address) (with_name name (names_at address old)) (names_at address old)
 
 -- the pointers without those that have keys, the last of which is removed first
 abbrev pub without_keys : List (List ℕ) → List (List ℕ × DomainName) → List (List ℕ × DomainName)

@@ -173,7 +173,8 @@ fn insert(
     added: &mut Vec<HostKey>,
 ) -> Result<(), AllocError>
     requires { get key_cmp names.old key ≡ None }
-    ensures ok { OnOk result ((names.new.entries ≡ insert_entry key_cmp names.old.entries key name.now)
+    ensures ok { OnOk result (
+        (names.new.entries ≡ insert_entry key_cmp names.old.entries key name.now)
         × (added.new.items ≡ added.old.items ++ key ∷ [])) }
     ensures ordered { OnOk result (IsStrictlySortedBy key_cmp (keys_of names.new.entries)) }
     ensures err { OnErr result ((names.new.entries ≡ names.old.entries)

@@ -1,13 +1,13 @@
 //! The lookups of one type, by name.
 
 ghost use Rattle.std.specs.Prelude.{◌≡◌, ◌≤◌, ◌^◌, [], true, None, List, ℕ, IfOk, OnOk, OnErr, option_copied};
-ghost use Rattle.std.specs.List.{find};
+ghost use Rattle.std.specs.List.{find, list_any};
 ghost use Rattle.std.specs.List.Sorted.{IsStrictlySortedBy};
 ghost use Rattle.std.specs.Map.{keys_of};
 ghost use Rattle.dns_names.specs.Compare.{same_labels};
 ghost use Rattle.stub_lookup.specs.Lookup.{joined};
 ghost use Rattle.std.specs.BTreeMap.{get, insert_entry};
-ghost use Rattle.stub_hosts.specs.Hosts.{with_entry, entry, fresh};
+ghost use Rattle.stub_hosts.specs.Hosts.{with_entry, entry, fresh, has_address};
 ghost use Rattle.stub_hosts.specs.internal.HostKeys.{labels_key, key_cmp};
 ghost use Rattle.stub_hosts.specs.internal.Hosts.{own_name, AreInOrder};
 
@@ -19,6 +19,7 @@ use dns_wire::RecordType;
 use std::alloc::{AllocError, Global};
 use std::collections::BTreeMap;
 use std::marker::Model;
+use std::net::IpAddr;
 use stub_lookup::{Lookup, Moment};
 
 /// Entries of fully qualified names, in the order of the names.
@@ -55,12 +56,38 @@ impl HostEntries {
         }
     }
 
+    /// Returns `true` if there are no entries.
+    pub(crate) fn is_empty(&self) -> bool
+        ensures { result ≡ true → self.now ≡ [] }
+    {
+        self.entries.is_empty()
+    }
+
     /// Returns the entry of the name that has a key.
     pub(crate) fn get(&self, key: &HostKey) -> Option<&HostEntry>
         ensures { (labels : List (List ℕ)) → key.now ≡ labels_key labels
             → option_copied result ≡ find (λ e. same_labels e.name.labels labels) self.now }
     {
         self.entries.get(key)
+    }
+
+    /// Returns the entry of a name, taken as fully qualified, as [`get`](HostEntries::get) does, without its key.
+    pub(crate) fn search(&self, name: &Name) -> Option<&HostEntry>
+        ensures { option_copied result
+            ≡ find (λ e. same_labels e.name.labels name.now.labels) self.now }
+    {
+        self.entries
+            .values()
+            .find(|entry| entry.name.eq_ignore_root(name))
+    }
+
+    /// Returns `true` if an entry has an address.
+    pub(crate) fn has_address(&self, address: IpAddr) -> bool
+        ensures { result ≡ list_any (has_address address) self.now }
+    {
+        self.entries
+            .values()
+            .any(|entry| entry.lookup.has_address(address))
     }
 
     /// Copies the name of the entry of a name, or the name itself, if it has none.

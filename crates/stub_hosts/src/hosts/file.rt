@@ -1,10 +1,10 @@
 //! Hosts files.
 
-ghost use Rattle.std.specs.Prelude.{◌≡◌, ◌≤◌, ◌^◌, ◌∷◌, [], List, IfOk, OnOk, OnErr};
+ghost use Rattle.std.specs.Prelude.{◌≡◌, ◌≢◌, ◌≤◌, ◌^◌, ◌∷◌, [], List, IfOk, OnOk, OnErr};
 ghost use Rattle.std.specs.Str.{IsUtf8};
 ghost use Rattle.std.specs.Str.Iter.{split_whitespace_rest};
 ghost use Rattle.stub_hosts.specs.Hosts.{with_host, with_hosts, host_lookup};
-ghost use Rattle.stub_hosts.specs.HostsFile.{without_mark, without_comment, host_name, words, hosts_at, lines_of, AreHostsOfWords, ReadsLine, ReadsLines};
+ghost use Rattle.stub_hosts.specs.HostsFile.{without_mark, without_comment, host_name, words, hosts_at, lines_of, AreHostsOfWords, HaveNames, ReadsLine, ReadsLines};
 ghost use Rattle.stub_hosts.specs.internal.HostsFile.{InsertsHosts};
 
 use crate::hosts::Hosts;
@@ -52,7 +52,7 @@ impl Hosts {
     /// name are appended to those before.
     ///
     /// Reading ends at the first line that is not valid UTF-8, its comment included, or when memory cannot be allocated.
-    /// The hosts before that are inserted.
+    /// The hosts before that are inserted. Only lines with an address and a word after it take memory.
     pub fn read_hosts_conf(&mut self, src: &[u8], now: Moment) -> Result<(), HostsFault>
         requires { now ≤ 2 ^ 62 }
         ensures { (hosts : List Host) × ReadsLines (lines_of src.now) hosts result
@@ -79,7 +79,9 @@ impl Hosts {
     /// Inserts the hosts of a line without a comment.
     fn read_words(&mut self, text: &str, now: Moment) -> Result<(), AllocError>
         requires { now ≤ 2 ^ 62 }
-        ensures { InsertsHosts (AreHostsOfWords (words text.now)) now self.old self.new result }
+        ensures inserts { InsertsHosts (AreHostsOfWords (words text.now))
+            now self.old self.new result }
+        ensures decided { OnErr result (HaveNames (words text.now)) }
     {
         let mut words = text.split_whitespace();
         let Some(first) = words.next() else {
@@ -100,9 +102,10 @@ impl Hosts {
     ) -> Result<(), AllocError>
         requires moment { now ≤ 2 ^ 62 }
         requires utf8 { IsUtf8 (split_whitespace_rest names) }
-        ensures { InsertsHosts
+        ensures inserts { InsertsHosts
             (λ hosts. hosts ≡ hosts_at address (words (split_whitespace_rest names.entry)))
             now self.old self.new result }
+        ensures decided { OnErr result (words (split_whitespace_rest names.entry) ≢ []) }
     {
         for word in names {
             self.read_name(address, word, now)?;

@@ -1,7 +1,8 @@
 //! The lookup of a name, to which others are joined in place.
 
 ghost use Rattle.std.specs.Prelude.{◌≡◌, ◌≤◌, ◌^◌, ◌++◌, take, min, IfOk, OnOk, OnErr};
-ghost use Rattle.stub_hosts.specs.Hosts.{fresh};
+ghost use Rattle.std.specs.List.{list_any};
+ghost use Rattle.stub_hosts.specs.Hosts.{fresh, is_address_of, same_address};
 ghost use Rattle.stub_lookup.specs.Lookup.{joined, joined_messages};
 
 use dns_messages::{Message, Query, Record, Sequence};
@@ -9,6 +10,7 @@ use dns_names::Name;
 use dns_wire::RecordType;
 use std::alloc::{AllocError, Global};
 use std::marker::Model;
+use std::net::IpAddr;
 use stub_lookup::{Lookup, Moment};
 
 /// A response to a question, and the last moment at which it is valid.
@@ -77,6 +79,15 @@ impl HostLookup {
         ensures { result.now ≡ self.now.message.answers }
     {
         self.message.answers.as_slice()
+    }
+
+    /// Returns `true` if an answer has an address.
+    pub(crate) fn has_address(&self, address: IpAddr) -> bool
+        ensures { result ≡ list_any (is_address_of address) self.now.message.answers }
+    {
+        self.answers()
+            .iter()
+            .any(|answer| is_address_of(address, answer))
     }
 
     /// Copies the lookup.
@@ -152,4 +163,25 @@ fn truncate(section: &mut Sequence<Record>, count: usize)
     let mut records = section.take().into_vec();
     records.truncate(count);
     *section = Sequence::from_vec(records);
+}
+
+/// Returns `true` if a record has an address.
+fn is_address_of(address: IpAddr, answer: &Record) -> bool
+    ensures { result ≡ is_address_of address answer.now }
+{
+    match answer.rdata.ip_addr() {
+        Some(other) => same_address(address, other),
+        None => false,
+    }
+}
+
+/// Returns `true` if addresses are of one family and have the same octets or segments.
+fn same_address(address: IpAddr, other: IpAddr) -> bool
+    ensures { result ≡ same_address address other }
+{
+    match (address, other) {
+        (IpAddr::V4(address), IpAddr::V4(other)) => address.octets() == other.octets(),
+        (IpAddr::V6(address), IpAddr::V6(other)) => address.segments() == other.segments(),
+        _ => false,
+    }
 }

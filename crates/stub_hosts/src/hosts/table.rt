@@ -1,6 +1,8 @@
 //! The lookups of one type, by name and by address.
 
-ghost use Rattle.std.specs.Prelude.{◌≡◌, ◌≤◌, ◌^◌, [], true, IfOk, OnOk, OnErr, option_and_then};
+ghost use Rattle.std.specs.Prelude.{◌≡◌, ◌≤◌, ◌^◌, [], true, None, Ok, IfOk, IsOk, OnOk, OnErr, option_and_then, option_copied};
+ghost use Rattle.std.specs.List.{find};
+ghost use Rattle.dns_names.specs.Compare.{same_labels};
 ghost use Rattle.stub_hosts.specs.Hosts.{with_entry, fresh, lookup_at, answered, pointers};
 
 use crate::hosts::address_index::AddressIndex;
@@ -80,22 +82,51 @@ impl HostTable {
         }
     }
 
-    /// Returns the lookup of a name, taken as fully qualified, if it has answers.
+    /// Returns the lookup of a name, taken as fully qualified, if it has answers. If it has none, no memory is needed.
     pub(crate) fn lookup(&self, name: &Name) -> Result<Option<Lookup>, AllocError>
-        ensures { IfOk result (λ found.
+        ensures found { IfOk result (λ found.
             found ≡ option_and_then answered (lookup_at name.now self.now)) }
+        ensures decided { option_and_then answered (lookup_at name.now self.now) ≡ None
+            → result ≡ Ok None }
     {
-        let key = HostKey::of_name(self.alloc, name)?;
-        match self.entries.get(&key) {
+        match self.entry(name) {
             Some(entry) if !entry.lookup.answers().is_empty() => Ok(Some(entry.lookup.copy()?)),
             _ => Ok(None),
         }
     }
 
-    /// Returns pointers from an owner to the names that have an address.
-    pub(crate) fn pointers(&self, owner: &Name, address: IpAddr) -> Result<Vec<Record>, AllocError>
-        ensures { IfOk result (λ records. records.items ≡ pointers owner.now address self.now) }
+    /// Returns the entry of a name, taken as fully qualified. It is found by its key, or, without memory for the key, by a
+    /// search of all entries.
+    fn entry(&self, name: &Name) -> Option<&HostEntry>
+        ensures { option_copied result
+            ≡ find (λ e. same_labels e.name.labels name.now.labels) self.now }
     {
-        self.addresses.pointers(owner, address)
+        if self.entries.is_empty() {
+            return None;
+        }
+        match HostKey::of_name(self.alloc, name) {
+            Ok(key) => self.entries.get(&key),
+            Err(_) => self.entries.search(name),
+        }
+    }
+
+    /// Returns pointers from an owner to the names that have an address. If there are none, no memory is needed.
+    pub(crate) fn pointers(&self, owner: &Name, address: IpAddr) -> Result<Vec<Record>, AllocError>
+        ensures records { IfOk result (λ records.
+            records.items ≡ pointers owner.now address self.now) }
+        ensures decided { pointers owner.now address self.now ≡ [] → IsOk result }
+    {
+        if self.entries.is_empty() {
+            return Ok(Vec::new(self.alloc));
+        }
+        match self.addresses.pointers(owner, address) {
+            Ok(records) => Ok(records),
+            Err(error) => {
+                if self.entries.has_address(address) {
+                    return Err(error);
+                }
+                Ok(Vec::new(self.alloc))
+            }
+        }
     }
 }

@@ -1,6 +1,6 @@
 //! A link to the server of a zone, in memory, which follows a script.
 
-ghost use Rattle.std.specs.Prelude.{◌≡◌, ◌∷◌, ◌++◌, ◌≤◌, [], ℕ, List, Option, None, Some, Err, false, true, OnOk, OnErr, IfOk, map, option_map, reverse, slice_get};
+ghost use Rattle.std.specs.Prelude.{◌≡◌, ◌∷◌, ◌++◌, ◌≤◌, [], ℕ, List, Option, None, Some, Err, false, true, OnOk, OnErr, IfOk, IsOk, map, option_map, reverse, slice_get};
 ghost use Rattle.std.specs.Option.{option_copied};
 ghost use Rattle.stub_link.specs.LinkState.{with_last};
 ghost use Rattle.stub_link.specs.ScriptedLink.{named_place, places_of};
@@ -39,7 +39,7 @@ impl ScriptedLink {
     ghost use Rattle.dns_messages.specs.declared.message.Message.{Message};
     ghost use Rattle.stub_link.specs.Link.{Rises, datagram_of};
     ghost use Rattle.stub_link.specs.LinkState.{Course, LinkState, first_link_state, begin_event, begin_update, course_of, deliver_event, deliver_rest, end_event, receive, send};
-    ghost use Rattle.stub_link.specs.ScriptedLink.{AreRelated, HasSent, IsAt, IsBegun, IsCourse, IsEnded, IsListed, IsReceived, IsRequest, ReceivesHonestly, ReceivesListed, Shows, TakesFail, UnlessMemory, bytes_of, is_out_of_memory};
+    ghost use Rattle.stub_link.specs.ScriptedLink.{AreRelated, HasSent, IsAt, IsBegun, IsCourse, IsDelivered, IsEnded, IsListed, IsReceived, IsRequest, ReceivesHonestly, ReceivesListed, Shows, TakesFail, UnlessMemory, bytes_of, is_out_of_memory};
 
     /// Creates a link to a server of the zone whose datagrams have at most `limit` bytes.
     pub fn new(alloc: Global, zone: Zone, limit: DatagramLimit) -> Self
@@ -88,7 +88,8 @@ impl ScriptedLink {
         self.note_refusal(begun)
     }
 
-    /// Ends an event: the datagrams that its script has not delivered yet are delivered.
+    /// Ends an event: the datagrams that its script has not delivered yet are delivered. If there are none, no memory is
+    /// taken.
     pub fn end_event(&mut self) -> Result<(), AllocError>
         ensures { IsEnded self.old result self.new }
     {
@@ -123,7 +124,8 @@ impl ScriptedLink {
     /// Follows a script from its beginning, with a place for the datagram of an update.
     fn follow_with_update(&mut self, script: &Script) -> Result<(), AllocError>
         ensures course { OnOk result (IsCourse self.new (course_of script.now)) }
-        ensures place { OnOk result (places_of self.new.updates ≡ places_of self.old.updates ++ None ∷ []) }
+        ensures place { OnOk result (places_of self.new.updates
+            ≡ places_of self.old.updates ++ None ∷ []) }
         ensures rest { self.new ≡ record self.old {
           is_honest = self.new.is_honest;
           under_way = self.new.under_way;
@@ -140,7 +142,9 @@ impl ScriptedLink {
     fn deliver_rest(&mut self) -> Result<(), AllocError>
         ensures ends { OnOk result ((state : LinkState) → (course : Course) → HasSent self.old state
             → IsCourse self.old course → HasSent self.new (deliver_rest course state)) }
-        ensures empty { OnOk result ((self.new.under_way.items ≡ []) × (self.new.events.items ≡ [])) }
+        ensures empty { OnOk result (
+            (self.new.under_way.items ≡ []) × (self.new.events.items ≡ [])) }
+        ensures decided { IsDelivered self.old → IsOk result }
         ensures rest { self.new ≡ record self.old {
           server = self.new.server;
           under_way = self.new.under_way;
@@ -157,6 +161,7 @@ impl ScriptedLink {
         ensures ends { OnOk result ((state : LinkState) → HasSent self.old state
             → HasSent self.new (fold deliver_event state (reverse self.old.events.items))) }
         ensures empty { OnOk result (self.new.events.items ≡ []) }
+        ensures decided { self.old.events.items ≡ [] → IsOk result }
         ensures rest { self.new ≡ record self.old {
           server = self.new.server;
           events = self.new.events;
@@ -334,7 +339,8 @@ fn replace_last(
     updates: &mut Vec<Option<Vec<u8>>>,
     bytes: &[u8],
 ) -> Result<(), AllocError>
-    ensures { OnOk result (places_of updates.new ≡ with_last (Some bytes.now) (places_of updates.old)) }
+    ensures { OnOk result (places_of updates.new
+        ≡ with_last (Some bytes.now) (places_of updates.old)) }
 {
     let copy = Vec::from_slice(alloc, bytes)?;
     updates.pop();

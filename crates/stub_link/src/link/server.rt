@@ -1,6 +1,6 @@
 //! The server at the other end of a scripted link.
 
-ghost use Rattle.std.specs.Prelude.{◌≡◌, ◌≤◌, ◌<◌, ◌∷◌, ◌++◌, vec_len, vec_capacity, length, true, [], option_map, IfOk, OnErr, OnOk, map, reverse, slice_get};
+ghost use Rattle.std.specs.Prelude.{◌≡◌, ◌≤◌, ◌<◌, ◌∷◌, ◌++◌, vec_len, vec_capacity, length, true, [], option_map, IfOk, IsOk, OnErr, OnOk, map, reverse, slice_get};
 ghost use Rattle.std.specs.Option.{option_copied};
 ghost use Rattle.stub_link.specs.ScriptedLink.{bytes_of};
 
@@ -83,10 +83,11 @@ impl Server {
 
     /// Delivers datagrams, in order.
     pub(crate) fn deliver_all(&mut self, datagrams: &[Vec<u8>]) -> Result<(), AllocError>
-        ensures { OnOk result ((state : LinkState) → (sent : List Message)
+        ensures delivers { OnOk result ((state : LinkState) → (sent : List Message)
             → IsServerOf self.old state
             → AreRelated IsRequest (map (λ b. b.items) datagrams.now) sent
             → IsServerOf self.new (fold (λ now m. deliver m now) state sent)) }
+        ensures decided { datagrams.now ≡ [] → IsOk result }
     {
         for bytes in datagrams {
             self.deliver(bytes.as_slice())?;

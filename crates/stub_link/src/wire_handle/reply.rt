@@ -28,8 +28,8 @@ pub(crate) fn wait<L: Link>(
     question: Option<&Query>,
     dropped: &mut u64,
 ) -> Result<DnsResponse, NetError>
-    ensures waits { Wait wire (calls_of L.sends L.receives L.streams) 16 id (option_copied question.entry)
-        link.old dropped.old result link.new dropped.new }
+    ensures waits { Wait wire (calls_of L.sends L.receives L.streams) 16 id
+        (option_copied question.entry) link.old dropped.old result link.new dropped.new }
     ensures failed { FailsByLink result (L.failure_count link.old) (L.failure_count link.new) }
     ensures kept { L.failure_count link.old ≤ L.failure_count link.new }
 {

@@ -1,13 +1,15 @@
-use Rattle.std.proofs.Common.{◌≡◌, ◌∙◌, ◌<◌, ℕ, List, length, sym, ap, subst}
+use Rattle.std.proofs.Common.{◌≡◌, ◌∙◌, ◌<◌, ℕ, List, [], length, Ok, sym, ap, subst}
 use Rattle.std.proofs.lemmas.Result.{err_from_is_err_and}
 use Rattle.dns_wire.specs.Decoder.{Decoder}
 use Rattle.dns_wire.specs.declared.error.DecodeError.{DecodeError}
 use Rattle.dns_records.specs.Record.{Record}
 use Rattle.dns_messages.specs.declared.header.Header.{Header}
+use Rattle.dns_messages.specs.declared.header.HeaderCounts.{HeaderCounts}
 use Rattle.dns_messages.specs.declared.query.Query.{Query}
 use Rattle.dns_messages.specs.Section.{SectionKind, ReadsSection, RefusesSection}
-use Rattle.dns_messages.specs.Header.{DecodesHeader}
-use Rattle.dns_messages.specs.Grammar.{ReadsQuestions, RefusesQuestions, section_kind, additional_kind, RefusesMessage, short_header, bad_questions, bad_answers, bad_authorities, bad_additionals}
+use Rattle.dns_messages.specs.Header.{DecodesHeader, no_counts}
+use Rattle.dns_messages.specs.Grammar.{ReadsQuestions, RefusesQuestions, section_kind, additional_kind, RefusesMessage, IsBareHeader, short_header, bad_questions, bad_answers, bad_authorities, bad_additionals}
+use Rattle.dns_messages.proofs.BareLaws.{not_short, same_header, same_counts, empty_section, bare_message}
 use Rattle.dns_messages.proofs.read.read_message.Goals as goal
 use Rattle.dns_messages.proofs.read.read_message.Goals.{In_ok-header, In_ok-queries, In_ok-answers, In_ok-authorities}
 
@@ -98,3 +100,50 @@ returns-in_err-last-clause-refused c =
     (section_read _ _ (section_kind h) end2 h.counts.answers an end3 (bytes2 at.In_ok-queries) c.in_ok-answers.ensures.read)
     (section_read _ _ (section_kind h) end3 h.counts.authorities au end4 (bytes3 at.In_ok-answers) c.in_ok-authorities.ensures.read)
     (section_refused _ _ (additional_kind h) end4 h.counts.additionals c.in_err-last.field-0.0 (bytes4 at.In_ok-authorities) (c.in_err-last.ensures.refused other)))
+
+-- ---- a bare header
+
+header_same : (c : In_ok-header) (bare : Header) → IsBareHeader c.args.bytes.now bare → c.in_ok-header.header ≡ bare
+header_same c bare is = same_header c.args.bytes.now c.in_ok-header.header bare (header_read c) is
+
+no_entries : (c : In_ok-header) (bare : Header) → IsBareHeader c.args.bytes.now bare → c.in_ok-header.header.counts ≡ no_counts
+no_entries c bare is = same_counts c.args.bytes.now c.in_ok-header.header bare (header_read c) is
+
+pub returns-in_err-header-clause-decided : goal.returns-in_err-header-clause-decided
+returns-in_err-header-clause-decided c = λ bare is.
+    let start : c.new-decoder.result.bytes ≡ c.args.bytes.now = ap (λ (d : Decoder). d.bytes) c.new-decoder.ensures in
+    absurd (not_short c.args.bytes.now bare is (subst (λ (bs : List ℕ). length bs < 12) start c.in_err-header.ensures.short.1))
+
+pub returns-in_err-queries-clause-decided : goal.returns-in_err-queries-clause-decided
+returns-in_err-queries-clause-decided c = λ bare is.
+    let at = (goal.at.returns-in_err-queries-clause-decided c).In_ok-header in
+    let never = c.in_err-queries.ensures.decided (ap (λ (k : HeaderCounts). k.queries) (no_entries at bare is)) in
+    absurd (cc never)
+
+pub returns-in_err-answers-clause-decided : goal.returns-in_err-answers-clause-decided
+returns-in_err-answers-clause-decided c = λ bare is.
+    let at = (goal.at.returns-in_err-answers-clause-decided c).In_ok-header in
+    let never = c.in_err-answers.ensures.decided (ap (λ (k : HeaderCounts). k.answers) (no_entries at bare is)) in
+    absurd (cc never)
+
+pub returns-in_err-authorities-clause-decided : goal.returns-in_err-authorities-clause-decided
+returns-in_err-authorities-clause-decided c = λ bare is.
+    let at = (goal.at.returns-in_err-authorities-clause-decided c).In_ok-header in
+    let never = c.in_err-authorities.ensures.decided (ap (λ (k : HeaderCounts). k.authorities) (no_entries at bare is)) in
+    absurd (cc never)
+
+pub returns-in_err-last-clause-decided : goal.returns-in_err-last-clause-decided
+returns-in_err-last-clause-decided c = λ bare is.
+    let at = (goal.at.returns-in_err-last-clause-decided c).In_ok-header in
+    let never = c.in_err-last.ensures.decided (ap (λ (k : HeaderCounts). k.additionals) (no_entries at bare is)) in
+    absurd (cc never)
+
+pub returns-clause-decided : goal.returns-clause-decided
+returns-clause-decided c = λ bare is.
+    let at = (goal.at.returns-clause-decided c).In_ok-header in
+    let none = no_entries at bare is in
+    let queries : c.in_ok-queries.queries ≡ [] = cc (c.in_ok-queries.ensures.decided (ap (λ (k : HeaderCounts). k.queries) none)) in
+    let answers : c.in_ok-answers.answers ≡ [] = cc (c.in_ok-answers.ensures.decided (ap (λ (k : HeaderCounts). k.answers) none)) in
+    let authorities : c.in_ok-authorities.authorities ≡ [] = cc (c.in_ok-authorities.ensures.decided (ap (λ (k : HeaderCounts). k.authorities) none)) in
+    let last : c.in_ok-last.last ≡ empty_section = cc (c.in_ok-last.ensures.decided (ap (λ (k : HeaderCounts). k.additionals) none)) in
+    ap Ok (bare_message c.extended.result c.in_ok-queries.queries c.in_ok-answers.answers c.in_ok-authorities.authorities c.in_ok-last.last c.in_ok-header.header bare c.extended.ensures queries answers authorities last (header_same at bare is))

@@ -1,4 +1,4 @@
-use Rattle.std.proofs.Common.{ℕ, List, [], ◌∷◌, length, ap, sym, subst, ◌∙◌, arith, length-append}
+use Rattle.std.proofs.Common.{◌≡◌, ℕ, List, [], ◌∷◌, length, Ok, refl, ap, sym, subst, ◌∙◌, arith, length-append}
 use Rattle.std.proofs.lemmas.Result.{err_from_is_err_and}
 use Rattle.dns_wire.specs.Decodable.{Follow}
 use Rattle.dns_messages.specs.declared.query.Query.{Query}
@@ -32,3 +32,20 @@ loop-nth-preserved c =
       count_is = omega (arith, ap (λ (xs : List Query). length xs) pushed, length-append c.loop-nth.queries (c.in_ok-query.query ∷ []), inv.count_is);
       same_bytes = c.in_ok-query.ensures.bytes ∙ inv.same_bytes;
     }
+
+-- ---- no questions
+
+pub returns-in_err-query-clause-decided : goal.returns-in_err-query-clause-decided
+returns-in_err-query-clause-decided c = λ none. absurd (omega (arith, c.loop-nth-test.true, none))
+
+pub returns-in_err-push-clause-decided : goal.returns-in_err-push-clause-decided
+returns-in_err-push-clause-decided c = λ none. absurd (omega (arith, c.loop-nth-test.true, none))
+
+nothing : (xs : List Query) → length xs ≡ 0 → xs ≡ []
+nothing [] e = refl
+nothing (x ∷ xs) e = absurd (omega (arith, e))
+
+pub returns-clause-decided : goal.returns-clause-decided
+returns-clause-decided c = λ none.
+    let len : length c.loop-nth.queries ≡ 0 = omega (arith, c.loop-nth.invariant.count_is, none) in
+    ap Ok (nothing c.loop-nth.queries len)

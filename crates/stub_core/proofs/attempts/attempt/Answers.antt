@@ -9,4 +9,4 @@ loop-name-preserved g c =
     (into_iter_items c.loop-name.name-iterator) (into_iter_items c.next.new.self) c.in-Some.name c.lookup-last.result
     c.lookup-last.new.self c.args.last c.args.client.now (into_iter_items c.args.names)
     c.loop-name.invariant c.in-Some.ensures.steps.0 (sym c.is_final.ensures ∙ c.if-is_final.false)
-    (rw c.query.ensures at c.lookup-last.ensures)
+    (rw c.query.ensures at c.lookup-last.ensures.lookup)

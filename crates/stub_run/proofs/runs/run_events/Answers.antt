@@ -6,7 +6,7 @@ use Rattle.stub_run.specs.RunOver.{HasRunOver, rules_of}
 use Rattle.stub_run.specs.declared.event.Event.{Event}
 use Rattle.stub_run.specs.declared.report.EventReport.{EventReport}
 use Rattle.stub_run.proofs.Running.{moment-in-order}
-use Rattle.stub_run.proofs.RunningOver.{has-begun, has-reserved, has-run-more, if-ok, is-report, is-report-before, stops-at, tells-before}
+use Rattle.stub_run.proofs.RunningOver.{has-begun, has-reserved, has-run-more, if-ok, is-report, is-report-before, no-event, ok-or-err, stops-at, tells-before}
 use Rattle.stub_run.proofs.runs.run_events.Goals as goal
 use Rattle.stub_run.proofs.runs.run_events.Goals.{then-is_err-via-then-is_err, then-is_err-via-else-is_err+then-is_err-2}
 
@@ -29,6 +29,17 @@ returns-then-is_err-clause-stopped g c =
 
 pub returns-then-is_err-clause-order : goal.returns-then-is_err-clause-order
 returns-then-is_err-clause-order g c = c.is_in_order.ensures.0 c.if-not-is_in_order.false
+
+pub returns-then-is_err-clause-decided : goal.returns-then-is_err-clause-decided
+returns-then-is_err-clause-decided g c = λ none.
+    let len : length c.args.events.now ≡ 0 = ap length none in
+    let fits : vec_len c.new-reports.result ≤ vec_capacity c.new-reports.result = c.new-reports.result.ok.1 in
+    elim c.then-is_err.branch [
+      | then-is_err-via-then-is_err w ↦ absurd (ok-or-err c.reserve.result (sym c.is_err.ensures.value ∙ w.if-is_err.true)
+          (c.reserve.ensures.succeeds (omega (arith, len, fits))))
+      | then-is_err-via-else-is_err+then-is_err-2 w ↦ absurd (ok-or-err w.reserve_ids.result (sym w.is_err-else-is_err.ensures.value ∙ w.if-is_err-2.true)
+          (w.reserve_ids.ensures.decided len))
+    ]
 
 pub loop-event-init : goal.loop-event-init
 loop-event-init g c =
@@ -92,6 +103,7 @@ returns g c =
           });
       stopped = tt;
       order = order;
+      decided = λ none. refl;
     }
 
 pub returns-in-None : goal.returns-in-None
@@ -112,4 +124,5 @@ returns-in-None g c =
           c.progress_of-progress.ensures c.in-None.ensures.front
           (ap (λ (v : Vec EventReport). v.items) c.report_at.ensures.events) c.report_at.ensures.sent c.report_at.ensures.dropped);
       order = order;
+      decided = λ none. absurd (no-event events i none c.loop-event-test.true);
     }

@@ -1,4 +1,4 @@
-use Rattle.std.proofs.Common.{◌≡◌, ◌==◌, ◌+◌, ◌-◌, ℕ, Bool, List, None, sym, ap, subst, ◌∙◌}
+use Rattle.std.proofs.Common.{◌≡◌, ◌==◌, ◌+◌, ◌-◌, ℕ, Bool, List, None, refl, sym, ap, subst, ◌∙◌, arith}
 use Rattle.std.specs.Option.{is_some}
 use Rattle.std.proofs.lemmas.Result.{err_from_is_err_and}
 use Rattle.dns_records.specs.Record.{ReadsRecord}
@@ -46,4 +46,14 @@ loop-nth-preserved c =
       front = subst (λ (x : SectionRecords). ReadsFront old.bytes kind old.index c.args.count (c.loop-nth.nth + 1) x new.index) (sym c.in_ok-push.ensures)
           (front_next old.bytes kind old.index c.args.count c.loop-nth.nth s now.index next new.index inv.front c.loop-nth-test.true here placed);
       same_bytes = c.in_ok-next.ensures.bytes ∙ inv.same_bytes;
+      untouched = λ start. absurd (omega (arith, start));
     }
+
+pub returns-in_err-next-clause-decided : goal.returns-in_err-next-clause-decided
+returns-in_err-next-clause-decided c = λ none. absurd (omega (arith, c.loop-nth-test.true, none))
+
+pub returns-in_err-push-clause-decided : goal.returns-in_err-push-clause-decided
+returns-in_err-push-clause-decided c = λ none. absurd (omega (arith, c.loop-nth-test.true, none))
+
+pub returns-clause-decided : goal.returns-clause-decided
+returns-clause-decided c = λ none. (refl, c.loop-nth.invariant.untouched (omega (arith, none)))

@@ -7,4 +7,5 @@ abbrev pub invariant-loop-nth : goal.invariant-loop-nth
 invariant-loop-nth l = record {
   front : ReadsFront l.fn.decoder.bytes (kind_of l.fn.op_code l.fn.is_additional) l.fn.decoder.index l.fn.count l.nth l.self l.decoder.index;
   same_bytes : l.decoder.bytes ≡ l.fn.decoder.bytes;
+  untouched : l.nth ≡ 0 → l.self ≡ l.fn.self;
 }

@@ -1,12 +1,17 @@
-use Rattle.std.proofs.Common.{◌≡◌, ◌+◌, ◌-◌, ◌*◌, ◌≤◌, length, true}
+use Rattle.std.proofs.Common.{◌≡◌, ◌+◌, ◌-◌, ◌*◌, ◌≤◌, length, true, Err}
 use Rattle.std.specs.Prelude.{IfSome}
 use Rattle.dns_wire.specs.Name.{name_len}
+use Rattle.dns_wire.specs.Element.{element_at}
+use Rattle.dns_wire.specs.declared.error.DecodeError.{DecodeError}
 use Rattle.dns_names.proofs.Underway.{Underway}
+use Rattle.dns_names.proofs.Leading.{Leads}
 use Rattle.dns_names.proofs.name.wire.read_at.Given as goal
 
 abbrev pub invariant-loop-name : goal.invariant-loop-name
 invariant-loop-name l = record {
   underway : Underway l.fn.decoder.bytes l.fn.decoder.index l.reader.index l.segment l.name.labels l.end;
+  leads : Leads l.fn.decoder.bytes l.fn.decoder.index l.reader.index l.segment l.name.labels;
+  first : (error : DecodeError) → element_at l.fn.decoder.bytes l.fn.decoder.index ≡ Err error → l.reader.index ≡ l.fn.decoder.index;
   same_bytes : l.reader.bytes ≡ l.fn.decoder.bytes;
   within : l.segment ≤ length l.fn.decoder.bytes;
   end_within : IfSome l.end (λ e. e ≤ length l.fn.decoder.bytes);

@@ -36,7 +36,7 @@ invariant_of-self-2 c =
     let a : IsApplied c.self.inside.origin c.self.inside.sets c.store.new.self c.args.update.now =
     applied c.self.inside.origin c.self.inside.sets c.store.new.self c.self.invariant.1 c.self.invariant.2 c.in_ok-store.ensures.ordered c.in_ok-changes.changes.sets.items c.args.update.now c.type_number_round_trips.ensures
     (subst IsZone (sym c.self.view_is) c.well_formed-2.ensures) c.requires.sound (ap (λ (z : ZoneContent). update_code z.origin z.rows c.args.update.now) c.self.view_is ∙ c.requires.accepted)
-    c.in_ok-changes.ensures c.in_ok-store.ensures.ok in
+    c.in_ok-changes.ensures.change c.in_ok-store.ensures.ok in
     (c.self.invariant.0, a.whole.sound, a.whole.zone_sets)
 
 pub returns-clause-ok : goal.returns-clause-ok
@@ -44,7 +44,7 @@ returns-clause-ok c =
     let a : IsApplied c.self.inside.origin c.self.inside.sets c.store.new.self c.args.update.now =
     applied c.self.inside.origin c.self.inside.sets c.store.new.self c.self.invariant.1 c.self.invariant.2 c.in_ok-store.ensures.ordered c.in_ok-changes.changes.sets.items c.args.update.now c.type_number_round_trips.ensures
     (subst IsZone (sym c.self.view_is) c.well_formed-2.ensures) c.requires.sound (ap (λ (z : ZoneContent). update_code z.origin z.rows c.args.update.now) c.self.view_is ∙ c.requires.accepted)
-    c.in_ok-changes.ensures c.in_ok-store.ensures.ok in
+    c.in_ok-changes.ensures.change c.in_ok-store.ensures.ok in
     a.zone_is ∙ ap (λ (z : ZoneContent). record z { rows = update_change z.origin z.rows c.args.update.now }) c.self.view_is
 
 pub returns-clause-well_formed : goal.returns-clause-well_formed
@@ -52,5 +52,5 @@ returns-clause-well_formed c =
     let a : IsApplied c.self.inside.origin c.self.inside.sets c.store.new.self c.args.update.now =
     applied c.self.inside.origin c.self.inside.sets c.store.new.self c.self.invariant.1 c.self.invariant.2 c.in_ok-store.ensures.ordered c.in_ok-changes.changes.sets.items c.args.update.now c.type_number_round_trips.ensures
     (subst IsZone (sym c.self.view_is) c.well_formed-2.ensures) c.requires.sound (ap (λ (z : ZoneContent). update_code z.origin z.rows c.args.update.now) c.self.view_is ∙ c.requires.accepted)
-    c.in_ok-changes.ensures c.in_ok-store.ensures.ok in
+    c.in_ok-changes.ensures.change c.in_ok-store.ensures.ok in
     a.well

@@ -1,14 +1,15 @@
-use Rattle.std.proofs.Common.{◌≡◌, ◌∙◌, sym, ap, subst, List, [], ◌∷◌, ◌++◌, None, Some, arith, rules}
+use Rattle.std.proofs.Common.{◌≡◌, ◌<◌, ◌∙◌, sym, ap, subst, List, [], ◌∷◌, ◌++◌, None, Some, arith, rules}
 use Rattle.std.proofs.lemmas.Result.{on_ok_weaker}
 use Rattle.dns_wire.proofs.StoredLaws.{on_err}
 use Rattle.dns_codes.specs.RecordType.{type_number}
 use Rattle.dns_data.specs.rdata.{data_type}
+use Rattle.dns_records.specs.Record.{Record}
 use Rattle.dns_records.specs.RecordSet.{RecordSetValue}
-use Rattle.dns_zone_file.specs.RecordSets.{is_set_for, inserted_in, HaveNamedTypes}
+use Rattle.dns_zone_file.specs.RecordSets.{is_set_for, inserted_in, records_count, HaveNamedTypes}
 use Rattle.dns_zone_file.specs.internal.SetIndex.{place_of}
 use Rattle.dns_zone_file.proofs.PlaceLaws.{within}
 use Rattle.dns_zone_file.proofs.SetIndexLaws.{only_place, no_place}
-use Rattle.dns_zone_file.proofs.RecordSetsLaws.{IsPlace, place_found, owner_is, type_is, inserted_at, indexed_at, unchanged_at, inserted_new, named_after}
+use Rattle.dns_zone_file.proofs.RecordSetsLaws.{IsPlace, place_found, owner_is, type_is, inserted_at, indexed_at, unchanged_at, inserted_new, named_after, count_at, count_new}
 use Rattle.dns_zone_file.proofs.record_sets.RecordSets.insert.Goals as goal
 
 pub index_mut-requires : goal.index_mut-requires
@@ -54,3 +55,24 @@ returns-in_ok-set-in-None-clause-ok c =
     ∙ new
     ∙ ap (λ (l : List RecordSetValue). inserted_in l c.args.resource_record) c.self.view_is in
     on_ok_weaker c.push_set.result whole c.push_set.ensures.ok
+
+-- the number of records grows, of the sets as contracts see them
+grown : (inside now : List RecordSetValue) (r : Record) → inside ≡ now → records_count inside < records_count (inserted_in inside r) → records_count now < records_count (inserted_in now r)
+grown inside now r same less = subst (λ (l : List RecordSetValue). records_count l < records_count (inserted_in l r)) same less
+
+pub returns-in_err-insert-in-Some-clause-grows : goal.returns-in_err-insert-in-Some-clause-grows
+returns-in_err-insert-in-Some-clause-grows c =
+    let p : IsPlace c.self.inside.sets.items c.args.resource_record c.in-Some.place c.index_mut.result.now = place_found c.self.inside.index c.self.inside.sets.items c.args.resource_record c.in-Some.place c.index_mut.result.now c.self.invariant.1 (search rules) c.index_mut.ensures.value in
+    on_err c.from_residual.result (grown c.self.inside.sets.items c.args.self.now c.args.resource_record c.self.view_is (count_at p c.in_err-insert-in-Some.ensures.grows))
+
+pub returns-in_err-set-in-None-clause-grows : goal.returns-in_err-set-in-None-clause-grows
+returns-in_err-set-in-None-clause-grows c =
+    let at : place_of c.self.inside.index c.args.resource_record.name (type_number (data_type c.args.resource_record.rdata)) ≡ None = search rules in
+    let none = no_place c.self.inside.index c.self.inside.sets.items c.args.resource_record.name (type_number (data_type c.args.resource_record.rdata)) c.self.invariant.1 at in
+    on_err c.from_residual-in_err-set-in-None.result (grown c.self.inside.sets.items c.args.self.now c.args.resource_record c.self.view_is (count_new c.self.inside.sets.items c.args.resource_record none))
+
+pub returns-in_ok-set-in-None-clause-grows : goal.returns-in_ok-set-in-None-clause-grows
+returns-in_ok-set-in-None-clause-grows c =
+    let at : place_of c.self.inside.index c.args.resource_record.name (type_number (data_type c.args.resource_record.rdata)) ≡ None = search rules in
+    let none = no_place c.self.inside.index c.self.inside.sets.items c.args.resource_record.name (type_number (data_type c.args.resource_record.rdata)) c.self.invariant.1 at in
+    on_err c.push_set.result (grown c.self.inside.sets.items c.args.self.now c.args.resource_record c.self.view_is (count_new c.self.inside.sets.items c.args.resource_record none))

@@ -1,4 +1,6 @@
-use Rattle.std.proofs.Common.{arith}
+use Rattle.std.proofs.Common.{◌≡◌, [], ◌∷◌, ◌++◌, Ok, Err, refl, sym, ◌∙◌, arith}
+use Rattle.dns_names.specs.declared.error.ParseError.TheVariants.{DomainNameTooLong}
+use Rattle.dns_names.specs.Parse.{PartialName}
 use Rattle.dns_names.proofs.TextLaws.{ends_too_long, ends_well}
 use Rattle.dns_names.proofs.name.partial.PartialName.end_label.Goals as goal
 
@@ -7,3 +9,24 @@ returns-then-encoded_len-gt-MAX_LENGTH-clause-refused c = λ _. ends_too_long c.
 
 pub returns-clause-ok : goal.returns-clause-ok
 returns-clause-ok c = ends_well c.args.self.now c.complete_label.new.self (omega (arith, c.label_len.ensures)) (omega (arith, c.encoded_len.ensures)) c.in_ok-complete_label.ensures.ok
+
+-- ---- what is decided without memory
+
+pub returns-then-encoded_len-gt-MAX_LENGTH-clause-inline : goal.returns-then-encoded_len-gt-MAX_LENGTH-clause-inline
+returns-then-encoded_len-gt-MAX_LENGTH-clause-inline c = λ next e is.
+    let clash : Err DomainNameTooLong ≡ Ok next = sym (ends_too_long c.args.self.now (omega (arith, c.label_len.ensures)) (omega (arith, c.encoded_len.ensures))) ∙ e in
+    absurd (cc)
+
+pub returns-in_err-complete_label-clause-fault : goal.returns-in_err-complete_label-clause-fault
+returns-in_err-complete_label-clause-fault c = λ error e.
+    let b = c.args.self.now in
+    let next : PartialName = record { labels = b.labels ++ b.label ∷ []; label = [] } in
+    let clash : Ok next ≡ Err error = sym (ends_well b next (omega (arith, c.label_len.ensures)) (omega (arith, c.encoded_len.ensures)) refl) ∙ e in
+    absurd (cc)
+
+pub returns-clause-fault : goal.returns-clause-fault
+returns-clause-fault c = λ error e.
+    let b = c.args.self.now in
+    let next : PartialName = record { labels = b.labels ++ b.label ∷ []; label = [] } in
+    let clash : Ok next ≡ Err error = sym (ends_well b next (omega (arith, c.label_len.ensures)) (omega (arith, c.encoded_len.ensures)) refl) ∙ e in
+    absurd (cc)

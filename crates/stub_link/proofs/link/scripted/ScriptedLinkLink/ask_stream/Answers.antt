@@ -25,4 +25,5 @@ returns-in-Ok-None-clause-streams c =
 
 pub returns-in-Err-clause-streams : goal.returns-in-Err-clause-streams
 returns-in-Err-clause-streams c =
-    rw c.from.ensures (streams-memory c.args.self.now _ c.args.bytes.now refl)
+    rw c.from.ensures (streams-memory c.args.self.now c.takes_fail.new.self _ c.args.bytes.now
+    (subst (λ (b : Bool). TakesFail c.args.self.now b c.takes_fail.new.self) c.if-takes_fail.false c.takes_fail.ensures) refl)

@@ -14,7 +14,8 @@ returns-then-takes_fail-clause-sends c =
 pub returns-in_err-note_refusal-clause-sends : goal.returns-in_err-note_refusal-clause-sends
 returns-in_err-note_refusal-clause-sends c =
     let p = err_from_is_err_and c.from_residual.result c.from_residual.ensures.1 in
-    rw (p.1, p.2) (sends-memory c.args.self.now c.note_refusal.new.self c.args.bytes.now
+    rw (p.1, p.2) (sends-memory c.args.self.now c.takes_fail.new.self c.note_refusal.new.self c.args.bytes.now
+    (subst (λ (b : Bool). TakesFail c.args.self.now b c.takes_fail.new.self) c.if-takes_fail.false c.takes_fail.ensures)
     (noted-out c.record_datagram-sent.new.self c.note_refusal.new.self c.record_datagram-sent.result c.note_refusal.result _ c.in_err-note_refusal.was c.note_refusal.ensures.same c.note_refusal.ensures.err))
 
 pub returns-clause-sends : goal.returns-clause-sends

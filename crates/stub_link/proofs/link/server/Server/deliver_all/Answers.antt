@@ -21,8 +21,8 @@ loop-bytes-preserved c = λ state sent at related.
     (λ now m s r. (c.in_ok-deliver.ensures.ok now m s (subst (λ (bs : List ℕ). IsRequest bs m) (sym c.as_slice.ensures.value) r)).1)
     (subst (λ (xs : List (Vec ℕ)). RestLeads c.loop-bytes.self (map (λ (b : Vec ℕ). b.items) xs) all) next (c.loop-bytes.invariant state sent at related))
 
-pub returns : goal.returns
-returns c = λ state sent at related.
+pub returns-clause-delivers : goal.returns-clause-delivers
+returns-clause-delivers c = λ state sent at related.
     let all : LinkState = fold (λ (now : LinkState) (m : Message). deliver m now) state sent in
     rest-end c.loop-bytes.self all
     (subst (λ (xs : List (Vec ℕ)). RestLeads c.loop-bytes.self (map (λ (b : Vec ℕ). b.items) xs) all) (drop_all c.loop-bytes.bytes-index c.args.datagrams.now (omega arith)) (c.loop-bytes.invariant state sent at related))
