@@ -52,13 +52,15 @@ flags_part m =
 abbrev pub count_text : List ℕ → ℕ → List ℕ
 count_text name count = name ++ codes ": " ++ decimal count ++ codes ", "
 
--- the numbers of questions, answers and authority records, under the names that they have in an update and elsewhere
+-- the number of questions, under the name that it has in an update and elsewhere
 abbrev pub queries_count : Message → List ℕ
 queries_count m = count_text (name_in m.metadata.op_code (codes "ZONE") (codes "QUERY")) (length m.queries)
 
+-- the same for answers
 abbrev pub answers_count : Message → List ℕ
 answers_count m = count_text (name_in m.metadata.op_code (codes "PREREQ") (codes "ANSWER")) (length m.answers)
 
+-- the same for authority records
 abbrev pub authorities_count : Message → List ℕ
 authorities_count m =
     count_text (name_in m.metadata.op_code (codes "UPDATE") (codes "AUTHORITY")) (length m.authorities)
@@ -125,19 +127,22 @@ edns_section (Some e) =
 
 -- ---- messages
 
--- the question, answer, authority and additional section, under the titles that they have in an update and elsewhere
+-- the question section, under the title that it has in an update and elsewhere
 abbrev pub queries_text : Message → List ℕ
 queries_text m =
     question_section (name_in m.metadata.op_code (codes "ZONE SECTION") (codes "QUESTION SECTION")) m.queries
 
+-- the answer section
 abbrev pub answers_text : Message → List ℕ
 answers_text m =
     record_section (name_in m.metadata.op_code (codes "PREREQUISITE SECTION") (codes "ANSWER SECTION")) m.answers
 
+-- the authority section
 abbrev pub authorities_text : Message → List ℕ
 authorities_text m =
     record_section (name_in m.metadata.op_code (codes "UPDATE SECTION") (codes "AUTHORITY SECTION")) m.authorities
 
+-- the additional section
 abbrev pub additionals_text : Message → List ℕ
 additionals_text m = record_section (codes "ADDITIONAL SECTION") m.additionals
 

@@ -5,6 +5,7 @@ use Rattle.dns_names.specs.Name.{DomainName}
 use Rattle.stub_play.specs.EventContent.{EventContent, LinkScript, Clear, ClearAll}
 use Rattle.stub_play.specs.ScriptFields.{question_of}
 
+-- the removal of a question's entries, if there is a question
 abbrev pub clear_if : ℕ → LinkScript → Option (DomainName × RecordType) → Option EventContent
 clear_if at link (Some (name, kind)) = Some (Clear at name kind link)
 clear_if at link None = None

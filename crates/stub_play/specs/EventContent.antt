@@ -14,6 +14,7 @@ pub data LinkScript : Type 0 where
   Honest : LinkScript
   Listed : List LinkEvent → LinkScript
 
+-- the content of a link script
 abbrev pub link_content : Script → LinkScript
 link_content script.Honest = Honest
 link_content (script.Listed events) = Listed events.items
@@ -26,6 +27,7 @@ pub data EventContent : Type 0 where
   ClearAll : ℕ → LinkScript → EventContent
   Update : ℕ → Message → LinkScript → EventContent
 
+-- the content of an event: the text of its host, the message of its update
 abbrev pub content_of : Event → EventContent
 content_of (event.Lookup at name kind s) = Lookup at name kind (link_content s)
 content_of (event.LookupIp at host s) = LookupIp at (string_bytes host) (link_content s)

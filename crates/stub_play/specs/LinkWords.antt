@@ -20,12 +20,14 @@ abbrev pub lettered_event : List ℕ → Option LinkEvent
 lettered_event [] = None
 lettered_event (letter ∷ digits) = numbered_event letter (decimal_up_to 18446744073709551615 digits)
 
+-- the event of a word: `quiet`, `fail`, or a letter and a number
 abbrev pub link_event : List ℕ → Option LinkEvent
 link_event word =
     if bytes_eq word (codes "quiet") then Some Quiet
     else if bytes_eq word (codes "fail") then Some Fail
     else lettered_event word
 
+-- an event before others, if each is one
 abbrev pub event_before : Option LinkEvent → Option (List LinkEvent) → Option (List LinkEvent)
 event_before (Some e) (Some events) = Some (e ∷ events)
 event_before e events = None

@@ -5,6 +5,7 @@ use Rattle.dns_names.specs.Name.{DomainName}
 use Rattle.stub_play.specs.EventContent.{EventContent, LinkScript, Lookup, LookupIp}
 use Rattle.stub_play.specs.ScriptFields.{host_of, question_of}
 
+-- the lookup of a question, if there is one
 abbrev pub lookup_if : ℕ → LinkScript → Option (DomainName × RecordType) → Option EventContent
 lookup_if at link (Some (name, kind)) = Some (Lookup at name kind link)
 lookup_if at link None = None
@@ -14,6 +15,7 @@ abbrev pub lookup_of : ℕ → LinkScript → List (List ℕ) → Option EventCo
 lookup_of at link (name ∷ kind ∷ []) = lookup_if at link (question_of name kind)
 lookup_of at link arguments = None
 
+-- the lookup of a host's addresses, if there is a host
 abbrev pub ip_if : ℕ → LinkScript → Option (List ℕ) → Option EventContent
 ip_if at link (Some host) = Some (LookupIp at host link)
 ip_if at link None = None

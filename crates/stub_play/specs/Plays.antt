@@ -42,9 +42,11 @@ pub record IsFirstOutOfOrder (events : List Event) (place : ℕ) : Type 0 where
   pub before : InOrder 0 (take place events)
   pub late : ¬ InOrder 0 (take (place + 1) events)
 
+-- the events of a script, without their lines
 abbrev pub events_of : List (ℕ × Event) → List Event
 events_of = map (λ e. e.1)
 
+-- the lines of a script's events
 abbrev pub lines_of : List (ℕ × Event) → List ℕ
 lines_of = map (λ e. e.0)
 
@@ -74,6 +76,7 @@ IsLineListed = IsLineOf IsFirstListed
 abbrev pub ZoneIs : PlayInput → Result ZoneContent ZoneFault → Type 0
 ZoneIs input outcome = ReadsZone [] input.origin (string_bytes input.zone) outcome
 
+-- the zone can be read
 abbrev pub IsZone : PlayInput → Type 0
 IsZone input = (zone : ZoneContent) × ZoneIs input (Ok zone)
 
@@ -114,6 +117,7 @@ pub record IsRead (input : PlayInput) : Type 0 where
 abbrev pub numbered : ScriptText → List (ℕ × Event)
 numbered script = side_by_side script.lines.items script.events.items
 
+-- what is loaded is what the files hold
 pub record IsLoaded (input : PlayInput) (loaded : Loaded) : Type 0 where
   pub zone : ZoneIs input (Ok loaded.zone)
   pub script : ScriptIs input loaded.zone (numbered loaded.script)
@@ -211,9 +215,11 @@ TellsFirstBy tells input text =
     (zone : ZoneContent) × (script : List (ℕ × Event)) × (n : ℕ) × ScriptIs input zone script × InOrder 0 (events_of script)
     × ((n ≡ 0) ⊎ (n < length script)) × tells zone (take n (events_of script)) text
 
+-- the text of a run of all events of the script, over a link that follows it
 abbrev pub TellsAll : PlayInput → List ℕ → Type 0
 TellsAll input = TellsAllBy (Tells input) input
 
+-- the text of a run of the events before memory ran out, over a link that follows the script
 abbrev pub TellsFirst : PlayInput → List ℕ → Type 0
 TellsFirst input = TellsFirstBy (Tells input) input
 

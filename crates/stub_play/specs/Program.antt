@@ -61,6 +61,7 @@ abbrev pub unread_arguments : ErrorKind → Ending
 unread_arguments OutOfMemory = Memory
 unread_arguments kind = NotUtf8
 
+-- how a fault of the words ends the program
 abbrev pub words_ending : WordsFault → Ending
 words_ending (words.Clap error) = Arguments error
 words_ending words.Bad = BadWords

@@ -29,6 +29,7 @@ abbrev pub owner_of_labels : List (List ℕ) → List ℕ → List ℕ
 owner_of_labels [] text = codes "."
 owner_of_labels (label ∷ labels) text = text
 
+-- an owner as a report has it
 abbrev pub owner_text : DomainName → List ℕ
 owner_text name = owner_of_labels name.labels (text_of_name name)
 

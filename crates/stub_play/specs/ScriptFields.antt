@@ -14,6 +14,7 @@ use Rattle.dns_names.specs.declared.error.ParseError.{ParseError}
 abbrev pub moment : List ℕ → Option ℕ
 moment text = decimal_up_to 18446744073709551615 text
 
+-- a name, if the text is one
 abbrev pub name_if_ok : Result DomainName ParseError → Option DomainName
 name_if_ok (Ok name) = Some name
 name_if_ok (Err error) = None

@@ -21,6 +21,7 @@ use Rattle.stub_play.specs.declared.script_text.ScriptFault.TheVariants.{Line}
 
 -- ---- events
 
+-- the keyword that a word is
 abbrev pub keyword_of : List ℕ → Option Keyword
 keyword_of word =
     if bytes_eq word (codes "lookup") then Some keyword.Lookup
@@ -77,15 +78,18 @@ pub data Meaning : Type 0 where
   OneEvent : EventContent → Meaning
   Unreadable : Meaning
 
+-- the meaning of a line by its content
 abbrev pub meaning_of : LineContent → Meaning
 meaning_of line.Nothing = NoEvent
 meaning_of (line.Holds e) = OneEvent (content_of e)
 meaning_of line.Unreadable = Unreadable
 
+-- the meaning of a line that is to have an event
 abbrev pub meaning_if : Option EventContent → Meaning
 meaning_if (Some e) = OneEvent e
 meaning_if None = Unreadable
 
+-- the meaning of a line that is skipped, and of one that is not
 abbrev pub MeansIf : Bool → DomainName → ℕ → List ℕ → Meaning → Type 0
 MeansIf true origin id text meaning = meaning ≡ NoEvent
 MeansIf false origin id text meaning = (found : Option EventContent) × IsEventOfLine origin id text found × (meaning ≡ meaning_if found)
@@ -96,6 +100,7 @@ Means origin id text meaning = MeansIf (is_skipped text) origin id text meaning
 
 -- ---- scripts
 
+-- whether an event is an update
 abbrev pub is_update : EventContent → Bool
 is_update (Update at message link) = true
 is_update e = false
@@ -108,6 +113,7 @@ updates_after count e = if is_update e then count + 1 else count
 abbrev pub update_id : ℕ → ℕ
 update_id count = count % 65536
 
+-- an event and its line, before what the lines below it hold
 abbrev pub with_event : ℕ → EventContent → Result (List (ℕ × EventContent)) ScriptFault → Result (List (ℕ × EventContent)) ScriptFault
 with_event number e (Ok events) = Ok ((number, e) ∷ events)
 with_event number e (Err fault) = Err fault

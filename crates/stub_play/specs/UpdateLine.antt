@@ -57,6 +57,7 @@ IsData origin kind words None = (error : RDataParseError) × RefusesText (Some o
 abbrev pub record_of : DomainName → ℕ → RData → Record
 record_of owner ttl d = record { name = owner; dns_class = IN; ttl = ttl; rdata = d }
 
+-- a set of one record of class IN
 abbrev pub set_of : DomainName → ℕ → RData → RecordSetValue
 set_of owner ttl d = record {
   name = owner;
@@ -67,9 +68,11 @@ set_of owner ttl d = record {
   records = record_of owner ttl d ∷ [];
 }
 
+-- the set of one record whose data the words are, or none
 abbrev pub IsSet : DomainName → DomainName → ℕ → RecordType → List (List ℕ) → Option RecordSetValue → Type 0
 IsSet origin owner ttl kind words set = (d : Option RData) × IsData origin kind words d × (set ≡ option_map (set_of owner ttl) d)
 
+-- the same, if there is a TTL and a type
 abbrev pub IsSetIf : DomainName → DomainName → Option ℕ → Option RecordType → List (List ℕ) → Option RecordSetValue → Type 0
 IsSetIf origin owner (Some ttl) (Some kind) words set = IsSet origin owner ttl kind words set
 IsSetIf origin owner ttl kind words set = set ≡ None
@@ -112,6 +115,7 @@ IsSwapOf origin id owner ttl kind arrow words found = found ≡ None
 
 -- ---- actions
 
+-- the action that a word names
 abbrev pub action_of : List ℕ → Option Action
 action_of word =
     if bytes_eq word (codes "create") then Some Create
@@ -122,21 +126,25 @@ action_of word =
     else if bytes_eq word (codes "delete-name") then Some DeleteName
     else None
 
+-- `create`: the set must not stand yet
 abbrev pub IsCreate : DomainName → ℕ → DomainName → List (List ℕ) → Option Message → Type 0
 IsCreate origin id owner arguments found =
     (set : Option RecordSetValue) × IsSetWithTtl origin owner arguments set
     × (found ≡ option_map (λ (s : RecordSetValue). create_message id s origin false) set)
 
+-- `append`: the record is added to the set, or makes it
 abbrev pub IsAppend : DomainName → ℕ → DomainName → List (List ℕ) → Option Message → Type 0
 IsAppend origin id owner arguments found =
     (set : Option RecordSetValue) × IsSetWithTtl origin owner arguments set
     × (found ≡ option_map (λ (s : RecordSetValue). append_message id s origin false false) set)
 
+-- `swap`: current data, which must stand, and new data
 abbrev pub IsSwap : DomainName → ℕ → DomainName → List (List ℕ) → Option Message → Type 0
 IsSwap origin id owner (ttl ∷ kind ∷ words) found =
     IsSwapOf origin id owner (ttl_of ttl) (type_of_text kind) (arrow_from 0 words) words found
 IsSwap origin id owner arguments found = found ≡ None
 
+-- `delete-record`: the record goes
 abbrev pub IsDeleteRecord : DomainName → ℕ → DomainName → List (List ℕ) → Option Message → Type 0
 IsDeleteRecord origin id owner arguments found =
     (set : Option RecordSetValue) × IsSetWithoutTtl origin owner arguments set
@@ -147,10 +155,12 @@ abbrev pub only_type : List (List ℕ) → Option RecordType
 only_type (kind ∷ []) = type_of_text kind
 only_type arguments = None
 
+-- `delete-set`: all records of the type go
 abbrev pub delete_set : DomainName → ℕ → DomainName → List (List ℕ) → Option Message
 delete_set origin id owner arguments =
     option_map (λ (t : RecordType). delete_rrset_message id (record_of owner 0 (of.Update0 t)) origin false) (only_type arguments)
 
+-- `delete-name`: all records of the name go
 abbrev pub delete_name : DomainName → ℕ → DomainName → List (List ℕ) → Option Message
 delete_name origin id owner [] = Some (delete_all_message id owner origin IN false)
 delete_name origin id owner arguments = None
@@ -165,6 +175,7 @@ IsAction origin id (Some DeleteSet) (Some owner) arguments found = found ≡ del
 IsAction origin id (Some DeleteName) (Some owner) arguments found = found ≡ delete_name origin id owner arguments
 IsAction origin id action owner arguments found = found ≡ None
 
+-- the message of an action, an owner, and what follows them
 abbrev pub IsMessage : DomainName → ℕ → List (List ℕ) → Option Message → Type 0
 IsMessage origin id (action ∷ owner ∷ arguments) found =
     IsAction origin id (action_of action) (owner_of origin owner) arguments found
@@ -183,6 +194,7 @@ abbrev pub IsUpdateOf : DomainName → ℕ → List (List ℕ) → Option Messag
 IsUpdateOf origin id arguments update =
     (message : Option Message) × IsMessage origin id arguments message × IsSendable message update
 
+-- the event of an update at a moment, by the words after its keyword
 abbrev pub IsUpdateLine : DomainName → ℕ → ℕ → LinkScript → List (List ℕ) → Option EventContent → Type 0
 IsUpdateLine origin id at link arguments found =
     (update : Option Message) × IsUpdateOf origin id arguments update

@@ -53,11 +53,13 @@ max_ttl_rule = number (codes "max-ttl") (between 0 4294967295) (codes "86400")
 abbrev pub flag : List ℕ → Rule
 flag name = record (new_rule name) { long = Some name; action = Some SetTrue; parser = Some parsers.Bool }
 
+-- the options of the program
 abbrev pub stub_rules : List Rule
 stub_rules =
     required (codes "zone") ∷ required (codes "script") ∷ optional (codes "origin") ∷ optional (codes "hosts")
     ∷ limit_rule ∷ cache_rule ∷ max_ttl_rule ∷ flag (codes "udp") ∷ []
 
+-- the program, as clap knows it
 abbrev pub stub_app : App
 stub_app = fold with_rule (new_app (codes "stub")) stub_rules
 
@@ -89,6 +91,7 @@ abbrev pub some_name : Result DomainName ParseError → Result (Option DomainNam
 some_name (Ok name) = Ok (Some name)
 some_name (Err error) = Err error
 
+-- the origin, if the option is used, or why its value is not a name
 abbrev pub origin_of : Option (List ℕ) → Result (Option DomainName) ParseError
 origin_of None = Ok None
 origin_of (Some text) = some_name (name_of_text text)

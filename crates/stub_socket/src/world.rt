@@ -59,7 +59,8 @@ pub fn run_sockets<R: Net<Listener = TcpListener, Stream = TcpStream> + Drop>(
 ) -> Result<Report, Stopped>
     requires { AreHonest events.now }
     ensures moments { (result ≡ Err Stopped.Moments) ↔ ¬ InOrder 0 events.now }
-    ensures run { IfOk result (λ report. IsReportOver (socket_rules R) (resolver_of world) events.now report) }
+    ensures run { IfOk result (λ report.
+        IsReportOver (socket_rules R) (resolver_of world) events.now report) }
     ensures stopped { IfSome (memory_report result) (λ report.
         IsReportBeforeOver (socket_rules R) (resolver_of world) events.now report) }
 {

@@ -6,6 +6,7 @@ use Rattle.zone_lines.specs.declared.fields.Field.{Field}
 use Rattle.zone_lines.specs.declared.fields.Field.TheVariants as of
 use Rattle.zone_lines.specs.declared.fields.Fields.{Fields}
 
+-- a field, as the definition of zone files has it
 abbrev pub field_view : Field → text.Field
 field_view (of.Ttl seconds) = text.ttl_field seconds
 field_view of.InvalidTtl = text.bad_ttl
