@@ -3,7 +3,6 @@ use Rattle.std.proofs.Common.{◌≡◌, ◌<◌, ℕ, List, [], length, None, O
 use Rattle.dns_wire.specs.declared.error.DecodeError.TheVariants.{InsufficientBytes}
 use Rattle.dns_records.specs.Record.{Record}
 use Rattle.dns_messages.specs.declared.header.Metadata.{Metadata}
-use Rattle.dns_messages.specs.declared.header.HeaderCounts.{HeaderCounts}
 use Rattle.dns_messages.specs.declared.header.Header.{Header}
 use Rattle.dns_messages.specs.declared.query.Query.{Query}
 use Rattle.dns_messages.specs.declared.edns.Edns.{Edns}

@@ -1,7 +1,6 @@
 -- Which message bytes decode to, and how bytes that decode to none are refused (RFC 1035 section 4.1, RFC 6891 section 6.1).
 -- Bytes after the last record are ignored.
-use Rattle.std.specs.Prelude.{◌≡◌, ◌+◌, ◌*◌, ◌^◌, ◌<◌, ◌++◌, Bool, true, false, List, ◌∷◌, ℕ, length, drop, Option, Some, None}
-use Rattle.std.specs.Int.{w16, to_be_bytes}
+use Rattle.std.specs.Prelude.{◌≡◌, ◌+◌, ◌*◌, ◌<◌, Bool, true, false, List, ℕ, length, drop, Option, Some, None}
 use Rattle.dns_wire.specs.Reading.{ReadsName, RefusesName}
 use Rattle.dns_wire.specs.Decodable.{Follow}
 use Rattle.dns_wire.specs.declared.error.DecodeError.{DecodeError}

@@ -1,6 +1,6 @@
 -- The first token of a text, or its fault.
-use Rattle.std.proofs.Common.{◌≡◌, Option, Some, None, Ok, Err, sym, subst, true, false}
-use Rattle.dns_text.specs.Lexer.{Lexeme, LexerState, NextToken}
+use Rattle.std.proofs.Common.{◌≡◌, List, ℕ, Option, Some, None, Result, Ok, Err, subst, true, false}
+use Rattle.dns_text.specs.Lexer.{Lexeme, LexerState, NextToken, start}
 use Rattle.dns_text.specs.Token.{lexeme, answer}
 use Rattle.dns_text.specs.declared.token.Token.{Token}
 use Rattle.dns_text.specs.declared.error.LexerError.{LexerError}
@@ -39,3 +39,8 @@ module _ (p q r : LexerState) where
 
   pub one_fault : (a b : LexerError) → NextToken p (Err a) q → NextToken p (Err b) r → a ≡ b
   one_fault a b fault other = let same = (same_outcome p q r (Err a) (Err b) fault other).0 in cc same
+
+-- ---- of equal texts
+
+pub of_text : {outcome : Result (Option Lexeme) LexerError} {end : LexerState} (text other : List ℕ) → text ≡ other → NextToken (start text) outcome end → NextToken (start other) outcome end
+of_text {outcome} {end} text other same next = subst (λ (t : List ℕ). NextToken (start t) outcome end) same next

@@ -94,8 +94,8 @@ impl<'a> Parser<'a> {
             → NextToken (start self.entry.text) (Err error) end
             → result ≡ Err (ZoneFileError.Lexer error) }
     {
-        let mut context = Context::new(alloc, start_origin(alloc, self.origin));
         let is_empty = has_no_token(self.text)?;
+        let mut context = Context::new(alloc, start_origin(alloc, self.origin));
         if is_empty {
             return Ok(zone_records(context));
         }
