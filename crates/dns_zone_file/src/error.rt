@@ -33,7 +33,7 @@ pub enum EntryFault {
     #[error("{0}")]
     InvalidData(RDataParseError),
     /// The TTL is omitted, and none was stated before.
-    #[error("no TTL, and none before")]
+    #[error("TTL is missing and no default applies")]
     NoTtl,
     /// The record has another class than the records of the same owner and type.
     #[error("class differs from that of the record set")]

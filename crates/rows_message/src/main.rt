@@ -18,7 +18,6 @@ mod printed;
 mod question;
 mod rebuilt;
 mod record_set;
-mod text;
 mod update;
 
 use rows::{Answer, Notation, Operations};

@@ -13,7 +13,6 @@ use crate::printed::{line, printed};
 use crate::question::{equal_questions, new_question, same_question, sound};
 use crate::rebuilt::{all_records, parts, rebuilt, response, response_error, response_of};
 use crate::record_set::edited_set;
-use crate::text::printed;
 use crate::update::{name_deletion, set_deletion, set_update, swap};
 use rows::{Answer, RowFault};
 use std::alloc::Global;

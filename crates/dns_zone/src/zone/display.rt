@@ -13,8 +13,9 @@ use std::alloc::AllocError;
 use std::fmt;
 
 impl Zone {
-    /// Returns the zone as a zone file, which `from_text` parses back: one record a line, with its owner, TTL, class and
-    /// type. The SOA record comes first, and every name is fully qualified.
+    /// Returns the zone as a zone file: one record a line, with its owner, TTL, class and type. The SOA record comes first, and
+    /// every name is fully qualified. `from_text` parses it back, unless an update added data of a type that has no text form
+    /// here, which is printed as bytes (RFC 3597 section 5) and not parsed.
     pub fn to_text(&self) -> Result<String, AllocError>
         ensures { IfOk result (λ text. IsZoneText self.now (string_bytes text)) }
     {
