@@ -1,5 +1,5 @@
 -- Changed sets in place of those of a zone: looking them up, writing them, and the types of a name.
-use Rattle.std.proofs.Common.{◌≡◌, ◌≢◌, ◌==◌, ◌+◌, ◌<◌, ◌≤◌, ℕ, Bool, true, false, cond, not, ◌&&◌, ◌||◌, List, [], ◌∷◌, ◌++◌, map, refl, sym, ap, ◌∙◌, length, get_or, set, zero, suc, arith, Option, Some, None, unwrap_or, is_some}
+use Rattle.std.proofs.Common.{◌≡◌, ◌==◌, ◌+◌, ◌<◌, ◌≤◌, ℕ, Bool, true, false, cond, not, ◌&&◌, ◌||◌, List, [], ◌∷◌, ◌++◌, map, refl, sym, ap, ◌∙◌, length, get_or, set, zero, suc, arith, Option, Some, None, unwrap_or, is_some}
 use Rattle.std.proofs.lemmas.Bool.Decides.{nat_tests}
 use Rattle.std.proofs.lemmas.List.Folds.{find_at, find-set, find_past, find-append, list_any-append}
 use Rattle.std.proofs.lemmas.Option.{slice_get-get_or, slice_get_past}
@@ -19,13 +19,13 @@ use Rattle.dns_records.specs.Record.{Record}
 use Rattle.dns_records.specs.RecordSet.{RecordSetValue}
 use Rattle.dns_records.specs.Rows.{Key, Rows, key, key_cmp, row_of, rows_of, rows_at, with_set}
 use Rattle.dns_updates.specs.declared.changes.changed_set.ChangedSet.{ChangedSet}
-use Rattle.dns_updates.specs.Records.{has_set, has_rows_but, is_origin}
+use Rattle.dns_updates.specs.Records.{has_set, has_rows_but}
 use Rattle.dns_updates.specs.Change.{is_kept_set, with_row, without_data, without_name, without_set}
 use Rattle.dns_updates.specs.Sets.{AreTypesAt, is_key_among, rows_of_sets}
 use Rattle.dns_updates.specs.Changes.{changed_key, is_other_set, overlay}
 use Rattle.dns_updates.proofs.Walks.{any_alike}
 use Rattle.dns_updates.proofs.SetLaws.{any_set, keys_tie, same_lower}
-use Rattle.dns_updates.proofs.UpdateLaws.Codes.{and_both, number_itself, or_second}
+use Rattle.dns_updates.proofs.UpdateLaws.Codes.{and_both, number_itself}
 use Rattle.dns_updates.proofs.UpdateLaws.Kept.{any_weaker}
 use Rattle.dns_updates.proofs.UpdateLaws.Maps.{key_total, key_antisymmetric, same_key, same_rows, tied_itself, filled, filled_empty, filled_more, get_with_set, unwrap_filled, with_set_twice}
 

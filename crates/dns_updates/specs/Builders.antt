@@ -13,7 +13,7 @@ use Rattle.dns_data.specs.declared.rdata.RData.{RData}
 use Rattle.dns_data.specs.declared.rdata.RData.TheVariants as of
 use Rattle.dns_records.specs.declared.row.Row.{Row}
 use Rattle.dns_records.specs.Record.{Record}
-use Rattle.dns_records.specs.Rows.{Key, Rows, key, rows_at, type_of_record, row_of, rows_of, set_key, with_set, HasNoEmptySet}
+use Rattle.dns_records.specs.Rows.{Key, Rows, key, rows_at, type_of_record, rows_of, set_key, with_set, HasNoEmptySet}
 use Rattle.dns_messages.specs.declared.message_type.MessageType.TheVariants as kinds
 use Rattle.dns_messages.specs.declared.op_code.OpCode.TheVariants as ops
 use Rattle.dns_messages.specs.declared.header.Metadata.{Metadata}

@@ -4,7 +4,6 @@ use Rattle.std.specs.List.{fold, list_any, AllByRecursion}
 use Rattle.std.specs.Ordering.{eq_by_cmp}
 use Rattle.std.specs.FinMap as rows_map
 use Rattle.dns_codes.specs.RecordType.{type_number}
-use Rattle.dns_codes.specs.declared.record_type.RecordType.{RecordType}
 use Rattle.dns_codes.specs.declared.record_type.RecordType.TheVariants as types
 use Rattle.dns_codes.specs.declared.dns_class.DNSClass.{DNSClass}
 use Rattle.dns_codes.specs.declared.dns_class.DNSClass.TheVariants as classes
@@ -12,14 +11,14 @@ use Rattle.dns_names.specs.Name.{DomainName}
 use Rattle.dns_names.specs.Compare.{lower, same_labels}
 use Rattle.dns_records.specs.declared.row.Row.{Row}
 use Rattle.dns_records.specs.Record.{Record}
-use Rattle.dns_records.specs.Rows.{Key, Rows, HasNoEmptySet, key, key_cmp, key_of, row_of, set_of, type_of_record, with_set}
+use Rattle.dns_records.specs.Rows.{Key, Rows, HasNoEmptySet, key, key_cmp, key_of, set_of, type_of_record, with_set}
 use Rattle.dns_messages.specs.declared.message.Message.{Message}
 use Rattle.dns_messages.specs.declared.response_code.ResponseCode.{ResponseCode}
 use Rattle.dns_messages.specs.declared.response_code.ResponseCode.TheVariants.{NoError}
-use Rattle.dns_updates.specs.Records.{AreAliasesAlone, alias_key, is_of_type, is_type, is_origin, has_set, has_rows_but}
+use Rattle.dns_updates.specs.Records.{AreAliasesAlone, alias_key, is_of_type, has_set, has_rows_but}
 use Rattle.dns_updates.specs.Code.{first_fault, first_fault_of, prerequisite_code, prescan_code, sets_code, update_code, zone_code}
-use Rattle.dns_updates.specs.Change.{added, set_with, is_ignored, is_kept_set, keeps_rows, succeeds_soa, without_data, without_name, without_row, without_set, with_row, change, change_of_class, update_change}
-use Rattle.dns_updates.proofs.UpdateLaws.Maps.{key_total, key_antisymmetric, same_key, set_at, filled, get_with_set, get_other, filled_left, filled_empty}
+use Rattle.dns_updates.specs.Change.{added, set_with, is_ignored, is_kept_set, keeps_rows, succeeds_soa, without_data, without_name, without_row, without_set, change, change_of_class, update_change}
+use Rattle.dns_updates.proofs.UpdateLaws.Maps.{key_total, key_antisymmetric, same_key, filled, get_with_set, get_other, filled_left, filled_empty}
 use Rattle.dns_updates.proofs.UpdateLaws.Sets.{Alike, lower_twice}
 use Rattle.dns_updates.proofs.UpdateLaws.Codes.{or_first, or_second, number_same}
 

@@ -1,4 +1,4 @@
-use Rattle.std.proofs.Common.{◌≡◌, ◌≤◌, ap, sym, ◌∙◌, subst, length, ℕ, arith}
+use Rattle.std.proofs.Common.{◌≡◌, ◌≤◌, ap, ◌∙◌, subst, length, ℕ, arith}
 use Rattle.std.specs.List.{position_or_len}
 use Rattle.dns_records.specs.Rows.{rows_of}
 use Rattle.dns_updates.proofs.ChangeLaws.{same_as, put_there, put_last}

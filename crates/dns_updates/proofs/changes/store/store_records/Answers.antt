@@ -1,10 +1,10 @@
-use Rattle.std.proofs.Common.{◌≡◌, ◌<◌, ◌≤◌, ◌++◌, ◌∷◌, [], List, refl, sym, ap, ◌∙◌, length, get_or, arith}
+use Rattle.std.proofs.Common.{◌≡◌, ◌<◌, ◌≤◌, List, refl, ap, ◌∙◌, length, get_or, arith}
 use Rattle.std.specs.List.{position_or_len}
 use Rattle.dns_names.specs.Name.{DomainName}
 use Rattle.dns_records.specs.Record.{Record}
 use Rattle.dns_records.specs.Rows.{key, rows_of, with_set}
 use Rattle.dns_updates.specs.declared.changes.changed_set.ChangedSet.{ChangedSet}
-use Rattle.dns_updates.specs.Changes.{changed_key, overlay}
+use Rattle.dns_updates.specs.Changes.{overlay}
 use Rattle.dns_updates.proofs.ChangeLaws.{tied, written, pushed}
 use Rattle.dns_updates.proofs.changes.store.store_records.Goals as goal
 

@@ -1,4 +1,4 @@
-use Rattle.std.proofs.Common.{◌≡◌, ◌<◌, ◌≤◌, [], List, set, sym, ap, ◌∙◌, length, get_or, arith}
+use Rattle.std.proofs.Common.{◌≡◌, ◌<◌, List, set, sym, ap, ◌∙◌, length, get_or, arith}
 use Rattle.std.specs.List.{position_or_len}
 use Rattle.dns_records.specs.Record.{Record}
 use Rattle.dns_records.specs.Rows.{key, rows_of, with_set}
