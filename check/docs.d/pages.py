@@ -1,5 +1,6 @@
 """The page of a crate."""
 import re
+import textwrap
 
 from library import is_type
 from links import Links, definition_anchor
@@ -18,6 +19,8 @@ HIDDEN_GHOSTS = (
     "laws matches_eq matches_partial_cmp respects_eq total view invariant inverse coded unambiguous not_refused "
     "has_len some is_plain label"
 ).split()
+# A block of code in a documentation text.
+FENCED = re.compile(r"^(```.*?^```)$", re.M | re.S)
 NOTE = "This page is generated from the sources by `check/docs`. Edit the sources, not this page."
 
 
@@ -260,7 +263,9 @@ def trait_line(impl, _, links):
     """The line of an implemented trait: its head, and what its documentation says."""
     docs = impl.docs or " ".join(it.docs for it in impl.members if it.kind == "fn" and it.docs)
     head = re.sub(r"\bfmt::", "", impl.signature)
-    text = " ".join(links.prose(docs).split())
+    parts = FENCED.split(links.prose(docs))
+    texts = [textwrap.indent(f"\n\n{it}\n\n", "  ") if at % 2 else " ".join(it.split()) for at, it in enumerate(parts)]
+    text = "".join(texts).rstrip()
     return f"- `{head}`" + (f": {text}" if text else "")
 
 
