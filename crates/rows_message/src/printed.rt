@@ -2,7 +2,7 @@
 
 use dns_data::{A, MX, RData, RecordData};
 use dns_messages::Message;
-use dns_records::Record;
+use dns_records::{Record, RecordRef};
 use dns_wire::RecordType;
 use rows::{Answer, bytes_of, named};
 use rows_text::record_of;
@@ -23,9 +23,18 @@ pub(crate) fn line(alloc: Global, input: &str) -> Answer {
 /// The line of a record, and if they differ, those of the record borrowed with data of one type, and of its copy.
 fn line_of<R: RecordData + Clone + fmt::Display + Drop>(alloc: Global, found: &Record) -> Answer {
     let line = format!(in alloc; "{found}")?;
-    let Some(borrowed) = found.try_borrow::<R>() else {
-        return Ok(line);
-    };
+    match found.try_borrow::<R>() {
+        Some(borrowed) => same_line(alloc, line, &borrowed),
+        None => Ok(line),
+    }
+}
+
+/// The line, or if they differ, also those of a borrowed record and of its copy.
+fn same_line<R: RecordData + Clone + fmt::Display + Drop>(
+    alloc: Global,
+    line: String,
+    borrowed: &RecordRef<'_, R>,
+) -> Answer {
     let copy = borrowed.to_owned()?;
     let others = format!(in alloc; "{borrowed} {copy}")?;
     if others.as_str() == format!(in alloc; "{line} {line}")?.as_str() {
