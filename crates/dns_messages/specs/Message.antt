@@ -1,5 +1,5 @@
 -- Messages that are made from others, and their records (RFC 1035 section 4.1).
-use Rattle.std.specs.Prelude.{◌==◌, ◌++◌, ◌||◌, not, if◌then◌else◌, Bool, true, List, [], ◌∷◌, ℕ, max, Option, Some, None}
+use Rattle.std.specs.Prelude.{◌≡◌, ◌==◌, ◌++◌, ◌||◌, not, if◌then◌else◌, Bool, true, List, [], ◌∷◌, ℕ, max, Option, Some, None, ⊤}
 use Rattle.std.specs.List.{filter}
 use Rattle.dns_codes.specs.RecordType.{type_number, is_dnssec_type}
 use Rattle.dns_codes.specs.declared.record_type.RecordType.{RecordType}
@@ -30,6 +30,20 @@ empty_message metadata = record {
   edns = None;
   signature = None;
 }
+
+-- there is no OPT record, or one without options
+abbrev pub HasNoOptions : Option Edns → Type 0
+HasNoOptions None = ⊤
+HasNoOptions (Some e) = e.options ≡ []
+
+-- a message without questions, records, options and a signature
+pub record IsBare (m : Message) : Type 0 where
+  pub queries : m.queries ≡ []
+  pub answers : m.answers ≡ []
+  pub authorities : m.authorities ≡ []
+  pub additionals : m.additionals ≡ []
+  pub options : HasNoOptions m.edns
+  pub signature : m.signature ≡ None
 
 -- the message with TC set, and with no records but the OPT record (RFC 1035 section 4.1.1, RFC 2181 section 9)
 abbrev pub truncated : Message → Message

@@ -105,7 +105,7 @@ impl Edns {
 }
 
 impl Edns {
-    ghost use Rattle.std.specs.Prelude.{true, false, [], max, option_map, IfOk};
+    ghost use Rattle.std.specs.Prelude.{true, false, [], max, option_map, IfOk, IsOk};
     ghost use Rattle.std.specs.List.{find};
     ghost use Rattle.std.specs.Option.{option_copied};
     ghost use Rattle.std.specs.Borrow.{sem};
@@ -234,9 +234,10 @@ impl Edns {
         self.max_payload = max_payload.max(512);
     }
 
-    /// Copies the record.
+    /// Copies the record. One without options takes no memory.
     pub fn clone(&self) -> Result<Edns, AllocError>
-        ensures { IfOk result (λ copy. copy ≡ self.now) }
+        ensures ok { IfOk result (λ copy. copy ≡ self.now) }
+        ensures empty { self.now.options ≡ [] → IsOk result }
     {
         Ok(Edns {
             rcode_high: self.rcode_high,
@@ -247,9 +248,10 @@ impl Edns {
         })
     }
 
-    /// Converts to a record, which is owned by the root. The options are copied.
+    /// Converts to a record, which is owned by the root. The options are copied; without any it takes no memory.
     pub fn to_record(&self, alloc: Global) -> Result<Record, AllocError>
-        ensures { IfOk result (λ opt. opt ≡ opt_record self.now) }
+        ensures ok { IfOk result (λ opt. opt ≡ opt_record self.now) }
+        ensures empty { self.now.options ≡ [] → IsOk result }
     {
         Ok(Record {
             name: Name::root(alloc),

@@ -65,7 +65,7 @@ impl Message {
     ghost use Rattle.dns_messages.specs.declared.message_type.MessageType.TheVariants as kinds;
     ghost use Rattle.dns_messages.specs.declared.op_code.OpCode.TheVariants as ops;
     ghost use Rattle.dns_messages.specs.declared.response_code.ResponseCode.TheVariants as codes;
-    ghost use Rattle.dns_messages.specs.Message.{clear_metadata, empty_message, truncated};
+    ghost use Rattle.dns_messages.specs.Message.{clear_metadata, empty_message, truncated, HasNoOptions};
 
     /// Creates a message without questions and records. All flags are clear, and the response code is `NoError`.
     pub fn new(alloc: Global, id: u16, message_type: MessageType, op_code: OpCode) -> Message
@@ -153,9 +153,11 @@ impl Message {
         message
     }
 
-    /// Copies the message without its records and its signature, and sets TC (RFC 2181 section 9).
+    /// Copies the message without its records and its signature, and sets TC (RFC 2181 section 9). Without questions and
+    /// options it takes no memory.
     pub fn truncate(&self, alloc: Global) -> Result<Message, AllocError>
-        ensures { IfOk result (λ copy. copy ≡ truncated self.now) }
+        ensures ok { IfOk result (λ copy. copy ≡ truncated self.now) }
+        ensures empty { self.now.queries ≡ [] → HasNoOptions self.now.edns → IsOk result }
     {
         let mut message = Message::query(alloc, 0);
         message.metadata = self.metadata;
@@ -167,11 +169,14 @@ impl Message {
 }
 
 impl Message {
-    ghost use Rattle.std.specs.Prelude.{IfOk};
+    ghost use Rattle.std.specs.Prelude.{IfOk, IsOk};
+    ghost use Rattle.dns_messages.specs.Message.{IsBare};
 
-    /// Copies the message, with its OPT record and its signature.
+    /// Copies the message, with its OPT record and its signature. One that has neither questions, records, options nor a
+    /// signature takes no memory.
     pub fn clone(&self) -> Result<Message, AllocError>
-        ensures { IfOk result (λ copy. copy ≡ self.now) }
+        ensures ok { IfOk result (λ copy. copy ≡ self.now) }
+        ensures empty { IsBare self.now → IsOk result }
     {
         Ok(Message {
             metadata: self.metadata,
@@ -193,18 +198,21 @@ impl Clone for Message {
     }
 }
 
-ghost use Rattle.std.specs.Prelude.{IfOk};
+ghost use Rattle.std.specs.Prelude.{IfOk, IsOk};
+ghost use Rattle.dns_messages.specs.Message.{HasNoOptions};
 
 /// Copies questions.
 fn copy_queries(queries: &Sequence<Query>) -> Result<Sequence<Query>, AllocError>
-    ensures { IfOk result (λ copies. copies ≡ queries.now) }
+    ensures ok { IfOk result (λ copies. copies ≡ queries.now) }
+    ensures empty { queries.now ≡ [] → IsOk result }
 {
     queries.clone()
 }
 
 /// Copies records.
 fn copy_records(records: &Sequence<Record>) -> Result<Sequence<Record>, AllocError>
-    ensures { IfOk result (λ copies. copies ≡ records.now) }
+    ensures ok { IfOk result (λ copies. copies ≡ records.now) }
+    ensures empty { records.now ≡ [] → IsOk result }
 {
     copies_are_identical();
     records.clone()
@@ -212,7 +220,8 @@ fn copy_records(records: &Sequence<Record>) -> Result<Sequence<Record>, AllocErr
 
 /// Copies an OPT record, if there is one.
 fn copy_edns(edns: &Option<Edns>) -> Result<Option<Edns>, AllocError>
-    ensures { IfOk result (λ copy. copy ≡ edns.now) }
+    ensures ok { IfOk result (λ copy. copy ≡ edns.now) }
+    ensures empty { HasNoOptions edns.now → IsOk result }
 {
     match edns {
         Some(edns) => Ok(Some(edns.clone()?)),
@@ -222,7 +231,8 @@ fn copy_edns(edns: &Option<Edns>) -> Result<Option<Edns>, AllocError>
 
 /// Copies a signature, if there is one.
 fn copy_signature(signature: &Option<Record>) -> Result<Option<Record>, AllocError>
-    ensures { IfOk result (λ copy. copy ≡ signature.now) }
+    ensures ok { IfOk result (λ copy. copy ≡ signature.now) }
+    ensures none { signature.now ≡ None → IsOk result }
 {
     match signature {
         Some(signature) => Ok(Some(signature.clone()?)),
