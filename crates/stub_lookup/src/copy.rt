@@ -1,7 +1,8 @@
 //! Copies of negative answers, and of records.
 
-ghost use Rattle.std.specs.Prelude.{◌≡◌, ◌≤◌, ◌+◌, length, Ok, None, IfOk, IsOk};
+ghost use Rattle.std.specs.Prelude.{◌≡◌, ◌≤◌, ◌+◌, length, [], Ok, None, IfOk, IsOk};
 ghost use Rattle.dns_wire.specs.Name.{name_len};
+ghost use Rattle.dns_records.specs.Record.{IsInlineRecord};
 ghost use Rattle.stub_lookup.specs.Error.{HasNoRecords};
 
 use crate::error::{ForwardNSData, NoRecords};
@@ -10,9 +11,10 @@ use dns_messages::{Record, Sequence};
 use dns_records::laws::copies_are_identical;
 use std::alloc::AllocError;
 
-/// Copies records, in order.
+/// Copies records, in order. An empty list takes no memory.
 pub fn copy_records(records: &Sequence<Record>) -> Result<Sequence<Record>, AllocError>
-    ensures { IfOk result (λ copies. copies ≡ records.now) }
+    ensures ok { IfOk result (λ copies. copies ≡ records.now) }
+    ensures empty { records.now ≡ [] → IsOk result }
 {
     copies_are_identical();
     records.clone()
@@ -76,9 +78,10 @@ fn clone_authorities(
 }
 
 impl ForwardNSData {
-    /// Copies the name server and its addresses.
+    /// Copies the name server and its addresses. A record that is stored inline, without addresses, takes no memory.
     pub fn clone(&self) -> Result<ForwardNSData, AllocError>
-        ensures { IfOk result (λ copy. copy ≡ self.now) }
+        ensures ok { IfOk result (λ copy. copy ≡ self.now) }
+        ensures inline { IsInlineRecord self.now.ns → self.now.glue ≡ [] → IsOk result }
     {
         Ok(ForwardNSData {
             ns: self.ns.clone()?,
