@@ -1,6 +1,6 @@
 //! The text of a script: one event a line.
 
-ghost use Rattle.std.specs.Prelude.{◌≡◌, ◌≢◌, ◌≤◌, ◌+◌, IfOk, IfErr, Ok, Err, drop, length, map, option_map};
+ghost use Rattle.std.specs.Prelude.{◌≡◌, ◌≢◌, ◌≤◌, ◌+◌, IfOk, IfErr, IsOk, Ok, Err, [], drop, length, map, option_map};
 ghost use Rattle.std.specs.Str.Lines.{lines};
 ghost use Rattle.stub_play.specs.EventContent.{content_of, link_content};
 ghost use Rattle.stub_play.specs.ScriptText.{IsEvent, IsEventOfLine, IsScriptFrom, IsScriptOf, Means, contents_of, is_skipped, is_update, keyword_of, meaning_of, side_by_side, update_id};
@@ -81,7 +81,7 @@ enum Keyword {
 /// lookups may be relative, and stay so. The `k`-th update, from 0, has the id `k` modulo 65,536.
 ///
 /// The error is [`ScriptFault::Line`] with the first line that cannot be read, also for an update that cannot be sent: one
-/// that is longer than 65,535 bytes without compression, or that deletes a set of type `OPT`.
+/// that is longer than 65,535 bytes without compression, or that deletes a set of type `OPT`. An empty text takes no memory.
 pub fn read_script(alloc: Global, text: &str, origin: &Name) -> Result<ScriptText, ScriptFault>
     ensures ok { IfOk result (λ script. IsScriptOf origin.now text.now
         (Ok (contents_of (side_by_side script.lines.items script.events.items)))) }
@@ -89,9 +89,23 @@ pub fn read_script(alloc: Global, text: &str, origin: &Name) -> Result<ScriptTex
         length script.lines.items ≡ length script.events.items) }
     ensures refused { IfErr result (λ fault. fault ≢ ScriptFault.Memory
         → IsScriptOf origin.now text.now (Err fault)) }
+    ensures empty { text.now ≡ [] → IsOk result }
 {
+    if text.is_empty() {
+        return Ok(no_events(alloc));
+    }
     let all = lines_of(alloc, text)?;
     read_lines(alloc, all.as_slice(), origin)
+}
+
+/// Creates a script without events.
+fn no_events(alloc: Global) -> ScriptText
+    ensures events { result.events.items ≡ [] }
+    ensures lines { result.lines.items ≡ [] }
+{
+    let events = Vec::new(alloc);
+    let lines = Vec::new(alloc);
+    ScriptText { events, lines }
 }
 
 /// Reads the events of a script's lines.
