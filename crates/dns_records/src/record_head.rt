@@ -25,6 +25,7 @@ pub struct RecordHead {
 
 impl RecordHead {
     ghost use Rattle.dns_codes.specs.DNSClass.{class_number};
+    ghost use Rattle.dns_wire.specs.Element.{element_at};
     ghost use Rattle.dns_records.specs.RecordHead.{ReadsHead, RefusesHead};
     ghost use Rattle.dns_data.specs.Field.{Opaque};
     ghost use Rattle.dns_data.specs.Memory.{are_fixed};
@@ -33,12 +34,15 @@ impl RecordHead {
 
     /// Reads owner, type, class, TTL and the length of the data. A failed read leaves the decoder unchanged.
     ///
-    /// An OPT record has the class [`DNSClass::OPT`], whose payload size is at least 512 (RFC 6891 section 6.2.3).
+    /// An OPT record has the class [`DNSClass::OPT`], whose payload size is at least 512 (RFC 6891 section 6.2.3). A fault of
+    /// the first element of the owner is found before memory is taken.
     pub fn read(alloc: Global, decoder: &mut BinDecoder<'_>) -> Result<RecordHead, DecodeError>
         ensures read { IfOk result (λ head.
             ReadsHead decoder.old.bytes decoder.old.index head decoder.new.index) }
         ensures refused { IfErr result (λ error. error ≢ DecodeError.Memory
             → RefusesHead decoder.old.bytes decoder.old.index error) }
+        ensures fault { (error : DecodeError)
+            → element_at decoder.old.bytes decoder.old.index ≡ Err error → result ≡ Err error }
         ensures bytes { decoder.new.bytes ≡ decoder.old.bytes }
         ensures err { OnErr result (decoder.new ≡ decoder.old) }
     {
@@ -54,6 +58,8 @@ impl RecordHead {
             ReadsHead decoder.old.bytes decoder.old.index head decoder.new.index) }
         ensures refused { IfErr result (λ error. error ≢ DecodeError.Memory
             → RefusesHead decoder.old.bytes decoder.old.index error) }
+        ensures fault { (error : DecodeError)
+            → element_at decoder.old.bytes decoder.old.index ≡ Err error → result ≡ Err error }
         ensures bytes { decoder.new.bytes ≡ decoder.old.bytes }
     {
         type_number_round_trips();

@@ -11,7 +11,7 @@ use dns_wire::{DNSClass, RecordType};
 use std::alloc::AllocError;
 use std::fmt;
 
-/// A record whose owner and data are borrowed. The data is of one type.
+/// A record whose owner and data are borrowed, by [`Record::try_borrow`]. The data is of one type.
 #[derive(Drop)]
 #[derive_where(Clone, Copy)]
 pub struct RecordRef<'a, R: RecordData> {
