@@ -289,7 +289,8 @@ impl<R: RecordData + fmt::Display> fmt::Display for Record<R> {
     ghost output = { record_output R.rdata R.output };
 
     /// Writes the record as a line of a zone file, without the line's end: owner, TTL, class, type and data, separated by
-    /// single spaces, such as `a.t. 60 IN A 10.0.0.1` (RFC 1035 section 5.1).
+    /// single spaces, such as `a.t. 60 IN A 10.0.0.1` (RFC 1035 section 5.1). A parser of zone files reads the same record from
+    /// it, if its class is `IN`, `CH` or `HS`, and its data is of a type with a text form, and not empty.
     fn fmt<W: fmt::Write>(&self, f: &mut fmt::Formatter<W>) -> fmt::Result {
         let record_type = self.record_type();
         let (name, dns_class, ttl, rdata) = (&self.name, self.dns_class, self.ttl, &self.rdata);
