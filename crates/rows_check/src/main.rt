@@ -2,11 +2,11 @@
 #![tactic(auto)]
 
 use dns_names::Name;
-use rows::{Answer, Notation, Operations, RowFault, split};
+use rows::{Answer, Notation, Operations, RowFault, bytes_of, split};
 use std::alloc::Global;
 use std::io;
 use std::process::ExitCode;
-use zone_check::{check_zone, moment_report, script_report, zone_report};
+use zone_check::{check_zone, encoding_report, moment_report, script_report, zone_report};
 
 /// The operations on checks.
 struct CheckOperations;
@@ -20,6 +20,7 @@ impl Operations for CheckOperations {
         match word {
             "zone" => zone_said(alloc, input, None),
             "zone-at" => zone_at(alloc, input),
+            "bytes" => bytes_said(alloc, input),
             "script" => Ok(script_report(alloc, "s", input, 1)?),
             "moment" => Ok(moment_report(alloc, "s", input, 2)?),
             "script-line-2" => Ok(script_report(alloc, "s", input, 2)?),
@@ -41,6 +42,12 @@ fn zone_at(alloc: Global, input: &str) -> Answer {
 fn zone_said(alloc: Global, text: &str, origin: Option<&Name>) -> Answer {
     let check = check_zone(alloc, text, origin)?;
     Ok(zone_report(alloc, "f", text, origin, &check)?)
+}
+
+/// `bytes HEX`: the report of a file by its bytes.
+fn bytes_said(alloc: Global, input: &str) -> Answer {
+    let bytes = bytes_of(alloc, input)?;
+    Ok(encoding_report(alloc, "f", bytes.as_slice())?)
 }
 
 fn main(rt: HostRuntime) -> io::Result<ExitCode> {

@@ -1,0 +1,4 @@
+pub mod EncodingLaws
+pub mod ReportLaws
+pub mod ResultLaws
+pub mod ScriptLaws

@@ -1,3 +1,10 @@
 pub mod Line
 pub mod Culprit
 pub mod Check
+pub mod Finding
+pub mod FaultText
+pub mod MissingDot
+pub mod WarningText
+pub mod Report
+pub mod ScriptLine
+pub mod Encoding

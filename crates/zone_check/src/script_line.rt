@@ -1,5 +1,10 @@
 //! The word at fault in a line of a script, which the faults of `stub_play` do not have.
 
+ghost use Rattle.std.specs.Prelude.{◌≡◌, ℕ, IfOk, IfSome, Some, slice_get};
+ghost use Rattle.std.specs.Str.Iter.{HasSubslice};
+ghost use Rattle.zone_check.specs.ScriptLine.{IsWordOf};
+
+use crate::finding::Advice;
 use dns_codes::parse_decimal;
 use dns_names::{Name, ParseError};
 use dns_text::parse_ip;
@@ -23,11 +28,10 @@ const FORMS: [&str; 10] = [
 /// What is wrong in a line.
 #[derive(Clone, Copy)]
 pub(crate) struct Mistake<'a> {
-    pub(crate) reason: &'static str,
     /// The word at fault, if there is one.
     pub(crate) word: Option<&'a str>,
-    /// How the line is written.
-    pub(crate) hint: &'static str,
+    /// What is wrong, and how the line is written.
+    pub(crate) advice: Advice,
 }
 
 /// How far the words of a line follow a form.
@@ -41,20 +45,98 @@ struct Fit {
 }
 
 /// Returns what is wrong in a line that cannot be read.
-pub(crate) fn mistake_in(alloc: Global, line: &str) -> Result<Mistake<'_>, AllocError> {
-    let (event, link) = line.split_once(';').unwrap_or((line, ""));
-    let words: Vec<&str> = event.split_ascii_whitespace().collect(alloc)?;
+pub(crate) fn mistake_in(alloc: Global, line: &str) -> Result<Mistake<'_>, AllocError>
+    ensures { IfOk result (λ mistake. IfSome mistake.word (λ word. IsWordOf line.now word.now)) }
+{
+    let (event, link) = split_link(line);
+    let words = words_of(alloc, event)?;
     let fit = best_fit(alloc, words.as_slice())?;
-    let word = words.get(fit.count).copied();
-    if let (None, "" | "DATA", Some(word)) = (word, fit.next, wrong_link_word(link)) {
-        return Ok(Mistake {
-            reason: "not a word of a link script",
-            word: Some(word),
-            hint: "write honest alone, or words of quiet, fail, qN, uN and rN, after the ;",
-        });
+    match words.get(fit.count) {
+        Some(word) => Ok(form_mistake(fit, Some(*word))),
+        None if !matches!(fit.next, "" | "DATA") => Ok(form_mistake(fit, None)),
+        None => match wrong_link_word(alloc, link)? {
+            Some(word) => Ok(link_mistake(word)),
+            None => Ok(form_mistake(fit, None)),
+        },
     }
+}
+
+/// Returns what is wrong in words that follow a form so far, and in the word after them, if there is one.
+fn form_mistake(fit: Fit, word: Option<&str>) -> Mistake<'_>
+    ensures { result.word ≡ word.entry }
+{
     let (reason, hint) = explanation(fit, word.is_some());
-    Ok(Mistake { reason, word, hint })
+    Mistake {
+        word,
+        advice: Advice { reason, hint },
+    }
+}
+
+/// Returns what is wrong in a word of a link script.
+fn link_mistake(word: &str) -> Mistake<'_>
+    ensures { result.word ≡ Some word.entry }
+{
+    Mistake {
+        word: Some(word),
+        advice: Advice {
+            reason: "not a word of a link script",
+            hint: "write honest alone, or words of quiet, fail, qN, uN and rN, after the ;",
+        },
+    }
+}
+
+/// Divides a line at its first semicolon outside quotes, which begins a link script.
+fn split_link(line: &str) -> (&str, &str)
+    ensures event { HasSubslice line.now result.0.now }
+    ensures link { HasSubslice line.now result.1.now }
+{
+    let start = link_start(line.as_bytes());
+    let link = rest_at(line, start);
+    (front_at(line, start), rest_at(link, 1))
+}
+
+/// Returns a text up to an index.
+fn front_at(text: &str, index: usize) -> &str
+    ensures { HasSubslice text.now result.now }
+{
+    match text.split_at_checked(index) {
+        Some((front, _)) => front,
+        None => text,
+    }
+}
+
+/// Returns a text from an index on.
+fn rest_at(text: &str, index: usize) -> &str
+    ensures { HasSubslice text.now result.now }
+{
+    match text.split_at_checked(index) {
+        Some((_, rest)) => rest,
+        None => "",
+    }
+}
+
+/// Returns the index of the first semicolon outside quotes, or the length of the line. A backslash escapes the next character.
+fn link_start(line: &[u8]) -> usize {
+    let mut is_escaped = false;
+    let mut is_quoted = false;
+    for (i, c) in line.iter().enumerate() {
+        match *c {
+            _ if is_escaped => is_escaped = false,
+            b'\\' => is_escaped = true,
+            b'"' => is_quoted = !is_quoted,
+            b';' if !is_quoted => return i,
+            _ => {}
+        }
+    }
+    line.len()
+}
+
+/// Returns the words of a text.
+fn words_of(alloc: Global, text: &str) -> Result<Vec<&str>, AllocError>
+    ensures { IfOk result (λ words. (k : ℕ) →
+        IfSome (slice_get words.items k) (λ word. IsWordOf text.now word.now)) }
+{
+    text.split_ascii_whitespace().collect(alloc)
 }
 
 /// Returns how far words follow the form that they follow farthest.
@@ -112,13 +194,15 @@ fn is_name(alloc: Global, word: &str) -> Result<bool, AllocError> {
 }
 
 /// Returns the first word that is not one of a link script.
-fn wrong_link_word(link: &str) -> Option<&str> {
-    for word in link.split_ascii_whitespace() {
+fn wrong_link_word(alloc: Global, link: &str) -> Result<Option<&str>, AllocError>
+    ensures { IfOk result (λ found. IfSome found (λ word. IsWordOf link.now word.now)) }
+{
+    for word in &words_of(alloc, link)? {
         if !is_link_word(word) {
-            return Some(word);
+            return Ok(Some(*word));
         }
     }
-    None
+    Ok(None)
 }
 
 /// Returns `true` if a word is one of a link script.

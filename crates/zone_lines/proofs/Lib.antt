@@ -1,3 +1,4 @@
 pub mod KindLaws
 pub mod DataLaws
 pub mod TextLaws
+pub mod TokenLaws

@@ -1,3 +1,4 @@
 pub mod RecordLine
+pub mod Token
 pub mod Warning
 pub mod internal

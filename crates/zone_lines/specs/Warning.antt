@@ -1,5 +1,5 @@
 -- What a zone file says and nobody means (RFC 1034 section 3.6.2, RFC 2181 section 10).
-use Rattle.std.specs.Prelude.{◌==◌, ◌&&◌, ◌||◌, nat_lt, not, Bool, true, false, List, [], ◌∷◌, map, flat_map, if◌then◌else◌, Option, Some, None}
+use Rattle.std.specs.Prelude.{◌==◌, ◌&&◌, nat_lt, not, Bool, true, false, List, [], ◌∷◌, map, flat_map, find, is_some, if◌then◌else◌, Option, Some, None}
 use Rattle.std.specs.List.{filter, list_any}
 use Rattle.dns_codes.specs.RecordType.{type_number}
 use Rattle.dns_names.specs.Build.{append_name}
@@ -84,28 +84,37 @@ is_delegation origin owner other = false
 abbrev pub doubled_origin : DomainName → Option DomainName
 doubled_origin origin = if num_labels origin.labels == 0 then None else if_ok (append_name origin origin)
 
--- whether some name of data is at or below another
-abbrev pub data_lies_below : DomainName → RData → Bool
-data_lies_below name (of.CNAME cname) = at_or_below name.labels cname.0.labels
-data_lies_below name (of.NS ns) = at_or_below name.labels ns.0.labels
-data_lies_below name (of.PTR ptr) = at_or_below name.labels ptr.0.labels
-data_lies_below name (of.MX mx) = at_or_below name.labels mx.exchange.labels
-data_lies_below name (of.SRV srv) = at_or_below name.labels srv.target.labels
-data_lies_below name (of.SOA soa) = at_or_below name.labels soa.mname.labels || at_or_below name.labels soa.rname.labels
-data_lies_below name other = false
+-- whether a name is at or below another
+abbrev pub lies_below : DomainName → DomainName → Bool
+lies_below name other = at_or_below name.labels other.labels
+
+-- the names in data
+abbrev pub names_of : RData → List DomainName
+names_of (of.CNAME cname) = cname.0 ∷ []
+names_of (of.NS ns) = ns.0 ∷ []
+names_of (of.PTR ptr) = ptr.0 ∷ []
+names_of (of.MX mx) = mx.exchange ∷ []
+names_of (of.SRV srv) = srv.target ∷ []
+names_of (of.SOA soa) = soa.mname ∷ soa.rname ∷ []
+names_of other = []
+
+-- the first name of a record that is at or below another
+abbrev pub name_below : DomainName → RecordLine → Option DomainName
+name_below name r = find (lies_below name) (r.owner ∷ names_of r.rdata)
 
 -- whether some name of a record is at or below another
 abbrev pub name_lies_below : Option DomainName → RecordLine → Bool
 name_lies_below None r = false
-name_lies_below (Some name) r = at_or_below name.labels r.owner.labels || data_lies_below name r.rdata
+name_lies_below (Some name) r = is_some (name_below name r)
 
 -- ---- warnings
 
--- whether a kind of warning applies to a record of a zone with an origin, which is doubled
+-- Whether a kind of warning applies to a record of a zone with an origin, which is doubled. A server with a name that ends in
+-- the origin twice is not said to lack an address.
 abbrev pub applies : WarningKind → DomainName → Option DomainName → List RecordLine → RecordLine → Bool
 applies about.AliasBesideData origin doubled records r = is_alias r.rdata && has_other_data records r
 applies about.SecondRecord origin doubled records r = is_single r.rdata && has_earlier records r
-applies about.NoAddress origin doubled records r = lacks_address origin records r.rdata
+applies about.NoAddress origin doubled records r = lacks_address origin records r.rdata && not (name_lies_below doubled r)
 applies about.Wildcard origin doubled records r = begins_with_star r.owner.labels
 applies about.Delegation origin doubled records r = is_delegation origin r.owner r.rdata
 applies about.MissingDot origin doubled records r = name_lies_below doubled r

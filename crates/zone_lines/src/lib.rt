@@ -13,4 +13,4 @@ mod warning;
 
 pub use record_line::{RecordLine, read_records};
 pub use token::faulty_token;
-pub use warning::{Warning, WarningKind, doubled_origin, warnings};
+pub use warning::{Warning, WarningKind, doubled_origin, name_below, warnings};

@@ -3,8 +3,8 @@
 ghost use Rattle.std.specs.Prelude.{◌≡◌, ◌∷◌, IfOk, map, option_copied};
 ghost use Rattle.dns_text.specs.Lexer.{start};
 ghost use Rattle.dns_text.specs.Token.{lexeme};
-ghost use Rattle.zone_lines.specs.RecordLine.{Lists, owner_at, start_place};
-ghost use Rattle.zone_lines.specs.internal.RecordLine.{Reads, ReadsData};
+ghost use Rattle.zone_lines.specs.RecordLine.{Lists, data_refusal, fields_refusal, owner_at, start_place};
+ghost use Rattle.zone_lines.specs.internal.RecordLine.{Reads, ReadsData, refused_data};
 
 use crate::entry::{Entry, entry_of, next_entry, next_origin};
 use crate::fields::{parse_fields, parse_name};
@@ -174,8 +174,7 @@ fn read_data(alloc: Global, origin: &Name, tokens: &[Token<'_>]) -> Result<DataR
 {
     let fields = match parse_fields(tokens) {
         Ok(fields) => fields,
-        Err(EntryFault::MissingType) => return Ok(DataReading::Incomplete),
-        Err(_) => return Ok(DataReading::Refused),
+        Err(fault) => return Ok(without_fields(&fault)),
     };
     let dns_class = fields.dns_class.unwrap_or(DNSClass::IN);
     match RData::parse(
@@ -187,8 +186,27 @@ fn read_data(alloc: Global, origin: &Name, tokens: &[Token<'_>]) -> Result<DataR
         Ok(rdata) => Ok(DataReading::Data { dns_class, rdata }),
         // Memory for the data was refused.
         Err(RDataParseError::Memory) => Err(AllocError),
-        Err(RDataParseError::MissingToken) => Ok(DataReading::Incomplete),
-        Err(_) => Ok(DataReading::Refused),
+        Err(error) => Ok(without_data(&error)),
+    }
+}
+
+/// Returns what tokens are whose fields have a fault.
+fn without_fields(fault: &EntryFault) -> DataReading
+    ensures { result ≡ refused_data (fields_refusal fault.now) }
+{
+    match fault {
+        EntryFault::MissingType => DataReading::Incomplete,
+        _ => DataReading::Refused,
+    }
+}
+
+/// Returns what tokens are whose data has an error.
+fn without_data(error: &RDataParseError) -> DataReading
+    ensures { result ≡ refused_data (data_refusal error.now) }
+{
+    match error {
+        RDataParseError::MissingToken => DataReading::Incomplete,
+        _ => DataReading::Refused,
     }
 }
 

@@ -1,7 +1,7 @@
 //! What a zone file says and nobody means (RFC 1034 section 3.6.2, RFC 2181 section 10).
 
-ghost use Rattle.std.specs.Prelude.{◌≡◌, ◌∷◌, ◌++◌, [], if◌then◌else◌, IfOk, OnOk, option_copied};
-ghost use Rattle.zone_lines.specs.Warning.{applies, is_alias, is_single, has_other_data, has_earlier, has_address, doubled_origin, data_lies_below, lacks_address, name_lies_below, server_of, warnings_at, warnings_of};
+ghost use Rattle.std.specs.Prelude.{◌≡◌, ◌∷◌, ◌++◌, [], find, if◌then◌else◌, IfOk, OnOk, option_copied};
+ghost use Rattle.zone_lines.specs.Warning.{applies, is_alias, is_single, has_other_data, has_earlier, has_address, doubled_origin, lacks_address, lies_below, name_below, name_lies_below, names_of, server_of, warnings_at, warnings_of};
 
 use crate::record_line::RecordLine;
 use dns_data::RData;
@@ -16,7 +16,8 @@ pub enum WarningKind {
     AliasBesideData,
     /// A CNAME or SOA record after another of its owner, of which one is kept (RFC 2181 section 10.1, RFC 1035 section 5.2).
     SecondRecord,
-    /// An NS or MX record whose target is in the zone, which has no address for it (RFC 2181 section 10.3).
+    /// An NS or MX record whose target is in the zone, which has no address for it (RFC 2181 section 10.3). A record with a
+    /// name that ends in the origin twice has this warning only once that name is corrected.
     NoAddress,
     /// A record of a wildcard, which the server does not expand (RFC 1034 section 4.3.3).
     Wildcard,
@@ -110,7 +111,10 @@ fn applies(
         WarningKind::SecondRecord => {
             is_single(&record_line.rdata) && has_earlier(records, record_line)
         }
-        WarningKind::NoAddress => lacks_address(origin, records, &record_line.rdata),
+        WarningKind::NoAddress => {
+            lacks_address(origin, records, &record_line.rdata)
+                && !name_lies_below(doubled, record_line)
+        }
         WarningKind::Wildcard => record_line.owner.is_wildcard(),
         WarningKind::Delegation => {
             matches!(&record_line.rdata, RData::NS(_)) && !origin.eq_ignore_root(&record_line.owner)
@@ -223,24 +227,40 @@ fn name_lies_below(doubled: Option<&Name>, record_line: &RecordLine) -> bool
     ensures { result ≡ name_lies_below (option_copied doubled.entry) record_line.now }
 {
     match doubled {
-        Some(doubled) => {
-            doubled.zone_of(&record_line.owner) || data_lies_below(doubled, &record_line.rdata)
-        }
+        Some(doubled) => name_below(doubled, record_line).is_some(),
         None => false,
     }
 }
 
-/// Returns `true` if some name of data is at or below another.
-fn data_lies_below(doubled: &Name, rdata: &RData) -> bool
-    ensures { result ≡ data_lies_below doubled.now rdata.now }
+/// Returns the first name of a record that is at or below another: its owner, or a name of its data.
+pub fn name_below<'a>(name: &Name, record_line: &'a RecordLine) -> Option<&'a Name>
+    ensures { option_copied result ≡ name_below name.now record_line.now }
+{
+    if name.zone_of(&record_line.owner) {
+        return Some(&record_line.owner);
+    }
+    data_name_below(name, &record_line.rdata)
+}
+
+/// Returns the first name of data that is at or below another.
+fn data_name_below<'a>(name: &Name, rdata: &'a RData) -> Option<&'a Name>
+    ensures { option_copied result ≡ find (lies_below name.now) (names_of rdata.now) }
 {
     match rdata {
-        RData::CNAME(cname) => doubled.zone_of(&cname.0),
-        RData::NS(ns) => doubled.zone_of(&ns.0),
-        RData::PTR(ptr) => doubled.zone_of(&ptr.0),
-        RData::MX(mx) => doubled.zone_of(&mx.exchange),
-        RData::SRV(srv) => doubled.zone_of(&srv.target),
-        RData::SOA(soa) => doubled.zone_of(&soa.mname) || doubled.zone_of(&soa.rname),
-        _ => false,
+        RData::CNAME(cname) => if_below(name, &cname.0),
+        RData::NS(ns) => if_below(name, &ns.0),
+        RData::PTR(ptr) => if_below(name, &ptr.0),
+        RData::MX(mx) => if_below(name, &mx.exchange),
+        RData::SRV(srv) => if_below(name, &srv.target),
+        RData::SOA(soa) if name.zone_of(&soa.mname) => Some(&soa.mname),
+        RData::SOA(soa) => if_below(name, &soa.rname),
+        _ => None,
     }
+}
+
+/// Returns a name, if it is at or below another.
+fn if_below<'a>(name: &Name, other: &'a Name) -> Option<&'a Name>
+    ensures { option_copied result ≡ find (lies_below name.now) (other.now ∷ []) }
+{
+    name.zone_of(other).then_some(other)
 }

@@ -12,9 +12,9 @@ use crate::script_file::check_script;
 use crate::zone_file::check_zone_file;
 use dns_names::Name;
 use std::process::ExitCode;
-use std::rt::Files;
 use std::{env, fs, io};
 use stub_play::{Ending, PlayFault, unread_arguments};
+use zone_check::encoding_report;
 
 /// What is to be said of the files.
 #[derive(Clone, Copy, PartialEq, Eq)]
@@ -88,10 +88,22 @@ fn given_arguments(rt: &HostRuntime) -> Result<Arguments, Ending> {
     read_arguments(rt.alloc(), words.as_slice())
 }
 
-/// Returns the text of a file.
-pub(crate) fn read_text<R: Files + AllocGlobal>(rt: &R, path: &str) -> Result<String, Ending> {
-    match fs::read_to_string(rt, path) {
-        Ok(text) => Ok(text),
+/// Returns the text of a file. One that is not UTF-8 has none, and is reported.
+pub(crate) fn read_text(
+    rt: &HostRuntime,
+    path: &str,
+    arguments: &Arguments,
+) -> Result<Option<String>, Ending> {
+    let bytes = read_bytes(rt, path)?;
+    let report = encoding_report(rt.alloc(), path, bytes.as_slice())?;
+    write_report(rt, report.as_str(), arguments)?;
+    Ok(String::from_utf8(bytes).ok())
+}
+
+/// Returns the bytes of a file.
+fn read_bytes(rt: &HostRuntime, path: &str) -> Result<Vec<u8>, Ending> {
+    match fs::read(rt, path) {
+        Ok(bytes) => Ok(bytes),
         Err(error) if error.kind() == io::ErrorKind::OutOfMemory => {
             // Reading the file was refused memory.
             Err(Ending::Memory)

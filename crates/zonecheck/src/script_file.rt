@@ -17,7 +17,9 @@ pub(crate) fn check_script(
     origin: &Name,
 ) -> Result<Verdict, Ending> {
     let alloc = rt.alloc();
-    let text = read_text(rt, path)?;
+    let Some(text) = read_text(rt, path, arguments)? else {
+        return Ok(Verdict::Refused);
+    };
     let report = match read_script(alloc, text.as_str(), origin) {
         Ok(script) => match line_out_of_order(&script) {
             Some(line) => moment_report(alloc, path, text.as_str(), line)?,

@@ -15,7 +15,9 @@ pub(crate) fn check_zone_file(
     arguments: &Arguments,
 ) -> Result<Option<Name>, Ending> {
     let alloc = rt.alloc();
-    let text = read_text(rt, path)?;
+    let Some(text) = read_text(rt, path, arguments)? else {
+        return Ok(None);
+    };
     let origin = arguments.origin.as_ref();
     let check = check_zone(alloc, text.as_str(), origin)?;
     let report = zone_report(alloc, path, text.as_str(), origin, &check)?;

@@ -1,7 +1,7 @@
 use Rattle.std.proofs.Common.{◌∙◌, sym, subst, map, Option, Some, None}
 use Rattle.dns_names.specs.Name.{DomainName}
 use Rattle.dns_text.specs.Token.{lexeme}
-use Rattle.zone_lines.specs.RecordLine.{Takes, for_nothing, for_ttl, for_include, for_origin, for_record, for_refused, place_if}
+use Rattle.zone_lines.specs.RecordLine.{Takes, for_nothing, for_ttl, for_include, for_origin, for_record, for_refused, incomplete, faulty, place_if}
 use Rattle.zone_lines.proofs.record_line.Place.apply.Goals as goal
 
 pub returns-in-Nothing : goal.returns-in-Nothing
@@ -29,7 +29,7 @@ returns-in_ok-clone-in-Record-2 c =
     (sym c.in_ok-clone-in-Record-2.ensures.ok) (for_record (sym c.in-Record.ensures) (rw c.in-Record-2.is at c.in_ok-found-in-Record.ensures))
 
 pub returns-in-Incomplete : goal.returns-in-Incomplete
-returns-in-Incomplete c = for_refused (sym c.in-Record.ensures) (rw c.in-Incomplete.is at c.in_ok-found-in-Record.ensures)
+returns-in-Incomplete c = for_refused incomplete (sym c.in-Record.ensures) (rw c.in-Incomplete.is at c.in_ok-found-in-Record.ensures)
 
 pub returns-in-Refused : goal.returns-in-Refused
-returns-in-Refused c = for_refused (sym c.in-Record.ensures) (rw c.in-Refused.is at c.in_ok-found-in-Record.ensures)
+returns-in-Refused c = for_refused faulty (sym c.in-Record.ensures) (rw c.in-Refused.is at c.in_ok-found-in-Record.ensures)

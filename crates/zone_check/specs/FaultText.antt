@@ -1,0 +1,202 @@
+-- The sentences of faults.
+use Rattle.std.specs.Prelude.{◌==◌, if◌then◌else◌, ℕ, List, [], ◌∷◌, codes, unwrap_or, Option, Some, None}
+use Rattle.std.specs.List.{list_any}
+use Rattle.dns_data.specs.declared.error.RDataParseError.{RDataParseError}
+use Rattle.dns_data.specs.declared.error.RDataParseError.TheVariants as rdata
+use Rattle.dns_text.specs.declared.error.LexerError.{LexerError}
+use Rattle.dns_text.specs.declared.error.LexerError.TheVariants as lexer
+use Rattle.dns_zone.specs.declared.zone.ZoneFault.{ZoneFault}
+use Rattle.dns_zone.specs.declared.zone.ZoneFault.TheVariants as fault
+use Rattle.dns_zone_file.specs.declared.error.EntryFault.{EntryFault}
+use Rattle.dns_zone_file.specs.declared.error.EntryFault.TheVariants as entry
+use Rattle.dns_zone_file.specs.declared.error.ZoneFileError.{ZoneFileError}
+use Rattle.dns_zone_file.specs.declared.error.ZoneFileError.TheVariants as file
+use Rattle.zone_check.specs.Finding.{Sentences}
+
+-- the types whose data can be written
+abbrev pub types_hint : List ℕ
+types_hint = codes "write one of A, AAAA, CNAME, MX, NS, PTR, SOA, SRV and TXT"
+
+-- how a name is written
+abbrev pub name_hint : List ℕ
+name_hint = codes "write letters, digits, - and _ in labels of 1 to 63, and any other character as \\DDD"
+
+-- ---- kinds of faults
+
+-- data that is not of its type
+abbrev pub data_sentences : RDataParseError → Sentences
+data_sentences rdata.UnsupportedRecordType = record {
+  reason = codes "a type whose data cannot be written here";
+  hint = types_hint;
+}
+data_sentences rdata.MissingToken = record {
+  reason = codes "data that ends before its last value";
+  hint = codes "write all values of the type, the last ones perhaps on further lines between ( and )";
+}
+data_sentences rdata.InvalidToken = record {
+  reason = codes "not a value that this type has here";
+  hint = codes "write an address for A and AAAA, numbers and names for MX and SRV, times for SOA";
+}
+data_sentences rdata.UnexpectedToken = record {
+  reason = codes "a word after the last value";
+  hint = codes "remove it, or write ; before a comment";
+}
+data_sentences rdata.CharacterDataTooLong = record {
+  reason = codes "a string of more than 255 bytes";
+  hint = codes "write several strings, which are joined";
+}
+data_sentences (rdata.Name error) = record {
+  reason = codes "not a name";
+  hint = name_hint;
+}
+data_sentences rdata.Memory = record {
+  reason = codes "out of memory";
+  hint = codes "";
+}
+
+-- an entry that is not a record or a directive
+abbrev pub entry_sentences : EntryFault → Sentences
+entry_sentences entry.NoOwner = record {
+  reason = codes "a blank at the start of the line, and no record above whose owner this has";
+  hint = codes "write the owner at the start of the line, or @ for the origin";
+}
+entry_sentences entry.InvalidOwner = record {
+  reason = codes "an owner that is not a name";
+  hint = name_hint;
+}
+entry_sentences entry.InvalidTtl = record {
+  reason = codes "a word that begins with a digit and is not a time";
+  hint = codes "write seconds, as 3600, or numbers with units, as 1h30m";
+}
+entry_sentences entry.RepeatedField = record {
+  reason = codes "a second TTL or class";
+  hint = codes "remove one of them";
+}
+entry_sentences entry.MissingType = record {
+  reason = codes "an entry that ends before its type";
+  hint = codes "write OWNER TTL TYPE DATA; the TTL may be left out";
+}
+entry_sentences entry.UnknownType = record {
+  reason = codes "not a type of records";
+  hint = types_hint;
+}
+entry_sentences (entry.InvalidData error) = data_sentences error
+entry_sentences entry.NoTtl = record {
+  reason = codes "no TTL, and none above";
+  hint = codes "write $TTL 3600 at the top of the file";
+}
+entry_sentences entry.ClassMismatch = record {
+  reason = codes "another class than the records above of this owner and type";
+  hint = codes "leave the class out, or write IN";
+}
+entry_sentences entry.InvalidDirective = record {
+  reason = codes "a directive with a missing or invalid argument";
+  hint = codes "write $ORIGIN NAME or $TTL TIME, and nothing after it";
+}
+entry_sentences entry.TooManyIncludes = record {
+  reason = codes "more than 16 nested files";
+  hint = codes "include fewer files";
+}
+
+-- characters that are not tokens
+abbrev pub lexer_sentences : LexerError → Sentences
+lexer_sentences (lexer.UnclosedQuotedString line) = record {
+  reason = codes "a quoted string that does not end on its line";
+  hint = codes "write \" at its end, and \\\" for a quotation mark inside it";
+}
+lexer_sentences (lexer.UnclosedList line) = record {
+  reason = codes "a parenthesis that is not closed";
+  hint = codes "write ) after the last value of the entry that begins here";
+}
+lexer_sentences (lexer.NestedList line) = record {
+  reason = codes "a parenthesis inside another";
+  hint = codes "write one pair of parentheses in an entry; the one before this may lack its )";
+}
+lexer_sentences (lexer.UnopenedList line) = record {
+  reason = codes "a closing parenthesis without an opening one";
+  hint = codes "remove it, or write ( before the first line break of the entry";
+}
+lexer_sentences (lexer.LoneBackslash line) = record {
+  reason = codes "a backslash at the end of a line";
+  hint = codes "remove it; parentheses continue an entry on the next line";
+}
+
+-- a text that is not a zone file
+abbrev pub file_sentences : ZoneFileError → Sentences
+file_sentences (file.Lexer error) = lexer_sentences error
+file_sentences (file.Entry line refusal) = entry_sentences refusal
+file_sentences (file.IncludeNotFound line) = record {
+  reason = codes "no other file is included here";
+  hint = codes "write the records of that file into this one";
+}
+file_sentences file.Memory = record {
+  reason = codes "out of memory";
+  hint = codes "";
+}
+
+-- a file that is not a zone's
+abbrev pub fault_sentences : ZoneFault → Sentences
+fault_sentences (fault.Parse error) = file_sentences error
+fault_sentences fault.NotInternet = record {
+  reason = codes "a record whose class is not IN";
+  hint = codes "leave the class out, or write IN";
+}
+fault_sentences fault.OutsideOrigin = record {
+  reason = codes "an owner outside the zone's origin";
+  hint = codes "write $ORIGIN and the origin above it, pass --origin, or end the owner in the origin and a dot";
+}
+fault_sentences fault.NoSoa = record {
+  reason = codes "no SOA record at the zone's origin";
+  hint = codes "write: @ 3600 IN SOA ns hostmaster ( 1 1h 10m 1d 30 )";
+}
+fault_sentences fault.SoaElsewhere = record {
+  reason = codes "an SOA record elsewhere than at the zone's origin";
+  hint = codes "remove it: a file has one zone";
+}
+fault_sentences fault.DataTooLong = record {
+  reason = codes "data of more than 65,535 bytes";
+  hint = codes "write shorter strings, or several records";
+}
+fault_sentences fault.Memory = record {
+  reason = codes "out of memory";
+  hint = codes "";
+}
+
+-- ---- words at fault
+
+-- the first character of a word at fault: `#` does not begin a comment, and `$` begins a directive at the start of a line
+abbrev pub mark_sentences : List ℕ → Option Sentences
+mark_sentences [] = None
+mark_sentences (c ∷ cs) =
+    if c == 35 then Some (record {
+      reason = codes "not the start of a comment";
+      hint = codes "write ; before a comment";
+    })
+    else if c == 36 then Some (record {
+      reason = codes "not a directive here";
+      hint = codes "write $ORIGIN NAME or $TTL TIME, in capitals and at the start of a line; there are no others";
+    })
+    else None
+
+-- a word that is no name: a mail address has an `@`
+abbrev pub name_sentences : List ℕ → Option Sentences
+name_sentences word =
+    if list_any (λ c. c == 64) word then Some (record {
+      reason = codes "a mail address, which a zone file writes as a name";
+      hint = codes "write a dot in place of the @, as hostmaster.example.com.";
+    })
+    else mark_sentences word
+
+-- a word at fault, where it is no name or no value
+abbrev pub word_sentences : EntryFault → List ℕ → Option Sentences
+word_sentences (entry.InvalidData (rdata.Name error)) word = name_sentences word
+word_sentences entry.InvalidOwner word = mark_sentences word
+word_sentences entry.UnknownType word = mark_sentences word
+word_sentences (entry.InvalidData rdata.InvalidToken) word = mark_sentences word
+word_sentences (entry.InvalidData rdata.UnexpectedToken) word = mark_sentences word
+word_sentences other word = None
+
+-- the sentences of a fault whose word is known or not: those of the word, or else of the kind of the fault
+abbrev pub advice_on : ZoneFault → Option (List ℕ) → Sentences
+advice_on (fault.Parse (file.Entry line refusal)) (Some word) = unwrap_or (word_sentences refusal word) (entry_sentences refusal)
+advice_on refusal word = fault_sentences refusal
