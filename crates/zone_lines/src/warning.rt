@@ -1,6 +1,6 @@
 //! What a zone file says and nobody means (RFC 1034 section 3.6.2, RFC 2181 section 10).
 
-ghost use Rattle.std.specs.Prelude.{◌≡◌, ◌∷◌, ◌++◌, [], find, if◌then◌else◌, IfOk, OnOk, option_copied};
+ghost use Rattle.std.specs.Prelude.{◌≡◌, ◌∷◌, ◌++◌, [], find, if◌then◌else◌, IfOk, IsOk, OnOk, option_copied};
 ghost use Rattle.zone_lines.specs.Warning.{applies, is_alias, is_single, has_other_data, has_earlier, has_address, doubled_origin, lacks_address, lies_below, name_below, name_lies_below, names_of, server_of, warnings_at, warnings_of};
 
 use crate::record_line::RecordLine;
@@ -35,14 +35,19 @@ pub struct Warning {
     pub kind: WarningKind,
 }
 
-/// Returns the warnings that apply to the records of a zone with an origin, in the order of the records.
+/// Returns the warnings that apply to the records of a zone with an origin, in the order of the records. No record takes no
+/// memory.
 pub fn warnings(
     alloc: Global,
     origin: &Name,
     records: &[RecordLine],
 ) -> Result<Vec<Warning>, AllocError>
-    ensures { IfOk result (λ found. found.items ≡ warnings_of origin.now records.now) }
+    ensures ok { IfOk result (λ found. found.items ≡ warnings_of origin.now records.now) }
+    ensures empty { records.now ≡ [] → IsOk result }
 {
+    if records.is_empty() {
+        return Ok(Vec::new(alloc));
+    }
     let doubled = doubled_origin(origin)?;
     let twice = doubled.as_ref();
     let mut found = Vec::new(alloc);
@@ -207,9 +212,10 @@ fn has_address(records: &[RecordLine], name: &Name) -> bool
     false
 }
 
-/// Returns the origin with its labels once more, if that is a name and has a label.
+/// Returns the origin with its labels once more, if that is a name and has a label. The root takes no memory.
 pub fn doubled_origin(origin: &Name) -> Result<Option<Name>, AllocError>
-    ensures { IfOk result (λ doubled. doubled ≡ doubled_origin origin.now) }
+    ensures ok { IfOk result (λ doubled. doubled ≡ doubled_origin origin.now) }
+    ensures root { origin.now.labels ≡ [] → IsOk result }
 {
     if origin.num_labels() == 0 {
         return Ok(None);

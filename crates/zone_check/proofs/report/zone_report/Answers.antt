@@ -9,8 +9,8 @@ written : (c : goal.After-drop-lines-2) → IsZoneReport c.args.file.now c.args.
 written c =
     zone_reported c.args.file.now c.args.text.now (option_copied c.args.origin) c.args.check.now _ _ _ _ _ _ _ _
     c.new-report.ensures.bytes
-    (ap (λ (l : List (Bor (List ℕ))). map (λ line. line.now) l) c.as_slice.ensures.value ∙ c.in_ok-lines.ensures)
-    (ap (λ (l : List (Bor (List ℕ))). map (λ line. line.now) l) c.as_slice-2.ensures.value ∙ c.in_ok-lines.ensures)
+    (ap (λ (l : List (Bor (List ℕ))). map (λ line. line.now) l) c.as_slice.ensures.value ∙ c.in_ok-lines.ensures.ok)
+    (ap (λ (l : List (Bor (List ℕ))). map (λ line. line.now) l) c.as_slice-2.ensures.value ∙ c.in_ok-lines.ensures.ok)
     (c.as_ref.ensures.value ∙ c.in_ok-doubled.ensures) c.as_slice-3.ensures.value c.as_slice-4.ensures.value
     c.in_ok-push_outcome.ensures c.in_ok-push_warnings.ensures
 
