@@ -19,7 +19,7 @@ types_hint = codes "write one of A, AAAA, CNAME, MX, NS, PTR, SOA, SRV and TXT"
 
 -- how a name is written
 abbrev pub name_hint : List ℕ
-name_hint = codes "write letters, digits, - and _ in labels of 1 to 63, and any other character as \\DDD"
+name_hint = codes "write labels of 1 to 63 letters, digits, _ and - (not first), at most 255 in all, and any other character as \\DDD"
 
 -- ---- kinds of faults
 
@@ -34,8 +34,8 @@ data_sentences rdata.MissingToken = record {
   hint = codes "write all values of the type, the last ones perhaps on further lines between ( and )";
 }
 data_sentences rdata.InvalidToken = record {
-  reason = codes "not a value that this type has here";
-  hint = codes "write an address for A and AAAA, numbers and names for MX and SRV, times for SOA";
+  reason = codes "an invalid value for this type";
+  hint = codes "write an IPv4 address for A, an IPv6 address for AAAA, PREFERENCE NAME for MX, PRIORITY WEIGHT PORT NAME for SRV, NAME NAME SERIAL and four times for SOA";
 }
 data_sentences rdata.UnexpectedToken = record {
   reason = codes "a word after the last value";
@@ -57,7 +57,7 @@ data_sentences rdata.Memory = record {
 -- an entry that is not a record or a directive
 abbrev pub entry_sentences : EntryFault → Sentences
 entry_sentences entry.NoOwner = record {
-  reason = codes "a blank at the start of the line, and no record above whose owner this has";
+  reason = codes "a blank at the start of the line, and no record above to take the owner from";
   hint = codes "write the owner at the start of the line, or @ for the origin";
 }
 entry_sentences entry.InvalidOwner = record {
@@ -66,7 +66,7 @@ entry_sentences entry.InvalidOwner = record {
 }
 entry_sentences entry.InvalidTtl = record {
   reason = codes "a word that begins with a digit and is not a time";
-  hint = codes "write seconds, as 3600, or numbers with units, as 1h30m";
+  hint = codes "write seconds up to 4294967295, or numbers with units, as 1h30m; a type comes before its data";
 }
 entry_sentences entry.RepeatedField = record {
   reason = codes "a second TTL or class";
@@ -77,12 +77,12 @@ entry_sentences entry.MissingType = record {
   hint = codes "write OWNER TTL TYPE DATA; the TTL may be left out";
 }
 entry_sentences entry.UnknownType = record {
-  reason = codes "not a type of records";
+  reason = codes "not a type that is known here";
   hint = types_hint;
 }
 entry_sentences (entry.InvalidData error) = data_sentences error
 entry_sentences entry.NoTtl = record {
-  reason = codes "no TTL, and none above";
+  reason = codes "the TTL is missing, and no default applies";
   hint = codes "write $TTL 3600 at the top of the file";
 }
 entry_sentences entry.ClassMismatch = record {
@@ -183,7 +183,7 @@ abbrev pub name_sentences : List ℕ → Option Sentences
 name_sentences word =
     if list_any (λ c. c == 64) word then Some (record {
       reason = codes "a mail address, which a zone file writes as a name";
-      hint = codes "write a dot in place of the @, as hostmaster.example.com.";
+      hint = codes "write a dot in place of the @, as hostmaster.example.com., and a backslash before each dot in front of it";
     })
     else mark_sentences word
 

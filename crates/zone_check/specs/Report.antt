@@ -88,7 +88,7 @@ pub record IsZoneReport (file text : List ℕ) (origin : Option DomainName) (che
 abbrev pub moment_said : ℕ → Said
 moment_said line = fault_said (Some line) None (record {
   reason = codes "a moment before that of an event above, or after 2^62";
-  hint = codes "write events in the order of their moments";
+  hint = codes "write events in the order of their moments, and none after 2^62";
 })
 
 -- The report of a line of a script that cannot be read: one fault of that line, which may show a word of the line.

@@ -15,22 +15,22 @@ abbrev pub warning_sentences : WarningKind → Sentences
 warning_sentences about.AliasBesideData = record {
   reason = codes "an alias (CNAME) beside other records of its owner";
   hint =
-      codes "keep the alias or the other records, and at the origin the other records: many servers answer with the alias alone";
+      codes "remove the alias or the other records, and at the origin always the alias: many servers answer with the alias alone";
 }
 warning_sentences about.SecondRecord = record {
-  reason = codes "a second CNAME or SOA record of its owner, of which only one is kept";
+  reason = codes "a second CNAME or SOA record of its owner: the last CNAME is kept, or the SOA with the greater serial";
   hint = codes "remove one of them";
 }
 warning_sentences about.NoAddress = record {
   reason = codes "a server in this zone that has no A or AAAA record";
-  hint = codes "write an address record of the server's name, which may not be an alias";
+  hint = codes "write an address record of the server's name, which must not be an alias, or a dot after a name outside the zone";
 }
 warning_sentences about.Wildcard = record {
   reason = codes "a wildcard, which this server does not expand";
   hint = codes "write a record for each name that is to be found";
 }
 warning_sentences about.Delegation = record {
-  reason = codes "a delegation, which this server does not follow: names below it do not exist";
+  reason = codes "a delegation, which this server does not follow: it answers for names below from this file alone";
   hint = codes "write the records of the names below it into this file";
 }
 warning_sentences about.MissingDot = record {

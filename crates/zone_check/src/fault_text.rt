@@ -15,7 +15,7 @@ const TYPES: &str = "write one of A, AAAA, CNAME, MX, NS, PTR, SOA, SRV and TXT"
 
 /// How a name is written.
 const NAME: &str =
-    "write letters, digits, - and _ in labels of 1 to 63, and any other character as \\DDD";
+    "write labels of 1 to 63 letters, digits, _ and - (not first), at most 255 in all, and any other character as \\DDD";
 
 /// Returns what a fault says, and what to write instead. The word at fault may say more than the kind of the fault.
 pub(crate) fn advice_on(fault: &ZoneFault, word: Option<&str>) -> Advice
@@ -49,7 +49,7 @@ fn name_text(word: &str) -> Option<Advice>
     if word.as_bytes().contains(&b'@') {
         return Some(Advice {
             reason: "a mail address, which a zone file writes as a name",
-            hint: "write a dot in place of the @, as hostmaster.example.com.",
+            hint: "write a dot in place of the @, as hostmaster.example.com., and a backslash before each dot in front of it",
         });
     }
     mark_text(word)
@@ -157,7 +157,7 @@ fn entry_text(fault: &EntryFault) -> Advice
 {
     match fault {
         EntryFault::NoOwner => Advice {
-            reason: "a blank at the start of the line, and no record above whose owner this has",
+            reason: "a blank at the start of the line, and no record above to take the owner from",
             hint: "write the owner at the start of the line, or @ for the origin",
         },
         EntryFault::InvalidOwner => Advice {
@@ -166,7 +166,7 @@ fn entry_text(fault: &EntryFault) -> Advice
         },
         EntryFault::InvalidTtl => Advice {
             reason: "a word that begins with a digit and is not a time",
-            hint: "write seconds, as 3600, or numbers with units, as 1h30m",
+            hint: "write seconds up to 4294967295, or numbers with units, as 1h30m; a type comes before its data",
         },
         EntryFault::RepeatedField => Advice {
             reason: "a second TTL or class",
@@ -177,12 +177,12 @@ fn entry_text(fault: &EntryFault) -> Advice
             hint: "write OWNER TTL TYPE DATA; the TTL may be left out",
         },
         EntryFault::UnknownType => Advice {
-            reason: "not a type of records",
+            reason: "not a type that is known here",
             hint: TYPES,
         },
         EntryFault::InvalidData(error) => data_text(error),
         EntryFault::NoTtl => Advice {
-            reason: "no TTL, and none above",
+            reason: "the TTL is missing, and no default applies",
             hint: "write $TTL 3600 at the top of the file",
         },
         EntryFault::ClassMismatch => Advice {
@@ -214,8 +214,8 @@ fn data_text(error: &RDataParseError) -> Advice
             hint: "write all values of the type, the last ones perhaps on further lines between ( and )",
         },
         RDataParseError::InvalidToken => Advice {
-            reason: "not a value that this type has here",
-            hint: "write an address for A and AAAA, numbers and names for MX and SRV, times for SOA",
+            reason: "an invalid value for this type",
+            hint: "write an IPv4 address for A, an IPv6 address for AAAA, PREFERENCE NAME for MX, PRIORITY WEIGHT PORT NAME for SRV, NAME NAME SERIAL and four times for SOA",
         },
         RDataParseError::UnexpectedToken => Advice {
             reason: "a word after the last value",

@@ -185,7 +185,7 @@ pub fn moment_report(
     let mut report = String::new(alloc);
     let advice = Advice {
         reason: "a moment before that of an event above, or after 2^62",
-        hint: "write events in the order of their moments",
+        hint: "write events in the order of their moments, and none after 2^62",
     };
     let finding = finding_on(Some(line), None, advice);
     finding.push_to(alloc, &mut report, file, lines.as_slice())?;

@@ -65,7 +65,10 @@ pub(crate) fn mistake_in(alloc: Global, line: &str) -> Result<Mistake<'_>, Alloc
 fn form_mistake(fit: Fit, word: Option<&str>) -> Mistake<'_>
     ensures { result.word ≡ word.entry }
 {
-    let (reason, hint) = explanation(fit, word.is_some());
+    let (reason, hint) = match word {
+        Some("@") if fit.next == "NAME" => ("not a name here", "write the name of the origin"),
+        _ => explanation(fit, word.is_some()),
+    };
     Mistake {
         word,
         advice: Advice { reason, hint },
@@ -183,13 +186,13 @@ fn fits(alloc: Global, kind: &str, word: &str) -> Result<bool, AllocError> {
     }
 }
 
-/// Returns `true` if a word is a name, or `@`.
+/// Returns `true` if a word is a name.
 fn is_name(alloc: Global, word: &str) -> Result<bool, AllocError> {
     match Name::from_ascii(alloc, word) {
         Ok(_) => Ok(true),
         // Memory for the name was refused.
         Err(ParseError::Memory) => Err(AllocError),
-        Err(_) => Ok(word == "@"),
+        Err(_) => Ok(false),
     }
 }
 
@@ -197,19 +200,20 @@ fn is_name(alloc: Global, word: &str) -> Result<bool, AllocError> {
 fn wrong_link_word(alloc: Global, link: &str) -> Result<Option<&str>, AllocError>
     ensures { IfOk result (λ found. IfSome found (λ word. IsWordOf link.now word.now)) }
 {
-    for word in &words_of(alloc, link)? {
-        if !is_link_word(word) {
+    let words = words_of(alloc, link)?;
+    for word in &words {
+        if !is_link_word(word) && (*word != "honest" || words.len() > 1) {
             return Ok(Some(*word));
         }
     }
     Ok(None)
 }
 
-/// Returns `true` if a word is one of a link script.
+/// Returns `true` if a word is one of a link script that is not `honest`.
 fn is_link_word(word: &str) -> bool {
     match word.as_bytes() {
         [b'q' | b'u' | b'r', digits @ ..] if parse_decimal(digits, u64::MAX).is_some() => true,
-        _ => matches!(word, "honest" | "quiet" | "fail"),
+        _ => matches!(word, "quiet" | "fail"),
     }
 }
 
@@ -217,10 +221,14 @@ fn is_link_word(word: &str) -> bool {
 fn explanation(fit: Fit, has_word: bool) -> (&'static str, &'static str) {
     match (fit.next, fit.count, has_word) {
         ("DATA", _, _) => (
-            "data that this type does not have, or an owner outside the origin",
+            "invalid data for this type, or an owner outside the origin",
             fit.form,
         ),
         ("", _, true) => ("a word too many", fit.form),
+        ("", _, false) if fit.form.starts_with("MOMENT update") => (
+            "an owner outside the origin, or a type that no update deletes",
+            fit.form,
+        ),
         ("", _, false) => ("a line that cannot be read", fit.form),
         (_, 0, _) => (
             "not a moment",
@@ -228,15 +236,15 @@ fn explanation(fit: Fit, has_word: bool) -> (&'static str, &'static str) {
         ),
         (_, 1, _) => (
             "not an event",
-            "MOMENT lookup, ip, clear, clearall or update, and what belongs to it",
+            "MOMENT lookup, ip, clear, clearall or update, and its arguments",
         ),
         ("NAME", _, true) => ("not a name", fit.form),
-        ("TYPE", _, true) => ("not a type of records", fit.form),
+        ("TYPE", _, true) => ("not a type that is known here", fit.form),
         ("HOST", _, true) => ("not a host", fit.form),
         ("TTL", _, true) => ("not a TTL in seconds", fit.form),
         (_, 2, true) => (
             "not an action of an update",
-            "MOMENT update create, append, swap, delete-record, delete-set or delete-name, and what belongs to it",
+            "MOMENT update create, append, swap, delete-record, delete-set or delete-name, and its arguments",
         ),
         _ => ("a line that ends too early", fit.form),
     }

@@ -106,22 +106,22 @@ fn warning_text(kind: WarningKind) -> Advice
     match kind {
         WarningKind::AliasBesideData => Advice {
             reason: "an alias (CNAME) beside other records of its owner",
-            hint: "keep the alias or the other records, and at the origin the other records: many servers answer with the alias alone",
+            hint: "remove the alias or the other records, and at the origin always the alias: many servers answer with the alias alone",
         },
         WarningKind::SecondRecord => Advice {
-            reason: "a second CNAME or SOA record of its owner, of which only one is kept",
+            reason: "a second CNAME or SOA record of its owner: the last CNAME is kept, or the SOA with the greater serial",
             hint: "remove one of them",
         },
         WarningKind::NoAddress => Advice {
             reason: "a server in this zone that has no A or AAAA record",
-            hint: "write an address record of the server's name, which may not be an alias",
+            hint: "write an address record of the server's name, which must not be an alias, or a dot after a name outside the zone",
         },
         WarningKind::Wildcard => Advice {
             reason: "a wildcard, which this server does not expand",
             hint: "write a record for each name that is to be found",
         },
         WarningKind::Delegation => Advice {
-            reason: "a delegation, which this server does not follow: names below it do not exist",
+            reason: "a delegation, which this server does not follow: it answers for names below from this file alone",
             hint: "write the records of the names below it into this file",
         },
         WarningKind::MissingDot => Advice {
