@@ -12,6 +12,10 @@ use Rattle.zone_lines.specs.declared.warning.WarningKind.TheVariants as about
 
 -- the sentences of each kind of warning
 abbrev pub warning_sentences : WarningKind → Sentences
+warning_sentences about.RootZone = record {
+  reason = codes "a zone whose origin is the root";
+  hint = codes "write $ORIGIN and the zone's origin above it, or pass --origin";
+}
 warning_sentences about.AliasBesideData = record {
   reason = codes "an alias (CNAME) beside other records of its owner";
   hint =

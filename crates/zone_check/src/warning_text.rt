@@ -104,6 +104,10 @@ fn warning_text(kind: WarningKind) -> Advice
     ensures { sentences result ≡ warning_sentences kind }
 {
     match kind {
+        WarningKind::RootZone => Advice {
+            reason: "a zone whose origin is the root",
+            hint: "write $ORIGIN and the zone's origin above it, or pass --origin",
+        },
         WarningKind::AliasBesideData => Advice {
             reason: "an alias (CNAME) beside other records of its owner",
             hint: "remove the alias or the other records, and at the origin always the alias: many servers answer with the alias alone",

@@ -1,5 +1,5 @@
 -- What a zone file says and nobody means (RFC 1034 section 3.6.2, RFC 2181 section 10).
-use Rattle.std.specs.Prelude.{◌==◌, ◌&&◌, nat_lt, not, Bool, true, false, List, [], ◌∷◌, map, flat_map, find, is_some, if◌then◌else◌, Option, Some, None}
+use Rattle.std.specs.Prelude.{◌==◌, ◌&&◌, nat_lt, not, Bool, true, false, length, List, [], ◌∷◌, map, flat_map, find, is_some, if◌then◌else◌, Option, Some, None}
 use Rattle.std.specs.List.{filter, list_any}
 use Rattle.dns_codes.specs.RecordType.{type_number}
 use Rattle.dns_names.specs.Build.{append_name}
@@ -107,11 +107,19 @@ abbrev pub name_lies_below : Option DomainName → RecordLine → Bool
 name_lies_below None r = false
 name_lies_below (Some name) r = is_some (name_below name r)
 
+-- ---- zones of the root
+
+-- whether data is an SOA, and the origin is the root
+abbrev pub is_start_of_root : DomainName → RData → Bool
+is_start_of_root origin (of.SOA soa) = origin.is_fqdn && length origin.labels == 0
+is_start_of_root origin other = false
+
 -- ---- warnings
 
 -- Whether a kind of warning applies to a record of a zone with an origin, which is doubled. A server with a name that ends in
 -- the origin twice is not said to lack an address.
 abbrev pub applies : WarningKind → DomainName → Option DomainName → List RecordLine → RecordLine → Bool
+applies about.RootZone origin doubled records r = is_start_of_root origin r.rdata
 applies about.AliasBesideData origin doubled records r = is_alias r.rdata && has_other_data records r
 applies about.SecondRecord origin doubled records r = is_single r.rdata && has_earlier records r
 applies about.NoAddress origin doubled records r = lacks_address origin records r.rdata && not (name_lies_below doubled r)
@@ -122,7 +130,7 @@ applies about.MissingDot origin doubled records r = name_lies_below doubled r
 -- the kinds, in the order of a record's warnings
 abbrev pub kinds : List WarningKind
 kinds =
-    about.AliasBesideData ∷ about.SecondRecord ∷ about.NoAddress ∷ about.Wildcard ∷ about.Delegation ∷ about.MissingDot ∷ []
+    about.RootZone ∷ about.AliasBesideData ∷ about.SecondRecord ∷ about.NoAddress ∷ about.Wildcard ∷ about.Delegation ∷ about.MissingDot ∷ []
 
 -- the warning of a kind for a record
 abbrev pub warning_of : RecordLine → WarningKind → Warning

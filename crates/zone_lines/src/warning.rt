@@ -1,7 +1,7 @@
 //! What a zone file says and nobody means (RFC 1034 section 3.6.2, RFC 2181 section 10).
 
 ghost use Rattle.std.specs.Prelude.{◌≡◌, ◌∷◌, ◌++◌, [], find, if◌then◌else◌, IfOk, IsOk, OnOk, option_copied};
-ghost use Rattle.zone_lines.specs.Warning.{applies, is_alias, is_single, has_other_data, has_earlier, has_address, doubled_origin, lacks_address, lies_below, name_below, name_lies_below, names_of, server_of, warnings_at, warnings_of};
+ghost use Rattle.zone_lines.specs.Warning.{applies, is_alias, is_single, has_other_data, has_earlier, has_address, doubled_origin, is_start_of_root, lacks_address, lies_below, name_below, name_lies_below, names_of, server_of, warnings_at, warnings_of};
 
 use crate::record_line::RecordLine;
 use dns_data::RData;
@@ -12,6 +12,8 @@ use std::alloc::{AllocError, Global};
 /// A kind of warning.
 #[derive(Clone, Copy, Debug, PartialEq, Eq)]
 pub enum WarningKind {
+    /// An SOA record of a zone whose origin is the root: the text has no `$ORIGIN` above it, and none was given.
+    RootZone,
     /// A CNAME record, of whose owner there is other data (RFC 1034 section 3.6.2, RFC 2181 section 10.1).
     AliasBesideData,
     /// A CNAME or SOA record after another of its owner, of which one is kept (RFC 2181 section 10.1, RFC 1035 section 5.2).
@@ -69,6 +71,7 @@ fn push_warnings(
         ++ warnings_at origin.now (option_copied doubled.entry) records.now record_line.now) }
 {
     for kind in [
+        WarningKind::RootZone,
         WarningKind::AliasBesideData,
         WarningKind::SecondRecord,
         WarningKind::NoAddress,
@@ -110,6 +113,7 @@ fn applies(
         record_line.now }
 {
     match kind {
+        WarningKind::RootZone => { matches!(&record_line.rdata, RData::SOA(_)) && origin.is_root() }
         WarningKind::AliasBesideData => {
             is_alias(&record_line.rdata) && has_other_data(records, record_line)
         }
