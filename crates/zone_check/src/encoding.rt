@@ -1,6 +1,7 @@
 //! A file that is not UTF-8.
 
-ghost use Rattle.std.specs.Prelude.{◌≡◌, ◌==◌, ◌+◌, [], count_by, IfOk, string_bytes};
+ghost use Rattle.std.specs.Prelude.{◌≡◌, ◌==◌, ◌+◌, [], count_by, IfOk, IsOk, string_bytes};
+ghost use Rattle.std.specs.Str.{IsUtf8};
 ghost use Rattle.zone_check.specs.Encoding.{IsEncodingReport, encoding_said};
 ghost use Rattle.zone_check.specs.Finding.{finding_text};
 
@@ -9,9 +10,11 @@ use crate::report::finding_on;
 use std::alloc::{AllocError, Global};
 
 /// Returns what is to be said of a file by its bytes: the line of the first byte that is not UTF-8, or nothing if there is
-/// none.
+/// none, which takes no memory.
 pub fn encoding_report(alloc: Global, file: &str, bytes: &[u8]) -> Result<String, AllocError>
-    ensures { IfOk result (λ report. IsEncodingReport file.now bytes.now (string_bytes report)) }
+    ensures report { IfOk result (λ report.
+        IsEncodingReport file.now bytes.now (string_bytes report)) }
+    ensures decided { IsUtf8 bytes.now → IsOk result }
 {
     match str::from_utf8(bytes) {
         Ok(_) => Ok(String::new(alloc)),

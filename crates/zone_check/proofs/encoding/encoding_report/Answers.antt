@@ -3,9 +3,12 @@ use Rattle.zone_check.proofs.EncodingLaws.{bytes_refused}
 use Rattle.zone_check.proofs.ResultLaws.{if_ok}
 use Rattle.zone_check.proofs.encoding.encoding_report.Goals as goal
 
-pub returns-in-Err : goal.returns-in-Err
-returns-in-Err c =
+pub returns-in-Err-clause-report : goal.returns-in-Err-clause-report
+returns-in-Err-clause-report c =
     if_ok c.invalid_report.result _ _
     (λ report written. bytes_refused c.args.file.now c.args.bytes.now (string_bytes report) c.valid_up_to.result c.in-Err.ensures.cases.0
     (c.valid_up_to.ensures ∙ c.in-Err.ensures.valid_len) written)
     c.invalid_report.ensures
+
+pub returns-in-Err-clause-decided : goal.returns-in-Err-clause-decided
+returns-in-Err-clause-decided c = λ valid. absurd (c.in-Err.ensures.cases.0 valid)
