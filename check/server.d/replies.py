@@ -331,18 +331,16 @@ class Server:
             return None, Answer(FORM_ERR)
         question = request.questions[0]
         zone = self.zone_for(question.name)
-        if zone is None:
-            return question, Answer(NOT_IMP if is_meta(question.rtype) else REFUSED)
-        return question, answer_to(zone, question)
+        return question, answer_to(zone, question) if zone else Answer(REFUSED)
 
     def update(self, request: Request) -> int:
-        """The code of an update, whose changes are made if it is `NoError`."""
+        """The code of an update, whose changes are made if it is `NoError`. The zone closest to its name decides."""
         if not self.takes_updates:
             return REFUSED
-        zone = self.zone_for(request.questions[0].name) if len(request.questions) == 1 else None
-        if zone is None:
-            return FORM_ERR if len(request.questions) != 1 or request.questions[0].rtype != SOA else NOT_AUTH
-        code = update_code(zone, request)
+        if len(request.questions) != 1:
+            return FORM_ERR
+        zone = self.zone_for(request.questions[0].name)
+        code = update_code(zone, request) if zone else REFUSED
         for record in request.sections[1] if code == NO_ERROR else ():
             zone.change(record)
         return code

@@ -11,8 +11,14 @@ A, NS, CNAME, SOA, PTR, MX, TXT, AAAA, SRV = 1, 2, 5, 6, 12, 15, 16, 28, 33
 SIG, OPT, AXFR, MAILA, MAILB, ANY = 24, 41, 252, 254, 253, 255
 IN, CLASS_NONE, CLASS_ANY = 1, 254, 255
 TYPES = {"A": A, "NS": NS, "CNAME": CNAME, "SOA": SOA, "PTR": PTR, "MX": MX, "TXT": TXT, "AAAA": AAAA, "SRV": SRV}
-TYPES.update({"ANY": ANY, "HINFO": 13, "CAA": 257, "OPT": OPT, "AXFR": AXFR, "SVCB": 64})
+TYPES.update({"NULL": 10, "HINFO": 13, "SIG": SIG, "KEY": 25, "NAPTR": 35, "CERT": 37, "DNAME": 39, "OPT": OPT, "DS": 43})
+TYPES.update({"SSHFP": 44, "RRSIG": 46, "NSEC": 47, "DNSKEY": 48, "NSEC3": 50, "NSEC3PARAM": 51, "TLSA": 52, "SMIMEA": 53})
+TYPES.update({"CDS": 59, "CDNSKEY": 60, "OPENPGPKEY": 61, "CSYNC": 62, "SVCB": 64, "HTTPS": 65, "TSIG": 250, "IXFR": 251})
+TYPES.update({"AXFR": AXFR, "ANY": ANY, "CAA": 257})
 TYPE_NAMES = {number: text for text, number in TYPES.items()}
+
+# A character of text, or an escape (RFC 1035 section 5.1).
+OCTET = re.compile(r"\\(\d{3})|\\(.)|(.)", re.S)
 
 Name = Tuple[bytes, ...]
 # Fields of data: names are tuples of labels, all else is bytes as they are sent.
@@ -77,8 +83,9 @@ def number(text: str, size: int) -> bytes:
 
 def strings_of(text: str) -> bytes:
     """Character strings in quotes, or without them, each with its length."""
-    found = (quoted or word for quoted, word in re.findall(r'"([^"]*)"|([^\s"]+)', text))
-    return b"".join(bytes([len(it)]) + it.encode() for it in found)
+    found = [quoted or word for quoted, word in re.findall(r'"((?:[^"\\]|\\.)*)"|([^\s"]+)', text)]
+    strings = [b"".join(bytes([int(it[1])]) if it[1] else (it[2] or it[3]).encode() for it in OCTET.finditer(word)) for word in found]
+    return b"".join(bytes([len(it)]) + it for it in strings)
 
 
 def data_of(rtype: int, text: str) -> Data:
@@ -200,7 +207,7 @@ def is_later(new: bytes, old: bytes) -> bool:
 
 def zone_of(text: str) -> Zone:
     """The zone of lines with whole records, the first of which is the SOA."""
-    records = [record_of(line) for line in text.splitlines() if line.strip()]
+    records = [record_of(line) for line in text.split("\n") if line.strip()]
     zone = Zone(records[0].owner)
     for record in records:
         zone.load(record)
