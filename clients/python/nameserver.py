@@ -12,7 +12,7 @@
     with NameServer(ZONE, faults="www.example.com. A drop times 1") as server:
         look_up("www.example.com", server.address, server.port)
         first, second = server.wait_for_requests(2)
-        assert first.fault == 1 and second.code == "NoError"
+        assert first.fault == 1 and second.code_name == "NOERROR"
 
 Plain Python 3.8 without dependencies: copy this file beside your tests. `pytest_nameserver.py` has a fixture for pytest.
 
@@ -34,6 +34,9 @@ START_LIMIT = 10
 COMPILE_LIMIT = 600
 # How long a server may take to end by itself.
 END_LIMIT = 5
+# The names of the codes that have four bits (RFC 6895 section 2.3).
+NAMES = "NOERROR FORMERR SERVFAIL NXDOMAIN NOTIMP REFUSED YXDOMAIN YXRRSET NXRRSET NOTAUTH NOTZONE"
+CODES = dict(enumerate(NAMES.split()))
 
 
 class NameServerError(Exception):
@@ -44,14 +47,16 @@ class Request:
     """A request as a line of the log has it: each field of the line is an attribute.
 
     `moment` is in milliseconds since the server started, `peer` the address and port that asked, `transport` "udp" or "tcp",
-    `code` the reply's code such as "NXDomain", or None if there was no reply, and `fault` the line of the rule that was
-    applied, or None. `name`, `type` and `rclass` are those of the question, or None without one.
+    `code` the number of the reply's code, or None if there was no reply, and `fault` the line of the rule that was applied, or
+    None. `code_name` is the name of the code, such as "NXDOMAIN". `name`, `type` and `rclass` are those of the question, or
+    None without one.
     """
 
     def __init__(self, fields):
         self.fields = fields
         question = fields.get("question") or {}
         self.name, self.type, self.rclass = (question.get(it) for it in ("name", "type", "class"))
+        self.code_name = CODES.get(fields.get("code"))
 
     def __getattr__(self, name):
         try:
@@ -68,7 +73,8 @@ class NameServer:
 
     `zone` is the text of a zone file, or a list of such texts, each of another zone. `faults` is the text of a fault table,
     and `options` are further arguments of the program, such as `["--limit", "512"]`. `port` 0 is any free port, and
-    `seconds` how long the server may take to start.
+    `seconds` how long the server may take to start. Once it is started, `address` and `port` are those to ask, and
+    `addresses` has them and those of each further `--listen` of the options.
     """
 
     def __init__(self, zone, *, faults="", options=(), address="127.0.0.1", port=0, program=None, seconds=None):
@@ -78,6 +84,7 @@ class NameServer:
         self.program, limit = find_program(program)
         self.seconds = limit if seconds is None else seconds
         self.process = self.folder = None
+        self.addresses = []
 
     def __enter__(self):
         self.start()
@@ -98,7 +105,9 @@ class NameServer:
                 stderr=open(self.path("stderr"), "wb"),
                 close_fds=True,
             )
-            self.address, self.port = self.wait_for_address()
+            end = time.monotonic() + self.seconds
+            self.addresses = [self.wait_for_address(end) for _ in range(1 + self.options.count("--listen"))]
+            self.address, self.port = self.addresses[0]
         except BaseException:
             self.stop()
             raise
@@ -119,9 +128,9 @@ class NameServer:
         """A file of the server's folder."""
         return os.path.join(self.folder, name)
 
-    def wait_for_address(self):
-        """The address and the port of the first line that the server prints."""
-        end, line = time.monotonic() + self.seconds, b""
+    def wait_for_address(self, end):
+        """The address and the port of the next line that the server prints."""
+        line = b""
         output = self.process.stdout.fileno()
         while not line.endswith(b"\n"):
             left = end - time.monotonic()

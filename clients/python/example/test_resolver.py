@@ -31,7 +31,7 @@ def test_log(nameserver):
         look_up("nothing.example.com", server.address, server.port)
     (request,) = server.wait_for_requests(1)
     assert (request.transport, request.name, request.type) == ("udp", "nothing.example.com.", "A")
-    assert (request.code, request.answers, request.authorities) == ("NXDomain", 0, 1)
+    assert (request.code_name, request.answers, request.authorities) == ("NXDOMAIN", 0, 1)
 
 
 def test_truncated_reply(nameserver):

@@ -18,5 +18,5 @@ with NameServer(ZONE, faults="www.example.com. A drop times 1") as server:
 
 assert addresses == ["10.0.0.1"]
 assert (first.fault, first.code) == (1, None), first
-assert (second.fault, second.code, second.answers) == (None, "NoError", 1), second
+assert (second.fault, second.code_name, second.answers) == (None, "NOERROR", 1), second
 print("www.example.com has the address 10.0.0.1, which the second of two questions was told")

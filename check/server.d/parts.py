@@ -1,0 +1,18 @@
+"""The parts of the check, with the programs that each of them wants."""
+from typing import Callable, NamedTuple, Sequence
+
+from rows import try_rows
+from tools import try_tools
+
+
+class Part(NamedTuple):
+    """What is tried, and the programs and libraries for it."""
+
+    run: Callable
+    programs: Sequence[str] = ()
+
+
+PARTS = {
+    "rows": Part(try_rows),
+    "tools": Part(try_tools, ["dig", "kdig", "drill"]),
+}
