@@ -1,7 +1,6 @@
 """What `dig`, `kdig` and `drill` print of replies, compared with the model's reply to the same question."""
 import re
 import subprocess
-import tempfile
 from dataclasses import replace
 from typing import Dict, List, NamedTuple, Sequence, Tuple
 
@@ -134,6 +133,7 @@ MODES: Dict[str, Dict[str, Mode]] = {
         "-b 512": Mode(["-b", "512"], payload=512, goes_on=False),
     },
 }
+START = {"dig": ["dig", "-r", "+timeout=10", "+tries=1"], "kdig": ["kdig", "+timeout=10", "+retry=0"]}
 # drill asks one question a call, so it asks each third one.
 DRILL_QUESTIONS = [it for it in QUESTIONS if "\\" not in it[0]][::3]
 
@@ -161,16 +161,8 @@ def outputs(tool: str, mode: Mode, address: Address, questions: Sequence[Tuple[s
     host, port = f"@{address[0]}", str(address[1])
     if tool == "drill":
         return [run(["drill", *mode.options, "-p", port, host, *it]) for it in questions]
-    if tool == "kdig":
-        words = [word for name, rtype in questions for word in ("-q", name, "-t", rtype)]
-        found = run(["kdig", "+timeout=10", "+retry=0", *mode.options, host, "-p", port, *words])
-    else:
-        options = " ".join(mode.options)
-        lines = [f"{host} -p {port} +timeout=10 +tries=1 {options} -q {name} -t {rtype}\n" for name, rtype in questions]
-        with tempfile.NamedTemporaryFile("w", suffix=".dig") as batch:
-            batch.write("".join(lines))
-            batch.flush()
-            found = run(["dig", "-r", "-f", batch.name])
+    words = [word for name, rtype in questions for word in ("-q", name, "-t", rtype)]
+    found = run([*START[tool], *mode.options, host, "-p", port, *words])
     parts = re.split(r"^(?=;; ->>HEADER<<-)", found, flags=re.M)[1:]
     return parts + [f"no reply: {found[-2000:]}"] * (len(questions) - len(parts))
 

@@ -55,7 +55,7 @@ def test_all_replies_lost(nameserver):
     assert len(server.wait_for_requests(3)) == 3
 
 
-@pytest.mark.parametrize("action", ["wrong-id", "wrong-question", "garbage 20", "garbage 0", "delay 2000"])
+@pytest.mark.parametrize("action", ["wrong-id", "wrong-question", "garbage 20", "garbage 1", "delay 2000"])
 def test_bad_first_reply(nameserver, action):
     """A reply that is not the one to the question, or comes late, is not taken for it."""
     server = nameserver(ZONE, faults=f"www.example.com. A {action} times 1")
