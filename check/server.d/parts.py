@@ -1,8 +1,11 @@
 """The parts of the check, with the programs that each of them wants."""
 from typing import Callable, NamedTuple, Sequence
 
+from forwarders import try_forwarders
+from libraries import try_dnspython
 from rows import try_rows
 from tools import try_tools
+from updates import try_updates
 
 
 class Part(NamedTuple):
@@ -15,4 +18,7 @@ class Part(NamedTuple):
 PARTS = {
     "rows": Part(try_rows),
     "tools": Part(try_tools, ["dig", "kdig", "drill"]),
+    "updates": Part(try_updates, ["nsupdate"]),
+    "dnspython": Part(try_dnspython, ["dns"]),
+    "forwarders": Part(try_forwarders, ["unbound", "dnsmasq"]),
 }
