@@ -1,6 +1,7 @@
 """The parts of the check, with the programs that each of them wants."""
 from typing import Callable, NamedTuple, Sequence
 
+from exact import try_bytes
 from forwarders import try_forwarders
 from libraries import try_dnspython
 from rows import try_rows
@@ -21,4 +22,5 @@ PARTS = {
     "updates": Part(try_updates, ["nsupdate"]),
     "dnspython": Part(try_dnspython, ["dns"]),
     "forwarders": Part(try_forwarders, ["unbound", "dnsmasq"]),
+    "bytes": Part(try_bytes),
 }

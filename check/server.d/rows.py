@@ -34,10 +34,17 @@ def rows():
             yield f"{path.name}: {line[:120]}", word, road, [bytes.fromhex(it) for it in digits.split(", ") if it != "-"], zone, answer
 
 
+class OneZone(Server):
+    """A zone that is asked about each name, as by `Zone::serve`. A server refuses names for which it has no zone."""
+
+    def zone_for(self, name):
+        return self.zones[0]
+
+
 def server_for(text: str, road: str):
     """The model of a server for a zone, or `None` for text that is not whole records in lines."""
     try:
-        return Server([zone_of(text)], 65535 if road == "stream" else int(road))
+        return OneZone([zone_of(text)], 65535 if road == "stream" else int(road))
     except (ValueError, AssertionError, IndexError):
         return None
 
@@ -52,7 +59,7 @@ def answer_of(word: str, server, requests, is_stream: bool) -> list:
 
 def contents(zone) -> dict:
     """The TTLs and the data of each set of a zone, in any order."""
-    return {key: {(row.ttl, comparable(row.data)) for row in rows} for key, rows in zone.rows.items()}
+    return {key: {(row.ttl, comparable(row.data)) for row in rows.values()} for key, rows in zone.sets.items()}
 
 
 def try_rows(report, _program, _missing) -> None:
@@ -65,11 +72,11 @@ def try_rows(report, _program, _missing) -> None:
             continue
         tried += 1
         wanted = answer.split(" / ")
-        before = {key: list(it) for key, it in server.zones[0].rows.items()}
+        before = contents(server.zones[0])
         got = answer_of(word, server, requests, road == "stream")
         report.check(title, wanted[: len(got)], got)
         if word == "update" and wanted[-1] == "same":
-            report.check(f"{title}: rows", before, server.zones[0].rows)
+            report.check(f"{title}: rows", before, contents(server.zones[0]))
         elif word == "update":
             report.check(f"{title}: records", contents(zone_of(wanted[-1])), contents(server.zones[0]))
     report.check("rows that the model can read", True, tried > 800)

@@ -114,53 +114,61 @@ def record_of(line: str) -> Record:
     return Record(name_of(owner), int(ttl), type_of(rtype), data_of(type_of(rtype), text))
 
 
-def same_data(one: Optional[Data], other: Optional[Data]) -> bool:
-    """Whether data is equal, its names without regard to case (RFC 2136 section 1.1.1)."""
-    return comparable(one) == comparable(other)
-
-
 def comparable(data: Optional[Data]) -> Optional[Data]:
+    """What is compared of data: names without regard to case, all else as it is (RFC 2136 section 1.1.1)."""
     return data and tuple(lower(it) if isinstance(it, tuple) else it for it in data)
+
+
+# The rows of a set, in their order, by what is compared of their data.
+Rows = Dict[Optional[Data], Row]
 
 
 @dataclass
 class Zone:
-    """A zone: its origin as it is spelled, and its rows by owner, in lower case, and type."""
+    """A zone: its origin as it is spelled, and its sets by owner, in lower case, and type."""
 
     origin: Name
-    rows: Dict[Tuple[Name, int], List[Row]] = field(default_factory=dict)
-    # How many keys are at or below each name.
+    sets: Dict[Tuple[Name, int], Rows] = field(default_factory=dict)
+    # The types at each name, and how many sets are at or below it.
+    types: Dict[Name, set] = field(default_factory=dict)
     below: Dict[Name, int] = field(default_factory=dict)
 
     def at(self, name: Name, rtype: int) -> List[Row]:
-        return self.rows.get((lower(name), rtype), [])
+        return list(self.sets.get((lower(name), rtype), {}).values())
 
     def has_below(self, name: Name) -> bool:
         """Whether a name or one below it has rows."""
         return self.below.get(lower(name), 0) > 0
 
     def types_at(self, name: Name) -> set:
-        owner = lower(name)
-        return {rtype for key, rtype in self.rows if key == owner} if self.has_below(owner) else set()
+        return set(self.types.get(lower(name), ()))
 
-    def set_rows(self, name: Name, rtype: int, rows: List[Row]) -> None:
-        """Replaces the rows of a name and a type."""
+    def put(self, name: Name, rtype: int, row: Row) -> None:
+        """Adds a row to a set, in place of one with equal data or at the end."""
         key = (lower(name), rtype)
-        change = bool(rows) - (key in self.rows)
-        for at in range(len(name) + 1) if change else ():
-            self.below[key[0][at:]] = self.below.get(key[0][at:], 0) + change
-        if rows:
-            self.rows[key] = rows
-        else:
-            self.rows.pop(key, None)
+        if key not in self.sets:
+            self.sets[key] = {}
+            self.types.setdefault(key[0], set()).add(rtype)
+            self.count(key[0], 1)
+        self.sets[key][comparable(row.data)] = row
+
+    def drop_set(self, name: Name, rtype: int) -> None:
+        """Deletes a set, if it is there."""
+        key = (lower(name), rtype)
+        if self.sets.pop(key, None) is not None:
+            self.types[key[0]].remove(rtype)
+            self.count(key[0], -1)
+
+    def count(self, name: Name, change: int) -> None:
+        for at in range(len(name) + 1):
+            self.below[name[at:]] = self.below.get(name[at:], 0) + change
 
     def load(self, record: Record) -> None:
         """Adds a record of a zone file: of equal data the first stays, of aliases the last (RFC 2181 sections 5 and 10.1)."""
-        present, row = self.at(record.owner, record.rtype), Row(record.ttl, record.data)
         if record.rtype == CNAME:
-            self.set_rows(record.owner, CNAME, [row])
-        elif not any(same_data(it.data, row.data) for it in present):
-            self.set_rows(record.owner, record.rtype, [*present, row])
+            self.drop_set(record.owner, CNAME)
+        if comparable(record.data) not in self.sets.get((lower(record.owner), record.rtype), {}):
+            self.put(record.owner, record.rtype, Row(record.ttl, record.data))
 
     def change(self, record: Record) -> None:
         """Makes one change of an update (RFC 2136 section 3.4.2)."""
@@ -170,34 +178,32 @@ class Zone:
             kept = {SOA, NS} if lower(record.owner) == lower(self.origin) else set()
             types = self.types_at(record.owner) if record.rtype == ANY else {record.rtype}
             for rtype in types - kept:
-                self.set_rows(record.owner, rtype, [])
+                self.drop_set(record.owner, rtype)
         else:
             self.delete(record)
 
     def add(self, record: Record) -> None:
         """Adds a record: an alias and other data exclude each other, and equal data is replaced (section 3.4.2.2)."""
-        present, row, types = self.at(record.owner, record.rtype), Row(record.ttl, record.data), self.types_at(record.owner)
-        if record.rtype == CNAME:
-            if not types - {CNAME}:
-                self.set_rows(record.owner, CNAME, [row])
-        elif CNAME in types:
+        types, row = self.types_at(record.owner), Row(record.ttl, record.data)
+        if record.rtype == CNAME and types - {CNAME} or record.rtype != CNAME and CNAME in types:
             return
-        elif record.rtype == SOA:
-            if present and is_later(record.data[2], present[0].data[2]):
-                self.set_rows(record.owner, SOA, [row])
-        elif any(same_data(it.data, row.data) for it in present):
-            rows = [row if same_data(it.data, row.data) else it for it in present]
-            self.set_rows(record.owner, record.rtype, rows)
-        else:
-            self.set_rows(record.owner, record.rtype, [*present, row])
+        if record.rtype == SOA:
+            present = self.at(record.owner, SOA)
+            if not present or not is_later(record.data[2], present[0].data[2]):
+                return
+        if record.rtype in (CNAME, SOA):
+            self.drop_set(record.owner, record.rtype)
+        self.put(record.owner, record.rtype, row)
 
     def delete(self, record: Record) -> None:
         """Deletes the records with some data, but for an SOA and the last NS at the origin (section 3.4.2.4)."""
-        present = self.at(record.owner, record.rtype)
+        present = self.sets.get((lower(record.owner), record.rtype), {})
         is_apex = lower(record.owner) == lower(self.origin)
         if record.rtype == SOA or (record.rtype == NS and is_apex and len(present) == 1):
             return
-        self.set_rows(record.owner, record.rtype, [it for it in present if not same_data(it.data, record.data)])
+        present.pop(comparable(record.data), None)
+        if not present:
+            self.drop_set(record.owner, record.rtype)
 
 
 def is_later(new: bytes, old: bytes) -> bool:
