@@ -2,8 +2,11 @@
 from typing import Callable, NamedTuple, Sequence
 
 from exact import try_bytes
+from faulty import try_faults
 from forwarders import try_forwarders
 from libraries import try_dnspython
+from performing import try_dnsperf
+from program import try_program
 from rows import try_rows
 from tools import try_tools
 from updates import try_updates
@@ -22,5 +25,8 @@ PARTS = {
     "updates": Part(try_updates, ["nsupdate"]),
     "dnspython": Part(try_dnspython, ["dns"]),
     "forwarders": Part(try_forwarders, ["unbound", "dnsmasq"]),
+    "dnsperf": Part(try_dnsperf, ["dnsperf"]),
     "bytes": Part(try_bytes),
+    "faults": Part(try_faults),
+    "program": Part(try_program),
 }
