@@ -3,7 +3,11 @@
 ghost use Rattle.std.specs.Prelude.{◌≡◌, ◌≤◌, ◌<◌, false, None, Ok, IfOk, OnOk, OnErr};
 ghost use Rattle.dns_messages.specs.declared.op_code.OpCode.TheVariants as ops;
 ghost use Rattle.dns_zone.specs.Serving.{borrowed_reply, reply_limit, has_query_header as is_query_header};
-ghost use Rattle.dns_zone.specs.Request.{DecodesRequest, IsEncodedReply, reply_without_zone, repeated_queries};
+ghost use Rattle.dns_zone.specs.Request.{DecodesRequest, IsEncodedReply, reply_without_zone, only_query, repeated_queries};
+ghost use Rattle.std.specs.List.{AllByRecursion};
+ghost use Rattle.dns_wire.specs.Name.{name_len};
+ghost use Rattle.dns_messages.specs.declared.response_code.ResponseCode.{ResponseCode};
+ghost use Rattle.dns_messages.specs.Cut.{front_reach};
 ghost use Rattle.dns_messages.specs.Header.{code_number, code_of};
 ghost use Rattle.dns_messages.specs.Sound.{IsSound};
 
@@ -139,9 +143,11 @@ pub fn decode_request(alloc: Global, bytes: &[u8]) -> Result<Option<Message>, Al
     }
     match Message::from_vec(alloc, bytes) {
         Ok(request) => Ok(Some(request)),
-        // The memory for the message was refused.
-        Err(DecodeError::Memory) => Err(AllocError),
-        Err(_) => Ok(None),
+        Err(error) => match error {
+            // The memory for the message was refused.
+            DecodeError::Memory => Err(AllocError),
+            _ => Ok(None),
+        },
     }
 }
 
@@ -159,12 +165,7 @@ pub fn bare_reply_bytes(
         → IsEncodedReply (reply_without_zone request.now code) road request.now out.items) }
 {
     let owner = Name::root(alloc);
-    let reply = ReplyRef::new(
-        alloc,
-        request,
-        repeated(request),
-        AnswerRef::bare(&owner, code),
-    );
+    let reply = without_zone(alloc, request, &owner, code);
     match reply.to_vec_within(alloc, limit_of(road, request)) {
         Ok(out) => Ok(out),
         // The memory for the reply's bytes was refused.
@@ -173,16 +174,46 @@ pub fn bare_reply_bytes(
     }
 }
 
+/// Returns the reply with a response code that no zone decides, without taking memory. `owner` is ignored.
+fn without_zone<'a>(
+    alloc: Global,
+    request: &'a Message,
+    owner: &'a Name,
+    code: ResponseCode,
+) -> ReplyRef<'a>
+    ensures reply { borrowed_reply result ≡ reply_without_zone request.now code }
+    ensures short { front_reach (borrowed_reply result) ≤ 512 }
+{
+    ReplyRef::new(
+        alloc,
+        request,
+        repeated(request),
+        AnswerRef::bare(owner, code),
+    )
+}
+
 /// Returns the question of a query that has exactly one, or nothing.
 fn repeated(request: &Message) -> &[Query]
-    ensures { result.now ≡ repeated_queries request.now }
+    ensures value { result.now ≡ repeated_queries request.now }
+    ensures short { (code : ResponseCode)
+        → front_reach (reply_without_zone request.now code) ≤ 512 }
 {
     match request.metadata.op_code {
-        OpCode::Query => {}
-        _ => return &[],
+        OpCode::Query => only(request.queries.as_slice()),
+        _ => &[],
     }
-    let queries = request.queries.as_slice();
-    if queries.len() == 1 { queries } else { &[] }
+}
+
+/// Returns questions if there is exactly one, or nothing.
+fn only(queries: &[Query]) -> &[Query]
+    ensures value { result.now ≡ only_query queries.now }
+    ensures short { AllByRecursion (λ q. name_len q.name.labels ≤ 255) result.now }
+{
+    let [query] = queries else {
+        return &[];
+    };
+    prove!(query.name.encoded_len() <= Name::MAX_LENGTH);
+    queries
 }
 
 /// Returns `true` if bytes begin with the header of a query.
