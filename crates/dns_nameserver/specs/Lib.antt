@@ -1,0 +1,2 @@
+pub mod NameServer
+pub mod LogEntry
