@@ -1,5 +1,5 @@
 -- The state of a stream: bytes that are received and not yet served, and bytes to be written (RFC 7766 sections 6.2 and 8).
-use Rattle.std.specs.Prelude.{◌≡◌, ◌+◌, ◌≤◌, nat_le, if◌then◌else◌, List, [], ◌∷◌, ◌++◌, ℕ, Option, Some, None, length, take, drop}
+use Rattle.std.specs.Prelude.{◌-◌, nat_le, if◌then◌else◌, List, [], ◌++◌, ℕ, Option, Some, None, length, take, drop}
 use Rattle.dns_frames.specs.Frame.{frame, frame_len}
 
 -- the greatest number of bytes that are received and not yet served: those of the longest frame
@@ -22,7 +22,7 @@ pub record Stream : Type 0 where
 -- the message of the first frame of bytes, if all of it is there
 abbrev pub first_message : List ℕ → Option (List ℕ)
 first_message bytes =
-    if nat_le (frame_len bytes) (length bytes) then Some (drop 2 (take (frame_len bytes) bytes)) else None
+    if nat_le (frame_len bytes) (length bytes) then Some (take (frame_len bytes - 2) (drop 2 bytes)) else None
 
 -- the bytes behind the first frame
 abbrev pub behind_frame : List ℕ → List ℕ

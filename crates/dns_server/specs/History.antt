@@ -1,5 +1,5 @@
 -- The histories of a server and of its zones.
-use Rattle.std.specs.Prelude.{◌≡◌, ◌&&◌, Bool, true, false, List, [], ◌∷◌, ℕ, Option, Some, None, nat_eq, if◌then◌else◌}
+use Rattle.std.specs.Prelude.{◌&&◌, Bool, true, false, List, [], ◌∷◌, ℕ, nat_eq, if◌then◌else◌}
 use Rattle.std.specs.List.{fold}
 use Rattle.dns_messages.specs.declared.message.Message.{Message}
 use Rattle.dns_messages.specs.declared.op_code.OpCode.{OpCode}
@@ -9,7 +9,6 @@ use Rattle.dns_messages.specs.declared.response_code.ResponseCode.TheVariants.{N
 use Rattle.dns_updates.specs.Change.{update_change}
 use Rattle.dns_updates.specs.Code.{update_code}
 use Rattle.dns_zone.specs.Rows.{ZoneContent}
-use Rattle.dns_zone.specs.Serving.{zone_after}
 use Rattle.dns_server.specs.declared.updates.Updates.{Updates}
 use Rattle.dns_server.specs.declared.server.route.Route.{Route}
 use Rattle.dns_server.specs.declared.server.route.Route.TheVariants as by
@@ -30,26 +29,30 @@ leads_to place (by.Zone other) = nat_eq other place
 leads_to place (by.Code code) = false
 
 -- whether an update is answered with NoError
-abbrev pub is_accepted_by : ResponseCode → OpCode → Bool
-is_accepted_by NoError ops.Update = true
-is_accepted_by code op = false
+abbrev pub is_accepted_by : OpCode → ResponseCode → Bool
+is_accepted_by ops.Update NoError = true
+is_accepted_by op code = false
 
 -- whether a zone accepts a request: an update that it answers with NoError
 abbrev pub is_accepted : ZoneContent → Message → Bool
-is_accepted zone m = is_accepted_by (update_code zone.origin zone.rows m) m.metadata.op_code
+is_accepted zone m = is_accepted_by m.metadata.op_code (update_code zone.origin zone.rows m)
 
 -- whether a request is an update for the zone at a place, which it accepts
 abbrev pub is_accepted_at : List ZoneContent → ℕ → ZoneContent → Request → Bool
 is_accepted_at zones place zone r = leads_to place (route r.updates zones r.message) && is_accepted zone r.message
 
--- the updates of a zone at a place that it accepts, in order
+-- a zone after an update that it accepts
+abbrev pub updated : ZoneContent → Message → ZoneContent
+updated zone m = record zone { rows = update_change zone.origin zone.rows m }
+
+-- the updates that the zone at a place accepts, in order
 abbrev pub accepted_updates : List ZoneContent → ℕ → ZoneContent → List Request → List Message
 accepted_updates zones place zone [] = []
 accepted_updates zones place zone (r ∷ more) =
     if is_accepted_at zones place zone r
-    then r.message ∷ accepted_updates zones place (zone_after zone r.message) more
-    else accepted_updates zones place zone more
+    then r.message ∷ accepted_updates (zones_after r.updates zones r.message) place (updated zone r.message) more
+    else accepted_updates (zones_after r.updates zones r.message) place zone more
 
 -- a zone after updates that it accepts, one after another
 abbrev pub zone_after_updates : ZoneContent → List Message → ZoneContent
-zone_after_updates zone updates = fold (λ now m. record now { rows = update_change now.origin now.rows m }) zone updates
+zone_after_updates zone updates = fold updated zone updates

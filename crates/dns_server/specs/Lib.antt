@@ -3,4 +3,3 @@ pub mod Server
 pub mod Connection
 pub mod Serving
 pub mod History
-pub mod AddressList

@@ -1,10 +1,10 @@
 -- The replies of a server (RFC 1034 section 4.3.2, RFC 1035 section 4.1, RFC 2136 section 3).
 use Rattle.std.specs.Prelude.{◌≡◌, ◌<◌, length, slice_get, slice_set, List, [], ◌∷◌, ℕ, Option, Some, None, IsSomeAnd}
-use Rattle.dns_messages.specs.declared.message_type.MessageType.TheVariants as kinds
 use Rattle.dns_messages.specs.declared.op_code.OpCode.{OpCode}
 use Rattle.dns_messages.specs.declared.op_code.OpCode.TheVariants as ops
 use Rattle.dns_messages.specs.declared.response_code.ResponseCode.TheVariants as codes
 use Rattle.dns_messages.specs.declared.query.Query.{Query}
+use Rattle.dns_messages.specs.Header.{code_number, code_of}
 use Rattle.dns_messages.specs.declared.message.Message.{Message}
 use Rattle.dns_zone.specs.declared.road.Road.{Road}
 use Rattle.dns_zone.specs.Rows.{ZoneContent}
@@ -45,10 +45,10 @@ route_by_code updates zones queries other = by.Code codes.NotImp
 abbrev pub route : Updates → List ZoneContent → Message → Route
 route updates zones m = route_by_code updates zones m.queries m.metadata.op_code
 
--- the zone of a route is there
+-- the zone of a route is there, and its response code is one that a header has
 abbrev pub IsRouteOf : List ZoneContent → Route → Type 0
 IsRouteOf zones (by.Zone place) = place < length zones
-IsRouteOf zones (by.Code code) = Unit {0}
+IsRouteOf zones (by.Code code) = (code_number code < 16) × (code_of (code_number code) ≡ code)
 
 -- ---- replies, and the zones after them
 

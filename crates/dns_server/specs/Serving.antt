@@ -1,7 +1,6 @@
 -- How the frames of a stream are served by a responder (RFC 7766 sections 6.2 and 8).
 use Rattle.std.specs.Prelude.{◌≡◌, ◌≤◌, ◌⊎◌, true, false, Bool, List, [], ◌∷◌, ◌++◌, ℕ, Option, Some, None, length, take, drop}
-use Rattle.dns_frames.specs.Frame.{AreShort, stream_of}
-use Rattle.dns_server.specs.Connection.{Stream, completed, first_message, next_message, reply_frame}
+use Rattle.dns_server.specs.Connection.{Stream, behind_frame, completed, first_message, next_message, reply_frame}
 
 -- whether a message has a reply, or none, in a state of a responder, and leaves it in another
 abbrev pub Replies : Type 0 → Type 1
@@ -21,11 +20,16 @@ RepliesTo {S} replies s (message ∷ more) frames after =
 
 -- ---- the frames of a connection
 
+-- bytes are the frames of messages, and what is behind them
+abbrev pub AreSplit : List ℕ → List (List ℕ) → List ℕ → Type 0
+AreSplit bytes [] rest = rest ≡ bytes
+AreSplit bytes (message ∷ more) rest = (first_message bytes ≡ Some message) × AreSplit (behind_frame bytes) more rest
+
 -- Frames at the front of a stream are served: they are gone, and the frames of the replies to their messages wait.
 pub record IsServed {S : Type 0} (replies : Replies S) (s : S) (c : Stream) (after : S) (new : Stream) : Type 0 where
   pub messages : List (List ℕ)
   pub frames : List ℕ
-  pub input : c.input ≡ stream_of messages ++ new.input
+  pub split : AreSplit c.input messages new.input
   pub output : new.output ≡ c.output ++ frames
   pub replied : RepliesTo replies s messages frames after
 
@@ -82,8 +86,7 @@ empty_stream = record { input = []; output = [] }
 -- replies to these messages.
 pub record IsHistory {S : Type 0} (replies : Replies S) (start : S) (received written : List ℕ) (now : S) (c : Stream) : Type 0 where
   pub messages : List (List ℕ)
-  pub short : AreShort messages
-  pub input : received ≡ stream_of messages ++ c.input
+  pub split : AreSplit received messages c.input
   pub replied : RepliesTo replies start messages (written ++ c.output) now
 
 -- a message has one reply, and leaves one state

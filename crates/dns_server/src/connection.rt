@@ -2,7 +2,7 @@
 
 ghost use Rattle.std.specs.Prelude.{◌≡◌, ◌≤◌, ◌-◌, ◌+◌, ◌++◌, [], Some, IsSome, length, drop, OnOk, OnErr};
 ghost use Rattle.std.specs.Option.{option_copied, option_map};
-ghost use Rattle.dns_server.specs.Connection.{completed, max_input_len, max_output_len, next_message};
+ghost use Rattle.dns_server.specs.Connection.{completed, first_message as first_message_of, max_input_len, max_output_len, next_message};
 
 use crate::buffer::Buffer;
 use crate::frame::{first_message, frame_len};
@@ -50,10 +50,12 @@ impl Connection {
         }
     }
 
-    /// Returns how many more bytes may be received now. It is not 0 unless there is a whole frame.
+    /// Returns how many more bytes may be received now: 0 only if there is a whole frame.
     pub fn room(&self) -> usize
         ensures room { result + length self.now.input ≡ max_input_len }
+        ensures full { result ≡ 0 → IsSome (first_message_of self.now.input) }
     {
+        prove!(frame_len(self.input.as_slice()) <= MAX_INPUT_LEN);
         MAX_INPUT_LEN - self.input.len()
     }
 

@@ -2,9 +2,10 @@
 
 ghost use Rattle.std.specs.Prelude.{◌≡◌, ◌++◌, List, ℕ, Some, slice_get};
 ghost use Rattle.dns_zone.specs.Rows.{ZoneContent};
+ghost use Rattle.dns_frames.specs.Frame.{AreShort, stream_of};
 ghost use Rattle.dns_server.specs.Connection.{Stream};
 ghost use Rattle.dns_server.specs.History.{Request, accepted_updates, zone_after_updates, zones_after_all};
-ghost use Rattle.dns_server.specs.Serving.{AreOnly, Happen, IsHistory, IsServedOut, Step, empty_stream, received_in};
+ghost use Rattle.dns_server.specs.Serving.{AreOnly, AreSplit, Happen, IsHistory, IsServedOut, Step, empty_stream, received_in};
 ghost use Rattle.dns_server.specs.Zones.{AreServable};
 ghost use Rattle.dns_server.specs.declared.updates.Updates.{Updates};
 
@@ -17,6 +18,12 @@ pub fn zones_change_by_their_updates()
         → slice_get zones place ≡ Some zone
         → slice_get (zones_after_all zones requests) place
         ≡ Some (zone_after_updates zone (accepted_updates zones place zone requests)) }
+{}
+
+/// The frames of messages, and a part of another frame, are split into these messages and that part.
+pub fn frames_are_split()
+    ensures { (messages : List (List ℕ)) (part : List ℕ) → AreShort messages
+        → AreSplit (stream_of messages ++ part) messages part }
 {}
 
 /// What was written to a stream and waits is the frames of the replies to the frames that were received, in order, whatever the

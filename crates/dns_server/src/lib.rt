@@ -7,27 +7,25 @@
 //!   may update;
 //! - `former`: servers that also answer by the rows from before the last update;
 //! - `connection`: the state of a stream; `frame`: the first frame of bytes; `buffer`: bytes that wait;
-//! - `responder`: what replies to requests; `serve_frames`: the frames of a connection are served by one;
+//! - `responder`: what replies to requests; `serving`: the frames of a connection are served by one;
 //! - `address_list`: lists of address prefixes;
 //! - `error`: why a zone is not added;
 //! - `laws`: theorems about the definitions of this crate.
 #![tactic(auto)]
 
-mod address_list;
 mod buffer;
 mod connection;
 mod error;
 mod frame;
 pub mod laws;
 mod responder;
-mod serve_frames;
 mod server;
+mod serving;
 mod updates;
 
-pub use address_list::{AddressList, PrefixError, parse_prefix};
 pub use connection::{Connection, MAX_INPUT_LEN, MAX_WAITING_LEN};
 pub use error::AddZoneError;
 pub use responder::{ListResponder, Responder};
-pub use serve_frames::serve_frames;
 pub use server::Server;
+pub use serving::serve_frames;
 pub use updates::Updates;

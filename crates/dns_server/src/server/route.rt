@@ -1,6 +1,6 @@
 //! Which zone a request is for (RFC 1034 section 4.3.2 step 2, RFC 2136 section 3.1.1).
 
-ghost use Rattle.std.specs.Prelude.{◌≡◌, ◌≤◌, ◌<◌, drop, length, IfSome};
+ghost use Rattle.std.specs.Prelude.{◌≡◌, ◌<◌, drop, length, IfSome};
 ghost use Rattle.dns_names.specs.Compare.{same_labels};
 ghost use Rattle.dns_server.specs.Zones.{place_at, closest};
 ghost use Rattle.dns_server.specs.Server.{route, route_by_name, IsRouteOf};
@@ -53,7 +53,7 @@ fn closest(zones: &[Zone], name: &Name) -> Option<usize>
     ensures place { result ≡ closest zones.now name.now.labels }
     ensures within { IfSome result (λ place. place < length zones.now) }
 {
-    let count = name.iter().len();
+    let count = label_count(name);
     for past in 0..count {
         let place = place_at(zones, name, past);
         if place.is_some() {
@@ -65,7 +65,6 @@ fn closest(zones: &[Zone], name: &Name) -> Option<usize>
 
 /// Returns the place of the zone whose origin is a name without so many of its first labels.
 fn place_at(zones: &[Zone], name: &Name, past: usize) -> Option<usize>
-    requires { past ≤ length name.now.labels }
     ensures place { result ≡ place_at zones.now (drop past name.now.labels) }
     ensures within { IfSome result (λ place. place < length zones.now) }
 {
@@ -78,5 +77,17 @@ fn place_at(zones: &[Zone], name: &Name, past: usize) -> Option<usize>
 fn is_at(origin: &Name, name: &Name, past: usize) -> bool
     ensures { result ≡ same_labels origin.now.labels (drop past name.now.labels) }
 {
-    origin.iter().len() + past == name.iter().len() && origin.zone_of(name)
+    let left = label_count(name).saturating_sub(past);
+    let count = label_count(origin);
+    if count != left {
+        return false;
+    }
+    origin.zone_of(name)
+}
+
+/// Returns the number of labels of a name.
+fn label_count(name: &Name) -> usize
+    ensures { result ≡ length name.now.labels }
+{
+    name.iter().len()
 }

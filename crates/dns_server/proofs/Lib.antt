@@ -1,0 +1,3 @@
+pub mod StreamLaws
+pub mod PlaceLaws
+pub mod HistoryLaws
