@@ -1,6 +1,5 @@
 -- Edits of the bytes of a reply (RFC 1035 sections 4.1.1 and 4.1.2).
-use Rattle.std.specs.Prelude.{◌==◌, ◌+◌, ◌*◌, ◌/◌, ◌%◌, ◌&&◌, ◌||◌, ◌++◌, not, nat_le, nat_lt, if◌then◌else◌, Bool, List, ℕ, length, take, slice_index, slice_set}
-use Rattle.std.specs.List.{replicate}
+use Rattle.std.specs.Prelude.{◌==◌, ◌+◌, ◌*◌, ◌/◌, ◌%◌, ◌&&◌, ◌||◌, ◌++◌, not, nat_le, nat_lt, if◌then◌else◌, Bool, List, ℕ, length, take, replicate, slice_index, slice_set}
 use Rattle.std.specs.Int.{w16, to_be_bytes}
 
 -- the bytes with the 16-bit number at a place greater by one, modulo 65,536
