@@ -22,10 +22,10 @@ pub counted-none : (p : CountedRule → Bool) (rs : List CountedRule) → find p
 counted-none p [] h = refl
 counted-none p (r ∷ rs) h = by_first (p r) h (counted-none p rs)
   where
-  by_first : (b : Bool) → cond b (Some r) (find p rs) ≡ None → (find p rs ≡ None → counted p rs ≡ rs)
-      → cond b (with_count r ∷ rs) (r ∷ counted p rs) ≡ r ∷ rs
-  by_first true i more = grind (arith, i)
-  by_first false i more = ap (λ xs. r ∷ xs) (more i)
+    by_first : (b : Bool) → cond b (Some r) (find p rs) ≡ None → (find p rs ≡ None → counted p rs ≡ rs)
+        → cond b (with_count r ∷ rs) (r ∷ counted p rs) ≡ r ∷ rs
+    by_first true i more = grind (arith, i)
+    by_first false i more = ap (λ xs. r ∷ xs) (more i)
 
 -- the first rule that applies is found, and its count rises
 pub decided-at : (p : CountedRule → Bool) (rs : List CountedRule) (i : ℕ) (d : CountedRule) → i < length rs
@@ -43,11 +43,11 @@ pub find-none : (p : CountedRule → Bool) (rs : List CountedRule) → None ≡ 
 find-none p [] h = refl
 find-none p (r ∷ rs) h = by_first (p r) h (find-none p rs)
   where
-  by_first : (b : Bool) → None ≡ cond (nat_lt (cond (not b) (1 + position_or_len p rs) 0) (suc (length rs)))
-      (Some (cond (not b) (1 + position_or_len p rs) 0)) None
-      → (None ≡ position p rs → find p rs ≡ None) → cond b (Some r) (find p rs) ≡ None
-  by_first true i more = grind (arith, i)
-  by_first false i more = more (grind (arith, i))
+    by_first : (b : Bool) → None ≡ cond (nat_lt (cond (not b) (1 + position_or_len p rs) 0) (suc (length rs)))
+        (Some (cond (not b) (1 + position_or_len p rs) 0)) None
+        → (None ≡ position p rs → find p rs ≡ None) → cond b (Some r) (find p rs) ≡ None
+    by_first true i more = grind (arith, i)
+    by_first false i more = more (grind (arith, i))
 
 -- the element at an index
 pub get-is : (rs : List CountedRule) (i : ℕ) (d : CountedRule) → i < length rs → slice_get rs i ≡ Some (get_or rs i d)

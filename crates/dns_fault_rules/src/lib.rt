@@ -5,11 +5,13 @@
 //!
 //! - `fault`: the actions of a rule, on a transport; `rule`: rules, and what they match; `table`: tables, and the rule that
 //!   decides;
-//! - `edits`: the edits of a reply's bytes.
+//! - `edits`: the edits of a reply's bytes;
+//! - `laws`: theorems about the definitions of this crate.
 #![tactic(auto)]
 
 mod edits;
 mod fault;
+pub mod laws;
 mod rule;
 mod table;
 
