@@ -1,27 +1,31 @@
 -- Replies that have a response code and nothing else (RFC 1035 section 4.1.1, RFC 6891 sections 6.1.3 and 7).
-use Rattle.std.specs.Prelude.{◌/◌, ◌%◌, ℕ, [], Option, Some, None, option_map}
+use Rattle.std.specs.Prelude.{◌/◌, ◌%◌, ℕ, [], ◌∷◌, Option, Some, None}
 use Rattle.dns_messages.specs.declared.edns.Edns.{Edns}
 use Rattle.dns_messages.specs.declared.message.Message.{Message}
+use Rattle.dns_messages.specs.declared.query.Query.{Query}
 use Rattle.dns_messages.specs.Header.{code_of, response_metadata}
 use Rattle.dns_messages.specs.Message.{empty_message}
-use Rattle.dns_zone.specs.Serving.{reply_edns}
 
 -- the number that a response code can have: twelve bits with an OPT record, and four without (RFC 6891 section 6.1.3)
 abbrev pub coded_number : Option Edns → ℕ → ℕ
 coded_number None number = number % 16
 coded_number (Some e) number = number % 4096
 
--- the OPT record has the upper eight bits of the code
-abbrev pub with_high_bits : ℕ → Edns → Edns
-with_high_bits number e = record e { rcode_high = (number % 4096) / 16 }
-
--- the OPT record that a server's reply has, with the upper eight bits of the code
+-- The OPT record of a reply, if the request has one (RFC 6891 section 7): it has the upper eight bits of the code (section 6.1.3),
+-- the request's DO (RFC 3225 section 3), and no options.
 abbrev pub coded_edns : Option Edns → ℕ → Option Edns
-coded_edns edns number = option_map (with_high_bits number) (reply_edns edns)
+coded_edns None number = None
+coded_edns (Some e) number = Some (record {
+  rcode_high = (number % 4096) / 16;
+  version = 0;
+  flags = record { dnssec_ok = e.flags.dnssec_ok; z = 0 };
+  max_payload = 1232;
+  options = [];
+})
 
 -- the reply to a request with the response code of a number: the question, and no records
-abbrev pub coded_reply : Message → ℕ → Message
-coded_reply m number = record (empty_message (record (response_metadata m.metadata) { response_code = code_of (coded_number m.edns number) })) {
-  queries = m.queries;
+abbrev pub coded_reply : Message → Query → ℕ → Message
+coded_reply m q number = record (empty_message (record (response_metadata m.metadata) { response_code = code_of (coded_number m.edns number) })) {
+  queries = q ∷ [];
   edns = coded_edns m.edns number;
 }

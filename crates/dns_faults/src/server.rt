@@ -4,7 +4,6 @@ ghost use Rattle.std.specs.Prelude.{◌≡◌, IfOk, OnErr};
 ghost use Rattle.dns_messages.specs.Sound.{IsSound};
 
 use dns_messages::Message;
-use dns_zone::Road;
 use std::alloc::AllocError;
 
 /// A server that also answers by the rows from before the last update.
@@ -14,26 +13,24 @@ use std::alloc::AllocError;
 pub trait FaultServer {
     ghost use Rattle.std.specs.Prelude.{List, ℕ};
     ghost use Rattle.dns_messages.specs.declared.message.Message.{Message};
-    ghost use Rattle.dns_zone.specs.declared.road.Road.{Road};
 
-    /// What the server knows of a requestor: for example whether it may update.
-    type Requestor: Copy;
+    /// What the server knows of a request beside its bytes: the transport with its limit, and whether the requestor may update.
+    type Context: Copy;
 
-    /// From a state, a request on a transport by a requestor has these bytes as its reply, and leads to that state.
-    ghost serves: { Self → Road → Requestor → Message → List ℕ → Self → Type 0 };
+    /// From a state, a request in a context has these bytes as its reply, and leads to that state.
+    ghost serves: { Self → Self.Context → Message → List ℕ → Self → Type 0 };
 
     /// The same where the reply is by the rows from before the last update.
-    ghost serves_stale: { Self → Road → Requestor → Message → List ℕ → Self → Type 0 };
+    ghost serves_stale: { Self → Self.Context → Message → List ℕ → Self → Type 0 };
 
     /// Serves a request, and returns the bytes of its reply. An error leaves the server unchanged.
     fn serve_request(
         &mut self,
         request: &Message,
-        road: Road,
-        requestor: Self::Requestor,
+        context: Self::Context,
     ) -> Result<Vec<u8>, AllocError>
         requires { IsSound request.now }
-        ensures ok { IfOk result (λ reply. serves self.old road requestor request.now
+        ensures ok { IfOk result (λ reply. serves self.old context request.now
             reply.items self.new) }
         ensures err { OnErr result (self.new ≡ self.old) };
 
@@ -42,11 +39,10 @@ pub trait FaultServer {
     fn serve_stale_request(
         &mut self,
         request: &Message,
-        road: Road,
-        requestor: Self::Requestor,
+        context: Self::Context,
     ) -> Result<Vec<u8>, AllocError>
         requires { IsSound request.now }
-        ensures ok { IfOk result (λ reply. serves_stale self.old road requestor request.now
+        ensures ok { IfOk result (λ reply. serves_stale self.old context request.now
             reply.items self.new) }
         ensures err { OnErr result (self.new ≡ self.old) };
 }

@@ -1,9 +1,9 @@
 //! One request: what decides its reply, what is sent, and what happens to the server.
 
-ghost use Rattle.std.specs.Prelude.{◌≡◌, ◌≤◌, None, IfOk, OnErr, length, option_map};
+ghost use Rattle.std.specs.Prelude.{◌≡◌, None, IfOk, OnErr, option_map};
 ghost use Rattle.dns_messages.specs.Sound.{IsSound};
 ghost use Rattle.dns_faults.specs.Delivery.{plain_sending, sending};
-ghost use Rattle.dns_faults.specs.Step.{Answers, IsFaulty, IsPlain, IsServedBy, Responds, transport_of};
+ghost use Rattle.dns_faults.specs.Step.{Answers, IsFaulty, IsPlain, IsServedBy, Responds};
 
 use crate::coded::coded_reply;
 use crate::delivery::Delivery;
@@ -11,9 +11,8 @@ use crate::edited::edited_reply;
 use crate::server::FaultServer;
 use dns_fault_rules::{Fault, FaultTable, Service, Transport};
 use dns_messages::laws::messages_decode_unambiguously;
-use dns_messages::{Message, MessageType};
+use dns_messages::{Message, MessageType, Query};
 use dns_wire::DecodeError;
-use dns_zone::Road;
 use std::alloc::{AllocError, Global};
 
 /// What a request led to.
@@ -35,22 +34,27 @@ pub fn respond<S: FaultServer>(
     server: &mut S,
     table: &mut FaultTable,
     request: &[u8],
-    road: Road,
-    requestor: S::Requestor,
+    transport: Transport,
+    context: S::Context,
 ) -> Result<Outcome, AllocError>
     ensures ok { IfOk result (λ outcome. Responds S.serves S.serves_stale server.old table.old
-        request.now road requestor (sending outcome.delivery) outcome.line server.new table.new) }
+        request.now transport context (sending outcome.delivery) outcome.line server.new table.new) }
     ensures table { OnErr result (table.new ≡ table.old) }
 {
     messages_decode_unambiguously();
     let request = match Message::from_vec(alloc, request) {
         Ok(request) => request,
-        // The memory for the message was refused.
-        Err(DecodeError::Memory) => return Err(AllocError),
-        Err(_) => return Ok(nothing()),
+        Err(error) => match error {
+            // The memory for the message was refused.
+            DecodeError::Memory => return Err(AllocError),
+            _ => return Ok(nothing()),
+        },
     };
     match request.metadata.message_type {
-        MessageType::Query => respond_to(alloc, server, table, &request, road, requestor),
+        MessageType::Query => {
+            let outcome = respond_to(alloc, server, table, &request, transport, context)?;
+            Ok(outcome)
+        }
         MessageType::Response => Ok(nothing()),
     }
 }
@@ -72,23 +76,24 @@ fn respond_to<S: FaultServer>(
     server: &mut S,
     table: &mut FaultTable,
     request: &Message,
-    road: Road,
-    requestor: S::Requestor,
+    transport: Transport,
+    context: S::Context,
 ) -> Result<Outcome, AllocError>
     requires { IsSound request.now }
     ensures ok { IfOk result (λ outcome. Answers S.serves S.serves_stale server.old table.old
-        request.now road requestor (sending outcome.delivery) outcome.line server.new table.new) }
+        request.now transport context (sending outcome.delivery) outcome.line server.new table.new) }
     ensures table { OnErr result (table.new ≡ table.old) }
 {
     let queries = request.queries.as_slice();
     let [query] = queries else {
-        return respond_plainly(server, request, road, requestor);
+        let outcome = respond_plainly(server, request, context)?;
+        return Ok(outcome);
     };
-    let transport = transport_of(road);
     let Some(decision) = table.decision(&query.name, query.query_type, transport) else {
-        return respond_plainly(server, request, road, requestor);
+        let outcome = respond_plainly(server, request, context)?;
+        return Ok(outcome);
     };
-    let delivery = deliver(alloc, server, &decision.fault, request, road, requestor)?;
+    let delivery = deliver(alloc, server, &decision.fault, request, query, context)?;
     table.decide(&query.name, query.query_type, transport);
     Ok(Outcome {
         delivery,
@@ -100,14 +105,13 @@ fn respond_to<S: FaultServer>(
 fn respond_plainly<S: FaultServer>(
     server: &mut S,
     request: &Message,
-    road: Road,
-    requestor: S::Requestor,
+    context: S::Context,
 ) -> Result<Outcome, AllocError>
     requires { IsSound request.now }
-    ensures ok { IfOk result (λ outcome. IsPlain S.serves server.old road requestor request.now
+    ensures ok { IfOk result (λ outcome. IsPlain S.serves server.old context request.now
         (sending outcome.delivery) outcome.line server.new) }
 {
-    let reply = server.serve_request(request, road, requestor)?;
+    let reply = server.serve_request(request, context)?;
     Ok(Outcome {
         delivery: Delivery::plain(Some(reply)),
         line: None,
@@ -120,15 +124,14 @@ fn deliver<S: FaultServer>(
     server: &mut S,
     fault: &Fault,
     request: &Message,
-    road: Road,
-    requestor: S::Requestor,
+    query: &Query,
+    context: S::Context,
 ) -> Result<Delivery, AllocError>
-    requires sound { IsSound request.now }
-    requires one { length request.now.queries ≤ 1 }
-    ensures ok { IfOk result (λ delivery. IsFaulty S.serves S.serves_stale fault.now server.old road
-        requestor request.now (sending delivery) server.new) }
+    requires { IsSound request.now }
+    ensures ok { IfOk result (λ delivery. IsFaulty S.serves S.serves_stale fault.now server.old context
+        request.now query.now (sending delivery) server.new) }
 {
-    match serve_by(alloc, server, fault.service, request, road, requestor)? {
+    match serve_by(alloc, server, fault.service, request, query, context)? {
         Some(reply) => {
             let reply = edited_reply(alloc, fault, request.metadata.id, reply)?;
             Ok(Delivery::by_fault(fault, Some(reply)))
@@ -143,28 +146,17 @@ fn serve_by<S: FaultServer>(
     server: &mut S,
     service: Service,
     request: &Message,
-    road: Road,
-    requestor: S::Requestor,
+    query: &Query,
+    context: S::Context,
 ) -> Result<Option<Vec<u8>>, AllocError>
-    requires sound { IsSound request.now }
-    requires one { length request.now.queries ≤ 1 }
-    ensures ok { IfOk result (λ reply. IsServedBy S.serves S.serves_stale service server.old road
-        requestor request.now (option_map (λ bytes. bytes.items) reply) server.new) }
+    requires { IsSound request.now }
+    ensures ok { IfOk result (λ reply. IsServedBy S.serves S.serves_stale service server.old context
+        request.now query.now (option_map (λ bytes. bytes.items) reply) server.new) }
 {
     match service {
-        Service::Plain => Ok(Some(server.serve_request(request, road, requestor)?)),
-        Service::Stale => Ok(Some(server.serve_stale_request(request, road, requestor)?)),
-        Service::Code(number) => Ok(Some(coded_reply(alloc, request, number)?)),
+        Service::Plain => Ok(Some(server.serve_request(request, context)?)),
+        Service::Stale => Ok(Some(server.serve_stale_request(request, context)?)),
+        Service::Code(number) => Ok(Some(coded_reply(alloc, request, query, number)?)),
         Service::Drop => Ok(None),
-    }
-}
-
-/// Returns the kind of a transport.
-pub fn transport_of(road: Road) -> Transport
-    ensures { result ≡ transport_of road }
-{
-    match road {
-        Road::Datagram(_) => Transport::Datagram,
-        Road::Stream => Transport::Stream,
     }
 }

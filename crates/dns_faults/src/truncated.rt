@@ -16,14 +16,19 @@ pub fn truncated_reply(alloc: Global, reply: Vec<u8>) -> Result<Vec<u8>, AllocEr
 {
     let message = match Message::from_vec(alloc, reply.as_slice()) {
         Ok(message) => message,
-        // The memory for the message was refused.
-        Err(DecodeError::Memory) => return Err(AllocError),
-        Err(_) => return Ok(reply),
+        Err(error) => match error {
+            // The memory for the message was refused.
+            DecodeError::Memory => return Err(AllocError),
+            _ => return Ok(reply),
+        },
     };
-    match message.truncate(alloc)?.to_vec(alloc) {
+    let truncated = message.truncate(alloc)?;
+    match truncated.to_vec(alloc) {
         Ok(bytes) => Ok(bytes),
-        // The memory for the reply's bytes was refused.
-        Err(EncodeError::Memory) => Err(AllocError),
-        Err(EncodeError::MaxBufferSizeExceeded) => Ok(reply),
+        Err(error) => match error {
+            // The memory for the reply's bytes was refused.
+            EncodeError::Memory => Err(AllocError),
+            EncodeError::MaxBufferSizeExceeded => Ok(reply),
+        },
     }
 }
