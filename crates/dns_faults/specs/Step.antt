@@ -1,5 +1,5 @@
 -- One request: what decides its reply, what is sent, and what happens to the server.
-use Rattle.std.specs.Prelude.{◌≡◌, List, [], ◌∷◌, ℕ, Option, Some, None, IsSomeAnd}
+use Rattle.std.specs.Prelude.{◌≡◌, ◌⊎◌, List, [], ◌∷◌, ℕ, Option, Some, None, IsSomeAnd}
 use Rattle.std.specs.List.{find}
 use Rattle.dns_wire.specs.Encoder.{max_message_len}
 use Rattle.dns_messages.specs.declared.message_type.MessageType.TheVariants as kinds
@@ -44,6 +44,18 @@ module _ {S C : Type 0} (serves stale : S → C → Message → List ℕ → S �
     pub edited : Option (List ℕ)
     pub edits : IsEditedIf f m.metadata.id reply edited
     pub sent_is : sent ≡ sending_by f edited
+
+module _ {S C : Type 0} (serves stale : S → C → Message → List ℕ → S → Type 0) where
+  -- A server after want of memory is as it was, or as after the service of the request: memory was refused for an edit of its
+  -- reply.
+  abbrev pub IsLeft : S → C → Message → S → Type 0
+  IsLeft server context m after =
+      (after ≡ server) ⊎ ((reply : List ℕ) × (serves server context m reply after ⊎ stale server context m reply after))
+
+  -- a server after want of memory, by the bytes of the request
+  abbrev pub IsLeftBy : S → C → List ℕ → S → Type 0
+  IsLeftBy server context bytes after =
+      (after ≡ server) ⊎ ((m : Message) × ReadsMessage bytes m × IsLeft server context m after)
 
 module _ {S C : Type 0} (serves : S → C → Message → List ℕ → S → Type 0) where
   -- a request for which no rule decides has the server's reply, sent once and at once

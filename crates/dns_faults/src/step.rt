@@ -3,7 +3,7 @@
 ghost use Rattle.std.specs.Prelude.{◌≡◌, None, IfOk, OnErr, option_map};
 ghost use Rattle.dns_messages.specs.Sound.{IsSound};
 ghost use Rattle.dns_faults.specs.Delivery.{plain_sending, sending};
-ghost use Rattle.dns_faults.specs.Step.{Answers, IsFaulty, IsPlain, IsServedBy, Responds};
+ghost use Rattle.dns_faults.specs.Step.{Answers, IsFaulty, IsLeft, IsLeftBy, IsPlain, IsServedBy, Responds};
 
 use crate::coded::coded_reply;
 use crate::delivery::Delivery;
@@ -40,6 +40,8 @@ pub fn respond<S: FaultServer>(
     ensures ok { IfOk result (λ outcome. Responds S.serves S.serves_stale server.old table.old
         request.now transport context (sending outcome.delivery) outcome.line server.new table.new) }
     ensures table { OnErr result (table.new ≡ table.old) }
+    ensures server { OnErr result (IsLeftBy S.serves S.serves_stale server.old context request.now
+        server.new) }
 {
     messages_decode_unambiguously();
     let request = match Message::from_vec(alloc, request) {
@@ -83,6 +85,8 @@ fn respond_to<S: FaultServer>(
     ensures ok { IfOk result (λ outcome. Answers S.serves S.serves_stale server.old table.old
         request.now transport context (sending outcome.delivery) outcome.line server.new table.new) }
     ensures table { OnErr result (table.new ≡ table.old) }
+    ensures server { OnErr result (IsLeft S.serves S.serves_stale server.old context request.now
+        server.new) }
 {
     let queries = request.queries.as_slice();
     let [query] = queries else {
@@ -110,6 +114,7 @@ fn respond_plainly<S: FaultServer>(
     requires { IsSound request.now }
     ensures ok { IfOk result (λ outcome. IsPlain S.serves server.old context request.now
         (sending outcome.delivery) outcome.line server.new) }
+    ensures err { OnErr result (server.new ≡ server.old) }
 {
     let reply = server.serve_request(request, context)?;
     Ok(Outcome {
@@ -130,6 +135,8 @@ fn deliver<S: FaultServer>(
     requires { IsSound request.now }
     ensures ok { IfOk result (λ delivery. IsFaulty S.serves S.serves_stale fault.now server.old context
         request.now query.now (sending delivery) server.new) }
+    ensures server { OnErr result (IsLeft S.serves S.serves_stale server.old context request.now
+        server.new) }
 {
     match serve_by(alloc, server, fault.service, request, query, context)? {
         Some(reply) => {
@@ -152,6 +159,7 @@ fn serve_by<S: FaultServer>(
     requires { IsSound request.now }
     ensures ok { IfOk result (λ reply. IsServedBy S.serves S.serves_stale service server.old context
         request.now query.now (option_map (λ bytes. bytes.items) reply) server.new) }
+    ensures err { OnErr result (server.new ≡ server.old) }
 {
     match service {
         Service::Plain => Ok(Some(server.serve_request(request, context)?)),

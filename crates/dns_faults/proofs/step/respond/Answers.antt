@@ -9,6 +9,7 @@ returns-in_default g c = record {
       absurd (c.messages_decode_unambiguously.ensures.not_refused c.args.request.now m c.in-Err.error reads
       (c.in-Err.ensures.refused c.in_default.not-Memory))));
   table = tt;
+  server = tt;
 }
 
 pub returns-in-Query-clause-ok : goal.returns-in-Query-clause-ok
