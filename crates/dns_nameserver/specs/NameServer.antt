@@ -16,11 +16,11 @@ use Rattle.dns_fault_rules.specs.declared.fault.Transport.{Transport}
 use Rattle.dns_fault_rules.specs.declared.fault.Transport.TheVariants as transports
 use Rattle.dns_faults.specs.Delivery.{Sending}
 use Rattle.dns_faults.specs.Step.{Responds}
-use Rattle.std.specs.Net.Addr.{ipv4_octets, ipv6_octets, ipv6_segments}
+use Rattle.std.specs.Net.Addr.{IsIpv4Mapped, ipv4_octets, ipv6_octets, ipv6_segments, low_octets}
 use Rattle.std.specs.declared.net.ip_addr.IpAddr.{IpAddr}
 use Rattle.std.specs.declared.net.ip_addr.IpAddr.TheVariants.{V4, V6}
 use Rattle.dns_names.specs.declared.reverse.AddrPrefix.{AddrPrefix}
-use Rattle.dns_server.specs.AddressList.{IsIpv4Mapped, is_covered, low_octets}
+use Rattle.dns_server.specs.AddressList.{is_covered}
 use Rattle.dns_nameserver.specs.declared.zone_server.Context.{Context}
 use Rattle.dns_nameserver.specs.declared.zone_server.ZoneServer.{ZoneServer}
 use Rattle.dns_nameserver.specs.declared.name_server.NameServer.{NameServer}

@@ -9,6 +9,6 @@ mod log_entry;
 mod name_server;
 mod zone_server;
 
-pub use log_entry::log_entry;
+pub use log_entry::request_entry;
 pub use name_server::{Answered, NameServer};
 pub use zone_server::{Context, ZoneServer};

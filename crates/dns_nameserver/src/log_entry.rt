@@ -12,7 +12,7 @@ use std::alloc::{AllocError, Global};
 use std::net::SocketAddr;
 
 /// Returns what the log says of a request that arrived at a moment, in milliseconds since the start, from a peer.
-pub fn log_entry(
+pub fn request_entry(
     alloc: Global,
     moment: u64,
     peer: SocketAddr,

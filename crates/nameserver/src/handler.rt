@@ -2,7 +2,7 @@
 
 use crate::log_file::LogFile;
 use dns_faults::Delivery;
-use dns_nameserver::{Answered, NameServer, log_entry};
+use dns_nameserver::{Answered, NameServer, request_entry};
 use dns_sockets::{Handler, Request};
 use std::alloc::AllocError;
 
@@ -36,7 +36,7 @@ impl LoggedServer<'_> {
         let Some(log) = &mut self.log else {
             return;
         };
-        let entry = log_entry(
+        let entry = request_entry(
             self.rt.alloc(),
             request.moment,
             request.peer,
