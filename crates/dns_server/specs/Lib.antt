@@ -3,3 +3,4 @@ pub mod Server
 pub mod Connection
 pub mod Serving
 pub mod History
+pub mod AddressList

@@ -13,6 +13,7 @@
 //! - `laws`: theorems about the definitions of this crate.
 #![tactic(auto)]
 
+mod address_list;
 mod buffer;
 mod connection;
 mod error;
@@ -23,6 +24,7 @@ mod server;
 mod serving;
 mod updates;
 
+pub use address_list::{AddressList, PrefixError, parse_prefix};
 pub use connection::{Connection, MAX_INPUT_LEN, MAX_WAITING_LEN};
 pub use error::AddZoneError;
 pub use responder::{ListResponder, Responder};
