@@ -1,0 +1,258 @@
+"""The program itself: its arguments, faulty files, signals, its log, and who may update."""
+import json
+import os
+import re
+import signal
+import socket
+import subprocess
+import sys
+import tempfile
+import time
+from pathlib import Path
+from typing import Dict, List, Sequence, Tuple
+
+from logs import logged
+from messages import query, update
+from nameserver import NameServer
+from relay import Exchange
+from replies import Server
+from report import Report
+from transport import ask_datagram, ask_stream, connect, datagram_socket, frame, read_frame
+from zones import record_of, zone_of
+
+ZONE = "t. 60 IN SOA ns.t. h.t. 1 3600 600 86400 30\na.t. 60 IN A 10.0.0.1\n"
+SECONDS = 20
+# Files with a fault: the text, the line, and words of the reason.
+FAULTY = [
+    ("t. 60 IN SOA ns h 1 2 3 4 5\nwww AA 10.0.0.1\n", 2, ["type", "`AA`"]),
+    ("t. 60 IN SOA ns h 1 2 3 4 5\nwww.t. 60 IN A 10.0.0.256\n", 2, ["`10.0.0.256`"]),
+    ("t. 60 IN SOA ns h 1 2 3 4 5\n\n; comment\nx.u. 60 IN A 10.0.0.1\n", 4, ["origin"]),
+    ("a.t. 60 IN A 10.0.0.1\n", None, ["SOA"]),
+    ("t. 60 IN SOA ns h 1 2 3 4 5\na.t. 60 IN TXT \"open\n", 2, []),
+    ("t. 60 IN SOA ns h ( 1 2 3 4 5\n", 1, []),
+    ("t. 60 CH SOA ns h 1 2 3 4 5\n", 1, []),
+    ("t. 60 IN SOA ns h 1 2 3 4 5\na.t. 60 IN SOA ns h 1 2 3 4 5\n", 2, ["SOA"]),
+]
+WRONG = [
+    [], ["zone", "--listen"], ["zone", "--listen", "here"], ["zone", "--listen", "127.0.0.1"], ["zone", "--listen", "127.0.0.1:65536"],
+    ["zone", "--limit", "511"], ["zone", "--limit", "65536"], ["zone", "--limit", "x"], ["zone", "--unknown"], ["zone", "--origin", "a..b"],
+    ["zone", "--allow-update", "10.0.0.0/33"], ["zone", "--allow-update", "x"], ["zone", "--limit", "600", "--limit", "600"],
+]  # fmt: skip
+
+
+def run(program: str, files: Dict[str, str], words: Sequence[str], seconds: float = SECONDS) -> Tuple[int, str, str]:
+    """The status and both outputs of a program that ends by itself, in a folder with these files."""
+    with tempfile.TemporaryDirectory() as folder:
+        for name, text in files.items():
+            Path(folder, name).write_text(text, encoding="utf-8")
+        done = subprocess.run([program, *words], cwd=folder, stdin=subprocess.DEVNULL, capture_output=True, text=True, timeout=seconds)
+    return done.returncode, done.stdout, done.stderr
+
+
+def try_arguments(report: Report, program: str) -> None:
+    """`--help`, `--version`, wrong arguments, files that can't be read, and addresses that are taken."""
+    for words in (["--help"], ["-h"], ["--version"], ["-V"], ["zone", "--help"]):
+        status, output, errors = run(program, {"zone": ZONE}, words)
+        report.check(f"{words}", (0, True, ""), (status, "nameserver" in output, errors))
+    options = "--origin --listen --limit --faults --log --no-updates --allow-update --until-stdin-closes".split()
+    report.check("all options in --help", [], [it for it in options if it not in run(program, {}, ["--help"])[1]])
+    for words in WRONG:
+        status, output, errors = run(program, {"zone": ZONE}, words)
+        report.check(f"{words}", (2, "", True), (status, output, bool(errors)))
+    listen = ["--listen", "127.0.0.1:0"]
+    unreadable = [["none"], ["."], ["zone", "none"], ["zone", "--faults", "none"], ["zone", "zone"], ["zone", "--log", "none/log"]]
+    for words in unreadable:
+        status, output, errors = run(program, {"zone": ZONE}, [*words, *listen])
+        report.check(f"{words}", (1, "", True), (status, output, bool(errors)))
+    with socket.socket() as one, socket.socket(socket.AF_INET, socket.SOCK_DGRAM) as other:
+        one.bind(("127.0.0.1", 0))
+        one.listen()
+        other.bind(("127.0.0.1", 0))
+        for taken in (one, other):
+            words = ["zone", "--listen", f"127.0.0.1:{taken.getsockname()[1]}"]
+            status, output, errors = run(program, {"zone": ZONE}, words)
+            report.check("an address that is taken", (1, "", True), (status, output, bool(errors)))
+
+
+def try_faulty_zones(report: Report, program: str) -> None:
+    """A faulty zone file is refused with its name, its line and a reason, before anything is served."""
+    for text, line, words in FAULTY:
+        for files in (["faulty"], ["zone", "faulty"]):
+            status, output, errors = run(program, {"zone": ZONE.replace("t.", "u."), "faulty": text}, [*files, "--listen", "127.0.0.1:0"])
+            place = f"faulty:{line}:" if line else "faulty:"
+            report.check(f"{text!r}: status and output", (1, ""), (status, output))
+            report.check(f"{text!r}: {errors!r}", [], [it for it in (place, "fault", *words) if it not in errors])
+
+
+def try_loading(report: Report, program: str) -> None:
+    """Standard error has each zone with its number of records and the time of loading, and the options of the zone."""
+    text = "@ 60 SOA ns h 1 2 3 4 5\na 60 A 10.0.0.1\n"
+    with NameServer(text, program=program, options=["--origin", "given.test"]) as server:
+        wanted = Server([zone_of("given.test. 60 IN SOA ns.given.test. h.given.test. 1 2 3 4 5\na.given.test. 60 IN A 10.0.0.1")])
+        request = query("a.given.test.")
+        report.check("--origin", wanted.reply(request), ask_datagram((server.address, server.port), request))
+        said = server.standard_error()
+        report.check(f"standard error {said!r}", True, bool(re.search(r"given\.test.*\b2 records.*\d+ ms", said)))
+    with NameServer([ZONE, ZONE.replace("t.", "u.")], program=program) as server:
+        report.check("a line a zone", 2, len(server.standard_error().splitlines()))
+
+
+def try_endings(report: Report, program: str) -> None:
+    """What ends the program, and what doesn't."""
+    for number in (signal.SIGTERM, signal.SIGINT):
+        with NameServer(ZONE, program=program) as server:
+            server.process.send_signal(number)
+            report.check(f"{number.name} ends it", True, ends(server.process))
+    with NameServer(ZONE, program=program) as server:
+        for number in (signal.SIGSTOP, signal.SIGCONT, signal.SIGWINCH, signal.SIGCHLD, signal.SIGURG):
+            server.process.send_signal(number)
+        report.check("other signals leave it", Server([zone_of(ZONE)]).reply(query("a.t.")), ask_datagram((server.address, server.port), query("a.t.")))
+        server.process.stdin.write(b"text on standard input\n")
+        server.process.stdin.flush()
+        report.check("text on standard input", True, ask_datagram((server.address, server.port), query("a.t.")) is not None)
+        server.process.stdin.close()
+        report.check("the end of standard input ends it", (True, 0), (ends(server.process), server.process.returncode))
+        server.process.stdin = open(os.devnull, "wb")
+    with NameServer(ZONE, program=program) as server:
+        server.process.stdin.write(b"text")
+        server.process.stdin.close()
+        report.check("text, and then the end of standard input at once", (True, 0), (ends(server.process), server.process.returncode))
+        server.process.stdin = open(os.devnull, "wb")
+    with tempfile.TemporaryDirectory() as folder:
+        Path(folder, "zone").write_text(ZONE)
+        words = [program, f"{folder}/zone", "--listen", "127.0.0.1:0"]
+        process = subprocess.Popen(words, stdin=subprocess.DEVNULL, stdout=subprocess.PIPE, stderr=subprocess.DEVNULL)
+        try:
+            port = int(process.stdout.readline().rsplit(b":", 1)[1])
+            report.check("without --until-stdin-closes it stays", True, ask_datagram(("127.0.0.1", port), query("a.t.")) is not None)
+        finally:
+            process.kill()
+            process.wait()
+            process.stdout.close()
+        for title, before in (("an empty file", None), ("nothing", lambda: os.close(0))):
+            words_until = [*words, "--until-stdin-closes"]
+            process = subprocess.Popen(words_until, stdin=subprocess.DEVNULL, stdout=subprocess.DEVNULL, stderr=subprocess.DEVNULL, preexec_fn=before)
+            report.check(f"{title} as standard input ends it", (True, 0), (ends(process), process.returncode))
+            process.kill()
+            process.wait()
+        with open("/dev/full", "wb") as full:
+            process = subprocess.Popen(words, stdin=subprocess.DEVNULL, stdout=full, stderr=subprocess.PIPE)
+            report.check("without a place for its lines it ends", (True, 1), (ends(process), process.returncode))
+            process.kill()
+            process.communicate()
+
+
+def ends(process) -> bool:
+    """Whether a process ends within two seconds."""
+    try:
+        process.wait(2)
+        return True
+    except subprocess.TimeoutExpired:
+        return False
+
+
+def try_log(report: Report, program: str) -> None:
+    """The log, line by line: its fields, their order, peers and moments; it is appended to; and it may be full."""
+    model = Server([zone_of(ZONE)])
+    order = "moment peer transport id opcode question code answers authorities additionals request_bytes reply_bytes fault updated".split()
+    requests = [query("a.t.", id=7), query("No.T.", "TXT"), b"", b"\1\2\3", bytes(12), query("a.t.", flags=0x8000), query("a\"\\\x07.t."),
+                query(".", "NS"), query("a.t.", "TYPE65280"), query("a.t.")[:-2] + b"\1\2", update("t.", [], [record_of("b.t. 60 IN A 10.0.0.2")]),
+                update("t.", [record_of("b.t. 0 IN A 10.0.0.9")], []), query("a.t.")[:-1]]  # fmt: skip
+    with NameServer(ZONE, program=program) as server:
+        address, wanted = (server.address, server.port), []
+        with datagram_socket(address) as sender, connect(address) as stream:
+            for number, request in enumerate(requests):
+                is_stream = bool(number % 2)
+                peer = (stream if is_stream else sender).getsockname()
+                reply = model.reply(request, is_stream)
+                stream.sendall(frame(request)) if is_stream else sender.send(request)
+                if reply is not None:
+                    report.check(f"log: {request.hex()}", reply, read_frame(stream) if is_stream else sender.recv(65535))
+                server.wait_for_requests(number + 1)
+                wanted.append({"peer": f"{peer[0]}:{peer[1]}", **logged(Exchange(is_stream, request, reply))})
+        lines = server.wait_for_requests(len(requests))
+        for it, line in zip(wanted, lines):
+            report.check("log: fields", it, {key: value for key, value in line.fields.items() if key != "moment"})
+            report.check("log: order of the fields", order, list(line.fields))
+        moments = [it.moment for it in lines]
+        report.check(f"log: moments {moments}", True, moments == sorted(moments) and 0 <= moments[0] and moments[-1] < 60000)
+        report.check("log: a line each", len(requests), Path(server.path("log")).read_bytes().count(b"\n"))
+    try_full_log(report, program, model)
+
+
+def try_full_log(report: Report, program: str, model: Server) -> None:
+    """A log that can't be written is told once, and the server goes on; a log that is there is appended to."""
+    with tempfile.TemporaryDirectory() as folder:
+        Path(folder, "zone").write_text(ZONE)
+        Path(folder, "log").write_text("first\n")
+        for log in ("/dev/full", f"{folder}/log"):
+            words = [program, f"{folder}/zone", "--listen", "127.0.0.1:0", "--log", log]
+            process = subprocess.Popen(words, stdin=subprocess.DEVNULL, stdout=subprocess.PIPE, stderr=subprocess.PIPE)
+            try:
+                address = ("127.0.0.1", int(process.stdout.readline().rsplit(b":", 1)[1]))
+                for number in range(20):
+                    request = query("a.t.", id=number)
+                    report.check(f"a log in {log}", model.reply(request), ask_datagram(address, request))
+            finally:
+                process.terminate()
+                errors = process.communicate()[1].decode()
+            told = [line for line in errors.splitlines() if "log" in line.lower()]
+            report.check(f"a log in {log}: told {errors!r}", 1 if log == "/dev/full" else 0, len(told))
+        report.check("a log that was there", ["first"], Path(folder, "log").read_text().splitlines()[:1])
+        report.check("a log that was there grows", 21, len(Path(folder, "log").read_text().splitlines()))
+
+
+# An address that is not a loopback one, in a network of its own: of TEST-NET-1 (RFC 5737).
+OUTSIDE = "192.0.2.1"
+
+
+def try_permissions(report: Report, program: str) -> None:
+    """Updates from addresses other than those of the local host, in a network of its own, on its loopback interface."""
+    apart = ["unshare", "--net"]
+    tried = subprocess.run([*apart, "true"], capture_output=True, text=True)
+    if tried.returncode:
+        report.skip("updates from other addresses", f"no network of its own: {tried.stderr.strip()}")
+        return
+    environment = {**os.environ, "PYTHONPATH": ":".join(it for it in sys.path if it), "PYTHONDONTWRITEBYTECODE": "1"}
+    done = subprocess.run([*apart, sys.executable, os.path.abspath(__file__), program], env=environment, capture_output=True, text=True, timeout=120)
+    if report.check("updates from other addresses: run", (0, ""), (done.returncode, done.stderr)):
+        for name, wanted, got in json.loads(done.stdout):
+            report.check(f"update {name}", wanted, got)
+
+
+def inside(program: str) -> list:
+    """Updates from each address, and the codes of their replies."""
+    subprocess.run(["ip", "link", "set", "lo", "up"], check=True)
+    subprocess.run(["ip", "address", "add", f"{OUTSIDE}/32", "dev", "lo"], check=True)
+    subprocess.run(["ip", "address", "add", "2001:db8::1/128", "dev", "lo", "nodad"], check=True)
+    found = []
+    everywhere = [word for it in (f"{OUTSIDE}:0", "[::1]:0", "[2001:db8::1]:0") for word in ("--listen", it)]
+    for allowed, codes in (
+        ([], [0, 5, 0, 5]),
+        (["192.0.2.0/24"], [0, 0, 0, 5]),
+        (["192.0.2.2/31", "2001:db8::/32"], [0, 5, 0, 0]),
+        ([OUTSIDE, "2001:db8::1"], [0, 0, 0, 0]),
+        (["0.0.0.0/0"], [0, 0, 0, 5]),
+        (["::/0"], [0, 5, 0, 0]),
+    ):
+        options = everywhere + [word for it in allowed for word in ("--allow-update", it)]
+        with NameServer(ZONE, program=program, options=options) as server:
+            for address, code in zip(server.addresses, codes):
+                request = update("t.", [], [record_of("n.t. 60 IN A 10.0.0.9")])
+                replies = [ask_datagram(address, request), ask_stream(address, [request])[0]]
+                found.append((f"to {address[0]} with {allowed}", [code] * 2, [it[3] & 15 if it else None for it in replies]))
+    return found
+
+
+def try_program(report: Report, program: str, _missing: List[str]) -> None:
+    for title, work in (
+        ("arguments", try_arguments), ("faulty zone files", try_faulty_zones), ("loading", try_loading), ("endings", try_endings),
+        ("the log", try_log), ("who may update", try_permissions),
+    ):  # fmt: skip
+        report.begin()
+        work(report, program)
+        report.end(title)
+
+
+if __name__ == "__main__":
+    json.dump(inside(sys.argv[1]), sys.stdout)
