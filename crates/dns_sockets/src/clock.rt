@@ -22,9 +22,11 @@ impl ServiceClock {
     /// Returns the time.
     pub(crate) fn now(&self, clock: &impl Clock) -> io::Result<Milliseconds> {
         let elapsed = self.start.elapsed(clock)?;
-        Ok(elapsed
-            .as_secs()
-            .saturating_mul(1_000)
-            .saturating_add(u64::from(elapsed.subsec_millis())))
+        Ok(
+            elapsed
+                .as_secs()
+                .saturating_mul(1_000)
+                .saturating_add(u64::from(elapsed.subsec_millis())),
+        )
     }
 }

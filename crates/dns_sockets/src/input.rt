@@ -15,7 +15,9 @@ const PIECE_LEN: usize = 4_096;
 pub(crate) fn watch_input(registry: &Registry) -> bool {
     let mut source = SourceFd(&STANDARD_INPUT);
     let token = SocketToken::Input.to_token();
-    registry.register(&mut source, token, Interest::READABLE).is_ok()
+    registry
+        .register(&mut source, token, Interest::READABLE)
+        .is_ok()
 }
 
 /// Reads what has arrived at standard input, and returns `true` if it is at its end, or cannot be read.
@@ -23,6 +25,7 @@ pub(crate) fn has_ended<I: Input>(input: &I) -> bool {
     let mut piece = [0u8; PIECE_LEN];
     match input.reader().read(&mut piece) {
         Ok(count) => count == 0,
-        Err(error) => error.kind() != ErrorKind::Interrupted && error.kind() != ErrorKind::WouldBlock,
+        Err(error) => error.kind() != ErrorKind::Interrupted
+            && error.kind() != ErrorKind::WouldBlock,
     }
 }

@@ -32,8 +32,16 @@ pub(crate) fn open_sockets<R: Net>(
     let (mut datagrams, mut listener) = bind_both(net, address)?;
     let address = datagrams.local_addr()?;
     let readable = Interest::READABLE;
-    registry.register(&mut datagrams, SocketToken::Datagrams(index).to_token(), readable)?;
-    registry.register(&mut listener, SocketToken::Listener(index).to_token(), readable)?;
+    registry.register(
+        &mut datagrams,
+        SocketToken::Datagrams(index).to_token(),
+        readable,
+    )?;
+    registry.register(
+        &mut listener,
+        SocketToken::Listener(index).to_token(),
+        readable,
+    )?;
     Ok(Sockets {
         address,
         datagrams: DatagramSocket::new(datagrams),

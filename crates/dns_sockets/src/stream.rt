@@ -179,12 +179,7 @@ impl Stream {
     }
 
     /// Makes one step: writes what waits, releases a held reply, handles a request, or reads.
-    fn step<H: Handler>(
-        &mut self,
-        handler: &mut H,
-        buffer: &mut [u8],
-        now: Milliseconds,
-    ) -> Step {
+    fn step<H: Handler>(&mut self, handler: &mut H, buffer: &mut [u8], now: Milliseconds) -> Step {
         if self.has_output() {
             if self.readiness.write {
                 return self.write(now);
@@ -324,7 +319,11 @@ impl Stream {
     /// Reads bytes, if there is room for them.
     fn receive(&mut self, buffer: &mut [u8], now: Milliseconds) -> Step {
         if self.has_ended {
-            return if self.has_output() { Step::Waits } else { Step::Closes };
+            return if self.has_output() {
+                Step::Waits
+            } else {
+                Step::Closes
+            };
         }
         let count = self.connection.room().min(buffer.len());
         if count == 0 || !self.readiness.read {

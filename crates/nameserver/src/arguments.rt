@@ -72,11 +72,21 @@ fn command<'a>(alloc: Global) -> Result<Command<'a>, AllocError> {
         .version(VERSION)
         .about("Serves zones over UDP and TCP, takes dynamic updates, and makes faults on demand")
         .arg(files)?
-        .arg(option(alloc, "origin", "NAME", "The origin of the zone, if there is one zone file"))?
+        .arg(option(
+            alloc,
+            "origin",
+            "NAME",
+            "The origin of the zone, if there is one zone file",
+        ))?
         .arg(listen_option(alloc))?
         .arg(limit_option(alloc))?
         .arg(option(alloc, "faults", "FILE", "The fault table"))?
-        .arg(option(alloc, "log", "FILE", "The file to which a line of JSON is appended for each request"))?
+        .arg(option(
+            alloc,
+            "log",
+            "FILE",
+            "The file to which a line of JSON is appended for each request",
+        ))?
         .arg(flag(alloc, "no-updates", "Refuse all dynamic updates"))?
         .arg(updaters_option(alloc))?
         .arg(flag(alloc, "until-stdin-closes", "End when standard input ends"))
@@ -115,9 +125,14 @@ fn updaters_option<'a>(alloc: Global) -> Arg<'a> {
 
 /// Returns the option of the maximum size of datagrams.
 fn limit_option<'a>(alloc: Global) -> Arg<'a> {
-    option(alloc, "limit", "N", "The maximum size of datagrams, in bytes")
-        .value_parser(value_parser!(u16).range(512..=65507))
-        .default_value("1232")
+    option(
+        alloc,
+        "limit",
+        "N",
+        "The maximum size of datagrams, in bytes",
+    )
+    .value_parser(value_parser!(u16).range(512..=65507))
+    .default_value("1232")
 }
 
 /// Returns an option without a value.
@@ -206,7 +221,8 @@ fn address_of(alloc: Global, text: &str) -> Result<SocketAddr, Ending> {
     };
     if address.ip().is_unspecified() {
         // A socket for all addresses does not say to which of them a datagram came, and the reply has to leave from that one.
-        let reason = "replies could leave from another address than the one that was asked; list each address";
+        let reason =
+            "replies could leave from another address than the one that was asked; list each address";
         return Err(Ending::invalid(alloc, "listen", text, reason));
     }
     Ok(address)

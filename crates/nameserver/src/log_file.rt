@@ -19,10 +19,7 @@ impl LogFile {
                 file,
                 has_failed: false,
             }),
-            Err(error) => Err(Ending::CannotOpenLog(
-                String::from_str(rt.alloc(), path)?,
-                error,
-            )),
+            Err(error) => Err(Ending::CannotOpenLog(String::from_str(rt.alloc(), path)?, error)),
         }
     }
 

@@ -103,9 +103,7 @@ fn read_faults(rt: &HostRuntime, arguments: &Arguments) -> Result<FaultTable, En
         Ok(table) => Ok(table),
         // Memory was refused while the table was read.
         Err(FaultTableError::Memory) => Err(Ending::Memory),
-        Err(error) => Err(Ending::Refused(
-            format!(in rt.alloc(); "{path}: {error}\n")?,
-        )),
+        Err(error) => Err(Ending::Refused(format!(in rt.alloc(); "{path}: {error}\n")?)),
     }
 }
 

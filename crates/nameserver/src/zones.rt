@@ -44,7 +44,9 @@ fn read_zone(rt: &HostRuntime, path: &str, origin: Option<&Name>) -> Result<Zone
     };
     let name = zone.origin();
     let count = records_count(&zone);
-    let line = format!(in rt.alloc(); "{path}: zone {name}, {count} records, loaded in {milliseconds} ms\n")?;
+    let line = format!(in rt.alloc();
+        "{path}: zone {name}, {count} records, loaded in {milliseconds} ms\n"
+    )?;
     // A failure to write to standard error can't be reported.
     let _written = rt.eprint(line.as_str());
     Ok(zone)
