@@ -1,12 +1,7 @@
 -- What a name server for tests answers.
-use Rattle.std.specs.Prelude.{◌≡◌, if◌then◌else◌, Bool, true, false, List, ℕ, Option, Some, None}
-use Rattle.dns_messages.specs.declared.op_code.OpCode.{OpCode}
+use Rattle.std.specs.Prelude.{◌≡◌, Bool, true, false, List, ℕ, Option, Some, None, option_map, MatchOption}
 use Rattle.dns_messages.specs.declared.op_code.OpCode.TheVariants as ops
-use Rattle.dns_messages.specs.declared.response_code.ResponseCode.{ResponseCode}
-use Rattle.dns_messages.specs.declared.response_code.ResponseCode.TheVariants as codes
-use Rattle.dns_messages.specs.declared.header.Metadata.{Metadata}
 use Rattle.dns_messages.specs.declared.message.Message.{Message}
-use Rattle.dns_messages.specs.Header.{peeked_metadata}
 use Rattle.dns_zone.specs.declared.road.Road.{Road}
 use Rattle.dns_zone.specs.declared.road.Road.TheVariants as roads
 use Rattle.dns_server.specs.Server.{IsReplyBy, route, zones_after}
@@ -21,29 +16,35 @@ use Rattle.std.specs.declared.net.ip_addr.IpAddr.{IpAddr}
 use Rattle.std.specs.declared.net.ip_addr.IpAddr.TheVariants.{V4, V6}
 use Rattle.dns_names.specs.declared.reverse.AddrPrefix.{AddrPrefix}
 use Rattle.dns_server.specs.AddressList.{is_covered}
+use Rattle.dns_nameserver.specs.Former.{Former, former_after, is_accepted}
 use Rattle.dns_nameserver.specs.declared.zone_server.Context.{Context}
 use Rattle.dns_nameserver.specs.declared.zone_server.ZoneServer.{ZoneServer}
 use Rattle.dns_nameserver.specs.declared.name_server.NameServer.{NameServer}
 
--- whether a header is that of the reply to an update that was applied (RFC 2136 section 3.8)
-abbrev pub is_applied : OpCode → ResponseCode → Bool
-is_applied ops.Update codes.NoError = true
-is_applied op code = false
-
--- the same of a header that may be missing
-abbrev pub is_applied_by : Option Metadata → Bool
-is_applied_by None = false
-is_applied_by (Some m) = is_applied m.op_code m.response_code
-
--- whether bytes are the reply to an update that was applied
-abbrev pub is_accepted : List ℕ → Bool
-is_accepted reply = is_applied_by (peeked_metadata reply)
+-- what becomes of the zones from before the last update, if they are kept
+abbrev pub formers_after : Bool → Option Former → Message → Option Former
+formers_after updated f m = option_map (λ f. former_after updated f m) f
 
 -- A request is served by the zone that it is for, and remembered as an update that was applied if it was one.
 pub record Serves (old : ZoneServer) (context : Context) (m : Message) (reply : List ℕ) (new : ZoneServer) : Type 0 where
   pub replied : IsReplyBy old.server (route context.updates old.server m) context.road m reply
   pub zones : new.server ≡ zones_after context.updates old.server m
   pub updated : new.has_updated ≡ is_accepted reply
+  pub formers : new.former ≡ formers_after (is_accepted reply) old.former m
+
+-- A request is served by these zones from before the last update. No update is allowed.
+pub record ServesBy (f : Former) (old : ZoneServer) (context : Context) (m : Message) (reply : List ℕ) (new : ZoneServer) : Type 0 where
+  pub replied : IsReplyBy f.zones (route may.Refused f.zones m) context.road m reply
+  pub zones : new.server ≡ old.server
+  pub updated : new.has_updated ≡ false
+  pub formers : new.former ≡ Some (record f { zones = zones_after may.Refused f.zones m })
+
+-- A request is served by the rows from before the last update. An update, and any request if these rows are not kept, is served
+-- by the current ones.
+pub record ServesStale (old : ZoneServer) (context : Context) (m : Message) (reply : List ℕ) (new : ZoneServer) : Type 0 where
+  pub of_update : m.metadata.op_code ≡ ops.Update → Serves old context m reply new
+  pub of_other : ¬ (m.metadata.op_code ≡ ops.Update)
+      → MatchOption old.former (Serves old context m reply new) (λ f. ServesBy f old context m reply new)
 
 -- a transport, with the maximum size of datagrams
 abbrev pub road_of : Transport → ℕ → Road
@@ -71,7 +72,7 @@ IsCoverageOf list (V6 a) covered =
 pub record AnswersRequest (old : NameServer) (request : List ℕ) (address : IpAddr) (transport : Transport) (sent : Sending) (line : Option ℕ) (updated : Bool) (new : NameServer) : Type 0 where
   pub covered : Bool
   pub coverage : IsCoverageOf old.updaters address covered
-  pub responds : Responds Serves Serves (forgetful old.zones) old.faults request transport
+  pub responds : Responds Serves ServesStale (forgetful old.zones) old.faults request transport
       (record { road = road_of transport old.limit; updates = updates_of covered }) sent line new.zones new.faults
   pub updated_is : updated ≡ new.zones.has_updated
   pub limit_kept : new.limit ≡ old.limit

@@ -1,10 +1,8 @@
 //! The zones of a name server, as faults are made on their replies.
 
-ghost use Rattle.std.specs.Prelude.{◌≡◌};
-ghost use Rattle.dns_nameserver.specs.NameServer.{is_accepted};
-
+use crate::former::{FormerZones, is_accepted};
 use dns_faults::FaultServer;
-use dns_messages::{Message, Metadata, OpCode, ResponseCode};
+use dns_messages::{Message, OpCode};
 use dns_server::{Server, Updates};
 use dns_zone::Road;
 use std::alloc::AllocError;
@@ -23,50 +21,52 @@ pub struct Context {
 pub struct ZoneServer {
     /// The zones.
     pub server: Server,
+    /// The zones from before the last update, if they are kept.
+    pub former: Option<FormerZones>,
     /// Whether the last request that was served was an update, and changed a zone.
     pub has_updated: bool,
 }
 
 impl FaultServer for ZoneServer {
     ghost use Rattle.std.specs.Prelude.{List, ℕ};
-    ghost use Rattle.dns_nameserver.specs.NameServer.{Serves};
+    ghost use Rattle.dns_nameserver.specs.NameServer.{Serves, ServesStale};
 
     type Context = Context;
 
     ghost serves = { Serves };
 
-    ghost serves_stale = { Serves };
+    ghost serves_stale = { ServesStale };
 
     fn serve_request(
         &mut self,
         request: &Message,
         context: Context,
     ) -> Result<Vec<u8>, AllocError> {
-        let reply = self
-            .server
-            .respond_to(request, context.road, context.updates)?;
+        let Context { road, updates } = context;
+        let reply = match &mut self.former {
+            Some(former) => former.follow(&mut self.server, request, road, updates)?,
+            None => self.server.respond_to(request, road, updates)?,
+        };
         self.has_updated = is_accepted(reply.as_slice());
         Ok(reply)
     }
 
+    /// Without the zones from before the last update, the current ones serve.
     fn serve_stale_request(
         &mut self,
         request: &Message,
         context: Context,
     ) -> Result<Vec<u8>, AllocError> {
-        self.serve_request(request, context)
-    }
-}
-
-/// Returns `true` for the reply to an update that was applied (RFC 2136 section 3.8).
-fn is_accepted(reply: &[u8]) -> bool
-    ensures { result ≡ is_accepted reply.now }
-{
-    match Metadata::peek(reply) {
-        Some(metadata) => match (metadata.op_code, metadata.response_code) {
-            (OpCode::Update, ResponseCode::NoError) => true,
-            _ => false,
-        },
-        None => false,
+        if let OpCode::Update = request.metadata.op_code {
+            return self.serve_request(request, context);
+        }
+        match &mut self.former {
+            Some(former) => {
+                let reply = former.serve(request, context.road)?;
+                self.has_updated = false;
+                Ok(reply)
+            }
+            None => self.serve_request(request, context),
+        }
     }
 }

@@ -171,10 +171,7 @@ fn texts_in(
 
 /// Returns the values of an argument, as given.
 fn given<'m, 'a>(matches: &'m ArgMatches<'a>, name: &str) -> &'m [&'a str] {
-    match matches.get_strs(name) {
-        Some(texts) => texts,
-        None => &[],
-    }
+    matches.get_strs(name).unwrap_or(&[])
 }
 
 /// Returns the origin, if its option has a value. It is fully qualified, with or without a dot at its end.

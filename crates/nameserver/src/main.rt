@@ -17,8 +17,8 @@ use crate::ending::Ending;
 use crate::files::{read_file, text_of};
 use crate::handler::LoggedServer;
 use crate::log_file::LogFile;
-use crate::zones::read_zones;
-use dns_fault_rules::FaultTable;
+use crate::zones::{read_former, read_zones};
+use dns_fault_rules::{FaultTable, Service as FaultService};
 use dns_fault_text::{FaultTableError, parse_faults};
 use dns_nameserver::{NameServer, ZoneServer};
 use dns_sockets::Service;
@@ -49,7 +49,7 @@ fn end(rt: &HostRuntime, ending: &Ending) -> ExitCode {
 fn run_program(rt: &HostRuntime) -> Result<(), Ending> {
     let arguments = given_arguments(rt)?;
     let faults = read_faults(rt, &arguments)?;
-    let server = read_zones(rt, &arguments)?;
+    let zones = zone_server(rt, &arguments, &faults)?;
     let log = open_log(rt, &arguments)?;
     let mut service = open_service(rt, &arguments)?;
     let Arguments {
@@ -59,10 +59,7 @@ fn run_program(rt: &HostRuntime) -> Result<(), Ending> {
         ..
     } = arguments;
     let server = NameServer {
-        zones: ZoneServer {
-            server,
-            has_updated: false,
-        },
+        zones,
         faults,
         limit,
         updaters,
@@ -72,6 +69,30 @@ fn run_program(rt: &HostRuntime) -> Result<(), Ending> {
         Ok(()) => Ok(()),
         Err(error) => Err(Ending::Failed(error)),
     }
+}
+
+/// Reads the zones, twice if a fault needs those from before the last update.
+fn zone_server(
+    rt: &HostRuntime,
+    arguments: &Arguments,
+    faults: &FaultTable,
+) -> Result<ZoneServer, Ending> {
+    let server = read_zones(rt, arguments)?;
+    let former = if has_stale(faults) {
+        Some(read_former(rt, arguments)?)
+    } else {
+        None
+    };
+    Ok(ZoneServer {
+        server,
+        former,
+        has_updated: false,
+    })
+}
+
+/// Returns `true` if a rule answers by the rows from before the last update.
+fn has_stale(faults: &FaultTable) -> bool {
+    faults.rules().iter().any(|counted| matches!(counted.rule.fault.service, FaultService::Stale))
 }
 
 /// Returns the arguments of the program.

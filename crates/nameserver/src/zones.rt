@@ -4,9 +4,11 @@ use crate::arguments::Arguments;
 use crate::ending::Ending;
 use crate::files::{read_file, text_of};
 use dns_names::Name;
+use dns_nameserver::FormerZones;
 use dns_server::{AddZoneError, Server};
 use dns_zone::{Zone, ZoneFault};
 use std::fmt::{self, Write};
+use std::io;
 use std::time::Instant;
 use zone_check::{check_zone, zone_report};
 
@@ -14,10 +16,41 @@ use zone_check::{check_zone, zone_report};
 pub(crate) fn read_zones(rt: &HostRuntime, arguments: &Arguments) -> Result<Server, Ending> {
     let mut server = Server::new(rt.alloc());
     for path in arguments.files.as_slice() {
+        let path = path.as_str();
+        let start = Instant::now(rt);
+        let zone = read_zone(rt, path, arguments.origin.as_ref())?;
+        tell(rt, path, &zone, milliseconds_since(rt, start));
+        add_zone(rt, &mut server, path, zone)?;
+    }
+    Ok(server)
+}
+
+/// Reads the zone files again, for the zones from before the last update.
+pub(crate) fn read_former(rt: &HostRuntime, arguments: &Arguments) -> Result<FormerZones, Ending> {
+    let mut server = Server::new(rt.alloc());
+    for path in arguments.files.as_slice() {
         let zone = read_zone(rt, path.as_str(), arguments.origin.as_ref())?;
         add_zone(rt, &mut server, path.as_str(), zone)?;
     }
-    Ok(server)
+    Ok(FormerZones::new(server))
+}
+
+/// Returns how many milliseconds have passed, or 0 if the clock fails.
+fn milliseconds_since(rt: &HostRuntime, start: io::Result<Instant>) -> u128 {
+    match start {
+        Ok(start) => start.elapsed(rt).map_or(0, |elapsed| elapsed.as_millis()),
+        Err(_) => 0,
+    }
+}
+
+/// Says on standard error which zone a file has.
+fn tell(rt: &HostRuntime, path: &str, zone: &Zone, milliseconds: u128) {
+    let name = zone.origin();
+    let count = records_count(zone);
+    // A failure to write to standard error can't be reported.
+    let _written = eprintln!(rt;
+        "{path}: zone {name}, {count} records, loaded in {milliseconds} ms"
+    );
 }
 
 /// Adds a zone to a server. There may be no other with its origin.
@@ -35,21 +68,8 @@ fn add_zone(rt: &HostRuntime, server: &mut Server, path: &str, zone: Zone) -> Re
 
 /// Reads a zone file.
 fn read_zone(rt: &HostRuntime, path: &str, origin: Option<&Name>) -> Result<Zone, Ending> {
-    let start = Instant::now(rt);
     let text = text_of(rt.alloc(), path, read_file(rt, path)?)?;
-    let zone = zone_of(rt, path, text.as_str(), origin)?;
-    let milliseconds = match &start {
-        Ok(start) => start.elapsed(rt).map_or(0, |elapsed| elapsed.as_millis()),
-        Err(_) => 0,
-    };
-    let name = zone.origin();
-    let count = records_count(&zone);
-    let line = format!(in rt.alloc();
-        "{path}: zone {name}, {count} records, loaded in {milliseconds} ms\n"
-    )?;
-    // A failure to write to standard error can't be reported.
-    let _written = rt.eprint(line.as_str());
-    Ok(zone)
+    zone_of(rt, path, text.as_str(), origin)
 }
 
 /// Returns the zone of a zone file, or what is wrong in it.
