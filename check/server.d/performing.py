@@ -27,9 +27,10 @@ class Measured(NamedTuple):
     latencies: List[float]
 
 
-def dnsperf(port: int, questions: Path, seconds: float, *options: str) -> Measured:
-    """Lets dnsperf ask questions for a time."""
-    words = [find("dnsperf"), "-s", "127.0.0.1", "-p", str(port), "-d", str(questions), "-l", str(seconds), "-v", *options]
+def dnsperf(port: int, questions: Path, seconds: float, notes_each: bool, *options: str) -> Measured:
+    """Lets dnsperf ask questions for a time. It has the latency of each question only if it notes each."""
+    words = [find("dnsperf"), "-s", "127.0.0.1", "-p", str(port), "-d", str(questions), "-l", str(seconds), *options]
+    words += ["-v"] if notes_each else []
     done = subprocess.run(words, capture_output=True, text=True, errors="replace", timeout=seconds + 60)
     numbers = {name: float(re.search(pattern, done.stdout)[1]) for name, pattern in LINES.items()}
     latencies = [float(line.rsplit(None, 1)[1]) for line in done.stdout.splitlines() if line.startswith("> ") and not line.endswith("T")]
@@ -47,7 +48,7 @@ def try_dnsperf(report: Report, program: str, missing: List[str]) -> None:
         with NameServer(big_zone(1000), program=program, seconds=60) as server:
             for options in (["-c", "4"], ["-e"], ["-m", "tcp", "-c", "20"], ["-q", "1"]):
                 report.begin()
-                found = dnsperf(server.port, questions, 2, *options)
+                found = dnsperf(server.port, questions, 2, False, *options)
                 answered = found.numbers["completed"]
                 report.check("questions that were lost", 0, found.numbers["lost"])
                 report.check("questions", True, answered > 100)

@@ -89,10 +89,11 @@ def processor_time(process_id: int) -> float:
     return total / TICKS
 
 
-def memory(process_id: int, field: str = "VmRSS") -> int:
-    """The memory of a program and of the processes that it started, in kB."""
+def memory(process_id: int) -> int:
+    """The memory of a program and of the processes that it started, in kB. What they share is counted once."""
     total = 0
     for it in children_of(process_id):
-        with contextlib.suppress(OSError, KeyError):
-            total += status_of(it, field)
+        with contextlib.suppress(OSError):
+            for line in Path(f"/proc/{it}/smaps_rollup").read_text().splitlines():
+                total += int(line.split()[1]) if line.startswith("Pss:") else 0
     return total

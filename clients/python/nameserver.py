@@ -73,14 +73,14 @@ class NameServer:
 
     `zone` is the text of a zone file, or a list of such texts, each of another zone. `faults` is the text of a fault table,
     and `options` are further arguments of the program, such as `["--limit", "512"]`. `port` 0 is any free port, and
-    `seconds` how long the server may take to start. Once it is started, `address` and `port` are those to ask, and
+    `seconds` how long the server may take to start. `log=False` leaves out the log, which takes time. Once it is started, `address` and `port` are those to ask, and
     `addresses` has them and those of each further `--listen` of the options.
     """
 
-    def __init__(self, zone, *, faults="", options=(), address="127.0.0.1", port=0, program=None, seconds=None):
+    def __init__(self, zone, *, faults="", options=(), address="127.0.0.1", port=0, program=None, seconds=None, log=True):
         self.zones = [zone] if isinstance(zone, str) else list(zone)
         self.faults, self.options = faults, [str(it) for it in options]
-        self.address, self.port = address, port
+        self.address, self.port, self.has_log = address, port, log
         self.program, limit = find_program(program)
         self.seconds = limit if seconds is None else seconds
         self.process = self.folder = None
@@ -121,7 +121,8 @@ class NameServer:
             Path(self.path(name)).write_text(text, encoding="utf-8")
         listen = f"[{self.address}]:{self.port}" if ":" in self.address else f"{self.address}:{self.port}"
         words = [self.program, *(self.path(it) for it in texts if it != "faults")]
-        words += ["--listen", listen, "--log", self.path("log"), "--until-stdin-closes"]
+        words += ["--listen", listen, "--until-stdin-closes"]
+        words += ["--log", self.path("log")] if self.has_log else []
         return words + (["--faults", self.path("faults")] if self.faults else []) + self.options
 
     def path(self, name):
@@ -169,7 +170,8 @@ class NameServer:
             self.zones = [zone] if isinstance(zone, str) else list(zone)
         if faults is not None:
             self.faults = faults
-        Path(self.path("log")).unlink()
+        if os.path.exists(self.path("log")):
+            os.remove(self.path("log"))
         self.start()
 
     def requests(self):
