@@ -29,28 +29,58 @@ def start(words, **how):
     return subprocess.Popen(words, start_new_session=True, stdin=subprocess.DEVNULL, **how)
 
 
+def output_of(words):
+    """Runs a command that ends by itself when it is told to, and returns its status and its standard output."""
+    told = []
+
+    def pass_on(number, _frame):
+        """Passes a signal on."""
+        told.append(number)
+        command.send_signal(number)
+
+    command = subprocess.Popen(words, stdin=subprocess.DEVNULL, stdout=subprocess.PIPE)
+    with handling_ends(pass_on):
+        output = command.communicate()[0]
+    if told:
+        raise Told(told[0])
+    return command.returncode, output
+
+
 @contextlib.contextmanager
 def ending_together():
     """Ends all processes that were started meanwhile when an exception leaves, and raises `Told` on a signal to end."""
-    former = {it: signal.signal(it, raise_told) for it in ENDING}
-    try:
-        yield
-    except BaseException:
-        end_descendants()
-        raise
-    for number, handler in former.items():
-        signal.signal(number, handler)
+    with handling_ends(raise_told):
+        try:
+            yield
+        except BaseException:
+            end_descendants()
+            raise
+
+
+@contextlib.contextmanager
+def handling_ends(handler):
+    """Handles the signals to end, but for those that the caller has this program ignore, until this is left with no exception."""
+    former = {it: signal.getsignal(it) for it in ENDING if signal.getsignal(it) != signal.SIG_IGN}
+    for it in former:
+        signal.signal(it, handler)
+    yield
+    for number, earlier in former.items():
+        signal.signal(number, earlier)
 
 
 def exit_as_told(call, *given):
     """Exits with the status that a call returns, or by the signal that told this program to end."""
     try:
-        status = call(*given)
+        sys.exit(call(*given))
     except Told as told:
-        signal.signal(told.number, signal.SIG_DFL)
-        os.kill(os.getpid(), told.number)
-        status = 128 + told.number
-    sys.exit(status)
+        end_as_told(told)
+
+
+def end_as_told(told):
+    """Ends this program by the signal that told it to end."""
+    signal.signal(told.number, signal.SIG_DFL)
+    os.kill(os.getpid(), told.number)
+    sys.exit(128 + told.number)
 
 
 def raise_told(number, _frame):

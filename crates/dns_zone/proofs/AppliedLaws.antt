@@ -1,5 +1,5 @@
 -- A zone after an update, and after one that was refused memory.
-use Rattle.std.proofs.Common.{◌≡◌, ◌∙◌, ℕ, Bool, true, false, cond, not, ◌||◌, List, [], ◌∷◌, refl, sym, ap, subst, Option, Some, None}
+use Rattle.std.proofs.Common.{◌≡◌, ◌∙◌, ℕ, Bool, true, false, cond, not, ◌||◌, List, [], ◌∷◌, refl, sym, subst, Option, Some}
 use Rattle.std.specs.Prelude.{IfSome}
 use Rattle.std.specs.List as list
 use Rattle.std.specs.List.{list_any}
@@ -15,7 +15,7 @@ use Rattle.dns_updates.specs.Changes.{overlay}
 use Rattle.dns_updates.specs.Code.{update_code}
 use Rattle.dns_zone.specs.Load.{is_internet}
 use Rattle.dns_zone.specs.Printed.{AreZoneSets}
-use Rattle.dns_zone.specs.Rows.{Key, Rows, ZoneContent, AreSoundSets, IsZone, rows_of_sets, zone_of}
+use Rattle.dns_zone.specs.Rows.{Key, ZoneContent, AreSoundSets, IsZone, rows_of_sets, zone_of}
 use Rattle.dns_zone.specs.Sets.{set_at, AreInOrder}
 use Rattle.dns_zone.specs.internal.Store.{changed_at}
 use Rattle.dns_zone.proofs.KeptLaws.{AreKept, HaveSameSets, kept_sets}

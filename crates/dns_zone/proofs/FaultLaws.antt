@@ -1,18 +1,18 @@
 -- The codes of updates fit the header of a reply.
-use Rattle.std.proofs.Common.{◌≡◌, ◌<◌, ◌==◌, ℕ, Bool, true, false, cond, not, List, [], ◌∷◌, refl, lit<}
+use Rattle.std.proofs.Common.{◌≡◌, ◌<◌, Bool, true, false, cond, List, [], ◌∷◌, refl, lit<}
 use Rattle.dns_codes.specs.declared.record_type.RecordType.TheVariants as types
 use Rattle.dns_codes.specs.declared.dns_class.DNSClass.{DNSClass}
 use Rattle.dns_codes.specs.declared.dns_class.DNSClass.TheVariants as classes
 use Rattle.dns_names.specs.Name.{DomainName}
 use Rattle.dns_records.specs.Record.{Record}
-use Rattle.dns_records.specs.Rows.{Rows, type_of_record}
+use Rattle.dns_records.specs.Rows.{Rows}
 use Rattle.dns_messages.specs.declared.message.Message.{Message}
 use Rattle.dns_messages.specs.declared.query.Query.{Query}
 use Rattle.dns_messages.specs.declared.response_code.ResponseCode.{ResponseCode}
 use Rattle.dns_messages.specs.declared.response_code.ResponseCode.TheVariants.{NoError, FormErr, NXDomain, YXDomain, YXRRSet, NXRRSet, NotAuth, NotZone}
 use Rattle.dns_messages.specs.Header.{code_number, code_of}
 use Rattle.dns_updates.specs.Records.{is_of_type}
-use Rattle.dns_updates.specs.Code.{absence_code, existence_code, fault_if, first_fault, first_fault_of, prerequisite_code, prescan_code, sets_code, test_code, update_code, zone_code}
+use Rattle.dns_updates.specs.Code.{absence_code, existence_code, fault_if, first_fault, first_fault_of, prerequisite_code, prescan_code, test_code, update_code, zone_code}
 
 -- a code of four bits, which its number stands for
 pub record IsHeaderCode (c : ResponseCode) : Type 0 where

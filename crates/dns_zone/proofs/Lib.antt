@@ -21,3 +21,4 @@ pub mod SetLaws
 pub mod StoreLaws
 pub mod UpdatedLaws
 pub mod WholeLaws
+pub mod RequestLaws

@@ -1,18 +1,18 @@
 -- The sets of an owner are those between its first key and its end.
-use Rattle.std.proofs.Common.{◌≡◌, ◌∙◌, ℕ, Bool, true, false, cond, not, ◌&&◌, ◌||◌, List, [], ◌∷◌, ◌++◌, map, length, refl, sym, ap, subst, arith, Ordering, Less, Equal, Greater, is_some, Option, Some, None}
+use Rattle.std.proofs.Common.{◌≡◌, ◌∙◌, ℕ, Bool, true, false, cond, not, ◌&&◌, ◌||◌, List, [], ◌∷◌, ◌++◌, map, refl, sym, ap, arith, Ordering, Less, Equal, Greater}
 use Rattle.std.proofs.lemmas.List.{append-nil}
 use Rattle.std.specs.Cmp.{tied_itself, nat_cmp_total, ranked}
 use Rattle.std.specs.Cmp.Lexicographic.{slice_cmp, nat_list_cmp_total}
 use Rattle.std.specs.List.{list_any, filter}
 use Rattle.std.specs.Map.{values_of}
 use Rattle.std.specs.BTreeMap.Range.{range_contains}
-use Rattle.std.specs.Ordering.{eq_by_cmp, is_gt, is_le, nat_cmp, ordering_then, ordering_reverse}
+use Rattle.std.specs.Ordering.{is_gt, is_le, nat_cmp, ordering_then, ordering_reverse}
 use Rattle.std.specs.declared.ops.Bound.TheVariants.{Included, Excluded}
 use Rattle.dns_codes.specs.declared.record_type.RecordType.{RecordType}
-use Rattle.dns_names.specs.Compare.{lower, same_labels}
+use Rattle.dns_names.specs.Compare.{same_labels}
 use Rattle.dns_names.specs.internal.Compare.{same-lower, same_labels-equivalence}
 use Rattle.dns_records.specs.RecordSet.{RecordSetValue}
-use Rattle.dns_zone.specs.Sets.{owner_code, HaveTheirKeys, Place, set_place}
+use Rattle.dns_zone.specs.Sets.{owner_code, HaveTheirKeys, Place}
 use Rattle.dns_zone.proofs.CodeLaws.{owner_apart, owner_of_lower}
 use Rattle.dns_zone.proofs.PlaceLaws.{tied_both}
 use Rattle.dns_zone.proofs.RowLaws.{same_lower}

@@ -1,5 +1,5 @@
 -- Changed sets that are stored in three steps come to stand in place of those of the zone.
-use Rattle.std.proofs.Common.{◌≡◌, ◌≢◌, ◌==◌, ◌+◌, ◌<◌, ◌≤◌, ◌∙◌, ℕ, Bool, true, false, cond, not, ◌&&◌, ◌||◌, List, [], ◌∷◌, map, length, take, drop, get_or, set, refl, sym, ap, subst, arith, zero, suc, is_some, Option, Some, None, option_map}
+use Rattle.std.proofs.Common.{◌≡◌, ◌==◌, ◌+◌, ◌<◌, ◌∙◌, ℕ, Bool, true, false, cond, not, ◌&&◌, ◌||◌, List, [], ◌∷◌, length, take, drop, get_or, set, refl, sym, ap, subst, arith, zero, suc, is_some, Option, Some, None}
 use Rattle.std.specs.Prelude.{IfSome}
 use Rattle.std.proofs.lemmas.Bool.Decides.{nat_tests}
 use Rattle.std.specs.FinMap as rows_map
@@ -7,11 +7,10 @@ use Rattle.std.specs.List as list
 use Rattle.std.specs.List.{list_any}
 use Rattle.std.specs.Map.{values_of, lookup, set_value}
 use Rattle.std.specs.BTreeMap.{is_at}
-use Rattle.std.specs.Cmp.{Equal-is, tied_itself, eq_by_cmp_equiv}
+use Rattle.std.specs.Cmp.{eq_by_cmp_equiv}
 use Rattle.std.specs.Ordering.{eq_by_cmp}
 use Rattle.dns_codes.specs.RecordType.{type_number, type_of}
 use Rattle.dns_codes.specs.declared.record_type.RecordType.{RecordType}
-use Rattle.dns_records.specs.declared.row.Row.{Row}
 use Rattle.dns_records.specs.Record.{Record}
 use Rattle.dns_records.specs.RecordSet.{RecordSetValue}
 use Rattle.dns_updates.specs.declared.changes.changed_set.ChangedSet.{ChangedSet}
@@ -19,7 +18,7 @@ use Rattle.dns_updates.specs.Changes.{changed_key, overlay}
 use Rattle.dns_updates.proofs.ChangeLaws.{changed_or, get-overlay}
 use Rattle.dns_updates.proofs.UpdateLaws.Maps.{filled, filled_empty, filled_more, same_key}
 use Rattle.dns_updates.proofs.Walks.{drop_at}
-use Rattle.dns_zone.specs.Rows.{Key, Rows, key, key_cmp, set_key, row_of, rows_of, rows_of_sets, HasNoEmptySet}
+use Rattle.dns_zone.specs.Rows.{Key, key, key_cmp, set_key, row_of, rows_of, rows_of_sets, HasNoEmptySet}
 use Rattle.dns_zone.specs.Sets.{set_at, set_place, with_records, HaveTheirKeys}
 use Rattle.dns_zone.specs.internal.Store.{has_key, changed_keys, reserved_set, or_reserved, is_reserved, reserved_at, one_reserved, or_stored, stored_at, one_stored, is_empty_set, released_at, changed_at}
 use Rattle.dns_zone.proofs.KeptLaws.{tied_key}

@@ -1,17 +1,17 @@
 -- Updates keep zones well formed.
-use Rattle.std.proofs.Common.{◌≡◌, ◌≢◌, ◌==◌, ◌<◌, ◌≤◌, ◌∙◌, ℕ, Bool, true, false, cond, not, ◌&&◌, ◌||◌, List, [], ◌∷◌, length, map, refl, sym, ap, subst, arith, Option, Some, None, unwrap_or, is_some}
+use Rattle.std.proofs.Common.{◌≡◌, ◌≢◌, ◌==◌, ◌<◌, ◌≤◌, ◌∙◌, ℕ, Bool, true, false, cond, not, ◌&&◌, ◌||◌, List, [], ◌∷◌, length, refl, sym, ap, subst, arith, Option, Some, None, unwrap_or}
 use Rattle.std.specs.Prelude.{IfSome}
 use Rattle.std.proofs.lemmas.Bool.Decides.{nat_tests}
 use Rattle.std.specs.FinMap as rows_map
 use Rattle.std.specs.List.{filter, fold, AllByRecursion, IsDistinct}
 use Rattle.std.specs.Ordering.{eq_by_cmp}
-use Rattle.dns_codes.specs.RecordType.{type_number, type_of}
+use Rattle.dns_codes.specs.RecordType.{type_number}
 use Rattle.dns_codes.specs.declared.record_type.RecordType.{RecordType}
 use Rattle.dns_codes.specs.declared.record_type.RecordType.TheVariants as types
 use Rattle.dns_codes.specs.declared.dns_class.DNSClass.{DNSClass}
 use Rattle.dns_codes.specs.declared.dns_class.DNSClass.TheVariants as classes
 use Rattle.dns_names.specs.Name.{DomainName}
-use Rattle.dns_names.specs.Compare.{lower, same_labels, at_or_below}
+use Rattle.dns_names.specs.Compare.{lower, same_labels}
 use Rattle.dns_names.specs.internal.Compare.{same_labels-equivalence}
 use Rattle.dns_data.specs.declared.rdata.RData.{RData}
 use Rattle.dns_data.specs.rdata.{data_type, same_data, is_update_data}
@@ -23,11 +23,11 @@ use Rattle.dns_records.specs.Rows.{key_of, set_of, type_of_record, with_set}
 use Rattle.dns_messages.specs.declared.message.Message.{Message}
 use Rattle.dns_messages.specs.declared.response_code.ResponseCode.{ResponseCode}
 use Rattle.dns_messages.specs.declared.response_code.ResponseCode.TheVariants.{NoError, FormErr, NotZone}
-use Rattle.dns_messages.specs.Section.{is_opt_type, is_tsig_type}
+use Rattle.dns_messages.specs.Section.{is_tsig_type}
 use Rattle.dns_messages.specs.Sound.{IsSound, IsSoundIn, is_update_code}
 use Rattle.dns_updates.specs.Records.{has_data, has_rows_but, has_set, is_in_zone, is_meta_type, is_of_type, is_origin, is_type}
 use Rattle.dns_updates.specs.Code.{fault_if, first_fault, is_malformed, prescan_code, update_code}
-use Rattle.dns_updates.specs.Change.{added, change, change_of_class, is_ignored, is_kept_set, keeps_rows, set_with, succeeds_soa, update_change, with_row, without_data, without_name, without_row, without_set}
+use Rattle.dns_updates.specs.Change.{change, change_of_class, is_ignored, is_kept_set, keeps_rows, set_with, succeeds_soa, update_change, with_row, without_data, without_name, without_row, without_set}
 use Rattle.dns_updates.proofs.UpdateLaws.Kept.{accepted_pass}
 use Rattle.dns_updates.proofs.UpdateLaws.Maps as maps
 use Rattle.dns_zone_file.specs.Parsed.{is_singleton_type}

@@ -1,5 +1,5 @@
 -- The sets of a zone whose rows are well formed.
-use Rattle.std.proofs.Common.{◌≡◌, ◌==◌, ◌<◌, ◌^◌, ◌∙◌, ℕ, Bool, true, false, cond, not, ◌&&◌, ◌||◌, List, [], ◌∷◌, ◌++◌, length, refl, sym, ap, subst, arith, Option, Some, None, unwrap_or}
+use Rattle.std.proofs.Common.{◌≡◌, ◌==◌, ◌<◌, ◌^◌, ◌∙◌, ℕ, Bool, true, false, cond, not, ◌&&◌, ◌||◌, List, [], ◌∷◌, ◌++◌, length, refl, sym, ap, subst, arith, Option, Some, unwrap_or}
 use Rattle.std.specs.Prelude.{IfSome, nat_lt}
 use Rattle.std.proofs.lemmas.List.{append_assoc, length-map}
 use Rattle.std.proofs.lemmas.Bool.Decides.{nat_tests}
@@ -9,7 +9,6 @@ use Rattle.std.specs.List.{list_any, AllByRecursion, IsDistinct}
 use Rattle.dns_codes.specs.RecordType.{type_number, type_of}
 use Rattle.dns_codes.specs.declared.record_type.RecordType.{RecordType}
 use Rattle.dns_codes.specs.declared.record_type.RecordType.TheVariants as types
-use Rattle.dns_names.specs.Compare.{same_labels}
 use Rattle.dns_names.specs.Name.{DomainName}
 use Rattle.dns_data.specs.rdata.{data_type, same_data, whole_len}
 use Rattle.dns_records.specs.declared.row.Row.{Row}
@@ -21,7 +20,7 @@ use Rattle.dns_zone.specs.Printed.{AreZoneSets}
 use Rattle.dns_zone.specs.Rows.{Key, key, ZoneContent, set_key, row_of, rows_of, rows_of_sets, row_data, AreSoundRows, IsSoundSet, AreSoundSets, AreRowsAt, IsZone}
 use Rattle.dns_zone.specs.Sets.{set_at, AreInOrder}
 use Rattle.dns_zone.proofs.FirstLaws.{others_before}
-use Rattle.dns_zone.proofs.KeptLaws.{AreApart, all_fail, apart_of_order, distinct_of_apart, find_behind, none_pass, share_key, start_first}
+use Rattle.dns_zone.proofs.KeptLaws.{AreApart, apart_of_order, distinct_of_apart, find_behind, none_pass, share_key, start_first}
 use Rattle.dns_zone.proofs.LoadLaws.{AreFaultless, is_faultless}
 use Rattle.dns_zone.proofs.RowLaws.{below_lower, get-sets, keys_tie, rows_if, same_lower, tied}
 

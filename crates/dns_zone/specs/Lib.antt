@@ -5,4 +5,5 @@ pub mod Load
 pub mod Printed
 pub mod Section
 pub mod Serving
+pub mod Request
 pub mod internal

@@ -16,4 +16,4 @@ mod sets;
 mod zone;
 
 pub use road::{DatagramLimit, LimitTooSmall, Road};
-pub use zone::{Answer, Zone, ZoneFault};
+pub use zone::{Answer, Zone, ZoneFault, bare_reply_bytes, decode_request};

@@ -1,18 +1,25 @@
 //! The server of a zone: requests and their replies (RFC 1035 sections 4.1 and 4.2).
 
-ghost use Rattle.std.specs.Prelude.{◌≡◌, ◌≤◌, IfOk, OnOk, OnErr};
+ghost use Rattle.std.specs.Prelude.{◌≡◌, ◌≤◌, ◌<◌, false, None, Ok, IfOk, OnOk, OnErr};
 ghost use Rattle.dns_messages.specs.declared.op_code.OpCode.TheVariants as ops;
 ghost use Rattle.dns_zone.specs.Serving.{borrowed_reply, reply_limit, has_query_header as is_query_header};
+ghost use Rattle.dns_zone.specs.Request.{DecodesRequest, IsEncodedReply, reply_without_zone, only_query, repeated_queries};
+ghost use Rattle.std.specs.List.{AllByRecursion};
+ghost use Rattle.dns_wire.specs.Name.{name_len};
+ghost use Rattle.dns_messages.specs.declared.response_code.ResponseCode.{ResponseCode};
+ghost use Rattle.dns_messages.specs.Cut.{front_reach};
+ghost use Rattle.dns_messages.specs.Header.{code_number, code_of};
+ghost use Rattle.dns_messages.specs.Sound.{IsSound};
 
 use crate::road::Road;
 use crate::zone::Zone;
 use crate::zone::answer::AnswerRef;
 use crate::zone::reply::ReplyRef;
 use dns_messages::laws::messages_decode_unambiguously;
-use dns_messages::{Message, MessageType, Metadata, OpCode, ResponseCode};
+use dns_messages::{Message, MessageType, Metadata, OpCode, Query, ResponseCode};
 use dns_names::Name;
 use dns_wire::{DecodeError, EncodeError};
-use std::alloc::AllocError;
+use std::alloc::{AllocError, Global};
 
 impl Zone {
     ghost use Rattle.dns_zone.specs.Serving.{Serves, IsReplyTo, bare_reply, reply, zone_after};
@@ -61,8 +68,8 @@ impl Zone {
         ReplyRef::new(self.alloc, request, queries, self.answer_ref(query))
     }
 
-    /// Returns the bytes of the reply to a query.
-    fn reply_bytes(&self, request: &Message, road: Road) -> Result<Vec<u8>, AllocError>
+    /// Returns the bytes of the reply to a request, under the limit of its transport. An update is not applied.
+    pub fn reply_bytes(&self, request: &Message, road: Road) -> Result<Vec<u8>, AllocError>
         ensures encodes { IfOk result (λ out. IsSound request.now
             → IsReplyTo self.now road request.now out.items) }
     {
@@ -87,22 +94,26 @@ impl Zone {
         ensures well_formed { IsZone self.new }
         ensures header { is_query_header bytes.now ≡ false → result ≡ Ok None }
     {
-        messages_decode_unambiguously();
         self.well_formed();
-        if !has_query_header(bytes) {
-            return Ok(None);
+        match decode_request(self.alloc, bytes)? {
+            Some(request) => Ok(Some(self.serve_message(&request, road)?)),
+            None => Ok(None),
         }
-        let request = match Message::from_vec(self.alloc, bytes) {
-            Ok(request) => request,
-            Err(error) => match error {
-                // The memory for the message was refused.
-                DecodeError::Memory => return Err(AllocError),
-                _ => return Ok(None),
-            },
-        };
-        let reply = self.reply_bytes(&request, road)?;
-        self.take(&request)?;
-        Ok(Some(reply))
+    }
+
+    /// Serves a request that is decoded: returns its reply, and applies an update whose response code is `NoError` (RFC 2136
+    /// section 3). The reply is encoded before the change, so that an error leaves the zone unchanged.
+    pub fn serve_message(&mut self, request: &Message, road: Road) -> Result<Vec<u8>, AllocError>
+        requires { IsSound request.now }
+        ensures reply { IfOk result (λ out. IsReplyTo self.old road request.now out.items) }
+        ensures ok { OnOk result (self.new ≡ zone_after self.old request.now) }
+        ensures err { OnErr result (self.new ≡ self.old) }
+        ensures well_formed { IsZone self.new }
+    {
+        self.well_formed();
+        let reply = self.reply_bytes(request, road)?;
+        self.take(request)?;
+        Ok(reply)
     }
 
     /// Applies a request that is an update.
@@ -118,6 +129,91 @@ impl Zone {
         }
         Ok(())
     }
+}
+
+/// Decodes a request: returns `None` if the bytes do not decode or are a response. Bytes that do not begin with the header of
+/// a query are dropped before memory is taken.
+pub fn decode_request(alloc: Global, bytes: &[u8]) -> Result<Option<Message>, AllocError>
+    ensures request { IfOk result (DecodesRequest bytes.now) }
+    ensures header { is_query_header bytes.now ≡ false → result ≡ Ok None }
+{
+    messages_decode_unambiguously();
+    if !has_query_header(bytes) {
+        return Ok(None);
+    }
+    match Message::from_vec(alloc, bytes) {
+        Ok(request) => Ok(Some(request)),
+        Err(error) => match error {
+            // The memory for the message was refused.
+            DecodeError::Memory => Err(AllocError),
+            _ => Ok(None),
+        },
+    }
+}
+
+/// Returns the bytes of a reply that no zone decides: it has this response code and no records, and repeats the question of a
+/// query that has exactly one (RFC 1035 section 4.1).
+pub fn bare_reply_bytes(
+    alloc: Global,
+    request: &Message,
+    code: ResponseCode,
+    road: Road,
+) -> Result<Vec<u8>, AllocError>
+    requires fits { code_number code < 16 }
+    requires named { code_of (code_number code) ≡ code }
+    ensures { IfOk result (λ out. IsSound request.now
+        → IsEncodedReply (reply_without_zone request.now code) road request.now out.items) }
+{
+    let owner = Name::root(alloc);
+    let reply = without_zone(alloc, request, &owner, code);
+    match reply.to_vec_within(alloc, limit_of(road, request)) {
+        Ok(out) => Ok(out),
+        // The memory for the reply's bytes was refused.
+        Err(EncodeError::Memory) => Err(AllocError),
+        Err(EncodeError::MaxBufferSizeExceeded) => unreachable!(),
+    }
+}
+
+/// Returns the reply with a response code that no zone decides, without taking memory. `owner` is ignored.
+fn without_zone<'a>(
+    alloc: Global,
+    request: &'a Message,
+    owner: &'a Name,
+    code: ResponseCode,
+) -> ReplyRef<'a>
+    ensures reply { borrowed_reply result ≡ reply_without_zone request.now code }
+    ensures short { front_reach (borrowed_reply result) ≤ 512 }
+{
+    ReplyRef::new(
+        alloc,
+        request,
+        repeated(request),
+        AnswerRef::bare(owner, code),
+    )
+}
+
+/// Returns the question of a query that has exactly one, or nothing.
+fn repeated(request: &Message) -> &[Query]
+    ensures value { result.now ≡ repeated_queries request.now }
+    ensures short { (code : ResponseCode)
+        → front_reach (reply_without_zone request.now code) ≤ 512 }
+{
+    match request.metadata.op_code {
+        OpCode::Query => only(request.queries.as_slice()),
+        _ => &[],
+    }
+}
+
+/// Returns questions if there is exactly one, or nothing.
+fn only(queries: &[Query]) -> &[Query]
+    ensures value { result.now ≡ only_query queries.now }
+    ensures short { AllByRecursion (λ q. name_len q.name.labels ≤ 255) result.now }
+{
+    let [query] = queries else {
+        return &[];
+    };
+    prove!(query.name.encoded_len() <= Name::MAX_LENGTH);
+    queries
 }
 
 /// Returns `true` if bytes begin with the header of a query.

@@ -1,5 +1,5 @@
-use Rattle.std.proofs.Common.{◌∙◌, List, ap, sym}
-use Rattle.std.specs.List.{filter, list_any}
+use Rattle.std.proofs.Common.{◌∙◌, ap, sym}
+use Rattle.std.specs.List.{list_any}
 use Rattle.std.specs.Map.{values_of}
 use Rattle.dns_names.specs.Compare.{same_labels}
 use Rattle.dns_records.specs.RecordSet.{RecordSetValue}

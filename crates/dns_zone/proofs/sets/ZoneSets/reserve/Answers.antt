@@ -1,5 +1,4 @@
-use Rattle.std.proofs.Common.{◌∙◌, ap, refl}
-use Rattle.dns_records.specs.RecordSet.{RecordSetValue}
+use Rattle.std.proofs.Common.{◌∙◌, ap}
 use Rattle.dns_zone.specs.Sets.{set_at}
 use Rattle.dns_zone.specs.internal.Store.{changed_keys, released_at}
 use Rattle.dns_zone.specs.declared.sets.ZoneSets.{ZoneSets}

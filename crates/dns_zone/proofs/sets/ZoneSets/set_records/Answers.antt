@@ -1,12 +1,12 @@
-use Rattle.std.proofs.Common.{◌≡◌, ◌∙◌, cond, List, ap, sym, subst, Some, None}
+use Rattle.std.proofs.Common.{◌∙◌, cond, List, ap, sym, subst}
 use Rattle.std.specs.BTreeMap.{is_at, values}
-use Rattle.std.specs.Map.{lookup, values_of}
+use Rattle.std.specs.Map.{values_of}
 use Rattle.std.specs.Ordering.{eq_by_cmp}
 use Rattle.dns_records.specs.RecordSet.{RecordSetValue}
 use Rattle.dns_zone.specs.Rows.{Key, key, key_cmp}
 use Rattle.dns_zone.specs.Sets.{set_at, set_place, with_records, AreInOrder, HaveTheirKeys}
 use Rattle.dns_zone.specs.declared.sets.ZoneSets.TheInside.{Inside}
-use Rattle.dns_zone.proofs.SetLaws.{Entries, Stored, stored_cmp, found_at, in_order}
+use Rattle.dns_zone.proofs.SetLaws.{Entries, stored_cmp, found_at, in_order}
 use Rattle.dns_zone.proofs.StoreLaws.{keys_of_value, none_written, value_at}
 use Rattle.dns_zone.proofs.sets.ZoneSets.set_records.Goals as goal
 use Rattle.dns_zone.proofs.sets.ZoneSets.set_records.Goals.{in-Some, in_default}

@@ -1,4 +1,4 @@
-use Rattle.std.proofs.Common.{◌≡◌, ◌-◌, ◌+◌, ◌<◌, ◌∙◌, ℕ, List, take, drop, length, get_or, set, refl, sym, ap, suc, subst, arith}
+use Rattle.std.proofs.Common.{◌≡◌, ◌-◌, ◌+◌, ◌<◌, ◌∙◌, ℕ, List, take, drop, length, get_or, refl, sym, ap, suc, arith}
 use Rattle.std.proofs.lemmas.List.{drop_all}
 use Rattle.dns_updates.specs.declared.changes.changed_set.ChangedSet.{ChangedSet}
 use Rattle.dns_zone.specs.Sets.{set_at}

@@ -1,0 +1,4 @@
+pub mod Edits
+pub mod Fault
+pub mod Rule
+pub mod Table

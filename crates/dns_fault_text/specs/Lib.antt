@@ -1,0 +1,5 @@
+pub mod Actions
+pub mod Code
+pub mod Keyword
+pub mod Line
+pub mod Text

@@ -1,0 +1,5 @@
+pub mod Coded
+pub mod Delivery
+pub mod Edited
+pub mod Step
+pub mod Truncated

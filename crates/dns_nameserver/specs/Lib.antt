@@ -1,0 +1,3 @@
+pub mod Former
+pub mod NameServer
+pub mod LogEntry

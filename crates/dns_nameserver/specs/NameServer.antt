@@ -1,0 +1,79 @@
+-- What a name server for tests answers.
+use Rattle.std.specs.Prelude.{◌≡◌, Bool, true, false, List, ℕ, Option, Some, None, option_map, MatchOption}
+use Rattle.dns_messages.specs.declared.op_code.OpCode.TheVariants as ops
+use Rattle.dns_messages.specs.declared.message.Message.{Message}
+use Rattle.dns_zone.specs.declared.road.Road.{Road}
+use Rattle.dns_zone.specs.declared.road.Road.TheVariants as roads
+use Rattle.dns_server.specs.Server.{IsReplyBy, route, zones_after}
+use Rattle.dns_server.specs.declared.updates.Updates.{Updates}
+use Rattle.dns_server.specs.declared.updates.Updates.TheVariants as may
+use Rattle.dns_fault_rules.specs.declared.fault.Transport.{Transport}
+use Rattle.dns_fault_rules.specs.declared.fault.Transport.TheVariants as transports
+use Rattle.dns_faults.specs.Delivery.{Sending}
+use Rattle.dns_faults.specs.Step.{Responds}
+use Rattle.std.specs.Net.Addr.{IsIpv4Mapped, ipv4_octets, ipv6_octets, ipv6_segments, low_octets}
+use Rattle.std.specs.declared.net.ip_addr.IpAddr.{IpAddr}
+use Rattle.std.specs.declared.net.ip_addr.IpAddr.TheVariants.{V4, V6}
+use Rattle.dns_names.specs.declared.reverse.AddrPrefix.{AddrPrefix}
+use Rattle.dns_server.specs.AddressList.{is_covered}
+use Rattle.dns_nameserver.specs.Former.{Former, former_after, is_accepted}
+use Rattle.dns_nameserver.specs.declared.zone_server.Context.{Context}
+use Rattle.dns_nameserver.specs.declared.zone_server.ZoneServer.{ZoneServer}
+use Rattle.dns_nameserver.specs.declared.name_server.NameServer.{NameServer}
+
+-- what becomes of the zones from before the last update, if they are kept
+abbrev pub formers_after : Bool → Option Former → Message → Option Former
+formers_after updated f m = option_map (λ f. former_after updated f m) f
+
+-- A request is served by the zone that it is for, and remembered as an update that was applied if it was one.
+pub record Serves (old : ZoneServer) (context : Context) (m : Message) (reply : List ℕ) (new : ZoneServer) : Type 0 where
+  pub replied : IsReplyBy old.server (route context.updates old.server m) context.road m reply
+  pub zones : new.server ≡ zones_after context.updates old.server m
+  pub updated : new.has_updated ≡ is_accepted reply
+  pub formers : new.former ≡ formers_after (is_accepted reply) old.former m
+
+-- A request is served by these zones from before the last update. No update is allowed.
+pub record ServesBy (f : Former) (old : ZoneServer) (context : Context) (m : Message) (reply : List ℕ) (new : ZoneServer) : Type 0 where
+  pub replied : IsReplyBy f.zones (route may.Refused f.zones m) context.road m reply
+  pub zones : new.server ≡ old.server
+  pub updated : new.has_updated ≡ false
+  pub formers : new.former ≡ Some (record f { zones = zones_after may.Refused f.zones m })
+
+-- A request is served by the rows from before the last update. An update, and any request if these rows are not kept, is served
+-- by the current ones.
+pub record ServesStale (old : ZoneServer) (context : Context) (m : Message) (reply : List ℕ) (new : ZoneServer) : Type 0 where
+  pub of_update : m.metadata.op_code ≡ ops.Update → Serves old context m reply new
+  pub of_other : ¬ (m.metadata.op_code ≡ ops.Update)
+      → MatchOption old.former (Serves old context m reply new) (λ f. ServesBy f old context m reply new)
+
+-- a transport, with the maximum size of datagrams
+abbrev pub road_of : Transport → ℕ → Road
+road_of transports.Datagram limit = roads.Datagram limit
+road_of transports.Stream limit = roads.Stream
+
+-- whether the requestors of an address may update
+abbrev pub updates_of : Bool → Updates
+updates_of true = may.Allowed
+updates_of false = may.Refused
+
+-- a server that has not remembered an update yet
+abbrev pub forgetful : ZoneServer → ZoneServer
+forgetful zones = record zones { has_updated = false }
+
+-- Whether a list covers an address. An IPv4-mapped IPv6 address counts as its IPv4 address (RFC 4291 section 2.5.5.2).
+abbrev pub IsCoverageOf : List AddrPrefix → IpAddr → Bool → Type 0
+IsCoverageOf list (V4 a) covered = covered ≡ is_covered list (ipv4_octets a)
+IsCoverageOf list (V6 a) covered =
+    (IsIpv4Mapped (ipv6_segments a) → covered ≡ is_covered list (low_octets a))
+    × (¬ (IsIpv4Mapped (ipv6_segments a)) → covered ≡ is_covered list (ipv6_octets a))
+
+-- What a request leads to: a reply and how it is sent, the line of the rule that made a fault, whether an update was applied,
+-- and the zones and rules after it. Only requestors whose address is covered may update.
+pub record AnswersRequest (old : NameServer) (request : List ℕ) (address : IpAddr) (transport : Transport) (sent : Sending) (line : Option ℕ) (updated : Bool) (new : NameServer) : Type 0 where
+  pub covered : Bool
+  pub coverage : IsCoverageOf old.updaters address covered
+  pub responds : Responds Serves ServesStale (forgetful old.zones) old.faults request transport
+      (record { road = road_of transport old.limit; updates = updates_of covered }) sent line new.zones new.faults
+  pub updated_is : updated ≡ new.zones.has_updated
+  pub limit_kept : new.limit ≡ old.limit
+  pub updaters_kept : new.updaters ≡ old.updaters

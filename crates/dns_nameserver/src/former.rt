@@ -1,0 +1,115 @@
+//! The zones from before the last update.
+
+ghost use Rattle.std.specs.Prelude.{◌≡◌, None, IfOk, OnOk, OnErr};
+ghost use Rattle.dns_messages.specs.Sound.{IsSound};
+ghost use Rattle.dns_server.specs.Server.{IsReplyBy, route, zones_after};
+ghost use Rattle.dns_server.specs.declared.updates.Updates.TheVariants as may;
+ghost use Rattle.dns_nameserver.specs.Former.{former_after, is_accepted};
+
+use dns_messages::{Message, Metadata, OpCode, ResponseCode};
+use dns_server::{Server, Updates};
+use dns_zone::Road;
+use std::alloc::AllocError;
+use std::marker::Model;
+
+/// The zones of a server from before the last update that it applied. They follow one update behind.
+#[derive(Drop)]
+pub struct FormerZones {
+    server: Server,
+    /// An update that is part of the zones, and still to be applied to those of `server`.
+    missing: Option<Message>,
+    /// The last update, which is no part of the zones.
+    last: Option<Message>,
+}
+
+impl Model for FormerZones {
+    ghost use Rattle.std.specs.Prelude.{IfSome};
+    ghost use Rattle.std.specs.Coded.{codes};
+    ghost use Rattle.std.specs.FinMap as rows_map;
+    ghost use Rattle.dns_messages.specs.Sound.{IsSound};
+    ghost use Rattle.dns_nameserver.specs.Former.{Former, updated};
+
+    ghost Value = { Former };
+
+    ghost coded = { Prim.hlevel (codes, rows_map.code) };
+
+    ghost view = { λ f. record { zones = updated f.server f.missing; last = f.last } };
+
+    ghost invariant = { λ f. IfSome f.missing IsSound × IfSome f.last IsSound };
+}
+
+impl FormerZones {
+    /// Creates the zones from before the last update of a server to which none was applied, given the same zones.
+    pub fn new(server: Server) -> FormerZones
+        ensures { result ≡ record { zones = server; last = None } }
+    {
+        FormerZones {
+            server,
+            missing: None,
+            last: None,
+        }
+    }
+
+    /// Serves a request by the current zones, and follows if it is an update that is applied. An error leaves both unchanged.
+    pub fn follow(
+        &mut self,
+        current: &mut Server,
+        request: &Message,
+        road: Road,
+        updates: Updates,
+    ) -> Result<Vec<u8>, AllocError>
+        requires { IsSound request.now }
+        ensures reply { IfOk result (λ out. IsReplyBy current.old
+            (route updates current.old request.now) road request.now out.items) }
+        ensures current { OnOk result (current.new ≡ zones_after updates current.old request.now) }
+        ensures former { IfOk result (λ out.
+            self.new ≡ former_after (is_accepted out.items) self.old request.now) }
+        ensures err { OnErr result (self.new ≡ self.old) }
+        ensures current_err { OnErr result (current.new ≡ current.old) }
+    {
+        if let Some(update) = &self.missing {
+            let _reply = self
+                .server
+                .respond_to(update, Road::Stream, Updates::Allowed)?;
+        }
+        self.missing = None;
+        let update = request.clone()?;
+        let reply = current.respond_to(request, road, updates)?;
+        if is_accepted(reply.as_slice()) {
+            self.missing = self.last.take();
+            self.last = Some(update);
+        }
+        Ok(reply)
+    }
+
+    /// Serves a request by the zones from before the last update. No update is allowed. An error leaves them unchanged.
+    pub fn serve(&mut self, request: &Message, road: Road) -> Result<Vec<u8>, AllocError>
+        requires { IsSound request.now }
+        ensures reply { IfOk result (λ out. IsReplyBy self.old.zones
+            (route may.Refused self.old.zones request.now) road request.now out.items) }
+        ensures ok { OnOk result (self.new
+            ≡ record self.old { zones = zones_after may.Refused self.old.zones request.now }) }
+        ensures err { OnErr result (self.new ≡ self.old) }
+    {
+        if let Some(update) = &self.missing {
+            let _reply = self
+                .server
+                .respond_to(update, Road::Stream, Updates::Allowed)?;
+        }
+        self.missing = None;
+        self.server.respond_to(request, road, Updates::Refused)
+    }
+}
+
+/// Returns `true` for the reply to an update that was applied (RFC 2136 section 3.8).
+pub(crate) fn is_accepted(reply: &[u8]) -> bool
+    ensures { result ≡ is_accepted reply.now }
+{
+    match Metadata::peek(reply) {
+        Some(metadata) => match (metadata.op_code, metadata.response_code) {
+            (OpCode::Update, ResponseCode::NoError) => true,
+            _ => false,
+        },
+        None => false,
+    }
+}

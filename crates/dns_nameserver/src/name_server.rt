@@ -1,0 +1,96 @@
+//! One request to a name server for tests.
+
+ghost use Rattle.std.specs.Prelude.{◌≡◌, IfOk, OnErr};
+ghost use Rattle.dns_faults.specs.Delivery.{sending};
+ghost use Rattle.dns_nameserver.specs.NameServer.{AnswersRequest, road_of, updates_of};
+
+use crate::zone_server::{Context, ZoneServer};
+use dns_fault_rules::{FaultTable, Transport};
+use dns_faults::{Delivery, Outcome, respond};
+use dns_server::{AddressList, Updates};
+use dns_zone::{DatagramLimit, Road};
+use std::alloc::{AllocError, Global};
+use std::net::IpAddr;
+
+/// A name server: its zones, the faults that it makes, and what its requestors may do.
+#[derive(Drop)]
+pub struct NameServer {
+    /// The zones.
+    pub zones: ZoneServer,
+    /// The faults.
+    pub faults: FaultTable,
+    /// The maximum size of datagrams.
+    pub limit: DatagramLimit,
+    /// The addresses from which updates are taken (RFC 2136 section 3.3).
+    pub updaters: AddressList,
+}
+
+/// What a request led to.
+#[derive(Drop)]
+pub struct Answered {
+    /// What is sent, and how.
+    pub delivery: Delivery,
+    /// The line of the rule that made a fault, from 1, or `None` if none did.
+    pub line: Option<usize>,
+    /// Whether the request was an update, and changed a zone.
+    pub has_updated: bool,
+}
+
+impl NameServer {
+    /// Answers a request from an address: by the zone that is closest to its question, as a fault table allows. Updates are
+    /// refused to addresses that are not listed.
+    ///
+    /// An error is want of memory. It leaves the fault table unchanged; an update may have been applied, if memory was refused
+    /// for a fault of its reply.
+    pub fn answer(
+        &mut self,
+        alloc: Global,
+        request: &[u8],
+        address: IpAddr,
+        transport: Transport,
+    ) -> Result<Answered, AllocError>
+        ensures ok { IfOk result (λ answered. AnswersRequest self.old request.now address transport
+            (sending answered.delivery) answered.line answered.has_updated self.new) }
+        ensures err { OnErr result (self.new.faults ≡ self.old.faults) }
+    {
+        let context = Context {
+            road: road_of(transport, self.limit),
+            updates: updates_of(self.updaters.contains(address)),
+        };
+        self.zones.has_updated = false;
+        let Outcome { delivery, line } = respond(
+            alloc,
+            &mut self.zones,
+            &mut self.faults,
+            request,
+            transport,
+            context,
+        )?;
+        Ok(Answered {
+            delivery,
+            line,
+            has_updated: self.zones.has_updated,
+        })
+    }
+}
+
+/// Returns whether the requestors of an address may update, given whether the list has it.
+fn updates_of(is_listed: bool) -> Updates
+    ensures { result ≡ updates_of is_listed }
+{
+    if is_listed {
+        Updates::Allowed
+    } else {
+        Updates::Refused
+    }
+}
+
+/// Returns a transport, with the maximum size of datagrams.
+fn road_of(transport: Transport, limit: DatagramLimit) -> Road
+    ensures { result ≡ road_of transport limit }
+{
+    match transport {
+        Transport::Datagram => Road::Datagram(limit),
+        Transport::Stream => Road::Stream,
+    }
+}

@@ -1,0 +1,72 @@
+//! The zones of a name server, as faults are made on their replies.
+
+use crate::former::{FormerZones, is_accepted};
+use dns_faults::FaultServer;
+use dns_messages::{Message, OpCode};
+use dns_server::{Server, Updates};
+use dns_zone::Road;
+use std::alloc::AllocError;
+
+/// What decides on the reply to a request, beside its bytes.
+#[derive(Clone, Copy, Debug, PartialEq, Eq)]
+pub struct Context {
+    /// The transport, with its limit.
+    pub road: Road,
+    /// Whether the requestor may update.
+    pub updates: Updates,
+}
+
+/// A server of zones, which remembers whether its last reply was to an update that it applied.
+#[derive(Drop)]
+pub struct ZoneServer {
+    /// The zones.
+    pub server: Server,
+    /// The zones from before the last update, if they are kept.
+    pub former: Option<FormerZones>,
+    /// Whether the last request that was served was an update, and changed a zone.
+    pub has_updated: bool,
+}
+
+impl FaultServer for ZoneServer {
+    ghost use Rattle.std.specs.Prelude.{List, ℕ};
+    ghost use Rattle.dns_nameserver.specs.NameServer.{Serves, ServesStale};
+
+    type Context = Context;
+
+    ghost serves = { Serves };
+
+    ghost serves_stale = { ServesStale };
+
+    fn serve_request(
+        &mut self,
+        request: &Message,
+        context: Context,
+    ) -> Result<Vec<u8>, AllocError> {
+        let Context { road, updates } = context;
+        let reply = match &mut self.former {
+            Some(former) => former.follow(&mut self.server, request, road, updates)?,
+            None => self.server.respond_to(request, road, updates)?,
+        };
+        self.has_updated = is_accepted(reply.as_slice());
+        Ok(reply)
+    }
+
+    /// Without the zones from before the last update, the current ones serve.
+    fn serve_stale_request(
+        &mut self,
+        request: &Message,
+        context: Context,
+    ) -> Result<Vec<u8>, AllocError> {
+        if let OpCode::Update = request.metadata.op_code {
+            return self.serve_request(request, context);
+        }
+        match &mut self.former {
+            Some(former) => {
+                let reply = former.serve(request, context.road)?;
+                self.has_updated = false;
+                Ok(reply)
+            }
+            None => self.serve_request(request, context),
+        }
+    }
+}

@@ -1,0 +1,4 @@
+pub mod StreamLaws
+pub mod PlaceLaws
+pub mod HistoryLaws
+pub mod AddressLaws

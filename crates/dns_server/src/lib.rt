@@ -1,0 +1,33 @@
+//! A name server without sockets: zones and their replies, streams of frames, and addresses that may update.
+//!
+//! A server has zones, and answers each request by the zone with the closest origin. A connection has the bytes of one stream
+//! that wait: whole frames are served in order, whatever the pieces in which they arrive.
+//!
+//! - `server`: zones, and the replies to requests; `server::route`: which zone a request is for; `updates`: whether a requestor
+//!   may update;
+//! - `former`: servers that also answer by the rows from before the last update;
+//! - `connection`: the state of a stream; `frame`: the first frame of bytes; `buffer`: bytes that wait;
+//! - `responder`: what replies to requests; `serving`: the frames of a connection are served by one;
+//! - `address_list`: lists of address prefixes;
+//! - `error`: why a zone is not added;
+//! - `laws`: theorems about the definitions of this crate.
+#![tactic(auto)]
+
+mod address_list;
+mod buffer;
+mod connection;
+mod error;
+mod frame;
+pub mod laws;
+mod responder;
+mod server;
+mod serving;
+mod updates;
+
+pub use address_list::{AddressList, PrefixError, parse_prefix};
+pub use connection::{Connection, MAX_INPUT_LEN, MAX_WAITING_LEN};
+pub use error::AddZoneError;
+pub use responder::{ListResponder, Responder};
+pub use server::Server;
+pub use serving::serve_frames;
+pub use updates::Updates;

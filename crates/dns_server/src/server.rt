@@ -1,0 +1,169 @@
+//! Servers of zones, and their replies to requests (RFC 1034 section 4.3.2, RFC 2136 section 3).
+
+ghost use Rattle.std.specs.Prelude.{◌≡◌, ◌<◌, [], ◌∷◌, ◌++◌, false, true, length, None, Ok, Err, IfOk, OnOk, OnErr, option_map};
+ghost use Rattle.dns_messages.specs.Sound.{IsSound};
+ghost use Rattle.dns_zone.specs.Serving.{has_query_header};
+ghost use Rattle.dns_server.specs.Zones.{has_origin, AreServable};
+ghost use Rattle.dns_server.specs.Server.{IsReplyBy, Responds, zones_after, zones_by, route};
+ghost use Rattle.dns_server.specs.declared.server.route.Route.TheVariants as by;
+
+mod route;
+
+use crate::error::AddZoneError;
+use crate::server::route::{Route, route_of};
+use crate::updates::Updates;
+use dns_messages::Message;
+use dns_names::Name;
+use dns_zone::{Road, Zone, bare_reply_bytes, decode_request};
+use std::alloc::{AllocError, Global};
+use std::marker::Model;
+
+/// A server of zones. No two zones have the same origin, ignoring ASCII case.
+///
+/// The zone of a request is found by a scan of the zones for the name of its question and each name above it.
+#[derive(Drop)]
+pub struct Server {
+    alloc: Global,
+    zones: Vec<Zone>,
+}
+
+impl Model for Server {
+    ghost use Rattle.std.specs.Prelude.{List};
+    ghost use Rattle.dns_zone.specs.Rows.{ZoneContent};
+    ghost use Rattle.dns_server.specs.Zones.{AreServable};
+    ghost use Rattle.std.specs.Coded.{codes};
+    ghost use Rattle.std.specs.FinMap as rows_map;
+
+    ghost Value = { List ZoneContent };
+
+    ghost coded = { Prim.hlevel (codes, rows_map.code) };
+
+    ghost view = { λ server. server.zones.items };
+
+    ghost invariant = { λ server. AreServable server.zones.items };
+}
+
+impl Server {
+    /// Creates a server without zones.
+    pub fn new(alloc: Global) -> Server
+        ensures { result ≡ [] }
+    {
+        Server {
+            alloc,
+            zones: Vec::new(alloc),
+        }
+    }
+
+    /// Returns the zones, in the order in which they were added.
+    pub fn zones(&self) -> &[Zone]
+        ensures zones { result.now ≡ self.now }
+        ensures servable { AreServable self.now }
+    {
+        self.zones.as_slice()
+    }
+
+    /// Adds a zone. An error leaves the server unchanged.
+    ///
+    /// # Errors
+    ///
+    /// - [`AddZoneError::Duplicate`] if there is a zone with this origin, ignoring ASCII case, before memory is taken;
+    /// - [`AddZoneError::Memory`] if memory is refused.
+    pub fn add_zone(&mut self, zone: Zone) -> Result<(), AddZoneError>
+        ensures ok { OnOk result (self.new ≡ self.old ++ zone ∷ []) }
+        ensures distinct { OnOk result (has_origin self.old zone.origin.labels ≡ false) }
+        ensures err { OnErr result (self.new ≡ self.old) }
+        ensures duplicate { result ≡ Err AddZoneError.Duplicate
+            → has_origin self.old zone.origin.labels ≡ true }
+        ensures decided { has_origin self.old zone.origin.labels ≡ true
+            → result ≡ Err AddZoneError.Duplicate }
+        ensures servable { AreServable self.new }
+    {
+        if has_zone(self.zones.as_slice(), zone.origin()) {
+            return Err(AddZoneError::Duplicate);
+        }
+        self.zones.push(zone)?;
+        Ok(())
+    }
+
+    /// Serves a request: returns its reply, or `None` if the bytes do not decode or are a response. Bytes that do not begin
+    /// with the header of a query are dropped before memory is taken.
+    ///
+    /// The reply is that of the zone with the closest origin at or above the name of the question (RFC 1034 section 4.3.2
+    /// step 2), or, for an update, at or above the name of its zone section (RFC 2136 section 3.1.1). Without such a zone, and
+    /// for an update that is not allowed, it is `Refused`. Only an update with the response code `NoError` changes a zone, and
+    /// it changes no other. An error leaves the server unchanged.
+    pub fn respond(
+        &mut self,
+        request: &[u8],
+        road: Road,
+        updates: Updates,
+    ) -> Result<Option<Vec<u8>>, AllocError>
+        ensures reply { IfOk result (λ reply. Responds self.old road updates request.now
+            (option_map (λ out. out.items) reply) self.new) }
+        ensures err { OnErr result (self.new ≡ self.old) }
+        ensures header { has_query_header request.now ≡ false → result ≡ Ok None }
+        ensures servable { AreServable self.new }
+    {
+        self.servable();
+        match decode_request(self.alloc, request)? {
+            Some(message) => Ok(Some(self.respond_to(&message, road, updates)?)),
+            None => Ok(None),
+        }
+    }
+
+    /// Serves a request that is decoded. An error leaves the server unchanged.
+    pub fn respond_to(
+        &mut self,
+        request: &Message,
+        road: Road,
+        updates: Updates,
+    ) -> Result<Vec<u8>, AllocError>
+        requires { IsSound request.now }
+        ensures reply { IfOk result (λ out. IsReplyBy self.old (route updates self.old request.now)
+            road request.now out.items) }
+        ensures ok { OnOk result (self.new ≡ zones_after updates self.old request.now) }
+        ensures err { OnErr result (self.new ≡ self.old) }
+        ensures servable { AreServable self.new }
+    {
+        self.servable();
+        match route_of(self.zones.as_slice(), request, updates) {
+            Route::Zone(place) => self.serve_at(place, request, road),
+            Route::Code(code) => bare_reply_bytes(self.alloc, request, code, road),
+        }
+    }
+
+    /// Serves a request by the zone at a place.
+    fn serve_at(
+        &mut self,
+        place: usize,
+        request: &Message,
+        road: Road,
+    ) -> Result<Vec<u8>, AllocError>
+        requires sound { IsSound request.now }
+        requires within { place < length self.old }
+        ensures reply { IfOk result (λ out. IsReplyBy self.old (by.Zone place)
+            road request.now out.items) }
+        ensures ok { OnOk result (self.new ≡ zones_by self.old request.now (by.Zone place)) }
+        ensures err { OnErr result (self.new ≡ self.old) }
+        ensures servable { AreServable self.new }
+    {
+        let zone = &mut self.zones[place];
+        zone.serve_message(request, road)
+    }
+
+    /// Proves that the zones can be served; nothing is computed.
+    fn servable(&self)
+        ensures { AreServable self.now }
+    {
+        let _zones = self.zones();
+    }
+}
+
+/// Returns `true` if a zone has this origin, ignoring ASCII case.
+fn has_zone(zones: &[Zone], origin: &Name) -> bool
+    ensures { result ≡ has_origin zones.now origin.now.labels }
+{
+    zones
+        .iter()
+        .any(|zone| zone.origin().eq_ignore_root(origin))
+}

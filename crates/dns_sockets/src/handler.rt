@@ -1,0 +1,26 @@
+//! What decides on the replies to requests.
+
+use crate::clock::Milliseconds;
+pub use dns_fault_rules::Transport;
+use dns_faults::Delivery;
+use std::alloc::AllocError;
+use std::net::SocketAddr;
+
+/// A request that has arrived.
+#[derive(Clone, Copy, Debug)]
+pub struct Request<'a> {
+    /// The message.
+    pub bytes: &'a [u8],
+    /// The address from which it was sent.
+    pub peer: SocketAddr,
+    /// How it arrived.
+    pub transport: Transport,
+    /// When it arrived, since the service began.
+    pub moment: Milliseconds,
+}
+
+/// Decides what is sent in reply to requests, and when.
+pub trait Handler {
+    /// Handles a request. After an error, which is want of memory, a datagram has no reply, and a stream is closed.
+    fn handle(&mut self, request: &Request<'_>) -> Result<Delivery, AllocError>;
+}

@@ -1,0 +1,129 @@
+//! The connections of a service.
+
+use crate::clock::Milliseconds;
+use crate::handler::Handler;
+use crate::stream::Stream;
+use std::alloc::Global;
+
+/// The connections of a service, at most a fixed number of them. There are no more places than needed.
+pub(crate) struct StreamTable {
+    slots: Vec<Option<Stream>>,
+    capacity: usize,
+}
+
+impl Drop for StreamTable {
+    fn drop(self) {
+        let StreamTable {
+            slots,
+            capacity: _capacity,
+        } = self;
+        drop(slots);
+    }
+}
+
+impl StreamTable {
+    /// Creates a table without connections, of which it takes `capacity`.
+    pub(crate) fn new(alloc: Global, capacity: usize) -> StreamTable {
+        StreamTable {
+            slots: Vec::new(alloc),
+            capacity,
+        }
+    }
+
+    /// Returns an index at which there is no connection. If there is none, the connection that has been idle for the longest
+    /// time is closed.
+    pub(crate) fn vacate(&mut self) -> usize {
+        if let Some(slot) = self.free_slot() {
+            return slot;
+        }
+        let count = self.slots.len();
+        if count < self.capacity && self.slots.push(None).is_ok() {
+            return count;
+        }
+        self.close_oldest()
+    }
+
+    /// Returns the first index at which there is no connection.
+    fn free_slot(&self) -> Option<usize> {
+        self.slots.as_slice().iter().position(|slot| slot.is_none())
+    }
+
+    /// Closes the connection that has been idle for the longest time, and returns its index, or 0 if there is none.
+    pub(crate) fn close_oldest(&mut self) -> usize {
+        let mut oldest = 0;
+        let mut least = Milliseconds::MAX;
+        for (index, slot) in self.slots.as_slice().iter().enumerate() {
+            if let Some(stream) = slot {
+                if stream.last_activity() < least {
+                    least = stream.last_activity();
+                    oldest = index;
+                }
+            }
+        }
+        self.close(oldest);
+        oldest
+    }
+
+    /// Puts a connection at an index. One that is there is closed.
+    pub(crate) fn put(&mut self, index: usize, stream: Stream) {
+        if index < self.slots.len() {
+            self.slots[index] = Some(stream);
+        }
+    }
+
+    /// Closes the connection at an index, if there is one.
+    fn close(&mut self, index: usize) {
+        if index < self.slots.len() {
+            self.slots[index] = None;
+        }
+    }
+
+    /// Takes note of what the system says that a connection is ready for. There may be no such connection any more.
+    pub(crate) fn note(&mut self, index: usize, is_readable: bool, is_writable: bool) {
+        if index < self.slots.len() {
+            if let Some(stream) = &mut self.slots[index] {
+                stream.note(is_readable, is_writable);
+            }
+        }
+    }
+
+    /// Lets the connections go on that have something to do, and closes those that have ended or have been idle for too long.
+    pub(crate) fn go_on<H: Handler>(
+        &mut self,
+        handler: &mut H,
+        buffer: &mut [u8],
+        now: Milliseconds,
+    ) {
+        for slot in self.slots.as_mut_slice() {
+            let closes = match slot {
+                Some(stream) if stream.deadline() <= now => stream.go_on(handler, buffer, now),
+                _ => false,
+            };
+            if closes {
+                *slot = None;
+            }
+        }
+        self.trim();
+    }
+
+    /// Removes the places behind the last connection.
+    fn trim(&mut self) {
+        for _slot in 0..self.slots.len() {
+            if !matches!(self.slots.as_slice().last(), Some(None)) {
+                return;
+            }
+            let _none = self.slots.pop();
+        }
+    }
+
+    /// Returns when a connection next has something to do without its peer.
+    pub(crate) fn deadline(&self) -> Milliseconds {
+        let mut least = Milliseconds::MAX;
+        for slot in self.slots.as_slice() {
+            if let Some(stream) = slot {
+                least = least.min(stream.deadline());
+            }
+        }
+        least
+    }
+}

@@ -1,0 +1,264 @@
+//! The arguments of the program.
+
+use crate::ending::Ending;
+use clap::error::ErrorKind;
+use clap::{Arg, ArgAction, ArgMatches, Command, value_parser};
+use dns_names::{Name, ParseError};
+use dns_server::{AddressList, parse_prefix};
+use dns_sockets::Until;
+use dns_zone::DatagramLimit;
+use std::alloc::{AllocError, Global};
+use std::net::{Ipv4Addr, SocketAddr, SocketAddrV4};
+
+/// The port at which the server listens, unless another one is given.
+const DEFAULT_PORT: u16 = 5300;
+
+/// The version of the program.
+const VERSION: &str = "0.1.0";
+
+/// The arguments of the program.
+#[derive(Drop)]
+pub(crate) struct Arguments {
+    /// The paths of the zone files, as given: at least one.
+    pub(crate) files: Vec<String>,
+    /// The origin of the zone, if there is one zone file.
+    pub(crate) origin: Option<Name>,
+    /// The addresses at which the server listens.
+    pub(crate) addresses: Vec<SocketAddr>,
+    /// The maximum size of datagrams.
+    pub(crate) limit: DatagramLimit,
+    /// The path of the fault table, as given.
+    pub(crate) faults: Option<String>,
+    /// The path of the log, as given.
+    pub(crate) log: Option<String>,
+    /// The addresses from which updates are taken.
+    pub(crate) updaters: AddressList,
+    /// What ends the server.
+    pub(crate) until: Until,
+}
+
+/// Reads the arguments, of which the first is the program's name.
+pub(crate) fn read_arguments(alloc: Global, words: &[&str]) -> Result<Arguments, Ending> {
+    let matches = match command(alloc)?.try_get_matches_from(words) {
+        Ok(matches) => matches,
+        Err(error) if error.kind() == ErrorKind::OutOfMemory => {
+            // Reading the arguments was refused memory.
+            return Err(Ending::Memory);
+        }
+        Err(error) => return Err(Ending::Arguments(error)),
+    };
+    let files = texts_in(alloc, &matches, "FILE")?;
+    Ok(Arguments {
+        origin: origin_in(alloc, &matches, files.len())?,
+        files,
+        addresses: addresses_in(alloc, &matches)?,
+        limit: limit_in(alloc, &matches)?,
+        faults: text_in(alloc, &matches, "faults")?,
+        log: text_in(alloc, &matches, "log")?,
+        updaters: updaters_in(alloc, &matches)?,
+        until: until_in(&matches),
+    })
+}
+
+/// Returns the program's command, for clap.
+fn command<'a>(alloc: Global) -> Result<Command<'a>, AllocError> {
+    let files = Arg::new(alloc, "FILE")
+        .value_name("FILE")
+        .help("The zone files")
+        .action(ArgAction::Append)
+        .num_args(1..)
+        .required(true);
+    Command::new(alloc, "nameserver")
+        .version(VERSION)
+        .about("Serves zones over UDP and TCP, takes dynamic updates, and makes faults on demand")
+        .arg(files)?
+        .arg(option(
+            alloc,
+            "origin",
+            "NAME",
+            "The origin of the zone, if there is one zone file",
+        ))?
+        .arg(listen_option(alloc))?
+        .arg(limit_option(alloc))?
+        .arg(option(alloc, "faults", "FILE", "The fault table"))?
+        .arg(option(
+            alloc,
+            "log",
+            "FILE",
+            "The file to which a line of JSON is appended for each request",
+        ))?
+        .arg(flag(alloc, "no-updates", "Refuse all dynamic updates"))?
+        .arg(updaters_option(alloc))?
+        .arg(flag(alloc, "until-stdin-closes", "End when standard input ends"))
+}
+
+/// Returns an option that takes one value.
+fn option<'a>(alloc: Global, name: &'a str, value_name: &'a str, help: &'a str) -> Arg<'a> {
+    Arg::new(alloc, name)
+        .long(name)
+        .value_name(value_name)
+        .action(ArgAction::Set)
+        .help(help)
+}
+
+/// Returns the option of the addresses at which the server listens.
+fn listen_option<'a>(alloc: Global) -> Arg<'a> {
+    option(
+        alloc,
+        "listen",
+        "ADDRESS:PORT",
+        "An address at which the server listens, 127.0.0.1:5300 if none is given; at port 0 the system chooses one",
+    )
+    .action(ArgAction::Append)
+}
+
+/// Returns the option of the addresses from which updates are taken.
+fn updaters_option<'a>(alloc: Global) -> Arg<'a> {
+    option(
+        alloc,
+        "allow-update",
+        "ADDRESS/LENGTH",
+        "Addresses from which updates are taken, beside those of the local host",
+    )
+    .action(ArgAction::Append)
+}
+
+/// Returns the option of the maximum size of datagrams.
+fn limit_option<'a>(alloc: Global) -> Arg<'a> {
+    option(
+        alloc,
+        "limit",
+        "N",
+        "The maximum size of datagrams, in bytes",
+    )
+    .value_parser(value_parser!(u16).range(512..=65507))
+    .default_value("1232")
+}
+
+/// Returns an option without a value.
+fn flag<'a>(alloc: Global, name: &'a str, help: &'a str) -> Arg<'a> {
+    Arg::new(alloc, name)
+        .long(name)
+        .action(ArgAction::SetTrue)
+        .value_parser(value_parser!(bool))
+        .help(help)
+}
+
+/// Returns the value of an option, if it has one.
+fn text_in(
+    alloc: Global,
+    matches: &ArgMatches<'_>,
+    name: &str,
+) -> Result<Option<String>, AllocError> {
+    match matches.get_str(name) {
+        Some(text) => Ok(Some(String::from_str(alloc, text)?)),
+        None => Ok(None),
+    }
+}
+
+/// Returns the values of an argument.
+fn texts_in(
+    alloc: Global,
+    matches: &ArgMatches<'_>,
+    name: &str,
+) -> Result<Vec<String>, AllocError> {
+    let mut texts = Vec::new(alloc);
+    for text in given(matches, name) {
+        texts.push(String::from_str(alloc, text)?)?;
+    }
+    Ok(texts)
+}
+
+/// Returns the values of an argument, as given.
+fn given<'m, 'a>(matches: &'m ArgMatches<'a>, name: &str) -> &'m [&'a str] {
+    matches.get_strs(name).unwrap_or(&[])
+}
+
+/// Returns the origin, if its option has a value. It is fully qualified, with or without a dot at its end.
+fn origin_in(
+    alloc: Global,
+    matches: &ArgMatches<'_>,
+    file_count: usize,
+) -> Result<Option<Name>, Ending> {
+    let Some(text) = matches.get_str("origin") else {
+        return Ok(None);
+    };
+    if file_count > 1 {
+        return Err(Ending::invalid(alloc, "origin", text, "there is more than one zone file"));
+    }
+    match Name::from_ascii(alloc, text) {
+        Ok(mut origin) => {
+            origin.set_fqdn(true);
+            Ok(Some(origin))
+        }
+        // Memory for the name was refused.
+        Err(ParseError::Memory) => Err(Ending::Memory),
+        Err(_) => Err(Ending::invalid(alloc, "origin", text, "it is not a domain name")),
+    }
+}
+
+/// Returns the addresses at which the server listens.
+fn addresses_in(alloc: Global, matches: &ArgMatches<'_>) -> Result<Vec<SocketAddr>, Ending> {
+    let mut addresses = Vec::new(alloc);
+    for text in given(matches, "listen") {
+        addresses.push(address_of(alloc, text)?)?;
+    }
+    if addresses.is_empty() {
+        let local = SocketAddrV4::new(Ipv4Addr::LOCALHOST, DEFAULT_PORT);
+        addresses.push(SocketAddr::V4(local))?;
+    }
+    Ok(addresses)
+}
+
+/// Returns the address that a text stands for.
+fn address_of(alloc: Global, text: &str) -> Result<SocketAddr, Ending> {
+    let Ok(address) = text.parse::<SocketAddr>() else {
+        let reason = "it is not an address and a port, such as 127.0.0.1:5300 or [::1]:5300";
+        return Err(Ending::invalid(alloc, "listen", text, reason));
+    };
+    if address.ip().is_unspecified() {
+        // A socket for all addresses does not say to which of them a datagram came, and the reply has to leave from that one.
+        let reason =
+            "replies could leave from another address than the one that was asked; list each address";
+        return Err(Ending::invalid(alloc, "listen", text, reason));
+    }
+    Ok(address)
+}
+
+/// Returns the maximum size of datagrams.
+fn limit_in(alloc: Global, matches: &ArgMatches<'_>) -> Result<DatagramLimit, Ending> {
+    let text = matches.get_str("limit").unwrap_or("");
+    if let Ok(number) = text.parse::<u16>() {
+        if let Ok(limit) = DatagramLimit::new(number) {
+            return Ok(limit);
+        }
+    }
+    Err(Ending::invalid(alloc, "limit", text, "it is not a number from 512 to 65507"))
+}
+
+/// Returns the addresses from which updates are taken.
+fn updaters_in(alloc: Global, matches: &ArgMatches<'_>) -> Result<AddressList, Ending> {
+    if matches.get_str("no-updates") == Some("true") {
+        return Ok(AddressList::new(alloc));
+    }
+    let mut updaters = AddressList::loopback(alloc)?;
+    for text in given(matches, "allow-update") {
+        match parse_prefix(text.as_bytes()) {
+            Ok(prefix) => updaters.add(prefix)?,
+            Err(_) => {
+                let reason = "it is not an address and a length, such as 192.0.2.0/24";
+                return Err(Ending::invalid(alloc, "allow-update", text, reason));
+            }
+        }
+    }
+    Ok(updaters)
+}
+
+/// Returns what ends the server.
+fn until_in(matches: &ArgMatches<'_>) -> Until {
+    if matches.get_str("until-stdin-closes") == Some("true") {
+        Until::InputEnds
+    } else {
+        Until::Signal
+    }
+}

@@ -1,0 +1,94 @@
+//! How the program ends.
+
+use std::alloc::{AllocError, AllocFailed, Global};
+use std::net::SocketAddr;
+use std::{fmt, io};
+
+/// Why the program ends, if no signal and no end of its standard input ends it.
+#[derive(Debug, Drop)]
+pub(crate) enum Ending {
+    /// The arguments are invalid, or ask for help or the version. The error's text says which.
+    Arguments(clap::Error),
+    /// The value of an option is invalid: a line says why.
+    InvalidValue(String),
+    /// An argument is not valid UTF-8.
+    NotUtf8,
+    /// A file could not be read: its path, as given, and the error.
+    CannotRead(String, io::Error),
+    /// The log could not be opened: its path, as given, and the error.
+    CannotOpenLog(String, io::Error),
+    /// A file has a fault: a report says which.
+    Refused(String),
+    /// The sockets at an address could not be opened.
+    CannotListen(SocketAddr, io::Error),
+    /// A line could not be written to standard output.
+    CannotPrint,
+    /// The wait for requests failed.
+    Failed(io::Error),
+    /// Out of memory.
+    Memory,
+}
+
+impl From<AllocError> for Ending {
+    fn from(_error: AllocError) -> Ending {
+        Ending::Memory
+    }
+}
+
+impl<T: Drop> From<AllocFailed<T>> for Ending {
+    fn from(_error: AllocFailed<T>) -> Ending {
+        Ending::Memory
+    }
+}
+
+impl Ending {
+    /// Creates the ending for an invalid value of an option.
+    pub(crate) fn invalid(alloc: Global, option: &str, value: &str, reason: &str) -> Ending {
+        match format!(in alloc; "invalid value '{value}' for '--{option}': {reason}") {
+            Ok(line) => Ending::InvalidValue(line),
+            // Memory for the line was refused.
+            Err(_) => Ending::Memory,
+        }
+    }
+
+    /// Returns `true` if the program was asked for its help or its version, which go to standard output.
+    pub(crate) fn is_answer(&self) -> bool {
+        match self {
+            Ending::Arguments(error) => !error.use_stderr(),
+            _ => false,
+        }
+    }
+
+    /// Returns the exit status: 2 if the arguments are at fault, otherwise 1.
+    pub(crate) fn status(&self) -> u8 {
+        match self {
+            Ending::Arguments(_) | Ending::InvalidValue(_) | Ending::NotUtf8 => 2,
+            _ => 1,
+        }
+    }
+}
+
+impl fmt::Display for Ending {
+    /// Writes what the program says, with its line break.
+    fn fmt<W: fmt::Write>(&self, f: &mut fmt::Formatter<W>) -> fmt::Result {
+        match self {
+            // Clap's text and a report end with a line break.
+            Ending::Arguments(error) => write!(f, "{error}"),
+            Ending::Refused(report) => f.write_str(report.as_str()),
+            Ending::InvalidValue(line) => writeln!(f, "nameserver: {line}"),
+            Ending::NotUtf8 => f.write_str("nameserver: arguments are not valid UTF-8\n"),
+            Ending::CannotRead(path, error) => {
+                writeln!(f, "nameserver: cannot read {path}: {error}")
+            }
+            Ending::CannotOpenLog(path, error) => {
+                writeln!(f, "nameserver: cannot open the log {path}: {error}")
+            }
+            Ending::CannotListen(address, error) => {
+                writeln!(f, "nameserver: cannot listen on {address}: {error}")
+            }
+            Ending::CannotPrint => f.write_str("nameserver: cannot write to standard output\n"),
+            Ending::Failed(error) => writeln!(f, "nameserver: cannot wait for requests: {error}"),
+            Ending::Memory => f.write_str("nameserver: out of memory\n"),
+        }
+    }
+}

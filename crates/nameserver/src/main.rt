@@ -1,0 +1,158 @@
+//! `nameserver FILE.. [OPTIONS]`: serves the zones of zone files over UDP and TCP, takes dynamic updates, and makes faults on
+//! demand.
+//!
+//! - `arguments`: the arguments; `files`, `zones`: the files; `handler`: what is done with a request; `log_file`: the log;
+//! - `ending`: how the program ends.
+#![tactic(auto)]
+
+mod arguments;
+mod ending;
+mod files;
+mod handler;
+mod log_file;
+mod zones;
+
+use crate::arguments::{Arguments, read_arguments};
+use crate::ending::Ending;
+use crate::files::{read_file, text_of};
+use crate::handler::LoggedServer;
+use crate::log_file::LogFile;
+use crate::zones::{read_former, read_zones};
+use dns_fault_rules::{FaultTable, Service as FaultService};
+use dns_fault_text::{FaultTableError, parse_faults};
+use dns_nameserver::{NameServer, ZoneServer};
+use dns_sockets::Service;
+use std::process::ExitCode;
+use std::{env, io};
+
+fn main(rt: HostRuntime) -> ExitCode {
+    match run_program(&rt) {
+        Ok(()) => ExitCode::SUCCESS,
+        Err(ending) => end(&rt, &ending),
+    }
+}
+
+/// Says why the program ends, and returns its status.
+fn end(rt: &HostRuntime, ending: &Ending) -> ExitCode {
+    if ending.is_answer() {
+        return match rt.print(ending) {
+            Ok(()) => ExitCode::SUCCESS,
+            Err(_) => ExitCode::FAILURE,
+        };
+    }
+    // A failure to write to standard error can't be reported.
+    let _written = rt.eprint(ending);
+    ExitCode::from(ending.status())
+}
+
+/// Serves the zones that the arguments name.
+fn run_program(rt: &HostRuntime) -> Result<(), Ending> {
+    let arguments = given_arguments(rt)?;
+    let faults = read_faults(rt, &arguments)?;
+    let zones = zone_server(rt, &arguments, &faults)?;
+    let log = open_log(rt, &arguments)?;
+    let mut service = open_service(rt, &arguments)?;
+    let Arguments {
+        limit,
+        updaters,
+        until,
+        ..
+    } = arguments;
+    let server = NameServer {
+        zones,
+        faults,
+        limit,
+        updaters,
+    };
+    let mut handler = LoggedServer { rt, server, log };
+    match service.run(rt, &mut handler, until) {
+        Ok(()) => Ok(()),
+        Err(error) => Err(Ending::Failed(error)),
+    }
+}
+
+/// Reads the zones, twice if a fault needs those from before the last update.
+fn zone_server(
+    rt: &HostRuntime,
+    arguments: &Arguments,
+    faults: &FaultTable,
+) -> Result<ZoneServer, Ending> {
+    let server = read_zones(rt, arguments)?;
+    let former = if has_stale(faults) {
+        Some(read_former(rt, arguments)?)
+    } else {
+        None
+    };
+    Ok(ZoneServer {
+        server,
+        former,
+        has_updated: false,
+    })
+}
+
+/// Returns `true` if a rule answers by the rows from before the last update.
+fn has_stale(faults: &FaultTable) -> bool {
+    faults.rules().iter().any(|counted| matches!(counted.rule.fault.service, FaultService::Stale))
+}
+
+/// Returns the arguments of the program.
+fn given_arguments(rt: &HostRuntime) -> Result<Arguments, Ending> {
+    let given = match env::args(rt) {
+        Ok(given) => given,
+        Err(error) if error.kind() == io::ErrorKind::OutOfMemory => {
+            // Copying the arguments was refused memory.
+            return Err(Ending::Memory);
+        }
+        Err(_) => return Err(Ending::NotUtf8),
+    };
+    let texts = given.collect::<Vec<String>>(rt.alloc())?;
+    let words = texts
+        .iter()
+        .map(|text| text.as_str())
+        .collect::<Vec<&str>>(rt.alloc())?;
+    read_arguments(rt.alloc(), words.as_slice())
+}
+
+/// Reads the fault table, if one is given.
+fn read_faults(rt: &HostRuntime, arguments: &Arguments) -> Result<FaultTable, Ending> {
+    let Some(path) = &arguments.faults else {
+        return Ok(FaultTable::new(rt.alloc()));
+    };
+    let path = path.as_str();
+    let text = text_of(rt.alloc(), path, read_file(rt, path)?)?;
+    match parse_faults(rt.alloc(), text.as_str()) {
+        Ok(table) => Ok(table),
+        // Memory was refused while the table was read.
+        Err(FaultTableError::Memory) => Err(Ending::Memory),
+        Err(error) => Err(Ending::Refused(format!(in rt.alloc(); "{path}: {error}\n")?)),
+    }
+}
+
+/// Opens the log, if one is given.
+fn open_log(rt: &HostRuntime, arguments: &Arguments) -> Result<Option<LogFile>, Ending> {
+    match &arguments.log {
+        Some(path) => Ok(Some(LogFile::open(rt, path.as_str())?)),
+        None => Ok(None),
+    }
+}
+
+/// Opens the sockets, and prints a line for each address.
+fn open_service(rt: &HostRuntime, arguments: &Arguments) -> Result<Service, Ending> {
+    let mut service = match Service::new(rt, rt.alloc()) {
+        Ok(service) => service,
+        Err(error) => return Err(Ending::Failed(error)),
+    };
+    let mut lines = String::new(rt.alloc());
+    for address in arguments.addresses.as_slice() {
+        match service.listen(rt, *address) {
+            Ok(address) => {
+                lines.push_str(format!(in rt.alloc(); "listening on {address}\n")?.as_str())?;
+            }
+            Err(error) => return Err(Ending::CannotListen(*address, error)),
+        }
+    }
+    match rt.print(lines.as_str()) {
+        Ok(()) => Ok(service),
+        Err(_) => Err(Ending::CannotPrint),
+    }
+}

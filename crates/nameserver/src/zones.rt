@@ -1,0 +1,119 @@
+//! The zones of zone files.
+
+use crate::arguments::Arguments;
+use crate::ending::Ending;
+use crate::files::{read_file, text_of};
+use dns_names::Name;
+use dns_nameserver::FormerZones;
+use dns_server::{AddZoneError, Server};
+use dns_zone::{Zone, ZoneFault};
+use std::fmt::{self, Write};
+use std::io;
+use std::time::Instant;
+use zone_check::{check_zone, zone_report};
+
+/// Reads the zone files, and returns a server of their zones. Standard error has a line for each.
+pub(crate) fn read_zones(rt: &HostRuntime, arguments: &Arguments) -> Result<Server, Ending> {
+    let mut server = Server::new(rt.alloc());
+    for path in arguments.files.as_slice() {
+        let path = path.as_str();
+        let start = Instant::now(rt);
+        let zone = read_zone(rt, path, arguments.origin.as_ref())?;
+        tell(rt, path, &zone, milliseconds_since(rt, start));
+        add_zone(rt, &mut server, path, zone)?;
+    }
+    Ok(server)
+}
+
+/// Reads the zone files again, for the zones from before the last update.
+pub(crate) fn read_former(rt: &HostRuntime, arguments: &Arguments) -> Result<FormerZones, Ending> {
+    let mut server = Server::new(rt.alloc());
+    for path in arguments.files.as_slice() {
+        let zone = read_zone(rt, path.as_str(), arguments.origin.as_ref())?;
+        add_zone(rt, &mut server, path.as_str(), zone)?;
+    }
+    Ok(FormerZones::new(server))
+}
+
+/// Returns how many milliseconds have passed, or 0 if the clock fails.
+fn milliseconds_since(rt: &HostRuntime, start: io::Result<Instant>) -> u128 {
+    match start {
+        Ok(start) => start.elapsed(rt).map_or(0, |elapsed| elapsed.as_millis()),
+        Err(_) => 0,
+    }
+}
+
+/// Says on standard error which zone a file has.
+fn tell(rt: &HostRuntime, path: &str, zone: &Zone, milliseconds: u128) {
+    let name = zone.origin();
+    let count = records_count(zone);
+    // A failure to write to standard error can't be reported.
+    let _written = eprintln!(rt;
+        "{path}: zone {name}, {count} records, loaded in {milliseconds} ms"
+    );
+}
+
+/// Adds a zone to a server. There may be no other with its origin.
+fn add_zone(rt: &HostRuntime, server: &mut Server, path: &str, zone: Zone) -> Result<(), Ending> {
+    match server.add_zone(zone) {
+        Ok(()) => Ok(()),
+        Err(AddZoneError::Duplicate) => {
+            let report = format!(in rt.alloc(); "{path}: another zone file has the same origin\n")?;
+            Err(Ending::Refused(report))
+        }
+        // Memory for the zone's place was refused.
+        Err(AddZoneError::Memory) => Err(Ending::Memory),
+    }
+}
+
+/// Reads a zone file.
+fn read_zone(rt: &HostRuntime, path: &str, origin: Option<&Name>) -> Result<Zone, Ending> {
+    let text = text_of(rt.alloc(), path, read_file(rt, path)?)?;
+    zone_of(rt, path, text.as_str(), origin)
+}
+
+/// Returns the zone of a zone file, or what is wrong in it.
+fn zone_of(
+    rt: &HostRuntime,
+    path: &str,
+    text: &str,
+    origin: Option<&Name>,
+) -> Result<Zone, Ending> {
+    match Zone::from_text(rt.alloc(), text, &[], origin) {
+        Ok(zone) => Ok(zone),
+        // Memory was refused while the zone was read.
+        Err(ZoneFault::Memory) => Err(Ending::Memory),
+        Err(_) => {
+            let check = check_zone(rt.alloc(), text, origin)?;
+            let report = zone_report(rt.alloc(), path, text, origin, &check)?;
+            Err(Ending::Refused(report))
+        }
+    }
+}
+
+/// Counts the lines that are written to it.
+#[derive(Drop)]
+struct LineCounter {
+    count: u64,
+}
+
+impl fmt::Write for LineCounter {
+    fn write_str(&mut self, text: &str) -> fmt::Result {
+        for byte in text.as_bytes() {
+            if *byte == b'\n' {
+                self.count = self.count.saturating_add(1);
+            }
+        }
+        Ok(())
+    }
+}
+
+/// Returns the number of records of a zone, each of which is a line of its zone file.
+fn records_count(zone: &Zone) -> u64 {
+    let mut counter = LineCounter { count: 0 };
+    match write!(counter, "{zone}") {
+        Ok(()) => counter.count,
+        // A counter takes any text.
+        Err(_) => counter.count,
+    }
+}

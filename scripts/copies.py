@@ -1,0 +1,38 @@
+"""Copies of crates and files."""
+import contextlib
+import os
+import shutil
+from pathlib import Path
+
+from crates import lines_of, parts_of
+
+# What commands leave in a crate, and what they try on copies of it.
+LEFT_OUT = ("out", "must-fail", "wrong-bodies")
+
+
+def copy_crates(root, names, to, parts=None):
+    """Copies these parts of crates, or all that is no trial of a wrong body, to a repository of their own."""
+    for name in names:
+        folder = Path(root, "crates", name)
+        for it in sorted(folder.iterdir()):
+            if it.name in parts if parts else it.name not in LEFT_OUT:
+                (to / "crates" / name).mkdir(parents=True, exist_ok=True)
+                (shutil.copytree if it.is_dir() else shutil.copyfile)(it, to / "crates" / name / it.name)
+    lines = [it for it in lines_of(root) if parts_of(it)[0] in names]
+    (to / "crates.txt").write_text("".join(f"{it}\n" for it in lines), encoding="utf-8")
+    shutil.copyfile(Path(root, "HANDLES"), to / "HANDLES")
+
+
+def copy_file(file, to, mode):
+    """Copies a file in one step: nobody finds a part of it in its place."""
+    part = to.with_name(f"{to.name}.{os.getpid()}.new")
+    try:
+        with open(part, "wb") as copy:
+            copy.write(Path(file).read_bytes())
+            copy.flush()
+            os.fsync(copy.fileno())
+        part.chmod(mode)
+        part.replace(to)
+    finally:
+        with contextlib.suppress(FileNotFoundError):
+            part.unlink()
