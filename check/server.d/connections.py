@@ -12,10 +12,10 @@ from report import Report
 from siege import GOOD, Siege, few_files, with_requests
 from transport import frame
 
-# How many streams of a kind are open at once.
-OPEN = 500
-# How long each kind goes on after its last stream was opened, in seconds.
-LAST = 3.0
+# How many streams of a kind are open at once: more than the server takes, but no more of those that fill its buffers.
+OPEN, FILLING = 500, 250
+# How long each kind goes on after its last stream was opened, in seconds, and how long those do that fill buffers.
+LAST, LAST_FILLING = 5.0, 20.0
 HALF_A_FRAME = frame(query("a.t."))[:-9]
 LARGE_QUESTIONS = frame(query("many.t.")) * 50
 LARGEST_FRAMES = (b"\xff\xff" + b"\xff" * 65535) * 4
@@ -43,6 +43,8 @@ class Crowd:
             self.streams.pop(0).close()
         stream = socket.socket(socket.AF_INET, socket.SOCK_STREAM)
         stream.setblocking(False)
+        # The system takes little for a stream that does not read, so that the server soon has to wait.
+        stream.setsockopt(socket.SOL_SOCKET, socket.SO_RCVBUF, 4096)
         with contextlib.suppress(BlockingIOError):
             stream.connect(self.address)
         self.streams.append(stream)
@@ -104,7 +106,7 @@ KINDS: Dict[str, Callable] = {
 
 def go_on(kind: str, crowd: Crowd, siege: Siege) -> None:
     """What the open streams do at the end: the slow ones send a byte a second, the deaf and the greedy ones all they can."""
-    end = time.monotonic() + LAST
+    end = time.monotonic() + (LAST_FILLING if crowd.most == FILLING else LAST)
     sent = 1
     while time.monotonic() < end and siege.is_running:
         for stream in crowd.streams:
@@ -122,7 +124,8 @@ def try_streams(report: Report, program: str, given) -> None:
     """A fifth of the streams for each kind."""
     for kind, work in KINDS.items():
         count = max(1, given.streams // len(KINDS))
-        with Siege(report, program, f"{count:,} streams {kind}") as siege, Crowd(siege.address, OPEN) as crowd:
+        most = FILLING if work in (deaf, greedy) else OPEN
+        with Siege(report, program, f"{count:,} streams {kind}") as siege, Crowd(siege.address, most) as crowd:
             for _ in range(count):
                 work(crowd, crowd.open())
                 if not siege.is_running:

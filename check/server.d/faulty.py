@@ -208,12 +208,13 @@ def try_closing(report: Report, program: str) -> None:
     """Streams that end after the first bytes of the frame. In a datagram the rule does not apply."""
     a = query("a.t.")
     whole = frame(Server([zone_of(ZONE)]).reply(a, True))
-    for count in (0, 1, 2, 3, len(whole) - 1, len(whole), 1000):
-        with Tried(report, program, f"a.t. A close {count}") as tried:
+    for count in (None, 0, 1, 2, 3, len(whole) - 1, len(whole), 1000):
+        # A name may lack its last dot, and `close` its number.
+        with Tried(report, program, f"a.t. A close {count}" if count is not None else "A.t a close") as tried:
             with connect(tried.address, 10) as stream:
                 stream.sendall(frame(a))
                 found = stream.makefile("rb").read()
-            report.check(f"close {count}", whole[:count], found)
+            report.check(f"close {count}", whole[: count or 0], found)
             tried.note(a, whole[2:], True, 1)
             tried.datagram(a, tried.model.reply(a), None)
 

@@ -33,8 +33,8 @@ GOOD = "good.t."
 # The memory that a server may take beyond what it has after loading, in kB: 256 connections, of each the longest frame and the
 # replies that wait (65,537 and 131,074 bytes), in buffers that may be twice as long; and 28 MB for all else.
 MEMORY_BOUND = 128_000
-# How long one try of a question waits, and how many tries it has.
-SECONDS, TRIES = 2.0, 5
+# How long one try of a question waits, how many tries it has, and how long all of them may take: as long as dig waits once.
+SECONDS, TRIES, SLOWEST = 2.0, 5, 5.0
 
 
 class Asker(threading.Thread):
@@ -121,9 +121,11 @@ class Siege:
         report.check(f"{title}: questions meanwhile", True, self.asker.asked > 0)
         report.check(f"{title}: questions without a reply", 0, self.asker.failures)
         report.check(f"{title}: wrong replies", [], self.asker.wrong)
+        slowest = self.asker.slowest
+        report.check(f"{title}: the slowest reply after {slowest:.2f} s", True, slowest <= SLOWEST)
         said = self.server.standard_error().splitlines()
         report.check(f"{title}: lines of standard error", 1, len(said))
-        asked = f"{self.asker.asked} questions meanwhile, the slowest {self.asker.slowest:.2f} s"
+        asked = f"{self.asker.asked} questions meanwhile, the slowest {slowest:.2f} s"
         report.end(title, f"{self.detail}, {asked}, {took:.0f} s")
 
 
