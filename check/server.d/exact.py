@@ -29,6 +29,8 @@ SMALL = "\n".join(
 PARENTS = ["t. 60 IN SOA ns.t. h.t. 1 3600 600 86400 30\na.t. 60 IN A 10.0.0.1\nx.b.t. 60 IN A 10.0.0.2",
            "b.t. 60 IN SOA ns.t. h.t. 1 3600 600 86400 30\na.b.t. 60 IN A 10.0.0.3"]  # fmt: skip
 ROOT = ". 60 IN SOA ns.t. h.t. 1 3600 600 86400 30\na. 60 IN A 10.0.0.4"
+# A cut at which the server does not answer takes a while, so the others are left out after so many.
+MOST_FAULTS = 3
 # What has no reply: fewer bytes than a header, responses, and what does not decode.
 WITHOUT_REPLY = [
     b"", b"\0", bytes(11), query("a.t.", flags=0x8000), query("a.t.", flags=0xFFFF), query("a.t.")[:-1], bytes(4) + b"\0\1" + bytes(6),
@@ -168,8 +170,11 @@ def try_streams(report: Report, program: str) -> None:
         watched.model.reply(requests[5])
         wanted = b"".join(frame(reply) for reply in (watched.model.reply(it, True) for it in requests) if reply is not None)
         report.check("all in one piece", wanted, exchange(watched, data, []))
+        faults = 0
         for cut in range(len(data)):
-            report.check(f"cut at byte {cut}", wanted, exchange(watched, data, [cut]))
+            faults += not report.check(f"cut at byte {cut}", wanted, exchange(watched, data, [cut]))
+            if faults == MOST_FAULTS:
+                break
         report.check("byte by byte", wanted, exchange(watched, data, list(range(1, len(data)))))
         report.check("a frame without its end", wanted, exchange(watched, data + frame(query("a.t."))[:-1], [len(data)]))
         report.check("a length alone", wanted, exchange(watched, data + b"\0", [len(data)]))
