@@ -1,10 +1,11 @@
 """The requests that cost the most for their bytes, and a log on a full disk."""
+import socket
 import subprocess
 import tempfile
 import time
 from pathlib import Path
 from struct import pack
-from typing import Callable, Dict, List
+from typing import Callable, Dict, List, Optional
 
 from messages import query
 from report import Report
@@ -13,8 +14,8 @@ from siege import ZONE, Siege
 from transport import ask_datagram, connect, frame, read_frame
 
 MOST = 65535
-# How long the requests of one shape may take together, and one of them, in seconds.
-SHAPE_SECONDS, REQUEST_SECONDS = 120.0, 1.0
+# How long the requests of one shape may take together, how long one is waited for, and how long one may take, in seconds.
+SHAPE_SECONDS, WAIT_SECONDS, REQUEST_SECONDS = 180.0, 20.0, 1.0
 OWNER = ".".join(["n" * 63, "n" * 63, "n" * 63, "n" * 59, "t"])
 ZONE_SECTION = question(wire("t."), 6)
 
@@ -70,9 +71,9 @@ def replaced() -> bytes:
 def by_turns() -> bytes:
     """One type that comes and goes at a name with many others."""
     turn = record(NAME, 900, b"x") + record(NAME, 900, b"", 0, 255) + NOTHING
-    additions = of_types(1200)
-    body = b"".join(additions) + turn * 1200
-    return header((1, 0, len(additions) + 3600, 0), 0x2800) + ZONE_SECTION + body
+    count = 1100
+    body = b"".join(of_types(count)) + turn * count
+    return header((1, 0, 4 * count, 0), 0x2800) + ZONE_SECTION + body
 
 
 def addresses() -> bytes:
@@ -118,28 +119,32 @@ def try_dear(report: Report, program: str, given) -> None:
         with Siege(report, program, f"{count:,} times {title}") as siege:
             before = large_set() if make is required else []
             request = make()
-            with connect(siege.address, 300) as stream:
+            with connect(siege.address, WAIT_SECONDS) as stream:
                 for it in before:
-                    stream.sendall(frame(it))
-                    report.check(f"{title}: the set", siege.model.reply(it, True), read_frame(stream))
+                    report.check(f"{title}: the set", siege.model.reply(it, True), exchange(stream, it))
                 siege.detail = f", {len(request):,} bytes" + ask_often(siege, stream, request, title, count)
 
 
-def ask_often(siege: Siege, stream, request: bytes, title: str, count: int) -> str:
+def exchange(stream: socket.socket, request: bytes) -> Optional[bytes]:
+    """The reply to a request over a stream, if it comes in time."""
+    try:
+        stream.sendall(frame(request))
+        return read_frame(stream)
+    except OSError:
+        return None
+
+
+def ask_often(siege: Siege, stream: socket.socket, request: bytes, title: str, count: int) -> str:
     """Asks one request many times, as long as there is time, and returns how long they took."""
     started, times, replies = time.monotonic(), [], set()
-    for number in range(count):
+    for _ in range(count):
         start = time.monotonic()
-        stream.sendall(frame(request))
-        reply = read_frame(stream)
+        replies.add(exchange(stream, request))
         times.append(time.monotonic() - start)
-        if number == 0:
-            siege.report.check(f"{title}: first reply", siege.model.reply(request, True), reply)
-        replies.add(reply)
-        if time.monotonic() - started > SHAPE_SECONDS or not siege.is_running:
+        if None in replies or time.monotonic() - started > SHAPE_SECONDS or not siege.is_running:
             break
     median = sorted(times)[len(times) // 2]
-    siege.report.check(f"{title}: all replies alike", 1, len(replies))
+    siege.report.check(f"{title}: reply", {siege.model.reply(request, True)}, replies)
     siege.report.check(f"{title}: requests in time", count, len(times))
     siege.report.check(f"{title}: {median * 1000:.1f} ms each", True, median <= REQUEST_SECONDS)
     return f", {len(times):,} requests of {median * 1000:.1f} ms"

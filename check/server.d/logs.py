@@ -34,7 +34,7 @@ def logged(exchange: Exchange, fault=None) -> dict:
     code = code_of(reply) if len(reply) >= 12 else None
     return {
         "transport": "tcp" if exchange.is_stream else "udp",
-        "id": int.from_bytes(request[:2], "big") if has_header else None,
+        "id": int.from_bytes(request[:2], "big") if len(request) >= 2 else None,
         "opcode": opcode,
         "question": question_of(request),
         "code": code,

@@ -53,6 +53,48 @@ class Answer:
 # ---- reading
 
 
+class Reader(Cursor):
+    """A place in bytes that follows each chain of pointers once."""
+
+    def __init__(self, data: bytes, at: int = 0):
+        super().__init__(data, at)
+        # The names to which pointers have led, by their places.
+        self.known: dict = {}
+
+    def name(self) -> Name:
+        """A name. Each pointer must lead before the labels that it ends (RFC 1035 section 4.1.4)."""
+        labels, target = self.segment()
+        behind, chain = self.at, []
+        while target is not None and target not in self.known:
+            self.at = target
+            part, further = self.segment()
+            chain.append((target, part))
+            target = further
+        rest = self.known[target] if target is not None else ()
+        for place, part in reversed(chain):
+            rest = self.known[place] = part + rest
+        self.at = behind
+        if sum(len(it) + 1 for it in labels + rest) + 1 > 255:
+            raise Refusal("DomainNameTooLong")
+        return labels + rest
+
+    def segment(self) -> Tuple[Name, Optional[int]]:
+        """Labels up to the end of a name, or up to a pointer, and the place where it leads."""
+        labels, start = [], self.at
+        while True:
+            code = self.number(1)
+            if code == 0:
+                return tuple(labels), None
+            if code >= 0xC0:
+                target = (code & 0x3F) << 8 | self.number(1)
+                if target >= start:
+                    raise Refusal("PointerNotPriorToLabel")
+                return tuple(labels), target
+            if code >= 0x40:
+                raise Refusal("UnrecognizedLabelCode")
+            labels.append(self.take(code))
+
+
 def read_data(at: Cursor, rtype: int, size: int) -> Tuple:
     """The fields of data, which take exactly their length."""
     end = at.at + size
@@ -92,7 +134,7 @@ def read_request(data: bytes) -> Request:
     """The request that bytes begin with. Bytes after it are ignored. Raises a `Refusal` if they do not decode."""
     if len(data) < 12:
         raise Refusal("InsufficientBytes")
-    at = Cursor(data)
+    at = Reader(data)
     request = Request(at.number(2), at.number(2))
     counts = [at.number(2) for _ in range(4)]
     for _ in range(counts[0]):
