@@ -3,7 +3,6 @@ import contextlib
 import random
 import socket
 import time
-from typing import List
 
 from messages import query
 from nameserver import NameServer
@@ -17,7 +16,12 @@ from zones import zone_of
 
 # How many datagrams are sent before one is compared: as many as surely fit the buffer of a socket.
 BATCH = 50
-HEADERS = [b"\0\1\0\0\0\1\0\0\0\0\0\0", b"\0\1\1\0\0\1\0\0\0\0\0\1", b"\0\1\x28\0\0\1\0\1\0\1\0\0", b"\0\1\x28\0\0\1\0\0\0\3\0\0"]
+HEADERS = [
+    b"\0\1\0\0\0\1\0\0\0\0\0\0",
+    b"\0\1\1\0\0\1\0\0\0\0\0\1",
+    b"\0\1\x28\0\0\1\0\1\0\1\0\0",
+    b"\0\1\x28\0\0\1\0\0\0\3\0\0",
+]
 
 
 class Mutator:
@@ -57,7 +61,9 @@ class Mutator:
 def try_datagrams(report: Report, program: str, given) -> None:
     """Random datagrams, one of each batch compared with the model, which also makes the updates of all of them."""
     title, mutator = f"{given.datagrams:,} random and mutated datagrams", Mutator(given.seed)
-    with Siege(report, program, title) as siege, datagram_socket(siege.address) as flood, datagram_socket(siege.address, 10) as sender:
+    with Siege(report, program, title) as siege, datagram_socket(siege.address) as flood, datagram_socket(
+        siege.address, 10
+    ) as sender:
         flood.setblocking(False)
         compared = silent = 0
         for _ in range(0, given.datagrams, BATCH):
@@ -125,7 +131,12 @@ def try_two_servers(report: Report, program: str, given) -> None:
         return
     with sender, NameServer(ZONE, program=program) as one, NameServer(ZONE, program=program) as other:
         pair = (one.address, one.port), (other.address, other.port)
-        requests = [query(GOOD, id=1), query("no.t.", id=2, payload=1232), query("u.", id=3), query(GOOD, id=4, flags=4 << 11)]
+        requests = [
+            query(GOOD, id=1),
+            query("no.t.", id=2, payload=1232),
+            query("u.", id=3),
+            query(GOOD, id=4, flags=4 << 11),
+        ]
         for request in requests:
             sender.sendto(spoofed(pair[1], pair[0], request), (pair[0][0], 0))
         one.wait_for_requests(len(requests))

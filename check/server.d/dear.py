@@ -9,7 +9,7 @@ from typing import Callable, Dict, List, Optional
 
 from messages import query
 from report import Report
-from samples import at, header, question, record, update, wire
+from samples import at, header, question, record, wire
 from siege import ZONE, Siege
 from transport import ask_datagram, connect, frame, read_frame
 

@@ -41,12 +41,20 @@ def other_requests() -> List[bytes]:
     """Requests of each opcode and shape, with and without EDNS."""
     found = [query("a.t.", flags=code << 11) for code in range(16)]
     found += [numbers(1, 0, count, 0, 0, 0) + question(name_of("a.t."), 1) * count for count in (0, 2, 3)]
-    found += [query("a.t.", id=id, flags=flags) for id in (0, 0xFFFF) for flags in (0, 0x0010, 0x0020, 0x0040, 0x0080, 0x0200, 0x0400, 0x7)]
+    found += [
+        query("a.t.", id=id, flags=flags)
+        for id in (0, 0xFFFF)
+        for flags in (0, 0x0010, 0x0020, 0x0040, 0x0080, 0x0200, 0x0400, 0x7)
+    ]
     found += [query("a.t.")[:-2] + numbers(rclass) for rclass in (0, 2, 3, 4, 254, 255, 256)]
     found += [query("a.t.", f"TYPE{rtype}") for rtype in (0, 24, 41, 128, 249, 250, 251, 252, 253, 254, 255, 256, 65535)]
     found += [query("A.T.", payload=payload) for payload in (0, 1, 511, 512, 513, 1232, 65535)]
     edns = numbers(1, 0, 1, 0, 0, 1) + question(name_of("a.t."), 1)
-    found += [edns + opt_record(1232, flags, options) for flags in (0x8000, 0x7FFF) for options in (b"", numbers(10, 8) + bytes(8), numbers(3, 0))]
+    found += [
+        edns + opt_record(1232, flags, options)
+        for flags in (0x8000, 0x7FFF)
+        for options in (b"", numbers(10, 8) + bytes(8), numbers(3, 0))
+    ]
     found += [edns + b"\0" + numbers(41, 1232, 1, 0, 0), query("a.t.") + b"trailing", query("a.t.") + bytes(1200)]
     return found
 
@@ -56,7 +64,9 @@ def other_updates() -> List[bytes]:
     address = [record_of("n.t. 60 IN A 10.0.0.9")]
     found = [update(origin, [], address) for origin in ("T.", "a.t.", "u.", ".")]
     head = numbers(1, UPDATE_FLAGS, 1, 0, 0, 0)
-    found += [head + question(name_of("t."), rtype, rclass) for rtype, rclass in ((6, 1), (1, 1), (6, 3), (6, 255), (255, 1))]
+    found += [
+        head + question(name_of("t."), rtype, rclass) for rtype, rclass in ((6, 1), (1, 1), (6, 3), (6, 255), (255, 1))
+    ]
     found += [numbers(1, UPDATE_FLAGS, count, 0, 0, 0) + question(name_of("t."), 6) * count for count in (0, 2)]
     for rclass in (1, 3, CLASS_NONE, CLASS_ANY):
         for ttl in (0, 1):
@@ -193,7 +203,9 @@ def try_addresses(report: Report, program: str) -> None:
                 request = query(*question_asked, payload=1232)
                 report.check(f"{address} {question_asked}", model.reply(request), ask_datagram(address, request))
             requests = [query(*it) for it in QUESTIONS]
-            report.check(f"{address} over a stream", [model.reply(it, True) for it in requests], ask_stream(address, requests))
+            report.check(
+                f"{address} over a stream", [model.reply(it, True) for it in requests], ask_stream(address, requests)
+            )
     report.end("four addresses, one of them of IPv6")
 
 
@@ -216,4 +228,4 @@ def try_zones(report: Report, program: str) -> None:
 
 def try_bytes(report: Report, program: str, _missing: List[str]) -> None:
     for work in (try_requests, try_sizes, try_silence, try_streams, try_addresses, try_zones):
-        work(report, program)
+        report.attempt(work.__name__, work, program)

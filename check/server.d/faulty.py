@@ -10,7 +10,7 @@ from nameserver import NameServer
 from relay import Exchange
 from replies import Server, read_request
 from report import Report
-from transport import ask_datagram, connect, datagram_socket, frame, read_frame
+from transport import connect, datagram_socket, frame, read_frame
 from wire import Cursor
 from zones import record_of, zone_of
 
@@ -65,7 +65,9 @@ class Tried:
             fields = {key: fields[key] for key in ("transport", "id", "question", "request_bytes", "reply_bytes", "fault")}
         self.logged.append(fields)
 
-    def datagram(self, request: bytes, wanted: Optional[bytes], rule: Optional[int], copies: int = 1, delay: float = 0) -> None:
+    def datagram(
+        self, request: bytes, wanted: Optional[bytes], rule: Optional[int], copies: int = 1, delay: float = 0
+    ) -> None:
         """Sends a datagram, and compares all that comes back."""
         name = f"{self.table!r}: {request.hex()}"
         with datagram_socket(self.address, 10 if wanted is not None else SILENCE) as sender:
@@ -78,7 +80,9 @@ class Tried:
             if copies > 1 or wanted is None:
                 sender.settimeout(SILENCE)
                 found.append(next_datagram(sender))
-                self.report.check(f"{name}: copies", [wanted] * copies + [None] if wanted is not None else [None, None], found)
+                self.report.check(
+                    f"{name}: copies", [wanted] * copies + [None] if wanted is not None else [None, None], found
+                )
             else:
                 self.report.check(name, wanted, found[0])
         self.report.check(f"{name}: {took:.3f} s", True, took >= delay or wanted is None)
@@ -129,11 +133,19 @@ def try_matching(report: Report, program: str) -> None:
     """Names, types, wildcards, and the first rule that matches and is not used up."""
     a, b, sub, below, origin = query("a.t."), query("b.t."), query("sub.t."), query("A.Sub.T."), query("t.", "SOA")
     with Tried(report, program, "a.t. A code 2\nA.T. * code 3\n*.sub.t. * code 4\n* SOA code 5") as tried:
-        for request, code, rule in ((a, 2, 1), (query("a.t.", "TXT"), 3, 2), (query("A.t."), 2, 1), (below, 4, 3), (origin, 5, 4)):
+        for request, code, rule in (
+            (a, 2, 1),
+            (query("a.t.", "TXT"), 3, 2),
+            (query("A.t."), 2, 1),
+            (below, 4, 3),
+            (origin, 5, 4),
+        ):
             tried.both(request, coded(request, code), rule)
         for request in (b, sub, query("no.t."), query("xsub.t.", "A"), query("aa.t.")):
             tried.plain(request)
-    with Tried(report, program, "# first\n\n  a.t. A code SERVFAIL times 2\t\na.t. * code refused times 1\n* * code 3841 times 1") as tried:
+    with Tried(
+        report, program, "# first\n\n  a.t. A code SERVFAIL times 2\t\na.t. * code refused times 1\n* * code 3841 times 1"
+    ) as tried:
         for code, rule in ((2, 3), (2, 3), (5, 4)):
             tried.datagram(a, coded(a, code), rule)
         tried.stream(query("a.t.", payload=1232), coded(query("a.t.", payload=1232), 3841), 5)
@@ -142,7 +154,11 @@ def try_matching(report: Report, program: str) -> None:
 
 def try_actions(report: Report, program: str) -> None:
     """Each action by itself, over both transports where it applies to both."""
-    a, edns, many = query("a.t.", id=0x1234), query("a.t.", id=0xFFFF, payload=1232, flags=0x0110), query("many.t.", payload=1232)
+    a, edns, many = (
+        query("a.t.", id=0x1234),
+        query("a.t.", id=0xFFFF, payload=1232, flags=0x0110),
+        query("many.t.", payload=1232),
+    )
     with Tried(report, program, "a.t. * drop\nx.t. * wrong-question\nt. * wrong-question") as tried:
         tried.both(a, None, 1)
         for request in (query("x.t."), query("X.T.", payload=1232), query("t.", "SOA")):
@@ -241,8 +257,12 @@ def try_tables(report: Report, program: str) -> None:
 
     for text, line in (("a.t. A", 1), ("\na.t. A nothing", 2), ("a.t. A delay", 1), ("* * drop\n* * code 4096", 2), ("a.t. BAD drop", 1),
                        ("a..t. A drop", 1), ("* * drop times x", 1), ("* * drop drop", 1), ("* * drop delay 5", 1)):  # fmt: skip
-        status, output, errors = run(program, {"zone": ZONE, "faults": text}, ["zone", "--faults", "faults", "--listen", "127.0.0.1:0"])
-        report.check(f"table {text!r}", (1, "", True), (status, output, f"line {line}" in errors or f"faults:{line}" in errors))
+        status, output, errors = run(
+            program, {"zone": ZONE, "faults": text}, ["zone", "--faults", "faults", "--listen", "127.0.0.1:0"]
+        )
+        report.check(
+            f"table {text!r}", (1, "", True), (status, output, f"line {line}" in errors or f"faults:{line}" in errors)
+        )
 
 
 def try_faults(report: Report, program: str, _missing: List[str]) -> None:
@@ -251,5 +271,5 @@ def try_faults(report: Report, program: str, _missing: List[str]) -> None:
         ("stale answers", try_stale), ("faults of updates", try_updates), ("tables that are refused", try_tables),
     ):  # fmt: skip
         report.begin()
-        work(report, program)
+        report.attempt(title, work, program)
         report.end(title)

@@ -16,7 +16,14 @@ from tools import CHILD, QUESTIONS, ZONE, Seen, decoded
 from transport import Address, ask_datagram, ask_stream
 from watch import Watched
 
-NAMES = ["www.example.com", "WWW6.example.com", "web.example.com", "broken.example.com", "nothing.example.com", "many.example.com"]
+NAMES = [
+    "www.example.com",
+    "WWW6.example.com",
+    "web.example.com",
+    "broken.example.com",
+    "nothing.example.com",
+    "many.example.com",
+]
 # Looks names up by the C library, and prints what each led to.
 LOOKUPS = """
 import json, socket, sys
@@ -86,7 +93,10 @@ def forwarder(name: str, server: Address, port: int = 0) -> Iterator[Address]:
 def comparable(seen: Seen):
     """What a forwarder leaves as it is: the code, and the records of the answer, whatever their order and case."""
     count = seen.counts[1]
-    records = sorted((tuple(it.lower() for it in record.owner), record.rtype, repr(record.data).lower()) for record in seen.records[:count])
+    records = sorted(
+        (tuple(it.lower() for it in record.owner), record.rtype, repr(record.data).lower())
+        for record in seen.records[:count]
+    )
     return seen.code, records
 
 

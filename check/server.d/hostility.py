@@ -27,4 +27,4 @@ def try_hostile(report: Report, program: str, given) -> None:
     resource.setrlimit(resource.RLIMIT_NOFILE, (max(soft, min(FILES, hard)), hard))
     for name, work in KINDS.items():
         if not given.kinds or name in given.kinds:
-            work(report, program, given)
+            report.attempt(name, work, program, given)

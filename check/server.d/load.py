@@ -49,7 +49,10 @@ def measure(peer: Peer, questions: Path, seconds: float) -> Load:
 
 
 def print_row(title: str, load: Load) -> None:
-    print(f"{title:<24}{load.rate:>12,.0f}{load.processor:>14.2f}{load.latency:>14.3f}{load.memory:>12.1f}{load.lost:>8.0f}", flush=True)
+    print(
+        f"{title:<24}{load.rate:>12,.0f}{load.processor:>14.2f}{load.latency:>14.3f}{load.memory:>12.1f}{load.lost:>8.0f}",
+        flush=True,
+    )
 
 
 def print_head() -> None:

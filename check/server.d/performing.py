@@ -33,7 +33,11 @@ def dnsperf(port: int, questions: Path, seconds: float, notes_each: bool, *optio
     words += ["-v"] if notes_each else []
     done = subprocess.run(words, capture_output=True, text=True, errors="replace", timeout=seconds + 60)
     numbers = {name: float(re.search(pattern, done.stdout)[1]) for name, pattern in LINES.items()}
-    latencies = [float(line.rsplit(None, 1)[1]) for line in done.stdout.splitlines() if line.startswith("> ") and not line.endswith("T")]
+    latencies = [
+        float(line.rsplit(None, 1)[1])
+        for line in done.stdout.splitlines()
+        if line.startswith("> ") and not line.endswith("T")
+    ]
     return Measured(numbers, {name: int(count) for name, count in CODES.findall(done.stdout)}, latencies)
 
 
@@ -53,5 +57,7 @@ def try_dnsperf(report: Report, program: str, missing: List[str]) -> None:
                 report.check("questions that were lost", 0, found.numbers["lost"])
                 report.check("questions", True, answered > 100)
                 report.check("codes", {"NOERROR", "NXDOMAIN"}, set(found.codes))
-                report.check("a tenth of NXDOMAIN", True, abs(found.codes.get("NXDOMAIN", 0) - answered / 10) < 2 + answered / 100)
+                report.check(
+                    "a tenth of NXDOMAIN", True, abs(found.codes.get("NXDOMAIN", 0) - answered / 10) < 2 + answered / 100
+                )
                 report.end(f"dnsperf {' '.join(options)}", f", {answered:.0f} questions")

@@ -15,7 +15,9 @@ TICKS = os.sysconf("SC_CLK_TCK")
 def free_port(host: str = "127.0.0.1") -> int:
     """A port that is free for datagrams and for streams."""
     for _ in range(100):
-        with socket.socket(socket.AF_INET, socket.SOCK_STREAM) as one, socket.socket(socket.AF_INET, socket.SOCK_DGRAM) as other:
+        with socket.socket(socket.AF_INET, socket.SOCK_STREAM) as one, socket.socket(
+            socket.AF_INET, socket.SOCK_DGRAM
+        ) as other:
             one.bind((host, 0))
             with contextlib.suppress(OSError):
                 other.bind(one.getsockname())
@@ -72,7 +74,9 @@ def children_of(process_id: int) -> list:
     parents = {}
     for stat in Path("/proc").glob("[0-9]*/stat"):
         with contextlib.suppress(OSError, ValueError, IndexError):
-            parents.setdefault(int(stat.read_text(errors="replace").rpartition(")")[2].split()[1]), []).append(int(stat.parent.name))
+            parents.setdefault(int(stat.read_text(errors="replace").rpartition(")")[2].split()[1]), []).append(
+                int(stat.parent.name)
+            )
     found = [process_id]
     for it in found:
         found += parents.get(it, [])

@@ -1,4 +1,5 @@
 """The program itself: its arguments, faulty files, signals, its log, and who may update."""
+import contextlib
 import json
 import os
 import re
@@ -28,7 +29,7 @@ FAULTY = [
     ("t. 60 IN SOA ns h 1 2 3 4 5\nwww.t. 60 IN A 10.0.0.256\n", 2, ["`10.0.0.256`"]),
     ("t. 60 IN SOA ns h 1 2 3 4 5\n\n; comment\nx.u. 60 IN A 10.0.0.1\n", 4, ["origin"]),
     ("a.t. 60 IN A 10.0.0.1\n", None, ["SOA"]),
-    ("t. 60 IN SOA ns h 1 2 3 4 5\na.t. 60 IN TXT \"open\n", 2, []),
+    ('t. 60 IN SOA ns h 1 2 3 4 5\na.t. 60 IN TXT "open\n', 2, []),
     ("t. 60 IN SOA ns h ( 1 2 3 4 5\n", 1, []),
     ("t. 60 CH SOA ns h 1 2 3 4 5\n", 1, []),
     ("t. 60 IN SOA ns h 1 2 3 4 5\na.t. 60 IN SOA ns h 1 2 3 4 5\n", 2, ["SOA"]),
@@ -45,7 +46,9 @@ def run(program: str, files: Dict[str, str], words: Sequence[str], seconds: floa
     with tempfile.TemporaryDirectory() as folder:
         for name, text in files.items():
             Path(folder, name).write_text(text, encoding="utf-8")
-        done = subprocess.run([program, *words], cwd=folder, stdin=subprocess.DEVNULL, capture_output=True, text=True, timeout=seconds)
+        done = subprocess.run(
+            [program, *words], cwd=folder, stdin=subprocess.DEVNULL, capture_output=True, text=True, timeout=seconds
+        )
     return done.returncode, done.stdout, done.stderr
 
 
@@ -53,14 +56,22 @@ def try_arguments(report: Report, program: str) -> None:
     """`--help`, `--version`, wrong arguments, files that can't be read, and addresses that are taken."""
     for words in (["--help"], ["-h"], ["--version"], ["-V"], ["zone", "--help"]):
         status, output, errors = run(program, {"zone": ZONE}, words)
-        report.check(f"{words}", (0, True, ""), (status, "nameserver" in output, errors))
+        wanted = "nameserver " if words[0] in ("--version", "-V") else "Usage: "
+        report.check(f"{words}: {output!r}", (0, True, ""), (status, wanted in output, errors))
     options = "--origin --listen --limit --faults --log --no-updates --allow-update --until-stdin-closes".split()
     report.check("all options in --help", [], [it for it in options if it not in run(program, {}, ["--help"])[1]])
     for words in WRONG:
         status, output, errors = run(program, {"zone": ZONE}, words)
         report.check(f"{words}", (2, "", True), (status, output, bool(errors)))
     listen = ["--listen", "127.0.0.1:0"]
-    unreadable = [["none"], ["."], ["zone", "none"], ["zone", "--faults", "none"], ["zone", "zone"], ["zone", "--log", "none/log"]]
+    unreadable = [
+        ["none"],
+        ["."],
+        ["zone", "none"],
+        ["zone", "--faults", "none"],
+        ["zone", "zone"],
+        ["zone", "--log", "none/log"],
+    ]
     for words in unreadable:
         status, output, errors = run(program, {"zone": ZONE}, [*words, *listen])
         report.check(f"{words}", (1, "", True), (status, output, bool(errors)))
@@ -78,7 +89,9 @@ def try_faulty_zones(report: Report, program: str) -> None:
     """A faulty zone file is refused with its name, its line and a reason, before anything is served."""
     for text, line, words in FAULTY:
         for files in (["faulty"], ["zone", "faulty"]):
-            status, output, errors = run(program, {"zone": ZONE.replace("t.", "u."), "faulty": text}, [*files, "--listen", "127.0.0.1:0"])
+            status, output, errors = run(
+                program, {"zone": ZONE.replace("t.", "u."), "faulty": text}, [*files, "--listen", "127.0.0.1:0"]
+            )
             place = f"faulty:{line}:" if line else "faulty:"
             report.check(f"{text!r}: status and output", (1, ""), (status, output))
             report.check(f"{text!r}: {errors!r}", [], [it for it in (place, "fault", *words) if it not in errors])
@@ -88,7 +101,9 @@ def try_loading(report: Report, program: str) -> None:
     """Standard error has each zone with its number of records and the time of loading, and the options of the zone."""
     text = "@ 60 SOA ns h 1 2 3 4 5\na 60 A 10.0.0.1\n"
     with NameServer(text, program=program, options=["--origin", "given.test"]) as server:
-        wanted = Server([zone_of("given.test. 60 IN SOA ns.given.test. h.given.test. 1 2 3 4 5\na.given.test. 60 IN A 10.0.0.1")])
+        wanted = Server(
+            [zone_of("given.test. 60 IN SOA ns.given.test. h.given.test. 1 2 3 4 5\na.given.test. 60 IN A 10.0.0.1")]
+        )
         request = query("a.given.test.")
         report.check("--origin", wanted.reply(request), ask_datagram((server.address, server.port), request))
         said = server.standard_error()
@@ -106,40 +121,52 @@ def try_endings(report: Report, program: str) -> None:
     with NameServer(ZONE, program=program) as server:
         for number in (signal.SIGSTOP, signal.SIGCONT, signal.SIGWINCH, signal.SIGCHLD, signal.SIGURG):
             server.process.send_signal(number)
-        report.check("other signals leave it", Server([zone_of(ZONE)]).reply(query("a.t.")), ask_datagram((server.address, server.port), query("a.t.")))
-        server.process.stdin.write(b"text on standard input\n")
-        server.process.stdin.flush()
-        report.check("text on standard input", True, ask_datagram((server.address, server.port), query("a.t.")) is not None)
-        server.process.stdin.close()
-        report.check("the end of standard input ends it", (True, 0), (ends(server.process), server.process.returncode))
-        server.process.stdin = open(os.devnull, "wb")
-    with NameServer(ZONE, program=program) as server:
-        server.process.stdin.write(b"text")
-        server.process.stdin.close()
-        report.check("text, and then the end of standard input at once", (True, 0), (ends(server.process), server.process.returncode))
-        server.process.stdin = open(os.devnull, "wb")
+        reply = ask_datagram((server.address, server.port), query("a.t."))
+        report.check("other signals leave it", Server([zone_of(ZONE)]).reply(query("a.t.")), reply)
+    try_input(report, program)
+    try_streams_of_others(report, program)
+
+
+def try_input(report: Report, program: str) -> None:
+    """The end of standard input ends the program, after any text, which is not read."""
+    for title, texts in {"nothing": [], "a line": [b"text\n"], "lines": [b"text\n"] * 3, "much": [b"x" * 20000]}.items():
+        for pause in (0, 0.3):
+            with NameServer(ZONE, program=program) as server:
+                for text in texts:
+                    server.process.stdin.write(text)
+                    server.process.stdin.flush()
+                    time.sleep(pause)
+                report.check(f"{title} on standard input leaves it", None, server.process.poll())
+                server.process.stdin.close()
+                ended = ends(server.process), server.process.returncode
+                report.check(f"the end of standard input ends it, {pause} s after {title}", (True, 0), ended)
+                server.process.stdin = open(os.devnull, "wb")
+
+
+def try_streams_of_others(report: Report, program: str) -> None:
+    """Standard input that is at its end or closed from the start, or does not matter; standard output that is full."""
     with tempfile.TemporaryDirectory() as folder:
         Path(folder, "zone").write_text(ZONE)
-        words = [program, f"{folder}/zone", "--listen", "127.0.0.1:0"]
-        process = subprocess.Popen(words, stdin=subprocess.DEVNULL, stdout=subprocess.PIPE, stderr=subprocess.DEVNULL)
-        try:
-            port = int(process.stdout.readline().rsplit(b":", 1)[1])
-            report.check("without --until-stdin-closes it stays", True, ask_datagram(("127.0.0.1", port), query("a.t.")) is not None)
-        finally:
-            process.kill()
-            process.wait()
-            process.stdout.close()
+        words, until = [program, f"{folder}/zone", "--listen", "127.0.0.1:0"], ["--until-stdin-closes"]
+        quiet = {"stdin": subprocess.DEVNULL, "stderr": subprocess.DEVNULL}
+        with ending(subprocess.Popen(words, stdout=subprocess.PIPE, **quiet)) as process:
+            address = ("127.0.0.1", int(process.stdout.readline().rsplit(b":", 1)[1]))
+            report.check("without --until-stdin-closes it stays", True, ask_datagram(address, query("a.t.")) is not None)
         for title, before in (("an empty file", None), ("nothing", lambda: os.close(0))):
-            words_until = [*words, "--until-stdin-closes"]
-            process = subprocess.Popen(words_until, stdin=subprocess.DEVNULL, stdout=subprocess.DEVNULL, stderr=subprocess.DEVNULL, preexec_fn=before)
-            report.check(f"{title} as standard input ends it", (True, 0), (ends(process), process.returncode))
-            process.kill()
-            process.wait()
-        with open("/dev/full", "wb") as full:
-            process = subprocess.Popen(words, stdin=subprocess.DEVNULL, stdout=full, stderr=subprocess.PIPE)
+            with ending(subprocess.Popen(words + until, stdout=subprocess.PIPE, preexec_fn=before, **quiet)) as process:
+                report.check(f"{title} as standard input ends it", (True, 0), (ends(process), process.returncode))
+        with open("/dev/full", "wb") as full, ending(subprocess.Popen(words, stdout=full, **quiet)) as process:
             report.check("without a place for its lines it ends", (True, 1), (ends(process), process.returncode))
-            process.kill()
-            process.communicate()
+
+
+@contextlib.contextmanager
+def ending(process: subprocess.Popen):
+    """A process that ends with the block."""
+    try:
+        yield process
+    finally:
+        process.kill()
+        process.communicate()
 
 
 def ends(process) -> bool:
@@ -154,7 +181,8 @@ def ends(process) -> bool:
 def try_log(report: Report, program: str) -> None:
     """The log, line by line: its fields, their order, peers and moments; it is appended to; and it may be full."""
     model = Server([zone_of(ZONE)])
-    order = "moment peer transport id opcode question code answers authorities additionals request_bytes reply_bytes fault updated".split()
+    order = "moment peer transport id opcode question code answers authorities additionals".split()
+    order += "request_bytes reply_bytes fault updated".split()
     requests = [query("a.t.", id=7), query("No.T.", "TXT"), b"", b"\1\2\3", bytes(12), query("a.t.", flags=0x8000), query("a\"\\\x07.t."),
                 query(".", "NS"), query("a.t.", "TYPE65280"), query("a.t.")[:-2] + b"\1\2", update("t.", [], [record_of("b.t. 60 IN A 10.0.0.2")]),
                 update("t.", [record_of("b.t. 0 IN A 10.0.0.9")], []), query("a.t.")[:-1]]  # fmt: skip
@@ -214,7 +242,13 @@ def try_permissions(report: Report, program: str) -> None:
         report.skip("updates from other addresses", f"no network of its own: {tried.stderr.strip()}")
         return
     environment = {**os.environ, "PYTHONPATH": ":".join(it for it in sys.path if it), "PYTHONDONTWRITEBYTECODE": "1"}
-    done = subprocess.run([*apart, sys.executable, os.path.abspath(__file__), program], env=environment, capture_output=True, text=True, timeout=120)
+    done = subprocess.run(
+        [*apart, sys.executable, os.path.abspath(__file__), program],
+        env=environment,
+        capture_output=True,
+        text=True,
+        timeout=120,
+    )
     if report.check("updates from other addresses: run", (0, ""), (done.returncode, done.stderr)):
         for name, wanted, got in json.loads(done.stdout):
             report.check(f"update {name}", wanted, got)
@@ -250,7 +284,7 @@ def try_program(report: Report, program: str, _missing: List[str]) -> None:
         ("the log", try_log), ("who may update", try_permissions),
     ):  # fmt: skip
         report.begin()
-        work(report, program)
+        report.attempt(title, work, program)
         report.end(title)
 
 

@@ -8,7 +8,13 @@ ORIGIN = "load.test."
 
 def big_zone(count: int) -> str:
     """A zone with this many addresses, each at a name of its own, as a zone file that all servers read."""
-    lines = [f"$ORIGIN {ORIGIN}", "$TTL 3600", "@ IN SOA ns hostmaster 1 3600 600 86400 300", "@ IN NS ns", "ns IN A 10.255.0.1"]
+    lines = [
+        f"$ORIGIN {ORIGIN}",
+        "$TTL 3600",
+        "@ IN SOA ns hostmaster 1 3600 600 86400 300",
+        "@ IN NS ns",
+        "ns IN A 10.255.0.1",
+    ]
     lines += [f"host{at} IN A 10.{at >> 16 & 255}.{at >> 8 & 255}.{at & 255}" for at in range(count)]
     return "\n".join(lines) + "\n"
 

@@ -4,12 +4,24 @@ from dataclasses import dataclass, field
 from typing import List, NamedTuple, Optional, Tuple
 
 from wire import UPDATE, Cursor, Refusal, lower, place_fault
+
 from zones import (
     A, AAAA, ANY, AXFR, CLASS_ANY, CLASS_NONE, CNAME, IN, MAILA, MAILB, MX, NS, OPT, PTR, SIG, SOA, SRV, TXT,
     Name, Record, Row, Zone, comparable, is_at_or_below,
 )  # fmt: skip
 
-NO_ERROR, FORM_ERR, NX_DOMAIN, NOT_IMP, REFUSED, YX_DOMAIN, YX_RRSET, NX_RRSET, NOT_AUTH, NOT_ZONE = 0, 1, 3, 4, 5, 6, 7, 8, 9, 10
+NO_ERROR, FORM_ERR, NX_DOMAIN, NOT_IMP, REFUSED, YX_DOMAIN, YX_RRSET, NX_RRSET, NOT_AUTH, NOT_ZONE = (
+    0,
+    1,
+    3,
+    4,
+    5,
+    6,
+    7,
+    8,
+    9,
+    10,
+)
 CODES = {
     0: "NoError", 1: "FormErr", 2: "ServFail", 3: "NXDomain", 4: "NotImp", 5: "Refused", 6: "YXDomain", 7: "YXRRSet",
     8: "NXRRSet", 9: "NotAuth", 10: "NotZone",

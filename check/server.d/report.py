@@ -1,4 +1,5 @@
 """What was tried, what failed, and what was skipped."""
+import traceback
 
 
 class Report:
@@ -22,6 +23,13 @@ class Report:
         """Notes what was not tried."""
         self.skipped.append(name)
         print(f"skipped  {name}: {reason}", flush=True)
+
+    def attempt(self, title, work, *given):
+        """Does some work on this report. An exception of it is a failure, and what comes next is tried all the same."""
+        try:
+            work(self, *given)
+        except Exception:
+            self.check(f"{title}: run", "no exception", traceback.format_exc())
 
     def begin(self):
         self.section_start = (self.count, self.failed)

@@ -31,7 +31,9 @@ def rows():
             asked, _, answer = expanded(rest).rpartition(" > ")
             requests, _, zone = asked.partition(" || ")
             road, _, digits = requests.partition(" ")
-            yield f"{path.name}: {line[:120]}", word, road, [bytes.fromhex(it) for it in digits.split(", ") if it != "-"], zone, answer
+            yield f"{path.name}: {line[:120]}", word, road, [
+                bytes.fromhex(it) for it in digits.split(", ") if it != "-"
+            ], zone, answer
 
 
 class OneZone(Server):

@@ -141,4 +141,6 @@ def with_requests(siege: Siege, requests: List[bytes], is_stream: bool) -> None:
     """Asks requests, and compares each reply with that of the model."""
     for request in requests:
         wanted = siege.model.reply(request, is_stream)
-        siege.report.check(f"{siege.title}: reply to {request[:100].hex()}", wanted, ask_once(siege.address, request, is_stream))
+        siege.report.check(
+            f"{siege.title}: reply to {request[:100].hex()}", wanted, ask_once(siege.address, request, is_stream)
+        )

@@ -59,7 +59,9 @@ QUESTIONS = [
     ("nothing.sub.example.com.", "A"), ("www.example.com.", "TYPE65280"), ("www.example.com.", "ANY"),
 ]  # fmt: skip
 HEAD = re.compile(r"^;; ->>HEADER<<- opcode: (\w+)[,;] (?:status|rcode): (\w+)[,;] id: (\d+)", re.M)
-FLAGS = re.compile(r"^;; [Ff]lags: ?([a-z ]*?) ?; QUERY: (\d+)[,;] ANSWER: (\d+)[,;] AUTHORITY: (\d+)[,;] ADDITIONAL: (\d+)", re.M)
+FLAGS = re.compile(
+    r"^;; [Ff]lags: ?([a-z ]*?) ?; QUERY: (\d+)[,;] ANSWER: (\d+)[,;] AUTHORITY: (\d+)[,;] ADDITIONAL: (\d+)", re.M
+)
 ALL_FLAGS = {"qr": 15, "aa": 10, "tc": 9, "rd": 8, "ra": 7, "ad": 5, "cd": 4}
 
 

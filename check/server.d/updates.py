@@ -120,7 +120,11 @@ def try_mode(report: Report, program: str, title: str, options: Sequence[str]) -
             report.check(f"{name}: code", case.code, send(watched, case, options))
             seen = watched.compare(report, name)
             report.check(f"{name}: an update", True, any(it.request[2] >> 3 == 5 for it in seen))
-            report.check(f"{name}: transport", True, "-v" not in options or all(it.is_stream for it in seen if it.request[2] >> 3 == 5))
+            report.check(
+                f"{name}: transport",
+                True,
+                "-v" not in options or all(it.is_stream for it in seen if it.request[2] >> 3 == 5),
+            )
             ask_about(watched, report, name, case)
         for case in OTHER_ZONES:
             name = f"nsupdate {title} {'; '.join(case.commands)}"

@@ -53,11 +53,16 @@ class Watched:
 
     def expect(self, report: Report, title: str, request: bytes, is_stream: bool = False) -> None:
         """Asks over a raw socket, and compares the reply with that of the model."""
-        report.check(f"{title}: reply to {request.hex()}", self.model.reply(request, is_stream), self.ask(request, is_stream))
+        report.check(
+            f"{title}: reply to {request.hex()}", self.model.reply(request, is_stream), self.ask(request, is_stream)
+        )
 
     def compare_log(self, report: Report, title: str) -> None:
         """Looks for the line of each exchange in the log."""
-        lines = [{key: value for key, value in it.fields.items() if key not in ("moment", "peer")} for it in self.server.requests()]
+        lines = [
+            {key: value for key, value in it.fields.items() if key not in ("moment", "peer")}
+            for it in self.server.requests()
+        ]
         for it in self.exchanges:
             wanted = logged(it)
             if report.check(f"{title}: {wanted}", True, wanted in lines):

@@ -26,7 +26,7 @@ Data = Tuple
 
 
 def name_of(text: str) -> Name:
-    """The name that a text spells, with or without a dot at its end. An escape is a backslash and three digits, or a character."""
+    """The name that a text spells, with or without a dot at its end. A backslash begins an escape (RFC 1035 section 5.1)."""
     labels, label = [], bytearray()
     for digits, escaped, dot, plain in re.findall(r"\\(\d{3})|\\(.)|(\.)|([^\\.])", text):
         if dot:
@@ -84,7 +84,10 @@ def number(text: str, size: int) -> bytes:
 def strings_of(text: str) -> bytes:
     """Character strings in quotes, or without them, each with its length."""
     found = [quoted or word for quoted, word in re.findall(r'"((?:[^"\\]|\\.)*)"|([^\s"]+)', text)]
-    strings = [b"".join(bytes([int(it[1])]) if it[1] else (it[2] or it[3]).encode() for it in OCTET.finditer(word)) for word in found]
+    strings = [
+        b"".join(bytes([int(it[1])]) if it[1] else (it[2] or it[3]).encode() for it in OCTET.finditer(word))
+        for word in found
+    ]
     return b"".join(bytes([len(it)]) + it for it in strings)
 
 

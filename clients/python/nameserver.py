@@ -73,8 +73,10 @@ class NameServer:
 
     `zone` is the text of a zone file, or a list of such texts, each of another zone. `faults` is the text of a fault table,
     and `options` are further arguments of the program, such as `["--limit", "512"]`. `port` 0 is any free port, and
-    `seconds` how long the server may take to start. `log=False` leaves out the log, which takes time. Once it is started, `address` and `port` are those to ask, and
-    `addresses` has them and those of each further `--listen` of the options.
+    `seconds` how long the server may take to start. `log=False` leaves out the log, which takes time.
+
+    Once the server is started, `address` and `port` are those to ask, and `addresses` has them and those of each further
+    `--listen` of the options.
     """
 
     def __init__(self, zone, *, faults="", options=(), address="127.0.0.1", port=0, program=None, seconds=None, log=True):
