@@ -133,8 +133,8 @@ fn deliver<S: FaultServer>(
     context: S::Context,
 ) -> Result<Delivery, AllocError>
     requires { IsSound request.now }
-    ensures ok { IfOk result (λ delivery. IsFaulty S.serves S.serves_stale fault.now server.old context
-        request.now query.now (sending delivery) server.new) }
+    ensures ok { IfOk result (λ delivery. IsFaulty S.serves S.serves_stale fault.now server.old
+        context request.now query.now (sending delivery) server.new) }
     ensures server { OnErr result (IsLeft S.serves S.serves_stale server.old context request.now
         server.new) }
 {

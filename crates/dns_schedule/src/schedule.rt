@@ -130,8 +130,8 @@ impl<T: Drop> Schedule<T> {
                 self.pushed += 1;
                 Ok(())
             }
-            // The memory for the entry was refused.
             Err(refused) => Err(PushError {
+                // The memory for the entry was refused.
                 fault: PushFault::Memory,
                 item: refused.value.1,
             }),

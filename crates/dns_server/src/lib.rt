@@ -5,7 +5,6 @@
 //!
 //! - `server`: zones, and the replies to requests; `server::route`: which zone a request is for; `updates`: whether a requestor
 //!   may update;
-//! - `former`: servers that also answer by the rows from before the last update;
 //! - `connection`: the state of a stream; `frame`: the first frame of bytes; `buffer`: bytes that wait;
 //! - `responder`: what replies to requests; `serving`: the frames of a connection are served by one;
 //! - `address_list`: lists of address prefixes;

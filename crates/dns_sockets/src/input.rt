@@ -20,11 +20,21 @@ pub(crate) fn watch_input(registry: &Registry) -> bool {
         .is_ok()
 }
 
-/// Reads what has arrived at standard input, and returns `true` if it is at its end, or cannot be read.
-pub(crate) fn has_ended<I: Input>(input: &I) -> bool {
+/// Asks the system for another event of standard input, also of what is there already. Returns `false` if it cannot be waited for.
+fn watch_again(registry: &Registry) -> bool {
+    let mut source = SourceFd(&STANDARD_INPUT);
+    let token = SocketToken::Input.to_token();
+    registry
+        .reregister(&mut source, token, Interest::READABLE)
+        .is_ok()
+}
+
+/// Reads what has arrived at standard input, and returns `true` if it is at its end, or cannot be read. If it is not, a further
+/// event follows as soon as there is more to read, or the end.
+pub(crate) fn has_ended<I: Input>(input: &I, registry: &Registry) -> bool {
     let mut piece = [0u8; PIECE_LEN];
     match input.reader().read(&mut piece) {
-        Ok(count) => count == 0,
+        Ok(count) => count == 0 || !watch_again(registry),
         Err(error) => error.kind() != ErrorKind::Interrupted
             && error.kind() != ErrorKind::WouldBlock,
     }

@@ -133,7 +133,7 @@ impl Service {
         for event in events.iter() {
             match SocketToken::from_token(event.token()) {
                 SocketToken::Input => {
-                    if has_ended(input) {
+                    if has_ended(input, self.poll.registry()) {
                         return true;
                     }
                 }

@@ -3,7 +3,7 @@
 use crate::ending::Ending;
 use clap::error::ErrorKind;
 use clap::{Arg, ArgAction, ArgMatches, Command, value_parser};
-use dns_names::{Name, ParseError};
+use dns_names::{AddrPrefix, Name, ParseError};
 use dns_server::{AddressList, parse_prefix};
 use dns_sockets::Until;
 use dns_zone::DatagramLimit;
@@ -163,15 +163,12 @@ fn texts_in(
     name: &str,
 ) -> Result<Vec<String>, AllocError> {
     let mut texts = Vec::new(alloc);
-    for text in given(matches, name) {
-        texts.push(String::from_str(alloc, text)?)?;
+    if let Some(values) = matches.get_strs(name) {
+        for text in values {
+            texts.push(String::from_str(alloc, text)?)?;
+        }
     }
     Ok(texts)
-}
-
-/// Returns the values of an argument, as given.
-fn given<'m, 'a>(matches: &'m ArgMatches<'a>, name: &str) -> &'m [&'a str] {
-    matches.get_strs(name).unwrap_or(&[])
 }
 
 /// Returns the origin, if its option has a value. It is fully qualified, with or without a dot at its end.
@@ -200,8 +197,8 @@ fn origin_in(
 /// Returns the addresses at which the server listens.
 fn addresses_in(alloc: Global, matches: &ArgMatches<'_>) -> Result<Vec<SocketAddr>, Ending> {
     let mut addresses = Vec::new(alloc);
-    for text in given(matches, "listen") {
-        addresses.push(address_of(alloc, text)?)?;
+    for text in texts_in(alloc, matches, "listen")?.as_slice() {
+        addresses.push(address_of(alloc, text.as_str())?)?;
     }
     if addresses.is_empty() {
         let local = SocketAddrV4::new(Ipv4Addr::LOCALHOST, DEFAULT_PORT);
@@ -242,16 +239,21 @@ fn updaters_in(alloc: Global, matches: &ArgMatches<'_>) -> Result<AddressList, E
         return Ok(AddressList::new(alloc));
     }
     let mut updaters = AddressList::loopback(alloc)?;
-    for text in given(matches, "allow-update") {
-        match parse_prefix(text.as_bytes()) {
-            Ok(prefix) => updaters.add(prefix)?,
-            Err(_) => {
-                let reason = "it is not an address and a length, such as 192.0.2.0/24";
-                return Err(Ending::invalid(alloc, "allow-update", text, reason));
-            }
-        }
+    for text in texts_in(alloc, matches, "allow-update")?.as_slice() {
+        updaters.add(prefix_of(alloc, text.as_str())?)?;
     }
     Ok(updaters)
+}
+
+/// Returns the prefix that a text stands for.
+fn prefix_of(alloc: Global, text: &str) -> Result<AddrPrefix, Ending> {
+    match parse_prefix(text.as_bytes()) {
+        Ok(prefix) => Ok(prefix),
+        Err(_) => {
+            let reason = "it is not an address and a length, such as 192.0.2.0/24";
+            Err(Ending::invalid(alloc, "allow-update", text, reason))
+        }
+    }
 }
 
 /// Returns what ends the server.

@@ -31,12 +31,14 @@ pub(crate) enum Ending {
 
 impl From<AllocError> for Ending {
     fn from(_error: AllocError) -> Ending {
+        // The memory was refused to the call that returned the error.
         Ending::Memory
     }
 }
 
 impl<T: Drop> From<AllocFailed<T>> for Ending {
     fn from(_error: AllocFailed<T>) -> Ending {
+        // The memory was refused to the call that returned the error.
         Ending::Memory
     }
 }
