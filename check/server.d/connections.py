@@ -1,6 +1,5 @@
 """Streams of hostile peers: silent, slow, deaf and greedy ones, and more than the server has room for."""
 import contextlib
-import os
 import selectors
 import socket
 import tempfile
@@ -9,7 +8,7 @@ from typing import Callable, Dict, List
 
 from messages import query
 from report import Report
-from siege import GOOD, Siege, few_files, with_requests
+from siege import GOOD, IDLE_TIME, Siege, few_files, with_requests
 from transport import frame
 
 # How many streams of a kind are open at once: more than the server takes, but no more of those that fill its buffers.
@@ -146,8 +145,11 @@ def try_many_connections(report: Report, program: str, given) -> None:
                 while time.monotonic() < end:
                     with_requests(siege, [query("a.t."), query("no.t.")], False)
                     time.sleep(0.2)
-                files = len(os.listdir(f"/proc/{siege.server.process.pid}/fd"))
+                files = siege.files()
                 report.check(f"{title}: {files} files", True, files <= 256)
+                siege.asker.stopped.set()
+                siege.asker.join(60)
+                report.check(f"{title}: processor time while connections wait", True, siege.idle_time() <= 3 * IDLE_TIME)
                 siege.detail = f", {files} files"
             time.sleep(0.5)
 
@@ -157,6 +159,7 @@ def try_idle(report: Report, program: str, given) -> None:
     title = "idle connections"
     with Siege(report, program, title) as siege, Crowd(siege.address, 10) as crowd:
         idle, used = crowd.open(), crowd.open()
+        half(crowd, crowd.open())
         for stream in (idle, used):
             stream.setblocking(True)
             stream.settimeout(15)
@@ -166,13 +169,12 @@ def try_idle(report: Report, program: str, given) -> None:
                 used.sendall(frame(query(GOOD)))
                 used.recv(65535)
             time.sleep(2)
-        took = closed_after(idle, started)
-        report.check(f"{title}: closed", b"", took)
+        report.check(f"{title}: closed", b"", rest_of(idle))
         used.sendall(frame(query(GOOD)))
         report.check(f"{title}: one that is used stays", frame(siege.model.reply(query(GOOD), True)), used.recv(65535))
 
 
-def closed_after(stream: socket.socket, _started: float) -> bytes:
+def rest_of(stream: socket.socket) -> bytes:
     """What a stream has: nothing if its peer has closed it."""
     stream.settimeout(1)
     try:

@@ -9,7 +9,7 @@ from typing import List, Optional
 from messages import query
 from nameserver import NameServer
 from packages import find
-from processes import status_of
+from processes import processor_time, status_of
 from replies import Server
 from report import Report
 from transport import ask_datagram, ask_stream
@@ -33,6 +33,8 @@ GOOD = "good.t."
 # The memory that a server may take beyond what it has after loading, in kB: 256 connections, of each the longest frame and the
 # replies that wait (65,537 and 131,074 bytes), in buffers that may be twice as long; and 28 MB for all else.
 MEMORY_BOUND = 128_000
+# The most processor time of a second in which nobody asks, in seconds.
+IDLE_TIME = 0.1
 # How long one try of a question waits, how many tries it has, and how long all of them may take: as long as dig waits once.
 SECONDS, TRIES, SLOWEST = 2.0, 5, 5.0
 
@@ -83,6 +85,7 @@ class Siege:
         self.report.begin()
         self.server.start()
         self.start_memory = status_of(self.server.process.pid, "VmHWM")
+        self.start_files = self.files()
         self.asker = Asker(self, self.over_stream)
         self.asker.start()
         self.started = time.monotonic()
@@ -101,9 +104,26 @@ class Siege:
     def address(self):
         return self.server.address, self.server.port
 
+    def files(self) -> int:
+        """How many files the server has open."""
+        return len(os.listdir(f"/proc/{self.server.process.pid}/fd"))
+
+    def idle_time(self, seconds: float = 1.0) -> float:
+        """The processor time that the server takes while nobody asks, in seconds."""
+        before = processor_time(self.server.process.pid)
+        time.sleep(seconds)
+        return processor_time(self.server.process.pid) - before
+
     @property
     def is_running(self) -> bool:
         return self.server.process.poll() is None
+
+    def files_at_last(self) -> int:
+        """How many files the server has open once it has taken note of what its peers have closed, for at most ten seconds."""
+        end = time.monotonic() + 10
+        while self.files() > self.start_files and time.monotonic() < end:
+            time.sleep(0.05)
+        return self.files()
 
     def compare(self) -> None:
         """What has to hold afterwards."""
@@ -117,6 +137,8 @@ class Siege:
             if find("dig"):
                 words = ["dig", "-r", f"@{self.address[0]}", "-p", str(self.address[1]), "+short", GOOD]
                 report.check(f"{title}: dig", "10.0.0.99\n", subprocess.run(words, capture_output=True, text=True).stdout)
+            report.check(f"{title}: files that stay open", self.start_files, self.files_at_last())
+            report.check(f"{title}: processor time while nobody asks", True, self.idle_time() <= IDLE_TIME)
             self.detail += f", {used} kB more"
         report.check(f"{title}: questions meanwhile", True, self.asker.asked > 0)
         report.check(f"{title}: questions without a reply", 0, self.asker.failures)
