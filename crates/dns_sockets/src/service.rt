@@ -171,7 +171,7 @@ impl Service {
         for listener in self.listeners.as_mut_slice() {
             listener.accept(self.alloc, self.poll.registry(), &mut self.streams, now);
         }
-        self.streams.go_on(handler, buffer, now);
+        self.streams.go_on(rt, &self.clock, handler, buffer)?;
         send_due(self.datagrams.as_slice(), &mut self.waiting, now);
         Ok(())
     }

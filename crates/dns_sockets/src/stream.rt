@@ -14,7 +14,7 @@ use std::io::{ErrorKind, Read, Write};
 use std::net::SocketAddr;
 
 /// How many steps a connection makes before others have their turn.
-const MAX_STEPS: usize = 16;
+const MAX_STEPS: usize = 8;
 
 /// The maximum length of a message, in bytes (RFC 1035 section 4.2.2).
 const MAX_MESSAGE_LEN: usize = 65_535;
@@ -158,7 +158,7 @@ impl Stream {
         self.last_activity
     }
 
-    /// Goes on as far as the peer allows, but for at most 16 steps. Returns `true` if the connection is to be closed.
+    /// Goes on as far as the peer allows, but for at most 8 steps. Returns `true` if the connection is to be closed.
     pub(crate) fn go_on<H: Handler>(
         &mut self,
         handler: &mut H,

@@ -1,14 +1,21 @@
 //! The connections of a service.
 
-use crate::clock::Milliseconds;
+use crate::clock::{Milliseconds, ServiceClock};
 use crate::handler::Handler;
 use crate::stream::Stream;
 use std::alloc::Global;
+use std::io;
+use std::time::Clock;
+
+/// For how many milliseconds the connections go on before datagrams have their turn, but for what the last of them does.
+const MAX_TURN: Milliseconds = 5;
 
 /// The connections of a service, at most a fixed number of them. There are no more places than needed.
 pub(crate) struct StreamTable {
     slots: Vec<Option<Stream>>,
     capacity: usize,
+    /// The index of the connection whose turn comes first.
+    first: usize,
 }
 
 impl Drop for StreamTable {
@@ -16,6 +23,7 @@ impl Drop for StreamTable {
         let StreamTable {
             slots,
             capacity: _capacity,
+            first: _first,
         } = self;
         drop(slots);
     }
@@ -27,6 +35,7 @@ impl StreamTable {
         StreamTable {
             slots: Vec::new(alloc),
             capacity,
+            first: 0,
         }
     }
 
@@ -87,23 +96,51 @@ impl StreamTable {
         }
     }
 
-    /// Lets the connections go on that have something to do, and closes those that have ended or have been idle for too long.
-    pub(crate) fn go_on<H: Handler>(
+    /// Lets the connections go on that have something to do, one after another, until some milliseconds have passed: then the
+    /// others are the first the next time. Those that have ended or have been idle for too long are closed.
+    pub(crate) fn go_on<R: Clock, H: Handler>(
         &mut self,
+        rt: &R,
+        clock: &ServiceClock,
         handler: &mut H,
         buffer: &mut [u8],
-        now: Milliseconds,
-    ) {
-        for slot in self.slots.as_mut_slice() {
-            let closes = match slot {
-                Some(stream) if stream.deadline() <= now => stream.go_on(handler, buffer, now),
-                _ => false,
-            };
-            if closes {
-                *slot = None;
+    ) -> io::Result<()> {
+        let now = clock.now(rt)?;
+        let end = now.saturating_add(MAX_TURN);
+        for _slot in 0..self.slots.len() {
+            if self.first >= self.slots.len() {
+                self.first = 0;
+            }
+            let index = self.first;
+            self.first = index.saturating_add(1);
+            if self.go_on_at(index, handler, buffer, now) && clock.now(rt)? >= end {
+                return Ok(());
             }
         }
         self.trim();
+        Ok(())
+    }
+
+    /// Lets the connection at an index go on if it has something to do, and returns `true` if it had.
+    fn go_on_at<H: Handler>(
+        &mut self,
+        index: usize,
+        handler: &mut H,
+        buffer: &mut [u8],
+        now: Milliseconds,
+    ) -> bool {
+        if index >= self.slots.len() {
+            return false;
+        }
+        let slot = &mut self.slots[index];
+        let closes = match slot {
+            Some(stream) if stream.deadline() <= now => stream.go_on(handler, buffer, now),
+            _ => return false,
+        };
+        if closes {
+            *slot = None;
+        }
+        true
     }
 
     /// Removes the places behind the last connection.
