@@ -178,34 +178,53 @@ def ends(process) -> bool:
         return False
 
 
+LOGGED = [
+    query("a.t.", id=7), query("No.T.", "TXT"), b"", b"\1\2\3", bytes(12), query("a.t.", flags=0x8000), query("a\"\\\x07.t."),
+    query(".", "NS"), query("a.t.", "TYPE65280"), query("a.t.")[:-2] + b"\1\2",
+    update("t.", [], [record_of("b.t. 60 IN A 10.0.0.2")]), update("t.", [record_of("b.t. 0 IN A 10.0.0.9")], []),
+    query("a.t.")[:-1],
+]  # fmt: skip
+FIELDS = (
+    "moment peer transport id opcode question code answers authorities additionals request_bytes reply_bytes fault updated"
+)
+# How far the clocks may be apart, in milliseconds.
+TOLERANCE = 20
+
+
 def try_log(report: Report, program: str) -> None:
     """The log, line by line: its fields, their order, peers and moments; it is appended to; and it may be full."""
-    model = Server([zone_of(ZONE)])
-    order = "moment peer transport id opcode question code answers authorities additionals".split()
-    order += "request_bytes reply_bytes fault updated".split()
-    requests = [query("a.t.", id=7), query("No.T.", "TXT"), b"", b"\1\2\3", bytes(12), query("a.t.", flags=0x8000), query("a\"\\\x07.t."),
-                query(".", "NS"), query("a.t.", "TYPE65280"), query("a.t.")[:-2] + b"\1\2", update("t.", [], [record_of("b.t. 60 IN A 10.0.0.2")]),
-                update("t.", [record_of("b.t. 0 IN A 10.0.0.9")], []), query("a.t.")[:-1]]  # fmt: skip
+    before = time.monotonic()
     with NameServer(ZONE, program=program) as server:
-        address, wanted = (server.address, server.port), []
-        with datagram_socket(address) as sender, connect(address) as stream:
-            for number, request in enumerate(requests):
-                is_stream = bool(number % 2)
-                peer = (stream if is_stream else sender).getsockname()
-                reply = model.reply(request, is_stream)
-                stream.sendall(frame(request)) if is_stream else sender.send(request)
-                if reply is not None:
-                    report.check(f"log: {request.hex()}", reply, read_frame(stream) if is_stream else sender.recv(65535))
-                server.wait_for_requests(number + 1)
-                wanted.append({"peer": f"{peer[0]}:{peer[1]}", **logged(Exchange(is_stream, request, reply))})
-        lines = server.wait_for_requests(len(requests))
-        for it, line in zip(wanted, lines):
-            report.check("log: fields", it, {key: value for key, value in line.fields.items() if key != "moment"})
-            report.check("log: order of the fields", order, list(line.fields))
-        moments = [it.moment for it in lines]
-        report.check(f"log: moments {moments}", True, moments == sorted(moments) and 0 <= moments[0] and moments[-1] < 60000)
-        report.check("log: a line each", len(requests), Path(server.path("log")).read_bytes().count(b"\n"))
-    try_full_log(report, program, model)
+        after = time.monotonic()
+        noted = ask_logged(report, server)
+        lines = server.wait_for_requests(len(LOGGED))
+        for (wanted, sent, seen), line in zip(noted, lines):
+            report.check("log: fields", wanted, {key: value for key, value in line.fields.items() if key != "moment"})
+            report.check("log: order of the fields", FIELDS.split(), list(line.fields))
+            least, most = (sent - after) * 1000 - TOLERANCE, (seen - before) * 1000 + TOLERANCE
+            report.check(
+                f"log: the moment {line.moment} is from {least:.0f} to {most:.0f}", True, least <= line.moment <= most
+            )
+        report.check("log: a line each", len(LOGGED), Path(server.path("log")).read_bytes().count(b"\n"))
+    try_full_log(report, program, Server([zone_of(ZONE)]))
+
+
+def ask_logged(report: Report, server: NameServer) -> list:
+    """Sends the requests by turns over UDP and TCP. The result is what the log has to say of each, and when it was sent and its
+    line was seen."""
+    address, model, noted = (server.address, server.port), Server([zone_of(ZONE)]), []
+    with datagram_socket(address) as sender, connect(address) as stream:
+        for number, request in enumerate(LOGGED):
+            time.sleep(0.1)
+            is_stream, sent = bool(number % 2), time.monotonic()
+            peer, reply = (stream if is_stream else sender).getsockname(), model.reply(request, is_stream)
+            stream.sendall(frame(request)) if is_stream else sender.send(request)
+            if reply is not None:
+                report.check(f"log: {request.hex()}", reply, read_frame(stream) if is_stream else sender.recv(65535))
+            server.wait_for_requests(number + 1)
+            fields = {"peer": f"{peer[0]}:{peer[1]}", **logged(Exchange(is_stream, request, reply))}
+            noted.append((fields, sent, time.monotonic()))
+    return noted
 
 
 def try_full_log(report: Report, program: str, model: Server) -> None:

@@ -49,19 +49,24 @@ class Asker(threading.Thread):
         self.asked, self.failures, self.slowest, self.wrong = 0, 0, 0.0, []
 
     def run(self) -> None:
+        self.ask()
         while not self.stopped.wait(0.1):
-            is_stream = self.over_stream and self.asked % 2 == 1
-            start, reply = time.monotonic(), None
-            for number in range(TRIES):
-                request = query(GOOD, id=(self.asked * TRIES + number) % 65536)
-                reply = ask_once(self.siege.address, request, is_stream)
-                if reply is not None:
-                    break
-            self.asked += 1
-            self.failures += reply is None
-            self.slowest = max(self.slowest, time.monotonic() - start)
-            if reply is not None and reply[2:] != self.siege.good_reply[2:]:
-                self.wrong.append(reply)
+            self.ask()
+
+    def ask(self) -> None:
+        """Asks until there is a reply, a few times at most."""
+        is_stream = self.over_stream and self.asked % 2 == 1
+        start, reply = time.monotonic(), None
+        for number in range(TRIES):
+            request = query(GOOD, id=(self.asked * TRIES + number) % 65536)
+            reply = ask_once(self.siege.address, request, is_stream)
+            if reply is not None:
+                break
+        self.asked += 1
+        self.failures += reply is None
+        self.slowest = max(self.slowest, time.monotonic() - start)
+        if reply is not None and reply[2:] != self.siege.good_reply[2:]:
+            self.wrong.append(reply)
 
 
 def ask_once(address, request: bytes, is_stream: bool) -> Optional[bytes]:
