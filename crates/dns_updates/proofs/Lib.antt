@@ -2,10 +2,6 @@ pub mod Walks
 pub mod SetLaws
 pub mod CodeLaws
 pub mod ChangeLaws
-pub mod ChangedLaws
-pub mod ListingLaws
-pub mod OwnerCodeLaws
-pub mod PlaceLaws
 pub mod UpdateLaws
 mod UpdateRows
 mod VoidLaws

@@ -1,2 +1,0 @@
--- What the functions of this crate keep, beside what a reader needs to believe.
-pub mod Indexes
