@@ -3,6 +3,7 @@ pub mod StoredLaws
 pub mod IndexLaws
 pub mod ElementLaws
 pub mod ReadingLaws
+pub mod PointerLaws
 pub mod NameLaws
 pub mod CompressionLaws
 pub mod PieceLaws

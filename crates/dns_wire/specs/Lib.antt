@@ -4,6 +4,7 @@ pub mod Decodable
 pub mod Element
 pub mod Name
 pub mod Reading
+pub mod Pointers
 pub mod Suffixes
 pub mod Encoder
 pub mod Writing

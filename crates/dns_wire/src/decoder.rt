@@ -3,27 +3,35 @@
 ghost use Rattle.std.specs.Prelude.{◌≡◌, ◌+◌, ◌<◌, ◌≤◌, ◌↔◌, ◌⊎◌, ℕ, List, [], ◌∷◌, ◌++◌, length, slice_range, IsOk, IsTrue, IfOk, IfErr, OnErr, slice_get};
 ghost use Rattle.std.specs.Int.{w16, w32, to_be_bytes, cast_unsigned};
 ghost use Rattle.dns_wire.specs.Decoder.{rest, Advances};
+ghost use Rattle.dns_wire.specs.Pointers.{Follows, IsTableOf};
 
 use crate::error::DecodeError;
+use crate::pointers::{self, PointerTable};
 use std::alloc::Global;
 use std::marker::Model;
 
 /// A decoder over borrowed bytes. A failed read leaves it unchanged.
+///
+/// `ends` are the ends of the chains of pointers, from the first place of the bytes on, as a table has them. Without a table
+/// there are none.
 #[derive(Drop)]
 pub struct BinDecoder<'a> {
     buffer: &'a [u8],
     index: usize,
+    ends: &'a [u16],
 }
 
 impl<'a> Model for BinDecoder<'a> {
     ghost use Rattle.std.specs.Prelude.{◌≤◌, length};
     ghost use Rattle.dns_wire.specs.Decoder.{Decoder};
+    ghost use Rattle.dns_wire.specs.Pointers.{AreEnds};
 
     ghost Value = { Decoder };
 
     ghost view = { λ d. record { bytes = d.buffer.now; index = d.index } };
 
-    ghost invariant = { λ d. d.index ≤ length d.buffer.now };
+    ghost invariant = { λ d. (d.index ≤ length d.buffer.now)
+        × AreEnds d.buffer.now d.ends.now };
 }
 
 impl<'a> BinDecoder<'a> {
@@ -31,7 +39,23 @@ impl<'a> BinDecoder<'a> {
     pub fn new(buffer: &'a [u8]) -> Self
         ensures { result ≡ record { bytes = buffer.now; index = 0 } }
     {
-        BinDecoder { buffer, index: 0 }
+        BinDecoder {
+            buffer,
+            index: 0,
+            ends: &[],
+        }
+    }
+
+    /// Creates a decoder at the start of the bytes, which follows pointers by the table of these bytes.
+    pub fn with_pointers(buffer: &'a [u8], table: &'a PointerTable) -> Self
+        requires { IsTableOf buffer.now table.now }
+        ensures { result ≡ record { bytes = buffer.now; index = 0 } }
+    {
+        BinDecoder {
+            buffer,
+            index: 0,
+            ends: table.ends(),
+        }
     }
 
     /// Returns a decoder over the same bytes, at another index, which must not be past their end.
@@ -42,6 +66,7 @@ impl<'a> BinDecoder<'a> {
         BinDecoder {
             buffer: self.buffer,
             index: index_at,
+            ends: self.ends,
         }
     }
 
@@ -196,5 +221,18 @@ impl<'a> BinDecoder<'a> {
         ensures { result.now ≡ slice_range self.now.bytes index self.now.index }
     {
         &self.buffer[index..self.index]
+    }
+
+    /// Follows compression pointers from `place` on, which must not be past the end of the bytes, and returns the first
+    /// place without a pointer to an earlier place (RFC 1035 section 4.1.4).
+    pub fn follow_pointers(&self, place: usize) -> usize
+        requires { place ≤ length self.now.bytes }
+        ensures follows { Follows self.now.bytes place result }
+        ensures within { result ≤ place }
+    {
+        match self.ends.get(place) {
+            Some(end) => usize::from(*end),
+            None => pointers::follow(self.buffer, place),
+        }
     }
 }

@@ -4,7 +4,8 @@
 //! the position (the offset, the encoding of names, the remembered suffixes, the number of names that were tried), and
 //! on no byte that was written before. So the pieces tell what the buffer contains; `laws` says that they decode again.
 //!
-//! - `decoder`, `decodable`: reads from the front of the unread bytes, where a failed read changes nothing;
+//! - `decoder`, `decodable`: reads from the front of the unread bytes, where a failed read changes nothing; `pointers`:
+//!   compression pointers that lead to compression pointers, and a table of where they end;
 //! - `encoder`, `encodable`: writes at an offset, up to a maximum size; `suffixes`: the targets of compression pointers;
 //!   `name_encoding`, `modal_encoder`: how names are encoded; `place`: places that are filled in later; `items`: lists of
 //!   values; `numbers`: numbers as values;
@@ -22,6 +23,7 @@ mod modal_encoder;
 mod name_encoding;
 mod numbers;
 mod place;
+mod pointers;
 mod suffixes;
 
 pub use decodable::BinDecodable;
@@ -34,3 +36,4 @@ pub use items::{emit_fitting, emit_if_fits};
 pub use modal_encoder::ModalEncoder;
 pub use name_encoding::{NameEncoding, RDataEncoding};
 pub use place::Place;
+pub use pointers::PointerTable;
