@@ -1,5 +1,5 @@
 -- Names that are stored inline.
-use Rattle.std.proofs.Common.{◌≡◌, ℕ, zero, suc, ◌+◌, ◌<◌, ◌≤◌, List, [], ◌∷◌, ◌++◌, length, take, drop, subst, arith, length-append}
+use Rattle.std.proofs.Common.{◌≡◌, ℕ, ◌+◌, ◌≤◌, List, [], ◌∷◌, ◌++◌, length, take, drop, subst, arith, length-append}
 use Rattle.dns_wire.specs.Name.{name_len}
 use Rattle.dns_names.specs.Name.{IsInline}
 use Rattle.dns_names.specs.internal.Name.{labels_from, IsCut}

@@ -1,8 +1,9 @@
 -- A name that is being read, seen from its end: all of its labels begin with those that were read so far.
-use Rattle.std.proofs.Common.{◌≡◌, ℕ, ◌+◌, ◌-◌, ◌≤◌, List, [], ◌∷◌, ◌++◌, length, Result, Ok, Err, refl, sym, ap, subst, ◌∙◌, append_assoc, arith}
+use Rattle.std.proofs.Common.{◌≡◌, ℕ, ◌+◌, ◌-◌, List, [], ◌∷◌, ◌++◌, length, Result, Ok, Err, refl, sym, ap, subst, ◌∙◌, append_assoc, arith}
 use Rattle.dns_wire.specs.declared.error.DecodeError.{DecodeError}
-use Rattle.dns_wire.specs.Element.{Element, Closing, Label, Pointer, element_at}
+use Rattle.dns_wire.specs.Element.{Element, Label, Pointer, element_at}
 use Rattle.dns_wire.specs.Name.{name_len}
+use Rattle.dns_wire.specs.Pointers.{Follows, at_end, past_link}
 use Rattle.dns_wire.specs.Reading.{Reads, at_closing, at_label, at_pointer, ReadsName}
 use Rattle.dns_names.specs.Name.{IsInline}
 use Rattle.dns_names.proofs.InlineLaws.{inline_prefix}
@@ -65,6 +66,12 @@ module _ {bytes : List ℕ} {start index segment : ℕ} {labels : List (List ℕ
       let next = label_first label e found.3 in
       inline_prefix all (labels ++ label ∷ []) next.0
       (found.2 ∙ ap (λ (ls : List (List ℕ)). labels ++ ls) next.1 ∙ sym (append_assoc labels (label ∷ []) next.0)) is
+
+-- past a chain of pointers
+pub leads_pointers : {bytes : List ℕ} {start place to : ℕ} {labels : List (List ℕ)} → Follows bytes place to
+    → Leads bytes start place place labels → Leads bytes start to to labels
+leads_pointers (at_end last) u = u
+leads_pointers (past_link {target = target} e back f) u = leads_pointers f (leads_pointer u target e)
 
 -- ---- a fault at the start
 

@@ -8,6 +8,7 @@ use Rattle.dns_wire.proofs.DecodeErrorLaws.{memory_alone}
 use Rattle.dns_wire.proofs.ReadingLaws.{reads_not_refused}
 use Rattle.dns_wire.specs.Element.{Closing, Label, Pointer, element_at}
 use Rattle.dns_wire.specs.Name.{name_len}
+use Rattle.dns_wire.specs.Pointers.{Follows, at_end, past_link}
 use Rattle.dns_wire.specs.Reading.{Reads, Refuses, at_closing, at_label, at_pointer, at_fault, at_long_name, at_forward_pointer, past_label, past_pointer, ReadsName, RefusesName}
 
 -- In these bytes, a name that begins at start was read as far as index, in a segment that begins at segment: these are
@@ -53,6 +54,12 @@ module _ {bytes : List ℕ} {start index segment : ℕ} {labels : List (List ℕ
 
   pub on_forward_pointer : (target : ℕ) → element_at bytes index ≡ Ok (Pointer target) → segment ≤ target → RefusesName bytes start PointerNotPriorToLabel
   on_forward_pointer target e on = u.refuses PointerNotPriorToLabel (at_forward_pointer e on)
+
+-- past a chain of pointers, once the end is known
+pub on_pointers : {bytes : List ℕ} {start place to end : ℕ} {labels : List (List ℕ)} → Follows bytes place to
+    → Underway bytes start place place labels (Some end) → Underway bytes start to to labels (Some end)
+on_pointers (at_end last) u = u
+on_pointers (past_link {target = target} e back f) u = on_pointers f (on_pointer u target e back)
 
 pub unwrap_or-within : (o : Option ℕ) (x n : ℕ) → IfSome o (λ e. e ≤ n) → x ≤ n → unwrap_or o x ≤ n
 unwrap_or-within None x n within le = le

@@ -130,8 +130,8 @@ fn read_at(alloc: Global, decoder: BinDecoder<'_>) -> Result<(Name, usize), Deco
                     return Err(DecodeError::PointerNotPriorToLabel);
                 }
                 end = Some(end.unwrap_or(reader.index()));
-                reader = reader.clone(target);
-                segment = target;
+                segment = reader.follow_pointers(target);
+                reader = reader.clone(segment);
             }
         }
     }

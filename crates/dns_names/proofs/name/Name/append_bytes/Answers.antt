@@ -1,5 +1,4 @@
 use Rattle.std.proofs.Common.{◌≡◌, true, false, ◌++◌, ◌∷◌, [], Ok, refl, sym, subst, arith}
-use Rattle.dns_names.specs.Build.{append_label}
 use Rattle.dns_names.specs.Name.{IsInline, IsInlineOutcome}
 use Rattle.dns_names.proofs.BuildingLaws.{label_fits, label_overflows}
 use Rattle.dns_names.proofs.name.Name.append_bytes.Goals as goal

@@ -1,4 +1,4 @@
-use Rattle.std.proofs.Common.{◌≡◌, ◌+◌, ◌-◌, ◌<◌, ◌≤◌, true, false, ◌∙◌, List, [], ◌∷◌, ℕ, length, take, drop, Ok, Err, refl, sym, ap, subst, length-drop, arith}
+use Rattle.std.proofs.Common.{◌≡◌, ◌+◌, ◌-◌, ◌<◌, true, false, ◌∙◌, List, [], ◌∷◌, ℕ, length, take, drop, Ok, refl, sym, ap, subst, length-drop, arith}
 use Rattle.std.proofs.lemmas.List.{take_all, drop_all}
 use Rattle.std.proofs.lemmas.Result.{err_from_is_err_and}
 use Rattle.dns_names.specs.internal.Symbol.{symbol_of}

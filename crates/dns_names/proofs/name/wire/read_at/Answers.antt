@@ -9,8 +9,8 @@ use Rattle.dns_wire.specs.Name.{name_len}
 use Rattle.dns_names.specs.Name.{DomainName}
 use Rattle.dns_names.specs.internal.Wire.{element_of, part_len}
 use Rattle.dns_names.specs.declared.name.wire.Part.{Part}
-use Rattle.dns_names.proofs.Underway.{starts, on_closing, on_label, on_pointer, on_fault, on_long_name, on_forward_pointer, name_len-push, unwrap_or-within}
-use Rattle.dns_names.proofs.Leading.{leads_start, leads_label, leads_pointer, inline_next, fault_is, no_fault}
+use Rattle.dns_names.proofs.Underway.{starts, on_closing, on_label, on_pointer, on_pointers, on_fault, on_long_name, on_forward_pointer, name_len-push, unwrap_or-within}
+use Rattle.dns_names.proofs.Leading.{leads_start, leads_label, leads_pointer, leads_pointers, inline_next, fault_is, no_fault}
 use Rattle.dns_names.proofs.name.wire.read_at.Goals as goal
 use Rattle.dns_names.proofs.name.wire.read_at.Goals.{In-Label, In-Pointer, In_ok-push-in-Label}
 
@@ -84,9 +84,10 @@ loop-name-preserved c =
     let bytes_are = ap (λ (d : Decoder). d.bytes) moved ∙ inv.same_bytes in
     let end_is = c.unwrap_or.ensures ∙ ap (λ (n : ℕ). unwrap_or c.loop-name.end n) index_is in
     let within : c.index.result ≤ length c.args.decoder.bytes = rw bytes_are at c.index.ensures.within in
+    let follows = rw bytes_are at c.follow_pointers-segment.ensures.follows in
     record {
-      underway = rw (ap (λ (d : Decoder). d.index) c.clone-reader.ensures, end_is) (on_pointer inv.underway c.in-Pointer.target (pointer_here at.In-Pointer) (omega arith));
-      leads = rw (ap (λ (d : Decoder). d.index) c.clone-reader.ensures) (leads_pointer inv.leads c.in-Pointer.target (pointer_here at.In-Pointer));
+      underway = rw (ap (λ (d : Decoder). d.index) c.clone-reader.ensures, end_is) (on_pointers follows (on_pointer inv.underway c.in-Pointer.target (pointer_here at.In-Pointer) (omega arith)));
+      leads = rw (ap (λ (d : Decoder). d.index) c.clone-reader.ensures) (leads_pointers follows (leads_pointer inv.leads c.in-Pointer.target (pointer_here at.In-Pointer)));
       first = λ error e. absurd (no_fault c.args.decoder.bytes c.loop-name.reader.index c.args.decoder.index (Pointer c.in-Pointer.target) error (pointer_here at.In-Pointer) (inv.first error e) e);
       same_bytes = ap (λ (d : Decoder). d.bytes) c.clone-reader.ensures ∙ bytes_are;
       within = omega (arith, inv.within);
