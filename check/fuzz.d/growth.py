@@ -13,7 +13,7 @@ LIMIT = 120.0
 SOA = b"t. 60 SOA ns.t. h.t. 1 3600 600 86400 30\n"
 LOOKUP = b"0 lookup a.t. A\n"
 SET = "each record is compared with those of its set"
-POINTERS = "each name follows up to 8,192 pointers"
+LABELS = "names have more labels, too, up to 108"
 
 
 @dataclass
@@ -79,6 +79,27 @@ def question_chain(whole: int, short: int) -> bytes:
     return header((whole + short, 0, 0, 0)) + bytes(body) + question(at(target)) * short
 
 
+def mixed_chains(whole: int, short: int, chains: int, gap: int = 0) -> bytes:
+    """Questions like those of `question_chain`, over several chains in turn. After each `gap` pointers of a chain comes a
+    label of one byte before its next pointer, up to 126 times, if there is a gap."""
+    body, ends, links = bytearray(), [6] * chains, [0] * chains
+    for turn in range(whole * 4 * 15):
+        if turn % 15 == 0:
+            body.append(62)
+        it = turn % chains
+        links[it] += 1
+        has_label = gap and links[it] % (gap + 1) == gap and links[it] < 126 * (gap + 1)
+        start = 12 + len(body)
+        body += (b"\1a" if has_label else b"") + at(ends[it])
+        # Two further bytes make each link four bytes long: a pointer to the link.
+        body += b"" if has_label else at(start)
+        ends[it] = start if has_label else start + 2
+        if turn % 15 == 14:
+            body += at(ends[it])
+            body += question(b"\0") if turn % 60 == 59 else b""
+    return header((whole + short, 0, 0, 0)) + bytes(body) + b"".join(question(at(ends[it % chains])) for it in range(short))
+
+
 def compressed(count: int) -> bytes:
     """Records whose owners are pointers to one name of 255 bytes."""
     owner = wire(".".join("a" * 127))
@@ -132,8 +153,10 @@ def cases() -> list[Case]:
         script("script: comments", 40000, many(b" # c\n")),
         wired("message: records", "message", 400, lambda n: header((0, n, 0, 0)) + record(wire("a.t"), 1, bytes(4)) * n, 10),
         wired("message: owners of 255 bytes, by pointers", "message", 400, compressed, 3),
-        wired("message: owners by a chain of pointers", "message", 450, lambda n: chain(2 * n, n), 3, POINTERS),
-        wired("message: questions by a chain of pointers", "message", 7, lambda n: question_chain(n, 140 * n), 1, POINTERS),
+        wired("message: owners by a chain of pointers", "message", 450, lambda n: chain(2 * n, n), 3),
+        wired("message: questions by a chain of pointers", "message", 7, lambda n: question_chain(n, 140 * n)),
+        wired("message: questions by 16 chains in turn", "message", 7, lambda n: mixed_chains(n, 140 * n, 16), 3),
+        wired("message: questions by chains between labels", "message", 7, lambda n: mixed_chains(n, 140 * n, 1, 30), 1, LABELS),
         wired("message: strings", "message", 7000, lambda n: header((0, 1, 0, 0)) + record(b"\0", 16, bytes(n)), 20),
         wired("message: options", "message", 1900, lambda n: header((0, 0, 0, 1)) + record(b"\0", 41, bytes(4 * n)), 20),
         wired("message: questions", "message", 1000, lambda n: header((n, 0, 0, 0)) + question(b"\0") * n, 10),

@@ -17,17 +17,22 @@ use crate::query::Query;
 use crate::response_code::ResponseCode;
 use crate::section::SectionRecords;
 use dns_records::{Record, Sequence};
-use dns_wire::{BinDecodable, BinDecoder, DecodeError};
-use std::alloc::Global;
+use dns_wire::{BinDecodable, BinDecoder, DecodeError, PointerTable};
+use std::alloc::{AllocError, Global};
 
 /// The length of a header, in bytes (RFC 1035 section 4.1.1).
 const HEADER_LEN: usize = 12;
 
+/// The greatest length of a message, in bytes, that is decoded without a table of its compression pointers. The chains of
+/// pointers in it are short.
+const SHORT_LEN: usize = 2_048;
+
 impl Message {
     /// Decodes a message. Bytes after its last record are ignored.
     ///
-    /// Fewer than 12 bytes are refused before memory is allocated, and a header whose counts are all 0 takes none. Memory is
-    /// allocated for an item when it is decoded, and never for the counts of the header, which may be false.
+    /// Fewer than 12 bytes are refused before memory is allocated, and a header whose counts are all 0 needs none. Memory is
+    /// allocated for an item when it is decoded, and never for the counts of the header, which may be false. A message of more
+    /// than 2,048 bytes is decoded with a table of its compression pointers, of at most 32 KiB, if there is memory for it.
     pub fn from_vec(alloc: Global, bytes: &[u8]) -> Result<Message, DecodeError>
         ensures read { IfOk result (λ message. ReadsMessage bytes.now message) }
         ensures sound { IfOk result (λ message. IsSound message) }
@@ -114,7 +119,7 @@ fn read_questions(
     Ok(queries)
 }
 
-/// Decodes a message.
+/// Decodes a message. A long one is decoded with a table of its compression pointers, if there is memory for it.
 fn read_message(alloc: Global, bytes: &[u8]) -> Result<Message, DecodeError>
     ensures read { IfOk result (λ message. ReadsMessage bytes.now message) }
     ensures refused { IfErr result (λ error. error ≢ DecodeError.Memory
@@ -122,7 +127,26 @@ fn read_message(alloc: Global, bytes: &[u8]) -> Result<Message, DecodeError>
     ensures decided { (header : Header) → IsBareHeader bytes.now header
         → result ≡ Ok (empty_message header.metadata) }
 {
-    let mut decoder = BinDecoder::new(bytes);
+    if bytes.len() <= SHORT_LEN {
+        return read_from(alloc, BinDecoder::new(bytes));
+    }
+    match PointerTable::new(alloc, bytes) {
+        Ok(table) => read_from(alloc, BinDecoder::with_pointers(bytes, &table)),
+        // The memory for the table was refused, which only takes longer.
+        Err(AllocError) => read_from(alloc, BinDecoder::new(bytes)),
+    }
+}
+
+/// Decodes a message with a decoder of its bytes.
+fn read_from(alloc: Global, decoder: BinDecoder<'_>) -> Result<Message, DecodeError>
+    requires { decoder.entry.index ≡ 0 }
+    ensures read { IfOk result (λ message. ReadsMessage decoder.entry.bytes message) }
+    ensures refused { IfErr result (λ error. error ≢ DecodeError.Memory
+        → RefusesMessage decoder.entry.bytes error) }
+    ensures decided { (header : Header) → IsBareHeader decoder.entry.bytes header
+        → result ≡ Ok (empty_message header.metadata) }
+{
+    let mut decoder = decoder;
     let header = read_header(alloc, &mut decoder)?;
     let counts = header.counts;
     let op_code = header.metadata.op_code;

@@ -10,29 +10,29 @@ use Rattle.dns_messages.specs.Section.{SectionKind, ReadsSection, RefusesSection
 use Rattle.dns_messages.specs.Header.{DecodesHeader, no_counts}
 use Rattle.dns_messages.specs.Grammar.{ReadsQuestions, RefusesQuestions, section_kind, additional_kind, RefusesMessage, IsBareHeader, short_header, bad_questions, bad_answers, bad_authorities, bad_additionals}
 use Rattle.dns_messages.proofs.BareLaws.{not_short, same_header, same_counts, empty_section, bare_message}
-use Rattle.dns_messages.proofs.read.read_message.Goals as goal
-use Rattle.dns_messages.proofs.read.read_message.Goals.{In_ok-header, In_ok-queries, In_ok-answers, In_ok-authorities}
+use Rattle.dns_messages.proofs.read.read_from.Goals as goal
+use Rattle.dns_messages.proofs.read.read_from.Goals.{In_ok-header, In_ok-queries, In_ok-answers, In_ok-authorities}
 
 -- ---- what was read, of the bytes of the message
 
-bytes1 : (c : In_ok-header) → c.read_header.new.decoder.bytes ≡ c.args.bytes.now
-bytes1 c = c.in_ok-header.ensures.bytes ∙ ap (λ (d : Decoder). d.bytes) c.new-decoder.ensures
+bytes1 : (c : In_ok-header) → c.read_header.new.decoder.bytes ≡ c.args.decoder.bytes
+bytes1 c = c.in_ok-header.ensures.bytes
 
-bytes2 : (c : In_ok-queries) → c.read_queries.new.decoder.bytes ≡ c.args.bytes.now
-bytes2 c = c.in_ok-queries.ensures.bytes ∙ c.in_ok-header.ensures.bytes ∙ ap (λ (d : Decoder). d.bytes) c.new-decoder.ensures
+bytes2 : (c : In_ok-queries) → c.read_queries.new.decoder.bytes ≡ c.args.decoder.bytes
+bytes2 c = c.in_ok-queries.ensures.bytes ∙ c.in_ok-header.ensures.bytes
 
-bytes3 : (c : In_ok-answers) → c.read_plain_section.new.decoder.bytes ≡ c.args.bytes.now
-bytes3 c = c.in_ok-answers.ensures.bytes ∙ c.in_ok-queries.ensures.bytes ∙ c.in_ok-header.ensures.bytes ∙ ap (λ (d : Decoder). d.bytes) c.new-decoder.ensures
+bytes3 : (c : In_ok-answers) → c.read_plain_section.new.decoder.bytes ≡ c.args.decoder.bytes
+bytes3 c = c.in_ok-answers.ensures.bytes ∙ c.in_ok-queries.ensures.bytes ∙ c.in_ok-header.ensures.bytes
 
-bytes4 : (c : In_ok-authorities) → c.read_plain_section-2.new.decoder.bytes ≡ c.args.bytes.now
-bytes4 c = c.in_ok-authorities.ensures.bytes ∙ c.in_ok-answers.ensures.bytes ∙ c.in_ok-queries.ensures.bytes ∙ c.in_ok-header.ensures.bytes ∙ ap (λ (d : Decoder). d.bytes) c.new-decoder.ensures
+bytes4 : (c : In_ok-authorities) → c.read_plain_section-2.new.decoder.bytes ≡ c.args.decoder.bytes
+bytes4 c = c.in_ok-authorities.ensures.bytes ∙ c.in_ok-answers.ensures.bytes ∙ c.in_ok-queries.ensures.bytes ∙ c.in_ok-header.ensures.bytes
 
-header_read : (c : In_ok-header) → DecodesHeader c.args.bytes.now 0 c.in_ok-header.header 12
-header_read c = subst (λ (bs : List ℕ). DecodesHeader bs 0 c.in_ok-header.header 12) (ap (λ (d : Decoder). d.bytes) c.new-decoder.ensures) c.in_ok-header.ensures.read
+header_read : (c : In_ok-header) → DecodesHeader c.args.decoder.bytes 0 c.in_ok-header.header 12
+header_read c = c.in_ok-header.ensures.read
 
-queries_read : (c : In_ok-header) (qs : List Query) (end : ℕ) → ReadsQuestions c.read_header.new.decoder.bytes c.read_header.new.decoder.index c.in_ok-header.header.counts.queries qs end → ReadsQuestions c.args.bytes.now 12 c.in_ok-header.header.counts.queries qs end
+queries_read : (c : In_ok-header) (qs : List Query) (end : ℕ) → ReadsQuestions c.read_header.new.decoder.bytes c.read_header.new.decoder.index c.in_ok-header.header.counts.queries qs end → ReadsQuestions c.args.decoder.bytes 12 c.in_ok-header.header.counts.queries qs end
 queries_read c qs end read =
-    subst (λ (n : ℕ). ReadsQuestions c.args.bytes.now n c.in_ok-header.header.counts.queries qs end) c.in_ok-header.ensures.index (subst (λ (bs : List ℕ). ReadsQuestions bs c.read_header.new.decoder.index c.in_ok-header.header.counts.queries qs end) (bytes1 c) read)
+    subst (λ (n : ℕ). ReadsQuestions c.args.decoder.bytes n c.in_ok-header.header.counts.queries qs end) c.in_ok-header.ensures.index (subst (λ (bs : List ℕ). ReadsQuestions bs c.read_header.new.decoder.index c.in_ok-header.header.counts.queries qs end) (bytes1 c) read)
 
 section_read : (bytes bytes' : List ℕ) (kind : SectionKind) (place count : ℕ) (rs : List Record) (end : ℕ) → bytes ≡ bytes' → ReadsSection bytes kind place count rs end → ReadsSection bytes' kind place count rs end
 section_read bytes bytes' kind place count rs end same read = subst (λ (bs : List ℕ). ReadsSection bs kind place count rs end) same read
@@ -45,12 +45,8 @@ section_refused bytes bytes' kind place count error same refused = subst (λ (bs
 pub returns-in_err-header-clause-refused : goal.returns-in_err-header-clause-refused
 returns-in_err-header-clause-refused c =
     let p = err_from_is_err_and c.from_residual.result c.from_residual.ensures.1 in
-    let bytes : List ℕ = c.args.bytes.now in
-    let error : DecodeError = c.in_err-header.field-0.0 in
-    let start : c.new-decoder.result.bytes ≡ bytes = ap (λ (d : Decoder). d.bytes) c.new-decoder.ensures in
     let few = c.in_err-header.ensures.short in
-    let short : length bytes < 12 = subst (λ (bs : List ℕ). length bs < 12) start few.1 in
-    rw (p.1, p.2) (λ other. subst (λ (e : DecodeError). RefusesMessage bytes e) (sym few.0) (short_header short))
+    rw (p.1, p.2) (λ other. subst (λ (e : DecodeError). RefusesMessage c.args.decoder.bytes e) (sym few.0) (short_header few.1))
 
 pub returns-in_err-queries-clause-refused : goal.returns-in_err-queries-clause-refused
 returns-in_err-queries-clause-refused c =
@@ -58,7 +54,7 @@ returns-in_err-queries-clause-refused c =
     let p = err_from_is_err_and c.from_residual-in_err-queries.result c.from_residual-in_err-queries.ensures.1 in
     let h : Header = c.in_ok-header.header in
     let error : DecodeError = c.in_err-queries.field-0.0 in
-    let here : RefusesQuestions c.args.bytes.now c.read_header.new.decoder.index h.counts.queries error → RefusesQuestions c.args.bytes.now 12 h.counts.queries error = subst (λ (n : ℕ). RefusesQuestions c.args.bytes.now n h.counts.queries error) c.in_ok-header.ensures.index in
+    let here : RefusesQuestions c.args.decoder.bytes c.read_header.new.decoder.index h.counts.queries error → RefusesQuestions c.args.decoder.bytes 12 h.counts.queries error = subst (λ (n : ℕ). RefusesQuestions c.args.decoder.bytes n h.counts.queries error) c.in_ok-header.ensures.index in
     rw (p.1, p.2) (λ other. bad_questions h (header_read at.In_ok-header)
     (here (subst (λ (bs : List ℕ). RefusesQuestions bs c.read_header.new.decoder.index h.counts.queries error) (bytes1 at.In_ok-header) (c.in_err-queries.ensures.refused other))))
 
@@ -103,16 +99,15 @@ returns-in_err-last-clause-refused c =
 
 -- ---- a bare header
 
-header_same : (c : In_ok-header) (bare : Header) → IsBareHeader c.args.bytes.now bare → c.in_ok-header.header ≡ bare
-header_same c bare is = same_header c.args.bytes.now c.in_ok-header.header bare (header_read c) is
+header_same : (c : In_ok-header) (bare : Header) → IsBareHeader c.args.decoder.bytes bare → c.in_ok-header.header ≡ bare
+header_same c bare is = same_header c.args.decoder.bytes c.in_ok-header.header bare (header_read c) is
 
-no_entries : (c : In_ok-header) (bare : Header) → IsBareHeader c.args.bytes.now bare → c.in_ok-header.header.counts ≡ no_counts
-no_entries c bare is = same_counts c.args.bytes.now c.in_ok-header.header bare (header_read c) is
+no_entries : (c : In_ok-header) (bare : Header) → IsBareHeader c.args.decoder.bytes bare → c.in_ok-header.header.counts ≡ no_counts
+no_entries c bare is = same_counts c.args.decoder.bytes c.in_ok-header.header bare (header_read c) is
 
 pub returns-in_err-header-clause-decided : goal.returns-in_err-header-clause-decided
 returns-in_err-header-clause-decided c = λ bare is.
-    let start : c.new-decoder.result.bytes ≡ c.args.bytes.now = ap (λ (d : Decoder). d.bytes) c.new-decoder.ensures in
-    absurd (not_short c.args.bytes.now bare is (subst (λ (bs : List ℕ). length bs < 12) start c.in_err-header.ensures.short.1))
+    absurd (not_short c.args.decoder.bytes bare is c.in_err-header.ensures.short.1)
 
 pub returns-in_err-queries-clause-decided : goal.returns-in_err-queries-clause-decided
 returns-in_err-queries-clause-decided c = λ bare is.
