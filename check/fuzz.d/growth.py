@@ -12,7 +12,7 @@ from samples import at, header, query, question, record, update, wire
 LIMIT = 120.0
 SOA = b"t. 60 SOA ns.t. h.t. 1 3600 600 86400 30\n"
 LOOKUP = b"0 lookup a.t. A\n"
-SET = "each record is compared with those of its set"
+SET = "an update compares each record that it adds with those of its set"
 LABELS = "names have more labels, too, up to 108"
 
 
@@ -120,7 +120,9 @@ def cases() -> list[Case]:
     many = lambda piece: lambda n: piece * n
     return [
         zone("zone: records of different names", 4000, lambda n: each(n, "n#.t. 60 A 10.0.0.1\n")),
-        zone("zone: records of one name and type", 1000, lambda n: each(n, "m.t. 60 A @\n"), SET),
+        zone("zone: records of one name and type", 2000, lambda n: each(n, "m.t. 60 A @\n")),
+        zone("zone: long strings of one name", 1000, lambda n: each(n, f'm.t. 60 TXT "{"x" * 240}#"\n')),
+        zone("zone: strings of one name in falling order", 2000, lambda n: b"".join(each(n, "m.t. 60 TXT @\n").splitlines(True)[::-1])),
         zone("zone: equal records", 4000, many(b"m.t. 60 A 10.0.0.1\n")),
         zone("zone: names below one another", 500, lambda n: each(n, "a.b.c.d.e.f.n#.t. 60 A 10.0.0.1\n")),
         zone("zone: lines in parentheses", 40000, lambda n: b"x.t. 60 TXT (" + b"\n" * n + b" a )\n"),

@@ -1,3 +1,4 @@
+mod DataIndexLaws
 mod ListLaws
 mod RecordSetLaws
 mod RecordsLaws

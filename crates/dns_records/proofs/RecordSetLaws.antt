@@ -1,7 +1,7 @@
 -- What insertions and removals leave.
 use Rattle.std.proofs.Common.{◌≡◌, ◌<◌, ◌+◌, ◌-◌, slice_get, ℕ, Bool, true, false, not, ◌||◌, List, [], ◌∷◌, ◌++◌, refl, sym, ap, subst, ◌∙◌, length, arith, Option, Some, None, suc, cond}
 use Rattle.std.specs.List.{list_any, position_or_len, IsDistinct, AllByRecursion, remove}
-use Rattle.std.specs.Prelude.{nat_lt, position}
+use Rattle.std.specs.Prelude.{nat_lt, position, is_some}
 use Rattle.dns_codes.specs.declared.record_type.RecordType.TheVariants as types
 use Rattle.std.proofs.lemmas.Bool.{ltb-true, lt-ltb, ltb_from_iff}
 use Rattle.dns_data.specs.declared.rdata.RData.{RData}
@@ -36,10 +36,10 @@ without_distinct rdata [] d distinct = tt
 without_distinct rdata (x ∷ xs) d distinct = distinct_of (λ y z. same_data (rdata y) (rdata z)) (same_data (rdata x) d) x xs (without_data rdata xs d) distinct.1 (without_all rdata (λ y. same_data (rdata x) (rdata y) ≡ false) xs d distinct.0) (without_distinct rdata xs d distinct.1)
 
 -- the first place of an item that passes, and whether there is one
-one_more : (n : ℕ) → 1 + n ≡ suc n
+pub one_more : (n : ℕ) → 1 + n ≡ suc n
 one_more n = omega arith
 
-more_within : (n len : ℕ) → nat_lt n len ≡ nat_lt (1 + n) (suc len)
+pub more_within : (n len : ℕ) → nat_lt n len ≡ nat_lt (1 + n) (suc len)
 more_within n len = ltb_from_iff (λ e. let h : n < len = ltb-true n len e in omega arith, λ (h : 1 + n < suc len). lt-ltb n len (omega arith))
 
 any_within : (b rest : Bool) (n len : ℕ) → rest ≡ nat_lt n len → (b || rest) ≡ nat_lt (cond (not b) (1 + n) 0) (suc len)
@@ -49,6 +49,15 @@ any_within false rest n len e = e ∙ more_within n len
 pub any_is : {A : Type 0} (p : A → Bool) (xs : List A) → list_any p xs ≡ nat_lt (position_or_len p xs) (length xs)
 any_is p [] = refl
 any_is p (x ∷ xs) = any_within (p x) (list_any p xs) (position_or_len p xs) (length xs) (any_is p xs)
+
+some_where : (b : Bool) (n : ℕ) → is_some (cond b (Some n) None) ≡ b
+some_where true n = refl
+some_where false n = refl
+
+pub has_position : (xs : List Record) (d : RData) → is_some (position (λ r. same_data r.rdata d) xs) ≡ has_data record_data xs d
+has_position xs d =
+    some_where (nat_lt (position_or_len (λ (r : Record). same_data r.rdata d) xs) (length xs)) (position_or_len (λ (r : Record). same_data r.rdata d) xs)
+    ∙ sym (any_is (λ (r : Record). same_data r.rdata d) xs)
 
 without_first : {A : Type 0} (b : Bool) (x : A) (xs ys : List A) (n : ℕ) → (b ≡ false → remove xs n ≡ ys) → remove (x ∷ xs) (cond (not b) (1 + n) 0) ≡ cond b xs (x ∷ ys)
 without_first true x xs ys n e = refl

@@ -1,3 +1,4 @@
+pub mod DataIndex
 pub mod Emit
 pub mod RecordHead
 pub mod Record

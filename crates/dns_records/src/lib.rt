@@ -3,11 +3,13 @@
 //! - `record`, `record_head`, `record_parts`: records, on the wire and as values; `record_ref`: borrowed records;
 //! - `record_set`, `record_set_parts`: sets of records, and how updates change them (RFC 2136 section 3.4.2);
 //! - `rrset_records`: iterators over the records of a set;
+//! - `data_index`: the positions of records by their data;
 //! - `row`: the rows of a zone, which contracts of updates and zones refer to;
 //! - `sequence`: lists, as contracts see them;
 //! - `laws`: theorems about the definitions.
 #![tactic(auto)]
 
+mod data_index;
 mod emit;
 pub mod laws;
 mod record;
@@ -20,6 +22,7 @@ mod row;
 mod rrset_records;
 mod sequence;
 
+pub use data_index::DataIndex;
 pub use emit::emit_behind_owner;
 pub use record::Record;
 pub use record_head::RecordHead;

@@ -5,6 +5,7 @@ ghost use Rattle.dns_data.specs.rdata.{data_type};
 ghost use Rattle.dns_records.specs.RecordSet.{record_data};
 
 mod edits;
+mod record_list;
 
 use crate::record::Record;
 use crate::record_set_parts::RecordSetParts;
@@ -12,7 +13,8 @@ use crate::rrset_records::RrsetRecords;
 use dns_data::RData;
 use dns_names::Name;
 use dns_wire::{DNSClass, RecordType};
-use edits::{accepts_data, insert_record, put_record, remove_record, set_each_class, set_each_ttl};
+use edits::{accepts_data, insert_record, put_record, remove_record};
+use record_list::RecordList;
 use std::alloc::{AllocError, Global};
 use std::marker::Model;
 use std::vec::IntoIter;
@@ -27,7 +29,7 @@ pub struct RecordSet {
     dns_class: DNSClass,
     ttl: u32,
     serial: u32,
-    records: Vec<Record>,
+    records: RecordList,
 }
 
 impl Drop for RecordSet {
@@ -56,7 +58,7 @@ impl Model for RecordSet {
       dns_class = s.dns_class;
       ttl = s.ttl;
       serial = s.serial;
-      records = s.records.items;
+      records = s.records;
     } };
 }
 
@@ -74,7 +76,7 @@ impl RecordSet {
             dns_class: DNSClass::IN,
             ttl: 0,
             serial,
-            records: Vec::new(alloc),
+            records: RecordList::new(Vec::new(alloc)),
         }
     }
 
@@ -88,7 +90,7 @@ impl RecordSet {
             dns_class: DNSClass::IN,
             ttl,
             serial: 0,
-            records: Vec::new(alloc),
+            records: RecordList::new(Vec::new(alloc)),
         }
     }
 
@@ -107,7 +109,7 @@ impl RecordSet {
         let record_type = resource_record.record_type();
         let dns_class = resource_record.dns_class;
         let ttl = resource_record.ttl;
-        let records = Vec::from_array(alloc, [resource_record])?;
+        let records = RecordList::new(Vec::from_array(alloc, [resource_record])?);
         Ok(RecordSet {
             name,
             record_type,
@@ -157,14 +159,14 @@ impl RecordSet {
     pub fn records_count(&self) -> usize
         ensures { result ≡ length self.now.records }
     {
-        self.records.len()
+        self.records.as_slice().len()
     }
 
     /// Returns `true` if the set has no records.
     pub fn is_empty(&self) -> bool
         ensures { result ≡ (length self.now.records == 0) }
     {
-        self.records.is_empty()
+        self.records.as_slice().is_empty()
     }
 
     /// Returns the records, in their order.
@@ -178,7 +180,7 @@ impl RecordSet {
     pub fn record(&self) -> Option<&Record>
         ensures { option_copied result ≡ slice_get self.now.records 0 }
     {
-        self.records.first()
+        self.records.as_slice().first()
     }
 }
 
@@ -205,7 +207,7 @@ impl RecordSet {
         ensures { self.new ≡ with_each_class self.old dns_class }
     {
         self.dns_class = dns_class;
-        set_each_class(self.records.as_mut_slice(), dns_class);
+        self.records.set_each_class(dns_class);
     }
 
     /// Sets the TTL of the set and of each record, in seconds.
@@ -213,14 +215,14 @@ impl RecordSet {
         ensures { self.new ≡ with_each_ttl self.old ttl }
     {
         self.ttl = ttl;
-        set_each_ttl(self.records.as_mut_slice(), ttl);
+        self.records.set_each_ttl(ttl);
     }
 
     /// Replaces the records. They are not checked against the set or one another.
     pub fn set_records(&mut self, records: Vec<Record>)
         ensures { self.new ≡ record self.old { records = records.items } }
     {
-        self.records = records;
+        self.records = RecordList::new(records);
     }
 
     /// Converts to the parts of the set. No memory is taken.
@@ -248,7 +250,7 @@ impl RecordSet {
             record_type,
             dns_class,
             ttl,
-            records,
+            records: records.into_vec(),
             serial,
         }
     }
@@ -320,7 +322,7 @@ impl RecordSet {
         ensures distinct { AreDistinct record_data self.old.records
             → AreDistinct record_data self.new.records }
     {
-        if !accepts_data(self.records.as_slice(), &rdata) {
+        if !accepts_data(&self.records, &rdata) {
             return Ok(false);
         }
         self.put_rdata(rdata)?;
@@ -360,7 +362,7 @@ impl RecordSet {
         ensures accepts { OnErr result
             (accepts_record self.old (record_for self.old rdata.now) ≡ true) }
     {
-        if !accepts_data(self.records.as_slice(), rdata) {
+        if !accepts_data(&self.records, rdata) {
             return Ok(false);
         }
         let rdata = rdata.clone()?;
@@ -384,7 +386,7 @@ impl RecordSet {
             (λ _. after ≡ self.old))) }
     {
         if self.add_copy(rdata)? {
-            return Ok(self.records.last());
+            return Ok(self.records.as_slice().last());
         }
         Ok(None)
     }
@@ -416,6 +418,6 @@ impl IntoIterator for RecordSet {
             serial: _serial,
             records,
         } = self;
-        records.into_iter()
+        records.into_vec().into_iter()
     }
 }

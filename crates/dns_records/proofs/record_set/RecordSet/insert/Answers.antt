@@ -4,4 +4,4 @@ use Rattle.dns_records.proofs.RecordSetLaws.{insert_distinct}
 use Rattle.dns_records.proofs.record_set.RecordSet.insert.Goals as goal
 
 pub returns-then-is_inserted-clause-distinct : goal.returns-then-is_inserted-clause-distinct
-returns-then-is_inserted-clause-distinct c = insert_distinct c.args.self.now.records c.insert_record.new.records.items c.self.inside.records.items c.args.resource_record (ap (λ (s : RecordSetValue). s.records) c.self.view_is) c.in_ok-is_inserted.ensures.ok
+returns-then-is_inserted-clause-distinct c = insert_distinct c.args.self.now.records c.insert_record.new.records c.self.inside.records c.args.resource_record (ap (λ (s : RecordSetValue). s.records) c.self.view_is) c.in_ok-is_inserted.ensures.ok

@@ -1,6 +1,6 @@
 use Rattle.std.proofs.Common.{◌≡◌, ◌++◌, take, drop}
 use Rattle.dns_records.specs.RecordSet.{each_with_ttl}
-use Rattle.dns_records.proofs.record_set.edits.set_each_ttl.Given as goal
+use Rattle.dns_records.proofs.record_set.record_list.set_each_ttl.Given as goal
 
 abbrev pub invariant-loop-present : goal.invariant-loop-present
 invariant-loop-present l = l.records ≡ each_with_ttl l.ttl (take l.present-index l.initial.records) ++ drop l.present-index l.initial.records
