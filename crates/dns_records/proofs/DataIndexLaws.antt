@@ -24,7 +24,7 @@ use Rattle.dns_records.proofs.RecordSetLaws.{one_more, more_within}
 -- ---- the position of an item
 
 -- the position behind a first item
-next : Option ℕ → Option ℕ
+unfoldable pub next : Option ℕ → Option ℕ
 next None = None
 next (Some n) = Some (1 + n)
 
@@ -38,7 +38,7 @@ position_by true n len = ap (λ e. cond e (Some 0) None) (lt-ltb 0 (suc len) (om
 position_by false n len = ap (λ e. cond e (Some (1 + n)) None) (sym (more_within n len)) ∙ next_of (nat_lt n len) n
 
 -- the position in a list with one more item in front
-position_cons : {A : Type 0} (p : A → Bool) (x : A) (xs : List A) → position p (x ∷ xs) ≡ cond (p x) (Some 0) (next (position p xs))
+pub position_cons : {A : Type 0} (p : A → Bool) (x : A) (xs : List A) → position p (x ∷ xs) ≡ cond (p x) (Some 0) (next (position p xs))
 position_cons p x xs = position_by (p x) (position_or_len p xs) (length xs)
 
 behind_first : (b c : Bool) (o : Option ℕ) (n : ℕ) → cond b (Some 0) (next (first_of o c n)) ≡ first_of (cond b (Some 0) (next o)) c (suc n)

@@ -1,5 +1,6 @@
 mod DataIndexLaws
 mod ListLaws
+mod PutLaws
 mod RecordSetLaws
 mod RecordsLaws
 pub mod RefusalLaws

@@ -53,6 +53,11 @@ abbrev pub inserted : {A : Type 0} → (A → RData) → List A → A → List A
 inserted rdata present x =
     if is_inserted rdata present x then added (data_type (rdata x)) present x else present
 
+-- the items with one in place of the first that has equal data, or as the last
+abbrev pub put : {A : Type 0} → (A → RData) → List A → A → List A
+put rdata [] x = x ∷ []
+put rdata (old ∷ more) x = if same_data (rdata old) (rdata x) then x ∷ more else old ∷ put rdata more x
+
 -- ---- deleting (RFC 2136 section 3.4.2.4)
 
 -- whether the items of a type all stay: an SOA, and the last NS

@@ -1,6 +1,6 @@
 //! Sets of records (RFC 2181 section 5).
 
-ghost use Rattle.std.specs.Prelude.{◌≡◌, ◌<◌, ◌==◌, ◌∷◌, ◌⊎◌, [], IfOk, OnOk, OnErr, length, true, slice_get, option_copied, MatchResult, None, Some, if◌then◌else◌};
+ghost use Rattle.std.specs.Prelude.{◌≡◌, ◌<◌, ◌==◌, ◌∷◌, ◌⊎◌, [], IfOk, OnOk, OnErr, length, false, true, slice_get, option_copied, MatchResult, None, Some, if◌then◌else◌};
 ghost use Rattle.dns_data.specs.rdata.{data_type};
 ghost use Rattle.dns_records.specs.RecordSet.{record_data};
 
@@ -186,7 +186,7 @@ impl RecordSet {
 
 impl RecordSet {
     ghost use Rattle.dns_records.specs.RrsetRecords.{records_left};
-    ghost use Rattle.dns_records.specs.RecordSet.{with_each_class, with_each_ttl};
+    ghost use Rattle.dns_records.specs.RecordSet.{has_data, put, with_each_class, with_each_ttl};
 
     /// Returns an iterator over the records, in their order.
     pub fn records(&self) -> RrsetRecords<'_>
@@ -223,6 +223,21 @@ impl RecordSet {
         ensures { self.new ≡ record self.old { records = records.items } }
     {
         self.records = RecordList::new(records);
+    }
+
+    /// Puts a record in place of the one with equal data, or adds it as the last (RFC 2136 section 3.4.2.2). It is not checked
+    /// against the set, which keeps its TTL and its serial number. An error leaves the set unchanged, and is possible only where
+    /// no record has equal data.
+    ///
+    /// Among *n* records this takes a time proportional to log *n*.
+    pub fn put_record(&mut self, resource_record: Record) -> Result<(), AllocError>
+        ensures ok { OnOk result (self.new
+            ≡ record self.old { records = put record_data self.old.records resource_record }) }
+        ensures err { OnErr result (self.new ≡ self.old) }
+        ensures grows { OnErr result
+            (has_data record_data self.old.records resource_record.rdata ≡ false) }
+    {
+        self.records.put(resource_record)
     }
 
     /// Converts to the parts of the set. No memory is taken.

@@ -29,8 +29,8 @@ pub fn frames_are_split()
 /// What was written to a stream and waits is the frames of the replies to the frames that were received, in order, whatever the
 /// pieces.
 pub fn frames_are_served_in_order<R: Responder>()
-    ensures { (updates : Updates) (start now : R) (steps : List Step) (written : List ℕ) (c : Stream)
-        → Happen (λ s. R.replies s updates) start empty_stream steps written now c
+    ensures { (updates : Updates) (start now : R) (steps : List Step) (written : List ℕ)
+        (c : Stream) → Happen (λ s. R.replies s updates) start empty_stream steps written now c
         → IsHistory (λ s. R.replies s updates) start (received_in steps) written now c }
 {}
 

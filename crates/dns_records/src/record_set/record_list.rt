@@ -1,9 +1,9 @@
 //! Lists of records, with the positions of their data.
 
-ghost use Rattle.std.specs.Prelude.{◌≡◌, ◌<◌, ◌∷◌, ◌++◌, [], OnOk, OnErr, length, position};
+ghost use Rattle.std.specs.Prelude.{◌≡◌, ◌<◌, ◌∷◌, ◌++◌, [], false, true, IfSome, OnOk, OnErr, length, position, slice_get, slice_set};
 ghost use Rattle.std.specs.List.{remove};
 ghost use Rattle.dns_data.specs.rdata.{same_data};
-ghost use Rattle.dns_records.specs.RecordSet.{each_of_class, each_with_ttl};
+ghost use Rattle.dns_records.specs.RecordSet.{each_of_class, each_with_ttl, has_data, put, record_data};
 
 use crate::data_index::DataIndex;
 use crate::record::Record;
@@ -80,6 +80,32 @@ impl RecordList {
             .push(self.records.as_slice(), &resource_record.rdata)?;
         self.records.push_reserved(resource_record);
         Ok(())
+    }
+
+    /// Puts a record in place of the first with equal data, or adds it as the last. An error leaves the list unchanged.
+    pub fn put(&mut self, resource_record: Record) -> Result<(), AllocError>
+        ensures ok { OnOk result (self.new ≡ put record_data self.old resource_record) }
+        ensures err { OnErr result (self.new ≡ self.old) }
+        ensures grows { OnErr result
+            (has_data record_data self.old resource_record.rdata ≡ false) }
+    {
+        match self.position(&resource_record.rdata) {
+            Some(place) => {
+                self.replace(place, resource_record);
+                Ok(())
+            }
+            None => self.push(resource_record),
+        }
+    }
+
+    /// Replaces the record at a position by one with equal data.
+    fn replace(&mut self, place: usize, resource_record: Record)
+        requires within { place < length self.old }
+        requires equal { IfSome (slice_get self.old place)
+            (λ old. same_data old.rdata resource_record.rdata ≡ true) }
+        ensures { self.new ≡ slice_set self.old place resource_record }
+    {
+        self.records[place] = resource_record;
     }
 
     /// Replaces all records by one. Memory is taken only if there are none.
