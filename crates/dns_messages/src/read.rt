@@ -139,7 +139,7 @@ fn read_message(alloc: Global, bytes: &[u8]) -> Result<Message, DecodeError>
 
 /// Decodes a message with a decoder of its bytes.
 fn read_from(alloc: Global, decoder: BinDecoder<'_>) -> Result<Message, DecodeError>
-    requires { decoder.entry.index ≡ 0 }
+    requires { decoder.index ≡ 0 }
     ensures read { IfOk result (λ message. ReadsMessage decoder.entry.bytes message) }
     ensures refused { IfErr result (λ error. error ≢ DecodeError.Memory
         → RefusesMessage decoder.entry.bytes error) }

@@ -24,7 +24,8 @@ const MAX_UNINDEXED: usize = 16;
 /// by [`clear`](DataIndex::clear).
 ///
 /// Until 16 records have been added since it was created or cleared, an index has no positions and takes no memory, and
-/// `position` compares the records one by one. So few records stay cheap, and alternating additions and removals do too.
+/// `position` compares the records one by one. So few records stay cheap, and no positions are entered while additions and
+/// removals alternate.
 pub struct DataIndex {
     positions: BTreeMap<RData, usize>,
     /// How many records were added since the index was created or cleared. If it is 16, `positions` has those of all
