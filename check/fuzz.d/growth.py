@@ -111,6 +111,43 @@ def additions(count: int) -> bytes:
     return update([], [record(wire("m.t"), 1, pack(">I", it)) for it in range(count)])
 
 
+M = b"\1m" + at(12)
+NOTHING = record(M, 255, b"", 0, 255)
+
+
+def of_types(count: int) -> list[bytes]:
+    """Additions of as many types to a name."""
+    return [record(M, 1000 + it, b"x") for it in range(count)]
+
+
+def emptied(count: int) -> bytes:
+    """An update that adds as many types to a name, and deletes the name as often."""
+    return update([], of_types(count) + [NOTHING] * count)
+
+
+def replaced(count: int) -> bytes:
+    """An update that adds as many types to a name, deletes it once, and then adds as many aliases to it."""
+    return update([], of_types(count) + [NOTHING] + [record(M, 5, at(12))] * count)
+
+
+def beside_types(count: int) -> bytes:
+    """An update that adds as many types to a name, deletes all but the first, and adds an alias after each deletion."""
+    deletions = [record(M, 1000 + it, b"", 0, 255) + record(M, 5, at(12)) for it in range(1, count)]
+    return header((1, 0, 3 * count - 2, 0), 0x2800) + question(wire("t."), 6) + b"".join(of_types(count) + deletions)
+
+
+def by_turns(count: int) -> bytes:
+    """An update that adds and deletes one type at a name with as many others, by turns, and deletes the name each time."""
+    turn = record(M, 900, b"x") + record(M, 900, b"", 0, 255) + NOTHING
+    return header((1, 0, 4 * count, 0), 0x2800) + question(wire("t."), 6) + b"".join(of_types(count)) + turn * count
+
+
+def owners(count: int) -> bytes:
+    """An update that adds an address to as many names, and deletes each of these names."""
+    names = [it + at(12) for it in (bytes([3]) + it for it in short_names(count))]
+    return update([], [record(it, 1, bytes(4)) for it in names] + [record(it, 255, b"", 0, 255) for it in names])
+
+
 def prerequisites(count: int) -> bytes:
     """An update that requires both addresses of a name as often."""
     return update([record(wire("a.t"), 1, bytes([10, 0, 0, 1 + it % 2]), 0) for it in range(count)], [])
@@ -164,6 +201,11 @@ def cases() -> list[Case]:
         wired("message: questions", "message", 1000, lambda n: header((n, 0, 0, 0)) + question(b"\0") * n, 10),
         wired("request: additions to one name", "stream", 350, additions, 1, SET),
         wired("request: prerequisites of one set", "stream", 400, prerequisites),
+        wired("request: deletions of a name with many types", "stream", 270, emptied),
+        wired("request: aliases at a name that had many types", "stream", 260, replaced),
+        wired("request: aliases at a name whose types are deleted in turn", "stream", 150, beside_types),
+        wired("request: a type that comes and goes at a name", "stream", 120, by_turns),
+        wired("request: additions of different names, and their deletions", "stream", 220, owners),
         wired("stream: empty frames", "frames", 4000, many(b"\0\0"), 3),
         wired("zone file: included texts", "zone", 2000, many(b"$INCLUDE inc\n")),
         wired("name: 127 labels, then other bytes", "name", 1000, lambda n: b"\1" + wire(".".join("a" * 127)) + bytes(n), 10),

@@ -1,10 +1,7 @@
 -- Changed sets in place of those of a zone: looking them up, writing them, and the types of a name.
-use Rattle.std.proofs.Common.{◌≡◌, ◌==◌, ◌+◌, ◌<◌, ◌≤◌, ℕ, Bool, true, false, cond, not, ◌&&◌, ◌||◌, List, [], ◌∷◌, ◌++◌, map, refl, sym, ap, ◌∙◌, length, get_or, set, zero, suc, arith, Option, Some, None, unwrap_or, is_some}
+use Rattle.std.proofs.Common.{◌≡◌, ◌==◌, ◌+◌, ◌<◌, ◌≤◌, ℕ, Bool, true, false, cond, not, ◌&&◌, ◌||◌, List, [], ◌∷◌, ◌++◌, map, refl, sym, ap, ◌∙◌, subst, length, set, zero, suc, arith, Option, Some, None, unwrap_or, option_map, is_some}
 use Rattle.std.proofs.lemmas.Bool.Decides.{nat_tests}
-use Rattle.std.proofs.lemmas.List.Folds.{find_at, find-set, find_past, find-append, list_any-append}
-use Rattle.std.proofs.lemmas.Option.{slice_get-get_or, slice_get_past}
-use Rattle.std.specs.Option.{option_or}
-use Rattle.std.specs.List.{filter, fold, list_any, position_or_len, slice_get}
+use Rattle.std.specs.List.{filter, fold, list_any, position_or_len}
 use Rattle.std.specs.List as list
 use Rattle.std.specs.Ordering.{eq_by_cmp}
 use Rattle.std.specs.FinMap as rows_map
@@ -22,30 +19,18 @@ use Rattle.dns_updates.specs.declared.changes.changed_set.ChangedSet.{ChangedSet
 use Rattle.dns_updates.specs.Records.{has_set, has_rows_but}
 use Rattle.dns_updates.specs.Change.{is_kept_set, with_row, without_data, without_name, without_set}
 use Rattle.dns_updates.specs.Sets.{AreTypesAt, is_key_among, rows_of_sets}
-use Rattle.dns_updates.specs.Changes.{changed_key, is_other_set, overlay}
+use Rattle.dns_updates.specs.Changes.{changed_at, changed_key, is_other_set, overlay}
+use Rattle.dns_updates.specs.internal.Indexes.{with_records, KeepsName}
 use Rattle.dns_updates.proofs.Walks.{any_alike}
 use Rattle.dns_updates.proofs.SetLaws.{any_set, keys_tie, same_lower}
 use Rattle.dns_updates.proofs.UpdateLaws.Codes.{and_both, number_itself}
 use Rattle.dns_updates.proofs.UpdateLaws.Kept.{any_weaker}
-use Rattle.dns_updates.proofs.UpdateLaws.Maps.{key_total, key_antisymmetric, same_key, same_rows, tied_itself, filled, filled_empty, filled_more, get_with_set, unwrap_filled, with_set_twice}
+use Rattle.dns_updates.proofs.UpdateLaws.Maps.{key_total, key_antisymmetric, same_key, same_rows, tied_itself, filled, filled_empty, filled_more, get_with_set, unwrap_filled}
 
 true_false : true ≡ false → ⊥
 true_false e = cc
 
 -- ---- edits of records
-
-pub place_passes : {A : Type 0} (p : A → Bool) (xs : List A) (i : ℕ) (x : A) → i ≡ position_or_len p xs → i < length xs → x ≡ get_or xs i x → p x ≡ true
-place_passes p [] i x e h is = absurd (omega arith)
-place_passes p (y ∷ ys) zero x e h is = by (p y) refl e
-  where
-    by : (b : Bool) → p y ≡ b → 0 ≡ cond (not b) (1 + position_or_len p ys) 0 → p x ≡ true
-    by true t f = ap p is ∙ t
-    by false t f = absurd (omega arith)
-place_passes p (y ∷ ys) (suc i) x e h is = by (place_passes p ys i x) (p y) e
-  where
-    by : (i ≡ position_or_len p ys → i < length ys → x ≡ get_or ys i x → p x ≡ true) → (b : Bool) → suc i ≡ cond (not b) (1 + position_or_len p ys) 0 → p x ≡ true
-    by more true f = absurd (omega arith)
-    by more false f = more (omega arith) (omega arith) is
 
 abbrev pub same_as : Record → Record → Bool
 same_as r x = same_data x.rdata r.rdata
@@ -104,27 +89,29 @@ get-overlay rows (s ∷ ss) q =
     ∙ ap (cond (tied q s) (filled (rows_of s.records))) (get-overlay rows ss q)
     ∙ sym (pick s (list.find (tied q) ss) (rows_map.get rows q) (tied q s))
 
-found_set : (sets : List ChangedSet) (k : Key) (i : ℕ) (x : ChangedSet) → i ≡ position_or_len (tied k) sets → i < length sets → x ≡ get_or sets i x → list.find (tied k) sets ≡ Some x
-found_set sets k i x e h is = find_at (tied k) sets ∙ ap (slice_get sets) (sym e) ∙ slice_get-get_or sets i x h ∙ ap Some (sym is)
-
-no_set : (sets : List ChangedSet) (k : Key) (i : ℕ) → i ≡ position_or_len (tied k) sets → length sets ≤ i → list.find (tied k) sets ≡ None
-no_set sets k i e h = find_at (tied k) sets ∙ ap (slice_get sets) (sym e) ∙ slice_get_past sets i h
-
-pub get_found : (rows : Rows) (sets : List ChangedSet) (k : Key) (i : ℕ) (x : ChangedSet) → i ≡ position_or_len (tied k) sets → i < length sets → x ≡ get_or sets i x → rows_map.get (overlay rows sets) k ≡ filled (rows_of x.records)
+pub get_found : (rows : Rows) (sets : List ChangedSet) (k : Key) (x : ChangedSet) → changed_at sets k ≡ Some x → rows_map.get (overlay rows sets) k ≡ filled (rows_of x.records)
 unfolding changed_or
-get_found rows sets k i x e h is = get-overlay rows sets k ∙ ap (λ o. changed_or o (rows_map.get rows k)) (found_set sets k i x e h is)
+get_found rows sets k x is = get-overlay rows sets k ∙ ap (λ o. changed_or o (rows_map.get rows k)) is
 
-pub get_below : (rows : Rows) (sets : List ChangedSet) (k : Key) (i : ℕ) → i ≡ position_or_len (tied k) sets → length sets ≤ i → rows_map.get (overlay rows sets) k ≡ rows_map.get rows k
+pub get_below : (rows : Rows) (sets : List ChangedSet) (k : Key) → changed_at sets k ≡ None → rows_map.get (overlay rows sets) k ≡ rows_map.get rows k
 unfolding changed_or
-get_below rows sets k i e h = get-overlay rows sets k ∙ ap (λ o. changed_or o (rows_map.get rows k)) (no_set sets k i e h)
+get_below rows sets k none = get-overlay rows sets k ∙ ap (λ o. changed_or o (rows_map.get rows k)) none
 
-pub rows_found : (rows : Rows) (sets : List ChangedSet) (owner : List (List ℕ)) (t : RecordType) (i : ℕ) (x : ChangedSet) → i ≡ position_or_len (tied (key owner t)) sets → i < length sets → x ≡ get_or sets i x
+pub rows_found : (rows : Rows) (sets : List ChangedSet) (owner : List (List ℕ)) (t : RecordType) (x : ChangedSet) → changed_at sets (key owner t) ≡ Some x
     → rows_at (overlay rows sets) owner t ≡ rows_of x.records
-rows_found rows sets owner t i x e h is = ap (λ o. unwrap_or o []) (get_found rows sets (key owner t) i x e h is) ∙ unwrap_filled (rows_of x.records)
+rows_found rows sets owner t x is = ap (λ o. unwrap_or o []) (get_found rows sets (key owner t) x is) ∙ unwrap_filled (rows_of x.records)
 
-pub rows_below : (rows : Rows) (sets : List ChangedSet) (owner : List (List ℕ)) (t : RecordType) (i : ℕ) → i ≡ position_or_len (tied (key owner t)) sets → length sets ≤ i
+pub rows_replaced : (rows : Rows) (sets : List ChangedSet) (owner : List (List ℕ)) (t : RecordType) (records : List Record) → option_map (λ (s : ChangedSet). s.records) (changed_at sets (key owner t)) ≡ Some records
+    → rows_at (overlay rows sets) owner t ≡ rows_of records
+rows_replaced rows sets owner t records is = by (changed_at sets (key owner t)) refl is
+  where
+    by : (o : Option ChangedSet) → changed_at sets (key owner t) ≡ o → option_map (λ (s : ChangedSet). s.records) o ≡ Some records → rows_at (overlay rows sets) owner t ≡ rows_of records
+    by None e f = absurd (cc)
+    by (Some s) e f = rows_found rows sets owner t s e ∙ ap (λ o. rows_of (unwrap_or o [])) f
+
+pub rows_below : (rows : Rows) (sets : List ChangedSet) (owner : List (List ℕ)) (t : RecordType) → changed_at sets (key owner t) ≡ None
     → rows_at (overlay rows sets) owner t ≡ rows_at rows owner t
-rows_below rows sets owner t i e h = ap (λ o. unwrap_or o []) (get_below rows sets (key owner t) i e h)
+rows_below rows sets owner t none = ap (λ o. unwrap_or o []) (get_below rows sets (key owner t) none)
 
 suc_not : (n : ℕ) → (suc n == 0) ≡ false
 suc_not n = grind (arith, nat_tests)
@@ -133,69 +120,79 @@ some_filled : (rs : List Record) → is_some (filled (rows_of rs)) ≡ not (leng
 some_filled [] = ap is_some filled_empty
 some_filled (r ∷ rs) = ap is_some (filled_more (row_of r) (rows_of rs)) ∙ sym (ap not (suc_not (length rs)))
 
-pub has_found : (rows : Rows) (sets : List ChangedSet) (owner : DomainName) (t : RecordType) (i : ℕ) (x : ChangedSet) → i ≡ position_or_len (tied (key owner.labels t)) sets → i < length sets → x ≡ get_or sets i x
+pub has_found : (rows : Rows) (sets : List ChangedSet) (owner : DomainName) (t : RecordType) (x : ChangedSet) → changed_at sets (key owner.labels t) ≡ Some x
     → has_set (overlay rows sets) owner t ≡ not (length x.records == 0)
-has_found rows sets owner t i x e h is = ap is_some (get_found rows sets (key owner.labels t) i x e h is) ∙ some_filled x.records
+has_found rows sets owner t x is = ap is_some (get_found rows sets (key owner.labels t) x is) ∙ some_filled x.records
 
-pub has_below : (rows : Rows) (sets : List ChangedSet) (owner : DomainName) (t : RecordType) (i : ℕ) → i ≡ position_or_len (tied (key owner.labels t)) sets → length sets ≤ i
+pub has_below : (rows : Rows) (sets : List ChangedSet) (owner : DomainName) (t : RecordType) → changed_at sets (key owner.labels t) ≡ None
     → has_set (overlay rows sets) owner t ≡ has_set rows owner t
-has_below rows sets owner t i e h = ap is_some (get_below rows sets (key owner.labels t) i e h)
+has_below rows sets owner t none = ap is_some (get_below rows sets (key owner.labels t) none)
 
 -- ---- writing a changed set
 
-find_written : (sets : List ChangedSet) (k : Key) (i : ℕ) (x y : ChangedSet) → i ≡ position_or_len (tied k) sets → i < length sets → x ≡ get_or sets i x → changed_key y ≡ changed_key x
-    → tied k x ≡ true → (q : Key) → list.find (tied q) (set sets i y) ≡ cond (eq_by_cmp key_cmp q k) (Some y) (list.find (tied q) sets)
-find_written sets k i x y e h is keys here q = by (eq_by_cmp key_cmp q k) refl
-  where
-    by : (b : Bool) → eq_by_cmp key_cmp q k ≡ b → list.find (tied q) (set sets i y) ≡ cond b (Some y) (list.find (tied q) sets)
-    by true t =
-        let same : q ≡ k = same_key q k t in
-        let passes : tied k y ≡ true = ap (eq_by_cmp key_cmp k) keys ∙ here in
-        ap (λ r. list.find (tied r) (set sets i y)) same ∙ find-set (tied k) sets i y e h passes
-    by false t =
-        let apart : tied q x ≡ false = ap (eq_by_cmp key_cmp q) (sym (same_key k (changed_key x) here)) ∙ t in
-        find_past (tied q) sets i y x (ap (tied q) (sym is) ∙ apart) (ap (eq_by_cmp key_cmp q) keys ∙ apart)
-
-or_none : (o : Option ChangedSet) → option_or o None ≡ o
-or_none None = refl
-or_none (Some s) = refl
-
-find_pushed : (sets : List ChangedSet) (k : Key) (i : ℕ) (y : ChangedSet) → i ≡ position_or_len (tied k) sets → length sets ≤ i → changed_key y ≡ k
-    → (q : Key) → list.find (tied q) (sets ++ y ∷ []) ≡ cond (eq_by_cmp key_cmp q k) (Some y) (list.find (tied q) sets)
-find_pushed sets k i y e h keys q = find-append (tied q) sets (y ∷ []) ∙ by (eq_by_cmp key_cmp q k) refl
-  where
-    by : (b : Bool) → eq_by_cmp key_cmp q k ≡ b → option_or (list.find (tied q) sets) (cond (tied q y) (Some y) None) ≡ cond b (Some y) (list.find (tied q) sets)
-    by true t =
-        let none : list.find (tied q) sets ≡ None = ap (λ r. list.find (tied r) sets) (same_key q k t) ∙ no_set sets k i e h in
-        let here : tied q y ≡ true = ap (eq_by_cmp key_cmp q) keys ∙ t in
-        λ j. option_or (none j) (cond (here j) (Some y) None)
-    by false t =
-        let apart : tied q y ≡ false = ap (eq_by_cmp key_cmp q) keys ∙ t in
-        ap (λ b. option_or (list.find (tied q) sets) (cond b (Some y) None)) apart ∙ or_none (list.find (tied q) sets)
-
-overlaid : (rows : Rows) (old new : List ChangedSet) (k : Key) (y : ChangedSet) → ((q : Key) → list.find (tied q) new ≡ cond (eq_by_cmp key_cmp q k) (Some y) (list.find (tied q) old))
+-- a changed set that is put at a key
+pub written : (rows : Rows) (old new : List ChangedSet) (k : Key) (y : ChangedSet) → ((q : Key) → changed_at new q ≡ cond (eq_by_cmp key_cmp q k) (Some y) (changed_at old q))
     → overlay rows new ≡ with_set (overlay rows old) k (rows_of y.records)
-overlaid rows old new k y finds = same_rows _ _ (λ q.
+written rows old new k y finds = same_rows _ _ (λ q.
     get-overlay rows new q
     ∙ ap (λ o. changed_or o (rows_map.get rows q)) (finds q)
-    ∙ pick y (list.find (tied q) old) (rows_map.get rows q) (eq_by_cmp key_cmp q k)
+    ∙ pick y (changed_at old q) (rows_map.get rows q) (eq_by_cmp key_cmp q k)
     ∙ ap (cond (eq_by_cmp key_cmp q k) (filled (rows_of y.records))) (sym (get-overlay rows old q))
     ∙ sym (get_with_set (overlay rows old) k (rows_of y.records) q))
 
-pub written : (sets : List ChangedSet) (k : Key) (i : ℕ) (x y : ChangedSet) → i ≡ position_or_len (tied k) sets → i < length sets → x ≡ get_or sets i x → changed_key y ≡ changed_key x
-    → (rows : Rows) → overlay rows (set sets i y) ≡ with_set (overlay rows sets) k (rows_of y.records)
-written sets k i x y e h is keys rows =
-    overlaid rows sets (set sets i y) k y (find_written sets k i x y e h is keys (place_passes (tied k) sets i x e h is))
+-- other records in a changed set
+pub rewritten : (rows : Rows) (old new : List ChangedSet) (k : Key) (records : List Record) → is_some (changed_at old k) ≡ true → ((q : Key) → changed_at new q ≡ cond (eq_by_cmp key_cmp q k) (with_records records (changed_at old q)) (changed_at old q))
+    → overlay rows new ≡ with_set (overlay rows old) k (rows_of records)
+unfolding changed_or
+rewritten rows old new k records there finds = same_rows _ _ (λ q.
+    get-overlay rows new q
+    ∙ ap (λ o. changed_or o (rows_map.get rows q)) (finds q)
+    ∙ by (eq_by_cmp key_cmp q k) q refl
+    ∙ sym (get_with_set (overlay rows old) k (rows_of records) q))
+  where
+    held : (o : Option ChangedSet) (f : Option (List Row)) → is_some o ≡ true → changed_or (with_records records o) f ≡ filled (rows_of records)
+    held None f e = absurd (true_false (sym e))
+    held (Some s) f e = refl
 
-pub pushed : (sets : List ChangedSet) (k : Key) (i : ℕ) (y : ChangedSet) → i ≡ position_or_len (tied k) sets → length sets ≤ i → changed_key y ≡ k
-    → (rows : Rows) → overlay rows (sets ++ y ∷ []) ≡ with_set (overlay rows sets) k (rows_of y.records)
-pushed sets k i y e h keys rows = overlaid rows sets (sets ++ y ∷ []) k y (find_pushed sets k i y e h keys)
+    by : (b : Bool) (q : Key) → eq_by_cmp key_cmp q k ≡ b
+        → changed_or (cond b (with_records records (changed_at old q)) (changed_at old q)) (rows_map.get rows q) ≡ cond b (filled (rows_of records)) (rows_map.get (overlay rows old) q)
+    by true q t = held (changed_at old q) (rows_map.get rows q) (ap (λ (p : Key). is_some (changed_at old p)) (same_key q k t) ∙ there)
+    by false q t = sym (get-overlay rows old q)
 
--- a set whose records are taken out
-pub emptied : (sets : List ChangedSet) (k : Key) (i : ℕ) (x : ChangedSet) → i ≡ position_or_len (tied k) sets → i < length sets → x ≡ get_or sets i x
-    → (rows : Rows) (s : List Row) → with_set (overlay rows (set sets i (record x { records = [] }))) k s ≡ with_set (overlay rows sets) k s
-emptied sets k i x e h is rows s =
-    ap (λ w. with_set w k s) (written sets k i x (record x { records = [] }) e h is refl rows) ∙ with_set_twice (overlay rows sets) k [] s
+-- other records in a changed set, for others in their place
+pub taken_out : (rows : Rows) (old new : List ChangedSet) (k : Key) (records : List Record) (s : List Row) → ((q : Key) → changed_at new q ≡ cond (eq_by_cmp key_cmp q k) (with_records records (changed_at old q)) (changed_at old q))
+    → with_set (overlay rows new) k s ≡ with_set (overlay rows old) k s
+unfolding changed_or
+taken_out rows old new k records s finds = same_rows _ _ (λ q.
+    get_with_set (overlay rows new) k s q
+    ∙ by (eq_by_cmp key_cmp q k) q (finds q)
+    ∙ sym (get_with_set (overlay rows old) k s q))
+  where
+    by : (b : Bool) (q : Key) → changed_at new q ≡ cond b (with_records records (changed_at old q)) (changed_at old q)
+        → cond b (filled s) (rows_map.get (overlay rows new) q) ≡ cond b (filled s) (rows_map.get (overlay rows old) q)
+    by true q e = refl
+    by false q e = get-overlay rows new q ∙ ap (λ o. changed_or o (rows_map.get rows q)) e ∙ sym (get-overlay rows old q)
+
+-- other records leave each changed set its name
+pub name_kept : (old new : List ChangedSet) (k : Key) (records : List Record) → ((q : Key) → changed_at new q ≡ cond (eq_by_cmp key_cmp q k) (with_records records (changed_at old q)) (changed_at old q))
+    → (q : Key) → KeepsName (changed_at old q) (changed_at new q)
+name_kept old new k records finds q = subst (KeepsName (changed_at old q)) (sym (finds q)) (by (eq_by_cmp key_cmp q k) (changed_at old q))
+  where
+    by : (b : Bool) (o : Option ChangedSet) → KeepsName o (cond b (with_records records o) o)
+    by true None = tt
+    by false None = tt
+    by true (Some s) = refl
+    by false (Some s) = refl
+
+-- so does a changed set that is new
+pub name_beside : (old new : List ChangedSet) (k : Key) (y : ChangedSet) → is_some (changed_at old k) ≡ false → ((q : Key) → changed_at new q ≡ cond (eq_by_cmp key_cmp q k) (Some y) (changed_at old q))
+    → (q : Key) → KeepsName (changed_at old q) (changed_at new q)
+name_beside old new k y none finds q = subst (KeepsName (changed_at old q)) (sym (finds q)) (by (eq_by_cmp key_cmp q k) refl (changed_at old q) refl)
+  where
+    by : (b : Bool) → eq_by_cmp key_cmp q k ≡ b → (o : Option ChangedSet) → changed_at old q ≡ o → KeepsName o (cond b (Some y) o)
+    by b t None e = tt
+    by true t (Some s) e = absurd (true_false (sym (ap is_some e) ∙ ap (λ (p : Key). is_some (changed_at old p)) (same_key q k t) ∙ none))
+    by false t (Some s) e = refl
 
 -- ---- the types of a name
 
@@ -235,26 +232,6 @@ pub types_of_sets : (sets : List RecordSetValue) (owner : List (List ℕ))
 types_of_sets sets owner k here some =
     types_found (λ (s : RecordSetValue). s.name.labels) (λ (s : RecordSetValue). s.record_type) owner k here sets
     (any_set (eq_by_cmp key_cmp k) sets ∙ sym (rows_map.contains_key-keys (rows_of_sets sets) k) ∙ some)
-
-find_any : (k : Key) (sets : List ChangedSet) → is_some (list.find (tied k) sets) ≡ list_any (tied k) sets
-find_any k [] = refl
-find_any k (s ∷ ss) = elim (tied k s) as (λ b. is_some (cond b (Some s) (list.find (tied k) ss)) ≡ (b || list_any (tied k) ss)) [ true ↦ refl | false ↦ find_any k ss ]
-
-abbrev pub changed_types : List (List ℕ) → List ChangedSet → List RecordType
-changed_types owner sets = map (λ (s : ChangedSet). s.record_type) (filter (λ (s : ChangedSet). same_labels owner s.name.labels) sets)
-
-pub types_overlaid : (rows : Rows) (sets : List ChangedSet) (owner : List (List ℕ)) (found : List RecordType) → AreTypesAt rows owner found → AreTypesAt (overlay rows sets) owner (found ++ changed_types owner sets)
-unfolding changed_or
-types_overlaid rows sets owner found all k here some =
-    list_any-append (λ t. eq_by_cmp key_cmp k (key owner t)) found (changed_types owner sets)
-    ∙ by (list.find (tied k) sets) refl (sym (ap is_some (get-overlay rows sets k)) ∙ some)
-  where
-    by : (o : Option ChangedSet) → list.find (tied k) sets ≡ o → is_some (changed_or o (rows_map.get rows k)) ≡ true
-        → (is_key_among owner found k || is_key_among owner (changed_types owner sets) k) ≡ true
-    by None f s = ap (λ b. b || is_key_among owner (changed_types owner sets) k) (all k here s)
-    by (Some x) f s =
-        ap (λ b. is_key_among owner found k || b) (types_found (λ (c : ChangedSet). c.name.labels) (λ (c : ChangedSet). c.record_type) owner k here sets (sym (find_any k sets) ∙ ap is_some f))
-        ∙ or_true (is_key_among owner found k)
 
 -- ---- rows of another type
 
@@ -408,20 +385,3 @@ module _ (origin : DomainName) (owner : DomainName) (q : Key) where
 pub types_deleted : (origin owner : DomainName) (rows : Rows) (found : List RecordType) → AreTypesAt rows owner.labels found
     → fold (λ (left : Rows) (t : RecordType). without_set origin left owner t) rows found ≡ without_name origin rows owner
 types_deleted origin owner rows found all = same_rows _ _ (λ q. get_without_name origin owner q rows found all)
-
--- ---- tests in the other order
-
-and_true : (b : Bool) → (b && true) ≡ b
-and_true true = refl
-and_true false = refl
-
-and_false : (b : Bool) → (b && false) ≡ false
-and_false true = refl
-and_false false = refl
-
--- keys tie if the types do, and then the owners
-pub types_tie : (a b : List (List ℕ)) (t u : RecordType) → true ≡ (type_number t == type_number u) → same_labels a b ≡ eq_by_cmp key_cmp (key a t) (key b u)
-types_tie a b t u e = sym (and_true (same_labels a b)) ∙ ap (λ n. same_labels a b && n) e ∙ keys_tie a b t u
-
-pub types_apart : (a b : List (List ℕ)) (t u : RecordType) → false ≡ (type_number t == type_number u) → false ≡ eq_by_cmp key_cmp (key a t) (key b u)
-types_apart a b t u e = sym (and_false (same_labels a b)) ∙ ap (λ n. same_labels a b && n) e ∙ keys_tie a b t u

@@ -10,11 +10,11 @@ use Rattle.dns_names.specs.Compare.{lower, same_labels}
 use Rattle.dns_data.specs.declared.rdata.RData.{RData}
 use Rattle.dns_data.specs.rdata.{same_data}
 use Rattle.dns_records.specs.Record.{Record}
-use Rattle.dns_records.specs.Rows.{Key, Rows, key_of, rows_of, rows_at, type_of_record}
+use Rattle.dns_records.specs.Rows.{Rows, key_of, rows_of, type_of_record}
 use Rattle.dns_messages.specs.declared.response_code.ResponseCode.{ResponseCode}
 use Rattle.dns_messages.specs.declared.response_code.ResponseCode.TheVariants.{NoError}
 use Rattle.dns_updates.specs.Records.{is_in_class, is_among, same_data_set}
-use Rattle.dns_updates.specs.Code.{first_fault, first_fault_of, is_required_with, required_data, has_required}
+use Rattle.dns_updates.specs.Code.{first_fault, is_required_with, required_data, has_required}
 use Rattle.dns_updates.proofs.Walks.{filter_alike}
 use Rattle.dns_updates.proofs.UpdateLaws.Codes.{number_same, and_both}
 use Rattle.dns_updates.proofs.UpdateLaws.Sets.{Alike}

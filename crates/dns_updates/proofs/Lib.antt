@@ -2,6 +2,10 @@ pub mod Walks
 pub mod SetLaws
 pub mod CodeLaws
 pub mod ChangeLaws
+pub mod ChangedLaws
+pub mod ListingLaws
+pub mod OwnerCodeLaws
+pub mod PlaceLaws
 pub mod UpdateLaws
 mod UpdateRows
 mod VoidLaws

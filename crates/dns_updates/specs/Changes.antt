@@ -1,15 +1,20 @@
 -- The changes of an update, as sets that stand in place of those of the zone.
-use Rattle.std.specs.Prelude.{◌==◌, ◌&&◌, not, Bool, List, [], ◌∷◌}
+use Rattle.std.specs.Prelude.{◌==◌, ◌&&◌, not, find, Bool, List, [], ◌∷◌, Option}
+use Rattle.std.specs.Ordering.{eq_by_cmp}
 use Rattle.dns_codes.specs.RecordType.{type_number}
 use Rattle.dns_codes.specs.declared.record_type.RecordType.{RecordType}
 use Rattle.dns_names.specs.Name.{DomainName}
-use Rattle.dns_records.specs.Rows.{Key, Rows, key, rows_of, with_set}
+use Rattle.dns_records.specs.Rows.{Key, Rows, key, key_cmp, rows_of, with_set}
 use Rattle.dns_updates.specs.Records.{has_set}
 use Rattle.dns_updates.specs.declared.changes.changed_set.ChangedSet.{ChangedSet}
 
 -- the key of a changed set
 abbrev pub changed_key : ChangedSet → Key
 changed_key s = key s.name.labels s.record_type
+
+-- the changed set at a key, if there is one
+abbrev pub changed_at : List ChangedSet → Key → Option ChangedSet
+changed_at sets k = find (λ s. eq_by_cmp key_cmp k (changed_key s)) sets
 
 -- the rows with each changed set in place of the one at its key; an empty set is removed
 abbrev pub overlay : Rows → List ChangedSet → Rows

@@ -2,13 +2,14 @@
 //!
 //! - `update_message`: messages as dynamic updates; `builders`: builders of updates;
 //! - `zone_rows`: the rows of a zone, as updates read them; `code`: the response code of an update, with `record_tests`;
-//! - `changes`: what an update changes;
+//! - `changes`: what an update changes; `keys`: the keys by which sets are found;
 //! - `laws`: theorems about updates: with which code a server replies to one, and how it changes the rows of a zone.
 #![tactic(auto)]
 
 mod builders;
 mod changes;
 mod code;
+mod keys;
 pub mod laws;
 mod record_tests;
 mod update_message;
@@ -17,5 +18,6 @@ mod zone_rows;
 pub use builders::{append, compare_and_swap, create, delete_all, delete_by_rdata, delete_rrset};
 pub use changes::{ChangedSet, Changes, update_changes};
 pub use code::update_code;
+pub use keys::{OwnerKey, SetKey, end_key, first_key, owner_key, set_key};
 pub use update_message::UpdateMessage;
 pub use zone_rows::{SetList, ZoneRows};

@@ -1,15 +1,13 @@
 -- Deletions of sets, of names and of rows: what is left at each key.
-use Rattle.std.proofs.Common.{◌≡◌, ◌≢◌, ◌==◌, ℕ, Bool, true, false, cond, not, ◌&&◌, ◌||◌, List, [], ◌∷◌, refl, sym, ap, ◌∙◌, unwrap_or, None}
-use Rattle.std.specs.Ordering.{eq_by_cmp, is_eq}
+use Rattle.std.proofs.Common.{◌≡◌, ◌≢◌, ◌==◌, ℕ, Bool, true, false, cond, not, ◌&&◌, ◌||◌, List, refl, sym, ap, ◌∙◌, None}
+use Rattle.std.specs.Ordering.{eq_by_cmp}
 use Rattle.std.specs.FinMap as rows_map
 use Rattle.dns_codes.specs.RecordType.{type_number}
 use Rattle.dns_codes.specs.declared.record_type.RecordType.{RecordType}
 use Rattle.dns_names.specs.Name.{DomainName}
 use Rattle.dns_names.specs.Compare.{lower, same_labels}
-use Rattle.dns_records.specs.declared.row.Row.{Row}
 use Rattle.dns_records.specs.RecordSet.{RecordSetValue}
 use Rattle.dns_records.specs.Rows.{Key, Rows, HasNoEmptySet, key, key_cmp, set_key, with_set}
-use Rattle.dns_updates.specs.Records.{is_origin}
 use Rattle.dns_updates.specs.Change.{is_kept_set, without_name, without_set}
 use Rattle.dns_updates.specs.Builders.{is_apex_key, IsWithoutRows, IsWithoutSet, IsWithoutName}
 use Rattle.dns_updates.proofs.UpdateLaws.Maps.{key_total, key_antisymmetric, same_key, tied_itself, set_at, get_other, set_at_with_set, filled_left}

@@ -1,17 +1,20 @@
 //! Additions (RFC 2136 section 3.4.2.2).
 
-ghost use Rattle.std.specs.Prelude.{◌≡◌, true, false, [], List, if◌then◌else◌, Ok, IsOk, IfOk, OnOk, ◌||◌};
+ghost use Rattle.std.specs.Prelude.{◌≡◌, true, false, not, [], List, if◌then◌else◌, Ok, IfOk, OnOk, ◌||◌, ◌&&◌};
 ghost use Rattle.dns_codes.specs.declared.record_type.RecordType.TheVariants as types;
 ghost use Rattle.dns_codes.specs.SerialNumber.{serial_order};
 ghost use Rattle.dns_records.specs.declared.row.Row.{Row};
 ghost use Rattle.dns_records.specs.Rows.{key_of, rows_of, set_of, with_set};
-ghost use Rattle.dns_updates.specs.Records.{is_of_type};
-ghost use Rattle.dns_updates.specs.Change.{added, is_ignored, is_less, succeeds, succeeds_soa};
+ghost use Rattle.dns_updates.specs.Records.{has_set, is_of_type};
+ghost use Rattle.dns_updates.specs.Change.{added, is_ignored, is_less, set_with, succeeds, succeeds_soa};
 ghost use Rattle.dns_updates.specs.Changes.{overlay};
+ghost use Rattle.dns_updates.specs.internal.Indexes.{AreListed};
 
-use crate::changes::changed_set::ChangedSet;
-use crate::changes::current::{current_records, has_current, has_current_but};
+use crate::changes::changed_sets::ChangedSets;
+use crate::changes::current::{current_records, has_current};
 use crate::changes::edits::put_record;
+use crate::changes::listings::{has_current_but, list_added};
+use crate::changes::pending::Pending;
 use crate::changes::store::{store_records, take_records};
 use crate::record_tests::is_of_type;
 use crate::zone_rows::ZoneRows;
@@ -24,18 +27,83 @@ use std::alloc::{AllocError, Global};
 pub fn add<Z: ZoneRows>(
     alloc: Global,
     zone: &Z,
-    sets: &mut Vec<ChangedSet>,
+    pending: &mut Pending,
     update: &Record,
 ) -> Result<(), AllocError>
-    ensures change { OnOk result (overlay (Z.rows zone.now) sets.new.items
-        ≡ added (overlay (Z.rows zone.now) sets.old.items) update.now) }
+    requires { AreListed (Z.rows zone.now) (overlay (Z.rows zone.now) pending.old.sets)
+        pending.old.types }
+    ensures change { OnOk result (overlay (Z.rows zone.now) pending.new.sets
+        ≡ added (overlay (Z.rows zone.now) pending.old.sets) update.now) }
+    ensures listed { OnOk result (AreListed (Z.rows zone.now)
+        (overlay (Z.rows zone.now) pending.new.sets) pending.new.types) }
     ensures decided { is_of_type types.CNAME update.now ≡ false
-        → is_ignored (overlay (Z.rows zone.now) sets.old.items) update.now ≡ true
-        → (result ≡ Ok tt) × (sets.new.items ≡ sets.old.items) }
+        → is_ignored (overlay (Z.rows zone.now) pending.old.sets) update.now ≡ true
+        → (result ≡ Ok tt) × (pending.new.sets ≡ pending.old.sets) }
 {
-    if is_ignored(alloc, zone, sets.as_slice(), update)? {
+    if is_of_type(RecordType::CNAME, update) {
+        add_alias(alloc, zone, pending, update)?;
         return Ok(());
     }
+    if is_ignored_row(zone, &pending.sets, update) {
+        return Ok(());
+    }
+    put(alloc, zone, pending, update)?;
+    Ok(())
+}
+
+/// Adds a CNAME, unless there are rows of another type beside it.
+fn add_alias<Z: ZoneRows>(
+    alloc: Global,
+    zone: &Z,
+    pending: &mut Pending,
+    update: &Record,
+) -> Result<(), AllocError>
+    requires alias { is_of_type types.CNAME update.now ≡ true }
+    requires listed { AreListed (Z.rows zone.now) (overlay (Z.rows zone.now) pending.old.sets)
+        pending.old.types }
+    ensures change { OnOk result (overlay (Z.rows zone.now) pending.new.sets
+        ≡ added (overlay (Z.rows zone.now) pending.old.sets) update.now) }
+    ensures listed { OnOk result (AreListed (Z.rows zone.now)
+        (overlay (Z.rows zone.now) pending.new.sets) pending.new.types) }
+{
+    if has_current_but(alloc, zone, pending, &update.name, RecordType::CNAME)? {
+        return Ok(());
+    }
+    put(alloc, zone, pending, update)?;
+    Ok(())
+}
+
+/// Adds a record that is not ignored.
+fn put<Z: ZoneRows>(
+    alloc: Global,
+    zone: &Z,
+    pending: &mut Pending,
+    update: &Record,
+) -> Result<(), AllocError>
+    requires { AreListed (Z.rows zone.now) (overlay (Z.rows zone.now) pending.old.sets)
+        pending.old.types }
+    ensures change { OnOk result (overlay (Z.rows zone.now) pending.new.sets
+        ≡ with_set (overlay (Z.rows zone.now) pending.old.sets) (key_of update.now)
+        (set_with (overlay (Z.rows zone.now) pending.old.sets) update.now)) }
+    ensures listed { OnOk result (AreListed (Z.rows zone.now)
+        (overlay (Z.rows zone.now) pending.new.sets) pending.new.types) }
+{
+    list_added(alloc, zone, pending, &update.name, update.record_type())?;
+    put_row(alloc, zone, &mut pending.sets, update)?;
+    Ok(())
+}
+
+/// Puts a record in place of one with equal data, or at the end of its set; a CNAME or an SOA is the only one of its set.
+fn put_row<Z: ZoneRows>(
+    alloc: Global,
+    zone: &Z,
+    sets: &mut ChangedSets,
+    update: &Record,
+) -> Result<(), AllocError>
+    ensures { OnOk result (overlay (Z.rows zone.now) sets.new
+        ≡ with_set (overlay (Z.rows zone.now) sets.old) (key_of update.now)
+        (set_with (overlay (Z.rows zone.now) sets.old) update.now)) }
+{
     let records = records_beside(alloc, zone, sets, update)?;
     let records = put_record(records, update.clone()?)?;
     store_records(sets, &update.name, update.record_type(), records)?;
@@ -46,15 +114,15 @@ pub fn add<Z: ZoneRows>(
 fn records_beside<Z: ZoneRows>(
     alloc: Global,
     zone: &Z,
-    sets: &mut Vec<ChangedSet>,
+    sets: &mut ChangedSets,
     update: &Record,
 ) -> Result<Vec<Record>, AllocError>
     ensures taken { IfOk result (λ records. rows_of records.items
         ≡ (if is_of_type types.CNAME update.now || is_of_type types.SOA update.now then []
-        else set_of (overlay (Z.rows zone.now) sets.old.items) update.now)) }
+        else set_of (overlay (Z.rows zone.now) sets.old) update.now)) }
     ensures others { OnOk result ((s : List Row)
-        → with_set (overlay (Z.rows zone.now) sets.new.items) (key_of update.now) s
-        ≡ with_set (overlay (Z.rows zone.now) sets.old.items) (key_of update.now) s) }
+        → with_set (overlay (Z.rows zone.now) sets.new) (key_of update.now) s
+        ≡ with_set (overlay (Z.rows zone.now) sets.old) (key_of update.now) s) }
 {
     if is_of_type(RecordType::CNAME, update) || is_of_type(RecordType::SOA, update) {
         return Ok(Vec::new(alloc));
@@ -63,31 +131,22 @@ fn records_beside<Z: ZoneRows>(
     Ok(records)
 }
 
-/// Returns `true` for an addition that is ignored: a CNAME beside rows of another type, any other row beside a CNAME, and
-/// an SOA that does not succeed one.
-fn is_ignored<Z: ZoneRows>(
-    alloc: Global,
-    zone: &Z,
-    sets: &[ChangedSet],
-    update: &Record,
-) -> Result<bool, AllocError>
-    ensures ignored { IfOk result (λ ignored.
-        ignored ≡ is_ignored (overlay (Z.rows zone.now) sets.now) update.now) }
-    ensures decided { is_of_type types.CNAME update.now ≡ false → IsOk result }
+/// Returns `true` for an addition of no CNAME that is ignored: one beside a CNAME, and an SOA that does not succeed one.
+fn is_ignored_row<Z: ZoneRows>(zone: &Z, sets: &ChangedSets, update: &Record) -> bool
+    ensures { result ≡ (has_set (overlay (Z.rows zone.now) sets.now) update.now.name types.CNAME
+        || (is_of_type types.SOA update.now
+        && not (succeeds_soa (set_of (overlay (Z.rows zone.now) sets.now) update.now)
+        update.now))) }
 {
     let owner = &update.name;
-    if is_of_type(RecordType::CNAME, update) {
-        let is_beside = has_current_but(alloc, zone, sets, owner, RecordType::CNAME)?;
-        return Ok(is_beside);
-    }
     if has_current(zone, sets, owner, RecordType::CNAME) {
-        return Ok(true);
+        return true;
     }
     if !is_of_type(RecordType::SOA, update) {
-        return Ok(false);
+        return false;
     }
     let records = current_records(zone, sets, owner, update.record_type());
-    Ok(!succeeds_soa(records, update))
+    !succeeds_soa(records, update)
 }
 
 /// Returns `true` if there is an SOA, and a record is an SOA with a greater serial number.

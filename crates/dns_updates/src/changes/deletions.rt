@@ -1,7 +1,7 @@
 //! Deletions (RFC 2136 sections 3.4.2.3 and 3.4.2.4).
 
 ghost use Rattle.std.specs.Prelude.{◌≡◌, ◌==◌, ◌&&◌, true, false, length, Ok, OnOk};
-ghost use Rattle.std.specs.List.{fold};
+ghost use Rattle.std.specs.List.{filter, fold};
 ghost use Rattle.dns_codes.specs.RecordType.{type_number};
 ghost use Rattle.dns_codes.specs.declared.dns_class.DNSClass.TheVariants.{ANY};
 ghost use Rattle.dns_codes.specs.declared.record_type.RecordType.TheVariants as types;
@@ -9,10 +9,14 @@ ghost use Rattle.dns_records.specs.Rows.{Rows, set_of, type_of_record};
 ghost use Rattle.dns_updates.specs.Records.{is_of_type, is_origin};
 ghost use Rattle.dns_updates.specs.Change.{change_of_class, is_kept_set, keeps_rows, without_name, without_row, without_set};
 ghost use Rattle.dns_updates.specs.Changes.{overlay};
+ghost use Rattle.dns_updates.specs.internal.Indexes.{AreListed};
 
-use crate::changes::changed_set::ChangedSet;
-use crate::changes::current::{current_records, current_types};
+use crate::changes::changed_sets::ChangedSets;
+use crate::changes::current::current_records;
 use crate::changes::edits::remove_data;
+use crate::changes::listings::take_types;
+use crate::changes::owner_types::Listing;
+use crate::changes::pending::Pending;
 use crate::changes::store::{store_records, take_records};
 use crate::record_tests::is_of_type;
 use crate::zone_rows::ZoneRows;
@@ -26,51 +30,79 @@ pub fn delete_sets<Z: ZoneRows>(
     alloc: Global,
     zone: &Z,
     origin: &Name,
-    sets: &mut Vec<ChangedSet>,
+    pending: &mut Pending,
     update: &Record,
 ) -> Result<(), AllocError>
-    ensures change { OnOk result (overlay (Z.rows zone.now) sets.new.items
-        ≡ change_of_class origin.now (overlay (Z.rows zone.now) sets.old.items) ANY update.now) }
+    requires { AreListed (Z.rows zone.now) (overlay (Z.rows zone.now) pending.old.sets)
+        pending.old.types }
+    ensures change { OnOk result (overlay (Z.rows zone.now) pending.new.sets ≡ change_of_class
+        origin.now (overlay (Z.rows zone.now) pending.old.sets) ANY update.now) }
+    ensures listed { OnOk result (AreListed (Z.rows zone.now)
+        (overlay (Z.rows zone.now) pending.new.sets) pending.new.types) }
     ensures decided { is_of_type types.ANY update.now ≡ false
         → is_kept_set origin.now update.now.name (type_number (type_of_record update.now)) ≡ true
-        → (result ≡ Ok tt) × (sets.new.items ≡ sets.old.items) }
+        → (result ≡ Ok tt) × (pending.new.sets ≡ pending.old.sets) }
 {
     let owner = &update.name;
     if is_of_type(RecordType::ANY, update) {
-        delete_name(alloc, zone, origin, sets, owner)?;
+        delete_name(alloc, zone, origin, pending, owner)?;
         return Ok(());
     }
-    delete_set(alloc, origin, sets, owner, update.record_type())?;
+    delete_set(
+        alloc,
+        origin,
+        &mut pending.sets,
+        owner,
+        update.record_type(),
+    )?;
     Ok(())
 }
 
-/// Deletes the sets of a name.
+/// Deletes the sets of a name. Types that are deleted leave the listing, so that none is deleted twice.
 fn delete_name<Z: ZoneRows>(
     alloc: Global,
     zone: &Z,
     origin: &Name,
-    sets: &mut Vec<ChangedSet>,
+    pending: &mut Pending,
     owner: &Name,
 ) -> Result<(), AllocError>
-    ensures { OnOk result (overlay (Z.rows zone.now) sets.new.items
-        ≡ without_name origin.now (overlay (Z.rows zone.now) sets.old.items) owner.now) }
+    requires { AreListed (Z.rows zone.now) (overlay (Z.rows zone.now) pending.old.sets)
+        pending.old.types }
+    ensures change { OnOk result (overlay (Z.rows zone.now) pending.new.sets
+        ≡ without_name origin.now (overlay (Z.rows zone.now) pending.old.sets) owner.now) }
+    ensures listed { OnOk result (AreListed (Z.rows zone.now)
+        (overlay (Z.rows zone.now) pending.new.sets) pending.new.types) }
 {
-    let found = current_types(alloc, zone, sets.as_slice(), owner)?;
-    delete_types(alloc, origin, sets, owner, found.as_slice())?;
+    let mut types = take_types(alloc, zone, &mut pending.types, owner)?;
+    delete_types(alloc, origin, &mut pending.sets, owner, types.as_slice())?;
+    keep_types(origin, owner, &mut types);
+    let listing = Listing {
+        types,
+        is_complete: true,
+    };
+    pending.types.put(owner, listing)?;
     Ok(())
+}
+
+/// Removes the types of the sets of a name that are not kept.
+fn keep_types(origin: &Name, owner: &Name, types: &mut Vec<RecordType>)
+    ensures { types.new.items
+        ≡ filter (λ t. is_kept_set origin.now owner.now (type_number t)) types.old.items }
+{
+    types.retain(move |record_type| is_kept_set(origin, owner, *record_type));
 }
 
 /// Deletes the sets of a name and of some types.
 fn delete_types(
     alloc: Global,
     origin: &Name,
-    sets: &mut Vec<ChangedSet>,
+    sets: &mut ChangedSets,
     owner: &Name,
     found: &[RecordType],
 ) -> Result<(), AllocError>
-    ensures { OnOk result ((rows : Rows) → overlay rows sets.new.items
+    ensures { OnOk result ((rows : Rows) → overlay rows sets.new
         ≡ fold (λ left t. without_set origin.now left owner.now t)
-        (overlay rows sets.old.items) found.now) }
+        (overlay rows sets.old) found.now) }
 {
     for record_type in found {
         delete_set(alloc, origin, sets, owner, *record_type)?;
@@ -82,14 +114,14 @@ fn delete_types(
 fn delete_set(
     alloc: Global,
     origin: &Name,
-    sets: &mut Vec<ChangedSet>,
+    sets: &mut ChangedSets,
     owner: &Name,
     record_type: RecordType,
 ) -> Result<(), AllocError>
-    ensures change { OnOk result ((rows : Rows) → overlay rows sets.new.items
-        ≡ without_set origin.now (overlay rows sets.old.items) owner.now record_type) }
+    ensures change { OnOk result ((rows : Rows) → overlay rows sets.new
+        ≡ without_set origin.now (overlay rows sets.old) owner.now record_type) }
     ensures decided { is_kept_set origin.now owner.now (type_number record_type) ≡ true
-        → (result ≡ Ok tt) × (sets.new.items ≡ sets.old.items) }
+        → (result ≡ Ok tt) × (sets.new ≡ sets.old) }
 {
     if is_kept_set(origin, owner, record_type) {
         return Ok(());
@@ -111,15 +143,15 @@ pub fn delete_row<Z: ZoneRows>(
     alloc: Global,
     zone: &Z,
     origin: &Name,
-    sets: &mut Vec<ChangedSet>,
+    sets: &mut ChangedSets,
     update: &Record,
 ) -> Result<(), AllocError>
-    ensures change { OnOk result (overlay (Z.rows zone.now) sets.new.items
-        ≡ without_row origin.now (overlay (Z.rows zone.now) sets.old.items) update.now) }
-    ensures decided { keeps_rows origin.now (overlay (Z.rows zone.now) sets.old.items) update.now
-        ≡ true → (result ≡ Ok tt) × (sets.new.items ≡ sets.old.items) }
+    ensures change { OnOk result (overlay (Z.rows zone.now) sets.new
+        ≡ without_row origin.now (overlay (Z.rows zone.now) sets.old) update.now) }
+    ensures decided { keeps_rows origin.now (overlay (Z.rows zone.now) sets.old) update.now
+        ≡ true → (result ≡ Ok tt) × (sets.new ≡ sets.old) }
 {
-    if keeps_rows(zone, origin, sets.as_slice(), update) {
+    if keeps_rows(zone, origin, sets, update) {
         return Ok(());
     }
     let owner = &update.name;
@@ -131,7 +163,7 @@ pub fn delete_row<Z: ZoneRows>(
 }
 
 /// Returns `true` if deletions of rows keep a record's set: an SOA, and the last NS at the origin.
-fn keeps_rows<Z: ZoneRows>(zone: &Z, origin: &Name, sets: &[ChangedSet], update: &Record) -> bool
+fn keeps_rows<Z: ZoneRows>(zone: &Z, origin: &Name, sets: &ChangedSets, update: &Record) -> bool
     ensures { result ≡ keeps_rows origin.now (overlay (Z.rows zone.now) sets.now) update.now }
 {
     is_of_type(RecordType::SOA, update) || is_last_name_server(zone, origin, sets, update)
@@ -141,7 +173,7 @@ fn keeps_rows<Z: ZoneRows>(zone: &Z, origin: &Name, sets: &[ChangedSet], update:
 fn is_last_name_server<Z: ZoneRows>(
     zone: &Z,
     origin: &Name,
-    sets: &[ChangedSet],
+    sets: &ChangedSets,
     update: &Record,
 ) -> bool
     ensures { result ≡ (is_of_type types.NS update.now && (is_origin origin.now update.now.name

@@ -2,7 +2,9 @@
 
 ghost use Rattle.std.specs.Prelude.{◌≡◌, ◌&&◌, not, map};
 ghost use Rattle.std.specs.List.{list_any, list_all};
-ghost use Rattle.dns_updates.specs.Records.{is_in_class, is_among};
+ghost use Rattle.dns_names.specs.Compare.{same_labels};
+ghost use Rattle.dns_records.specs.Rows.{type_of_record};
+ghost use Rattle.dns_updates.specs.Records.{is_in_class, is_among, is_type};
 ghost use Rattle.dns_data.specs.rdata.{same_data};
 ghost use Rattle.dns_updates.specs.Code.{is_required_with, required_data, has_required, sets_code};
 
@@ -52,9 +54,15 @@ fn is_required_by(prerequisites: &[Record], resource_record: &Record) -> bool
 fn is_required_with(resource_record: &Record, prerequisite: &Record) -> bool
     ensures { result ≡ is_required_with resource_record.now prerequisite.now }
 {
-    is_in_class(prerequisite.dns_class)
-        && resource_record.name.eq_ignore_root(&prerequisite.name)
-        && is_of_type(resource_record.record_type(), prerequisite)
+    is_in_class(prerequisite.dns_class) && is_of_same_set(resource_record, prerequisite)
+}
+
+/// Returns `true` if two records have the same owner and type. The types are compared first, since names may be long.
+fn is_of_same_set(own: &Record, other: &Record) -> bool
+    ensures { result ≡ (same_labels own.now.name.labels other.now.name.labels
+        && is_type (type_of_record own.now) (type_of_record other.now)) }
+{
+    is_of_type(own.record_type(), other) && own.name.eq_ignore_root(&other.name)
 }
 
 /// Returns `true` if the zone has exactly the data that prerequisites require of the owner and type of a record.
@@ -125,10 +133,11 @@ fn is_required_data(prerequisites: &[Record], resource_record: &Record, rdata: &
     false
 }
 
-/// Returns `true` if a prerequisite requires the data of the owner and type of a record.
+/// Returns `true` if a prerequisite requires the data of the owner and type of a record. The data is compared first, since
+/// most of it differs, and names may be long.
 fn is_required_as(prerequisite: &Record, resource_record: &Record, rdata: &RData) -> bool
     ensures { result ≡ (is_required_with resource_record.now prerequisite.now
         && same_data rdata.now prerequisite.now.rdata) }
 {
-    is_required_with(resource_record, prerequisite) && *rdata == prerequisite.rdata
+    *rdata == prerequisite.rdata && is_required_with(resource_record, prerequisite)
 }

@@ -7,4 +7,4 @@ use Rattle.dns_updates.specs.Changes.{overlay}
 use Rattle.dns_updates.proofs.changes.deletions.delete_types.Given as goal
 
 abbrev pub invariant-loop-record_type : goal.invariant-loop-record_type
-invariant-loop-record_type l = (rows : Rows) → overlay rows l.sets.items ≡ fold (λ (left : Rows) (t : RecordType). without_set l.origin left l.owner t) (overlay rows l.fn.sets.items) (take l.record_type-index l.found)
+invariant-loop-record_type l = (rows : Rows) → overlay rows l.sets ≡ fold (λ (left : Rows) (t : RecordType). without_set l.origin left l.owner t) (overlay rows l.fn.sets) (take l.record_type-index l.found)

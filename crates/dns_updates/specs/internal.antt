@@ -1,0 +1,2 @@
+-- What the functions of this crate keep, beside what a reader needs to believe.
+pub mod Indexes
