@@ -7,5 +7,6 @@ pub mod ListingLaws
 pub mod OwnerCodeLaws
 pub mod PlaceLaws
 pub mod UpdateLaws
+mod PutLaws
 mod UpdateRows
 mod VoidLaws

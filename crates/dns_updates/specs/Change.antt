@@ -103,6 +103,13 @@ change_of_class origin rows classes.ANY r =
 change_of_class origin rows classes.NONE r = without_row origin rows r
 change_of_class origin rows other r = rows
 
+-- Whether an update puts its row into the set of its owner and type: an addition that is not ignored, of neither a CNAME nor an
+-- SOA.
+abbrev pub is_put : Rows → DNSClass → Record → Bool
+is_put rows classes.IN r =
+    not (is_of_type types.CNAME r || is_of_type types.SOA r) && not (has_set rows r.name types.CNAME)
+is_put rows other r = false
+
 -- the rows after an update
 abbrev pub change : DomainName → Rows → Record → Rows
 change origin rows r = change_of_class origin rows r.dns_class r

@@ -14,6 +14,7 @@ mod edits;
 mod listings;
 mod owner_types;
 mod pending;
+mod single;
 mod store;
 
 use crate::zone_rows::ZoneRows;
@@ -27,6 +28,7 @@ use dns_records::Record;
 use dns_wire::DNSClass;
 use owner_types::OwnerTypes;
 use pending::Pending;
+pub use single::is_put;
 use std::alloc::{AllocError, Global};
 
 /// The sets that an update changes. The rows of the zone become those with each of them in place of the zone's own.
