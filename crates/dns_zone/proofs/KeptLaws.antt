@@ -25,10 +25,11 @@ use Rattle.dns_zone_file.specs.Parsed.{AreDistinctSets, IsParsedSet, is_singleto
 use Rattle.dns_zone.specs.Load.{is_inside, is_soa, is_apex, fault_of}
 use Rattle.dns_zone.specs.Printed.{is_start, BeginsWithStart, AreZoneSets}
 use Rattle.dns_zone.specs.Rows.{Key, key, key_cmp, ZoneContent, set_key, row_of, rows_of, rows_of_sets, rows_at, row_data, IsSoundSet, AreSoundSets, AreRowsAt, IsZone}
-use Rattle.dns_zone.specs.Sets.{owner_code, place_cmp, set_at, set_place, type_code, AreInOrder}
-use Rattle.dns_zone.proofs.CodeLaws.{below_begins, owner_of_lower}
+use Rattle.dns_updates.specs.Keys.{owner_code, place_cmp, type_code}
+use Rattle.dns_zone.specs.Sets.{set_at, set_place, AreInOrder}
+use Rattle.dns_updates.proofs.OwnerCodeLaws.{below_begins, owner_of_lower}
 use Rattle.dns_zone.proofs.FirstLaws.{others_before}
-use Rattle.dns_zone.proofs.PlaceLaws.{places_tie}
+use Rattle.dns_updates.proofs.PlaceLaws.{places_tie}
 use Rattle.dns_zone.proofs.LoadLaws.{AreFaultless, faultless, is_faultless, sound_sets}
 use Rattle.dns_zone.proofs.RowLaws.{key_total, key_antisymmetric, keys_tie, tied, rows_if, get-sets, same_lower, below_lower}
 

@@ -1,7 +1,6 @@
 pub mod AnswerLaws
 pub mod AppliedLaws
 pub mod ChainLaws
-pub mod CodeLaws
 pub mod FaultLaws
 pub mod FirstLaws
 pub mod GatherLaws
@@ -11,7 +10,6 @@ pub mod LineLaws
 pub mod ListLaws
 pub mod LoadLaws
 pub mod OwnerLaws
-pub mod PlaceLaws
 pub mod PrintableLaws
 pub mod PrintedLaws
 pub mod RowLaws

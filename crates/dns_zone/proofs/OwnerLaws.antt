@@ -12,9 +12,10 @@ use Rattle.dns_codes.specs.declared.record_type.RecordType.{RecordType}
 use Rattle.dns_names.specs.Compare.{same_labels}
 use Rattle.dns_names.specs.internal.Compare.{same-lower, same_labels-equivalence}
 use Rattle.dns_records.specs.RecordSet.{RecordSetValue}
-use Rattle.dns_zone.specs.Sets.{owner_code, HaveTheirKeys, Place}
-use Rattle.dns_zone.proofs.CodeLaws.{owner_apart, owner_of_lower}
-use Rattle.dns_zone.proofs.PlaceLaws.{tied_both}
+use Rattle.dns_updates.specs.Keys.{owner_code, Place}
+use Rattle.dns_zone.specs.Sets.{HaveTheirKeys, set_place}
+use Rattle.dns_updates.proofs.OwnerCodeLaws.{owner_apart, owner_of_lower}
+use Rattle.dns_updates.proofs.PlaceLaws.{tied_both}
 use Rattle.dns_zone.proofs.RowLaws.{same_lower}
 use Rattle.dns_zone.proofs.SetLaws.{Stored, Entries, stored_cmp, between, from_start, front_first, then_equal}
 

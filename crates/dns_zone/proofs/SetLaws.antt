@@ -16,11 +16,12 @@ use Rattle.dns_codes.specs.declared.record_type.RecordType.{RecordType}
 use Rattle.dns_names.specs.Compare.{at_or_below}
 use Rattle.dns_records.specs.RecordSet.{RecordSetValue}
 use Rattle.dns_zone.specs.Rows.{Key, key, key_cmp, set_key}
-use Rattle.dns_zone.specs.Sets.{owner_code, set_at, set_place, Place, place_cmp, AreInOrder, HaveTheirKeys}
-use Rattle.dns_zone.proofs.CodeLaws.{below_begins, begins_below}
+use Rattle.dns_updates.specs.Keys.{owner_code, Place, place_cmp}
+use Rattle.dns_zone.specs.Sets.{set_at, set_place, AreInOrder, HaveTheirKeys}
+use Rattle.dns_updates.proofs.OwnerCodeLaws.{below_begins, begins_below}
 use Rattle.dns_zone.proofs.FirstLaws.{either_first}
 use Rattle.dns_zone.proofs.KeptLaws.{tied_key}
-use Rattle.dns_zone.proofs.PlaceLaws.{place, place_total, place_exact, places_tie, tied_both}
+use Rattle.dns_updates.proofs.PlaceLaws.{place, place_total, place_exact, places_tie, tied_both}
 use Rattle.dns_zone.proofs.RowLaws.{key_total, tied}
 
 -- a key as it is stored, and the order of these

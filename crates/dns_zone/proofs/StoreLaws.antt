@@ -22,7 +22,7 @@ use Rattle.dns_zone.specs.Rows.{Key, key, key_cmp, set_key, row_of, rows_of, row
 use Rattle.dns_zone.specs.Sets.{set_at, set_place, with_records, HaveTheirKeys}
 use Rattle.dns_zone.specs.internal.Store.{has_key, changed_keys, reserved_set, or_reserved, is_reserved, reserved_at, one_reserved, or_stored, stored_at, one_stored, is_empty_set, released_at, changed_at}
 use Rattle.dns_zone.proofs.KeptLaws.{tied_key}
-use Rattle.dns_zone.proofs.PlaceLaws.{place}
+use Rattle.dns_updates.proofs.PlaceLaws.{place}
 use Rattle.dns_zone.proofs.RowLaws.{key_total, key_antisymmetric, get-sets, rows_if, tied}
 use Rattle.dns_zone.proofs.SetLaws.{Stored, Entries, stored_cmp, place_of, one_tie}
 use Rattle.dns_zone.proofs.WholeLaws.{IsPlainSet}

@@ -7,13 +7,12 @@ ghost use Rattle.dns_names.specs.Compare.{at_or_below, same_labels};
 ghost use Rattle.dns_zone.specs.Rows.{Key, key, key_cmp, set_key};
 ghost use Rattle.dns_zone.specs.Sets.{set_at, with_records, AreInOrder};
 
-mod key;
 mod store;
 mod zone_rows;
 
-use crate::sets::key::{SetKey, end_key, first_key, set_key};
 use dns_names::Name;
 use dns_records::{Record, RecordSet};
+use dns_updates::{SetKey, end_key, first_key, set_key};
 use dns_wire::RecordType;
 use std::alloc::{AllocError, Global};
 use std::collections::{BTreeMap, btree_map};

@@ -3,7 +3,8 @@ use Rattle.std.specs.Map.{values_of}
 use Rattle.dns_names.specs.Name.{DomainName}
 use Rattle.dns_records.specs.RecordSet.{RecordSetValue}
 use Rattle.dns_zone.specs.Rows.{set_key}
-use Rattle.dns_zone.specs.Sets.{HaveTheirKeys, owner_code, set_at, type_code}
+use Rattle.dns_updates.specs.Keys.{owner_code, type_code}
+use Rattle.dns_zone.specs.Sets.{HaveTheirKeys, set_at}
 use Rattle.dns_zone.proofs.RowLaws.{tied}
 use Rattle.dns_zone.proofs.SetLaws.{Entries, found_at, in_order, inserted_at, keys_inserted}
 use Rattle.dns_zone.proofs.sets.ZoneSets.insert.Goals as goal

@@ -1,9 +1,0 @@
-use Rattle.std.proofs.Common.{◌≡◌, ◌++◌, length}
-use Rattle.dns_zone.specs.Sets.{owner_code}
-use Rattle.dns_zone.proofs.sets.key.owner_key.Given as goal
-
-abbrev pub invariant-loop-label : goal.invariant-loop-label
-invariant-loop-label l = owner_code l.owner.labels ≡ l.key.items ++ owner_code l.labels
-
-abbrev pub decreases-loop-label : goal.decreases-loop-label
-decreases-loop-label l = length l.labels
