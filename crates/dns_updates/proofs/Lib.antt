@@ -1,6 +1,8 @@
 pub mod Walks
 pub mod SetLaws
 pub mod CodeLaws
+pub mod DataSetLaws
+pub mod RequiredLaws
 pub mod ChangeLaws
 pub mod ChangedLaws
 pub mod ListingLaws

@@ -25,7 +25,7 @@ place labels t = (owner_code labels, type_code t)
 number_apart : (m n : ℕ) → number_code m ≡ number_code n → m ≡ n
 number_apart m n e = grind (arith, nat_tests)
 
-keys_of_place : (a b : List (List ℕ)) (t u : RecordType) → place a t ≡ place b u → key a t ≡ key b u
+pub keys_of_place : (a b : List (List ℕ)) (t u : RecordType) → place a t ≡ place b u → key a t ≡ key b u
 keys_of_place a b t u e =
     let owner = owner_apart a b (ap (λ (p : Place). p.0) e) in
     let number = number_apart (type_number t) (type_number u) (ap (λ (p : Place). p.1) e) in

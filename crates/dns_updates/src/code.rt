@@ -3,8 +3,11 @@
 ghost use Rattle.std.specs.Prelude.{◌≡◌};
 ghost use Rattle.dns_updates.specs.Code.{fault_if, update_code};
 
+mod data_sets;
 mod prerequisites;
 mod prescan;
+mod required_data;
+mod required_groups;
 mod required_sets;
 mod zone_section;
 
@@ -14,13 +17,20 @@ use dns_names::Name;
 use prerequisites::prerequisites_code;
 use prescan::updates_code;
 use required_sets::sets_code;
+use std::alloc::Global;
 use zone_section::zone_code;
 
 /// Returns the response code of an update of the zone with an origin: that of the first fault of its zone section, its
 /// prerequisites, the sets that these require, and its updates, or `NoError`.
 ///
-/// No memory is taken.
-pub fn update_code<Z: ZoneRows>(zone: &Z, origin: &Name, message: &Message) -> ResponseCode
+/// Memory is taken for an index of the data that many prerequisites require, if it can be had. Refused memory only makes
+/// it slower.
+pub fn update_code<Z: ZoneRows>(
+    alloc: Global,
+    zone: &Z,
+    origin: &Name,
+    message: &Message,
+) -> ResponseCode
     ensures { result ≡ update_code origin.now (Z.rows zone.now) message.now }
 {
     match zone_code(origin, message.queries.as_slice()) {
@@ -32,7 +42,7 @@ pub fn update_code<Z: ZoneRows>(zone: &Z, origin: &Name, message: &Message) -> R
         ResponseCode::NoError => {}
         fault => return fault,
     }
-    match sets_code(zone, prerequisites) {
+    match sets_code(alloc, zone, prerequisites) {
         ResponseCode::NoError => updates_code(origin, message.authorities.as_slice()),
         fault => fault,
     }

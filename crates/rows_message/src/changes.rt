@@ -46,7 +46,7 @@ fn changes_in(alloc: Global, zone: &SetList, origin: &Name, message: &[u8]) -> A
     let Ok(message) = Message::from_vec(alloc, message) else {
         return Err(RowFault::Lacks("a message"));
     };
-    let code = update_code(zone, origin, &message);
+    let code = update_code(alloc, zone, origin, &message);
     let mut answer = format!(in alloc; "{code}")?;
     if let ResponseCode::NoError = code {
         push_changes(alloc, &mut answer, zone, origin, &message)?;

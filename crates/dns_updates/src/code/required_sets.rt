@@ -8,15 +8,33 @@ ghost use Rattle.dns_updates.specs.Records.{is_in_class, is_among, is_type};
 ghost use Rattle.dns_data.specs.rdata.{same_data};
 ghost use Rattle.dns_updates.specs.Code.{is_required_with, required_data, has_required, sets_code};
 
+use crate::code::required_groups::sets_code_by_groups;
 use crate::record_tests::{is_in_class, is_of_type};
 use crate::zone_rows::ZoneRows;
 use dns_data::RData;
 use dns_messages::ResponseCode;
 use dns_names::laws::equal_labels_have_equal_lowercase;
 use dns_records::Record;
+use std::alloc::Global;
 
-/// Returns the code of the required sets: the zone has each of them.
-pub fn sets_code<Z: ZoneRows>(zone: &Z, prerequisites: &[Record]) -> ResponseCode
+/// The greatest number of prerequisites that are compared with one another. More of them are grouped by owner and type.
+const MAX_COMPARED: usize = 16;
+
+/// Returns the code of the required sets: the zone has each of them. Memory that is refused only makes it slower.
+pub fn sets_code<Z: ZoneRows>(alloc: Global, zone: &Z, prerequisites: &[Record]) -> ResponseCode
+    ensures { result ≡ sets_code (Z.rows zone.now) prerequisites.now }
+{
+    if prerequisites.len() <= MAX_COMPARED {
+        return sets_code_by_search(zone, prerequisites);
+    }
+    match sets_code_by_groups(alloc, zone, prerequisites) {
+        Ok(code) => code,
+        Err(_) => sets_code_by_search(zone, prerequisites),
+    }
+}
+
+/// Returns the code of the required sets without memory. Prerequisites are compared with one another.
+fn sets_code_by_search<Z: ZoneRows>(zone: &Z, prerequisites: &[Record]) -> ResponseCode
     ensures { result ≡ sets_code (Z.rows zone.now) prerequisites.now }
 {
     equal_labels_have_equal_lowercase();

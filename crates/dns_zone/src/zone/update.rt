@@ -17,7 +17,7 @@ impl Zone {
     ghost use Rattle.dns_zone.specs.Serving.{zone_by_code};
 
     /// Applies a dynamic update, and returns its response code: that of the first test that fails, or `NoError` if the records
-    /// are changed. The zone is unchanged under any other code, and after an error. No code but `NoError` takes memory.
+    /// are changed. The zone is unchanged under any other code, and after an error. No code but `NoError` needs memory.
     ///
     /// The cost grows with the update and the sets that it names, and with the zone only by a logarithm.
     pub fn apply(&mut self, update: &Message) -> Result<ResponseCode, AllocError>
@@ -40,11 +40,11 @@ impl Zone {
         }
     }
 
-    /// Returns the response code of a dynamic update, without taking memory.
+    /// Returns the response code of a dynamic update. Memory that is refused only makes it slower.
     pub(crate) fn update_code(&self, update: &Message) -> ResponseCode
         ensures { result ≡ update_code self.now.origin self.now.rows update.now }
     {
-        update_code(&self.sets, &self.origin, update)
+        update_code(self.alloc, &self.sets, &self.origin, update)
     }
 
     /// Changes the records by an update whose response code is `NoError`. An error leaves the zone unchanged.

@@ -5,8 +5,8 @@ use Rattle.dns_updates.specs.Records.{is_in_class}
 use Rattle.dns_updates.specs.Code.{fault_if, has_required}
 use Rattle.dns_updates.proofs.UpdateLaws.Codes.{and_both}
 use Rattle.dns_updates.proofs.CodeLaws.{first_tested, others_tested, all_fails}
-use Rattle.dns_updates.proofs.code.required_sets.sets_code.Goals as goal
-use Rattle.dns_updates.proofs.code.required_sets.sets_code.Goals.{else-is_first_of_set-via-then-is_first_of_set+else-not-has_required, else-is_first_of_set-via-else-is_first_of_set}
+use Rattle.dns_updates.proofs.code.required_sets.sets_code_by_search.Goals as goal
+use Rattle.dns_updates.proofs.code.required_sets.sets_code_by_search.Goals.{else-is_first_of_set-via-then-is_first_of_set+else-not-has_required, else-is_first_of_set-via-else-is_first_of_set}
 
 pub returns-then-not-has_required : goal.returns-then-not-has_required
 returns-then-not-has_required g c =
