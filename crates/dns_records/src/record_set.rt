@@ -14,7 +14,7 @@ use dns_data::RData;
 use dns_names::Name;
 use dns_wire::{DNSClass, RecordType};
 use edits::{accepts_data, insert_record, put_record, remove_record};
-use record_list::RecordList;
+pub use record_list::RecordList;
 use std::alloc::{AllocError, Global};
 use std::marker::Model;
 use std::vec::IntoIter;

@@ -1,6 +1,6 @@
 //! Lists of records, with the positions of their data.
 
-ghost use Rattle.std.specs.Prelude.{◌≡◌, ◌<◌, ◌∷◌, ◌++◌, [], false, true, IfSome, OnOk, OnErr, length, position, slice_get, slice_set};
+ghost use Rattle.std.specs.Prelude.{◌≡◌, ◌<◌, ◌==◌, ◌∷◌, ◌++◌, [], false, true, IfSome, OnOk, OnErr, length, position, slice_get, slice_set};
 ghost use Rattle.std.specs.List.{remove};
 ghost use Rattle.dns_data.specs.rdata.{same_data};
 ghost use Rattle.dns_records.specs.RecordSet.{each_of_class, each_with_ttl, has_data, put, record_data};
@@ -11,8 +11,12 @@ use dns_data::RData;
 use dns_wire::DNSClass;
 use std::alloc::AllocError;
 use std::marker::Model;
+use std::mem;
 
-/// Records, with an index of their data.
+/// Records in their order, with an index of their data.
+///
+/// Among *n* records, data is found in a time proportional to log *n* once some have been added, see
+/// [`DataIndex`](crate::DataIndex).
 pub struct RecordList {
     records: Vec<Record>,
     index: DataIndex,
@@ -52,6 +56,21 @@ impl RecordList {
         ensures { result.now ≡ self.now }
     {
         self.records.as_slice()
+    }
+
+    /// Returns `true` if there are no records.
+    pub fn is_empty(&self) -> bool
+        ensures { result ≡ (length self.now == 0) }
+    {
+        self.records.is_empty()
+    }
+
+    /// Puts other records in place of these, which are returned. No memory is taken.
+    pub fn replace_by(&mut self, records: RecordList) -> RecordList
+        ensures result { result ≡ self.old }
+        ensures list { self.new ≡ records }
+    {
+        mem::replace(self, records)
     }
 
     /// Returns the records by value, in their order.
