@@ -19,7 +19,7 @@ use crate::changes::store::{store_records, take_records};
 use crate::record_tests::is_of_type;
 use crate::zone_rows::ZoneRows;
 use dns_data::RData;
-use dns_records::Record;
+use dns_records::{Record, RecordList};
 use dns_wire::{RecordType, SerialNumber, SerialOrder};
 use std::alloc::{AllocError, Global};
 
@@ -116,8 +116,8 @@ fn records_beside<Z: ZoneRows>(
     zone: &Z,
     sets: &mut ChangedSets,
     update: &Record,
-) -> Result<Vec<Record>, AllocError>
-    ensures taken { IfOk result (λ records. rows_of records.items
+) -> Result<RecordList, AllocError>
+    ensures taken { IfOk result (λ records. rows_of records
         ≡ (if is_of_type types.CNAME update.now || is_of_type types.SOA update.now then []
         else set_of (overlay (Z.rows zone.now) sets.old) update.now)) }
     ensures others { OnOk result ((s : List Row)
@@ -125,7 +125,7 @@ fn records_beside<Z: ZoneRows>(
         ≡ with_set (overlay (Z.rows zone.now) sets.old) (key_of update.now) s) }
 {
     if is_of_type(RecordType::CNAME, update) || is_of_type(RecordType::SOA, update) {
-        return Ok(Vec::new(alloc));
+        return Ok(RecordList::new(Vec::new(alloc)));
     }
     let records = take_records(alloc, zone, sets, &update.name, update.record_type())?;
     Ok(records)

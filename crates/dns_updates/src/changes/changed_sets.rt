@@ -9,7 +9,7 @@ ghost use Rattle.dns_updates.specs.internal.Indexes.{with_records};
 use crate::changes::changed_set::ChangedSet;
 use crate::keys::{SetKey, set_key};
 use dns_names::Name;
-use dns_records::Record;
+use dns_records::RecordList;
 use dns_wire::RecordType;
 use std::alloc::{AllocError, Global};
 use std::collections::BTreeMap;
@@ -81,19 +81,19 @@ impl ChangedSets {
         &mut self,
         owner: &Name,
         record_type: RecordType,
-        records: Vec<Record>,
-    ) -> Option<Vec<Record>>
+        records: RecordList,
+    ) -> Option<RecordList>
         ensures some { IfSome result (λ found. option_map (λ s. s.records)
-            (changed_at self.old (key owner.now.labels record_type)) ≡ Some found.items) }
+            (changed_at self.old (key owner.now.labels record_type)) ≡ Some found) }
         ensures none { IfNone result
             (changed_at self.old (key owner.now.labels record_type) ≡ None) }
         ensures sets { (k : Key) → changed_at self.new k
             ≡ (if eq_by_cmp key_cmp k (key owner.now.labels record_type)
-            then with_records records.items (changed_at self.old k)
+            then with_records records (changed_at self.old k)
             else changed_at self.old k) }
     {
         if let Some(set) = self.map.get_mut(&set_key(owner, record_type)) {
-            return Some(set.records.replace(records));
+            return Some(set.records.replace_by(records));
         }
         None
     }

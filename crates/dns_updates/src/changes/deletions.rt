@@ -21,7 +21,7 @@ use crate::changes::store::{store_records, take_records};
 use crate::record_tests::is_of_type;
 use crate::zone_rows::ZoneRows;
 use dns_names::Name;
-use dns_records::Record;
+use dns_records::{Record, RecordList};
 use dns_wire::RecordType;
 use std::alloc::{AllocError, Global};
 
@@ -126,7 +126,7 @@ fn delete_set(
     if is_kept_set(origin, owner, record_type) {
         return Ok(());
     }
-    store_records(sets, owner, record_type, Vec::new(alloc))?;
+    store_records(sets, owner, record_type, RecordList::new(Vec::new(alloc)))?;
     Ok(())
 }
 
@@ -156,8 +156,8 @@ pub fn delete_row<Z: ZoneRows>(
     }
     let owner = &update.name;
     let record_type = update.record_type();
-    let mut records = take_records(alloc, zone, sets, owner, record_type)?;
-    remove_data(&mut records, &update.rdata);
+    let records = take_records(alloc, zone, sets, owner, record_type)?;
+    let records = remove_data(records, &update.rdata);
     store_records(sets, owner, record_type, records)?;
     Ok(())
 }

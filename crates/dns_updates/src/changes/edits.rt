@@ -1,13 +1,11 @@
 //! Edits of the records of a set.
 
 ghost use Rattle.std.specs.Prelude.{◌≡◌, IfOk};
-ghost use Rattle.std.specs.List.{position_or_len};
-ghost use Rattle.dns_data.specs.rdata.{same_data};
 ghost use Rattle.dns_records.specs.Rows.{row_of, rows_of};
 ghost use Rattle.dns_updates.specs.Change.{with_row, without_data};
 
 use dns_data::RData;
-use dns_records::Record;
+use dns_records::{Record, RecordList};
 use std::alloc::{AllocError, Global};
 
 /// Copies records.
@@ -21,38 +19,23 @@ pub fn copy_records(alloc: Global, records: &[Record]) -> Result<Vec<Record>, Al
     Ok(copies)
 }
 
-/// Returns the index of the first record with the data, or the number of records if there is none.
-fn data_position(records: &[Record], rdata: &RData) -> usize
-    ensures { result ≡ position_or_len (λ r. same_data r.rdata rdata.now) records.now }
-{
-    for (i, present) in records.iter().enumerate() {
-        if present.rdata == *rdata {
-            return i;
-        }
-    }
-    records.len()
-}
-
 /// Puts a record in place of one with equal data, or at the end.
 pub fn put_record(
-    mut records: Vec<Record>,
+    mut records: RecordList,
     resource_record: Record,
-) -> Result<Vec<Record>, AllocError>
+) -> Result<RecordList, AllocError>
     ensures { IfOk result (λ edited.
-        rows_of edited.items ≡ with_row (rows_of records.items) (row_of resource_record)) }
+        rows_of edited ≡ with_row (rows_of records) (row_of resource_record)) }
 {
-    let place = data_position(records.as_slice(), &resource_record.rdata);
-    if place < records.len() {
-        records[place] = resource_record;
-        return Ok(records);
-    }
-    records.push(resource_record)?;
+    records.put(resource_record)?;
     Ok(records)
 }
 
-/// Removes the records with the data.
-pub fn remove_data(records: &mut Vec<Record>, rdata: &RData)
-    ensures { rows_of records.new.items ≡ without_data (rows_of records.old.items) rdata.now }
+/// Returns the records without those with the data.
+pub fn remove_data(records: RecordList, rdata: &RData) -> RecordList
+    ensures { rows_of result ≡ without_data (rows_of records) rdata.now }
 {
-    records.retain(move |present| present.rdata != *rdata);
+    let mut kept = records.into_vec();
+    kept.retain(move |present| present.rdata != *rdata);
+    RecordList::new(kept)
 }

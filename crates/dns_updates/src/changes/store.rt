@@ -11,7 +11,7 @@ use crate::changes::changed_sets::ChangedSets;
 use crate::changes::edits::copy_records;
 use crate::zone_rows::ZoneRows;
 use dns_names::Name;
-use dns_records::{Record, Sequence};
+use dns_records::RecordList;
 use dns_wire::RecordType;
 use std::alloc::{AllocError, Global};
 
@@ -22,8 +22,8 @@ pub fn take_records<Z: ZoneRows>(
     sets: &mut ChangedSets,
     owner: &Name,
     record_type: RecordType,
-) -> Result<Vec<Record>, AllocError>
-    ensures taken { IfOk result (λ records. rows_of records.items
+) -> Result<RecordList, AllocError>
+    ensures taken { IfOk result (λ records. rows_of records
         ≡ rows_at (overlay (Z.rows zone.now) sets.old) owner.now.labels record_type) }
     ensures others { OnOk result ((s : List Row)
         → with_set (overlay (Z.rows zone.now) sets.new) (key owner.now.labels record_type) s
@@ -31,11 +31,11 @@ pub fn take_records<Z: ZoneRows>(
     ensures names { OnOk result ((k : Key)
         → KeepsName (changed_at sets.old k) (changed_at sets.new k)) }
 {
-    if let Some(records) = sets.replace(owner, record_type, Vec::new(alloc)) {
+    if let Some(records) = sets.replace(owner, record_type, RecordList::new(Vec::new(alloc))) {
         return Ok(records);
     }
     let records = copy_records(alloc, zone.records(owner, record_type))?;
-    Ok(records)
+    Ok(RecordList::new(records))
 }
 
 /// Makes records those of an owner and a type. A set that is changed already keeps the spelling of its name.
@@ -43,11 +43,11 @@ pub fn store_records(
     sets: &mut ChangedSets,
     owner: &Name,
     record_type: RecordType,
-    records: Vec<Record>,
+    records: RecordList,
 ) -> Result<(), AllocError>
     ensures rows { OnOk result ((rows : Rows) → overlay rows sets.new
         ≡ with_set (overlay rows sets.old) (key owner.now.labels record_type)
-        (rows_of records.items)) }
+        (rows_of records)) }
     ensures names { OnOk result ((k : Key)
         → KeepsName (changed_at sets.old k) (changed_at sets.new k)) }
 {
@@ -59,7 +59,7 @@ pub fn store_records(
     sets.insert(ChangedSet {
         name,
         record_type,
-        records: Sequence::from_vec(records),
+        records,
     })?;
     Ok(())
 }

@@ -7,7 +7,7 @@ ghost use Rattle.dns_zone.specs.Sets.{AreInOrder, set_at};
 ghost use Rattle.dns_zone.specs.internal.Store.{changed_at, changed_keys, one_reserved, one_stored, released_at, reserved_at, stored_at};
 
 use crate::sets::ZoneSets;
-use dns_records::RecordSet;
+use dns_records::{RecordList, RecordSet};
 use dns_updates::ChangedSet;
 use dns_wire::laws::type_number_round_trips;
 use std::alloc::{AllocError, Global};
@@ -26,7 +26,7 @@ impl ZoneSets {
         let mut changed = changed;
         match self.reserve(alloc, changed.as_slice()) {
             Ok(()) => {
-                self.store_records(changed.as_mut_slice());
+                self.store_records(alloc, changed.as_mut_slice());
                 self.release(changed.as_slice());
                 self.order();
                 Ok(())
@@ -74,24 +74,25 @@ impl ZoneSets {
 
     /// Moves the records of each changed set to the set with its owner and type, if there is one. Of changed sets with the
     /// same owner and type, the first counts.
-    fn store_records(&mut self, changed: &mut [ChangedSet])
+    fn store_records(&mut self, alloc: Global, changed: &mut [ChangedSet])
         ensures sets { (k : Key) → set_at self.new k ≡ stored_at changed.old k (set_at self.old k) }
         ensures keys { changed_keys changed.new ≡ changed_keys changed.old }
     {
         let mut index = changed.len();
         while index > 0 {
             index -= 1;
-            self.store_one(&mut changed[index]);
+            self.store_one(alloc, &mut changed[index]);
         }
     }
 
     /// Moves the records of a changed set to the set with its owner and type, if there is one.
-    fn store_one(&mut self, set: &mut ChangedSet)
+    fn store_one(&mut self, alloc: Global, set: &mut ChangedSet)
         ensures sets { (k : Key) → set_at self.new k ≡ one_stored set.old k (set_at self.old k) }
         ensures key { changed_key set.new ≡ changed_key set.old }
     {
-        let records = set.records.take().into_vec();
-        self.set_records(&set.name, set.record_type, records);
+        let none = RecordList::new(Vec::new(alloc));
+        let records = set.records.replace_by(none);
+        self.set_records(&set.name, set.record_type, records.into_vec());
     }
 
     /// Removes the sets without records that have the owner and type of a changed set.

@@ -15,12 +15,12 @@ returns-then-contains-clause-names c =
 
 pub returns-clause-rows : goal.returns-clause-rows
 returns-clause-rows c =
-    let y : ChangedSet = record { name = c.in_ok-name.name; record_type = c.args.record_type; records = c.from_vec.result } in
+    let y : ChangedSet = record { name = c.in_ok-name.name; record_type = c.args.record_type; records = c.args.records } in
     λ rows. written rows c.args.sets.now c.insert.new.self (changed_key y) y c.in_ok-insert.ensures
-    ∙ (λ i. with_set (overlay rows c.args.sets.now) (key (c.in_ok-name.ensures.ok i).labels c.args.record_type) (rows_of (c.from_vec.ensures i)))
+    ∙ (λ i. with_set (overlay rows c.args.sets.now) (key (c.in_ok-name.ensures.ok i).labels c.args.record_type) (rows_of c.args.records))
 
 pub returns-clause-names : goal.returns-clause-names
 returns-clause-names c =
-    let y : ChangedSet = record { name = c.in_ok-name.name; record_type = c.args.record_type; records = c.from_vec.result } in
+    let y : ChangedSet = record { name = c.in_ok-name.name; record_type = c.args.record_type; records = c.args.records } in
     name_beside c.args.sets.now c.insert.new.self (changed_key y) y
     ((λ i. is_some (changed_at c.args.sets.now (key (c.in_ok-name.ensures.ok i).labels c.args.record_type))) ∙ sym c.if-contains.ensures) c.in_ok-insert.ensures

@@ -5,7 +5,7 @@ use Rattle.dns_updates.proofs.changes.store.take_records.Goals as goal
 
 pub returns-in-Some-clause-taken : goal.returns-in-Some-clause-taken
 returns-in-Some-clause-taken g c =
-    sym (rows_replaced (g.Z.ZoneRows.rows c.args.zone.now) c.args.sets.now c.args.owner.now.labels c.args.record_type c.in-Some.records.items c.in-Some.ensures.some)
+    sym (rows_replaced (g.Z.ZoneRows.rows c.args.zone.now) c.args.sets.now c.args.owner.now.labels c.args.record_type c.in-Some.records c.in-Some.ensures.some)
 
 pub returns-in-Some-clause-others : goal.returns-in-Some-clause-others
 returns-in-Some-clause-others g c = λ s.
@@ -17,7 +17,7 @@ returns-in-Some-clause-names g c =
 
 pub returns-clause-taken : goal.returns-clause-taken
 returns-clause-taken g c =
-    ap rows_of c.in_ok-records.ensures ∙ c.records.ensures
+    ap rows_of (c.new-3.ensures ∙ c.in_ok-records.ensures) ∙ c.records.ensures
     ∙ sym (rows_below (g.Z.ZoneRows.rows c.args.zone.now) c.args.sets.now c.args.owner.now.labels c.args.record_type c.in_default.ensures.none)
 
 pub returns-clause-others : goal.returns-clause-others
