@@ -1,10 +1,13 @@
 -- Links over sockets: what their calls do to the zone and the counts. What sockets carry is not known.
-use Rattle.std.specs.Prelude.{◌≡◌, ◌<◌, ◌+◌, ◌-◌, ◌^◌, ◌⊎◌, min, true, Bool, List, ℕ, Option, Result, Err}
+use Rattle.std.specs.Prelude.{◌≡◌, ◌+◌, ◌-◌, ◌^◌, min, true, Bool, ℕ, Result, Err}
 use Rattle.dns_zone.specs.declared.road.Road.{Road}
 use Rattle.dns_zone.specs.declared.road.Road.TheVariants.{Datagram, Stream}
 use Rattle.stub_run.specs.RunOver.{LinkRules, rules_of}
 use Rattle.dns_zone.specs.Rows.{ZoneContent}
 use Rattle.dns_zone.specs.Serving.{Serves}
+use Rattle.dns_blocking.specs.Serving as blocking
+use Rattle.dns_blocking.specs.declared.error.SocketError.{SocketError}
+use Rattle.dns_blocking.specs.declared.error.SocketError.TheVariants as sockets
 use Rattle.stub_link.specs.declared.link.LinkError.{LinkError}
 use Rattle.stub_link.specs.declared.link.LinkError.TheVariants.{Failed, Memory}
 use Rattle.stub_socket.specs.declared.socket_link.SocketLink.{SocketLink}
@@ -13,15 +16,18 @@ use Rattle.stub_socket.specs.declared.socket_link.SocketLink.{SocketLink}
 
 -- A server served a message that arrived over a transport, or none.
 abbrev pub MayServe : Road → ZoneContent → ZoneContent → Type 0
-MayServe road old new = (new ≡ old) ⊎ ((bytes : List ℕ) × ((reply : Option (List ℕ)) × Serves old road bytes reply new))
+MayServe = blocking.MayServe Serves
 
 -- A server served at most a number of messages, one after another. Nothing else changed the zone.
-pub data ServesAtMost (road : Road) (old : ZoneContent) : ℕ → ZoneContent → Type 0 where
-  nothing : (most : ℕ) → ServesAtMost road old most old
-  one_more : (n most : ℕ) (now new : ZoneContent) → n < most → ServesAtMost road old n now → MayServe road now new
-      → ServesAtMost road old most new
+abbrev pub ServesAtMost : Road → ZoneContent → ℕ → ZoneContent → Type 0
+ServesAtMost = blocking.ServesAtMost Serves
 
 -- ---- calls
+
+-- what the error of a call of a socket is for a link
+abbrev pub link_error : SocketError → LinkError
+link_error sockets.Failed = Failed
+link_error sockets.Memory = Memory
 
 -- the number of failures after a call: one more if it failed, up to 2^64 - 1
 abbrev pub failures_after : {X : Type 0} → Result X LinkError → ℕ → ℕ

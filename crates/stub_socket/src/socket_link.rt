@@ -1,14 +1,14 @@
 //! A link to the server of a zone, over sockets of the loopback interface.
 
-ghost use Rattle.std.specs.Prelude.{◌≡◌, ◌≤◌, ◌⊎◌, Err, IfOk, false};
+ghost use Rattle.std.specs.Prelude.{◌≡◌, ◌≤◌, ◌⊎◌, Ok, Err, IfOk, MatchResult, false};
 ghost use Rattle.stub_link.specs.Link.{Rises};
 ghost use Rattle.dns_zone.specs.declared.road.Road.TheVariants.{Stream};
-ghost use Rattle.stub_socket.specs.SocketLink.{MayServe, failures_after, memory_after};
+ghost use Rattle.stub_socket.specs.SocketLink.{MayServe, failures_after, link_error, memory_after};
 
-use crate::asker_end::AskerEnd;
-use crate::connection::{accept, close_waiting, connect, set_patience};
-use crate::server_end::ServerEnd;
-use crate::transfer::transfer;
+use dns_blocking::{
+    AskerEnd, ServerEnd, SocketError, accept, close_waiting, connect, loopback, set_patience,
+    transfer_message,
+};
 use dns_zone::{DatagramLimit, Road, Zone};
 use std::alloc::Global;
 use std::net::{Net, SocketAddr, TcpListener, TcpStream};
@@ -56,7 +56,7 @@ impl<R: Net<Listener = TcpListener, Stream = TcpStream> + Drop> SocketLink<R> {
         ensures failures { IfOk result (λ link. link.failures ≡ 0) }
         ensures memory { IfOk result (λ link. link.out_of_memory ≡ false) }
     {
-        match open_ends(&net, alloc) {
+        match link_result(open_ends(&net, alloc)) {
             Ok((asker, server)) => Ok(SocketLink {
                 net,
                 alloc,
@@ -75,21 +75,21 @@ impl<R: Net<Listener = TcpListener, Stream = TcpStream> + Drop> SocketLink<R> {
     pub fn server_addr(&self) -> SocketAddr
         ensures { result ≡ self.now.server.address }
     {
-        self.server.address
+        self.server.address()
     }
 
     /// Returns the address of the listener of the server. Connections that the link did not make are closed.
     pub fn stream_addr(&self) -> SocketAddr
         ensures { result ≡ self.now.server.stream_address }
     {
-        self.server.stream_address
+        self.server.stream_address()
     }
 
     /// Returns the address of the socket with which the link asks.
     pub fn asker_addr(&self) -> SocketAddr
         ensures { result ≡ self.now.asker.address }
     {
-        self.asker.address
+        self.asker.address()
     }
 
     /// Returns `true` if the link or its server has run out of memory, and could not answer a call for it.
@@ -107,7 +107,7 @@ impl<R: Net<Listener = TcpListener, Stream = TcpStream> + Drop> SocketLink<R> {
     }
 
     /// Serves the datagrams that wait, and receives the next reply.
-    fn receive(&mut self) -> Result<Option<Vec<u8>>, LinkError>
+    fn receive(&mut self) -> Result<Option<Vec<u8>>, SocketError>
         ensures served { ServesAtMost (Datagram self.old.limit) self.old.zone 1024 self.new.zone }
         ensures limit { self.new.limit ≡ self.old.limit }
         ensures failures { self.new.failures ≡ self.old.failures }
@@ -118,15 +118,15 @@ impl<R: Net<Listener = TcpListener, Stream = TcpStream> + Drop> SocketLink<R> {
     }
 
     /// Asks over a new stream.
-    fn ask(&mut self, bytes: &[u8]) -> Result<Vec<u8>, LinkError>
+    fn ask(&mut self, bytes: &[u8]) -> Result<Vec<u8>, SocketError>
         ensures served { MayServe Stream self.old.zone self.new.zone }
         ensures limit { self.new.limit ≡ self.old.limit }
         ensures failures { self.new.failures ≡ self.old.failures }
         ensures memory { self.new.out_of_memory ≡ self.old.out_of_memory }
     {
-        close_waiting(&self.server.listener);
-        let asker = connect(&self.net, self.server.stream_address)?;
-        let server = accept(&self.server.listener, &asker)?;
+        close_waiting(self.server.listener());
+        let asker = connect(&self.net, self.server.stream_address())?;
+        let server = accept(self.server.listener(), &asker)?;
         ask_over(self.alloc, &asker, &server, bytes, &mut self.zone)
     }
 }
@@ -135,9 +135,9 @@ impl<R: Net<Listener = TcpListener, Stream = TcpStream> + Drop> SocketLink<R> {
 fn open_ends<R: Net<Listener = TcpListener, Stream = TcpStream>>(
     net: &R,
     alloc: Global,
-) -> Result<(AskerEnd, ServerEnd), LinkError> {
-    let server = ServerEnd::open(net, alloc)?;
-    let asker = AskerEnd::open(net, alloc, server.address)?;
+) -> Result<(AskerEnd, ServerEnd), SocketError> {
+    let server = ServerEnd::open(net, alloc, loopback())?;
+    let asker = AskerEnd::open(net, alloc, loopback(), server.address())?;
     Ok((asker, server))
 }
 
@@ -149,15 +149,27 @@ fn ask_over(
     server: &TcpStream,
     bytes: &[u8],
     zone: &mut Zone,
-) -> Result<Vec<u8>, LinkError>
+) -> Result<Vec<u8>, SocketError>
     ensures { MayServe Stream zone.old zone.new }
 {
     set_patience(asker)?;
     set_patience(server)?;
-    let request = transfer(alloc, asker, server, bytes)?;
+    let request = transfer_message(alloc, asker, server, bytes)?;
     match zone.serve(request.as_slice(), Road::Stream)? {
-        Some(reply) => transfer(alloc, server, asker, reply.as_slice()),
-        None => Err(LinkError::Failed),
+        Some(reply) => transfer_message(alloc, server, asker, reply.as_slice()),
+        None => Err(SocketError::Failed),
+    }
+}
+
+/// Returns the result of a call of a socket as that of a call of a link.
+fn link_result<T>(outcome: Result<T, SocketError>) -> Result<T, LinkError>
+    ensures { MatchResult outcome (λ value. result ≡ Ok value)
+        (λ error. result ≡ Err (link_error error)) }
+{
+    match outcome {
+        Ok(value) => Ok(value),
+        Err(SocketError::Failed) => Err(LinkError::Failed),
+        Err(SocketError::Memory) => Err(LinkError::Memory),
     }
 }
 
@@ -194,21 +206,21 @@ impl<R: Net<Listener = TcpListener, Stream = TcpStream> + Drop> Link for SocketL
     ghost failure_count = { λ link. link.failures };
 
     fn send_datagram(&mut self, bytes: &[u8]) -> Result<(), LinkError> {
-        let sent = self.asker.send(bytes);
+        let sent = link_result(self.asker.send(bytes));
         count_failure(&mut self.failures, &sent);
         note_memory(&mut self.out_of_memory, &sent);
         sent
     }
 
     fn next_datagram(&mut self) -> Result<Option<Vec<u8>>, LinkError> {
-        let received = self.receive();
+        let received = link_result(self.receive());
         count_failure(&mut self.failures, &received);
         note_memory(&mut self.out_of_memory, &received);
         received
     }
 
     fn ask_stream(&mut self, bytes: &[u8]) -> Result<Vec<u8>, LinkError> {
-        let reply = self.ask(bytes);
+        let reply = link_result(self.ask(bytes));
         count_failure(&mut self.failures, &reply);
         note_memory(&mut self.out_of_memory, &reply);
         reply

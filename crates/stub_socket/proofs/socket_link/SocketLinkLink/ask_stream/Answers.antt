@@ -5,16 +5,17 @@ use Rattle.stub_socket.proofs.socket_link.SocketLinkLink.ask_stream.Goals as goa
 
 pub returns-clause-streams : goal.returns-clause-streams
 returns-clause-streams g c =
-    let called = c.ask-reply in
+    let called = c.ask in
+    let result = c.link_result-reply.result in
     record {
       calls = record {
         limit = called.ensures.limit;
         failures =
             c.count_failure.ensures.counted
-            ∙ (ap (λ (n : ℕ). failures_after called.result n) called.ensures.failures ∙ stream-failures called.result c.args.self.now.failures);
+            ∙ (ap (λ (n : ℕ). failures_after result n) called.ensures.failures ∙ stream-failures result c.args.self.now.failures);
         memory =
             c.note_memory.ensures
-            ∙ (ap (λ (b : Bool). memory_after called.result b) called.ensures.memory ∙ stream-memory called.result c.args.self.now.out_of_memory);
+            ∙ (ap (λ (b : Bool). memory_after result b) called.ensures.memory ∙ stream-memory result c.args.self.now.out_of_memory);
       };
       serves = called.ensures.served;
     }

@@ -5,16 +5,17 @@ use Rattle.stub_socket.proofs.socket_link.SocketLinkLink.next_datagram.Goals as 
 
 pub returns-clause-receives : goal.returns-clause-receives
 returns-clause-receives g c =
-    let called = c.receive-received in
+    let called = c.receive in
+    let result = c.link_result-received.result in
     record {
       calls = record {
         limit = called.ensures.limit;
         failures =
             c.count_failure.ensures.counted
-            ∙ (ap (λ (n : ℕ). failures_after called.result n) called.ensures.failures ∙ datagram-failures called.result c.args.self.now.failures);
+            ∙ (ap (λ (n : ℕ). failures_after result n) called.ensures.failures ∙ datagram-failures result c.args.self.now.failures);
         memory =
             c.note_memory.ensures
-            ∙ (ap (λ (b : Bool). memory_after called.result b) called.ensures.memory ∙ datagram-memory called.result c.args.self.now.out_of_memory);
+            ∙ (ap (λ (b : Bool). memory_after result b) called.ensures.memory ∙ datagram-memory result c.args.self.now.out_of_memory);
       };
       serves = called.ensures.served;
     }

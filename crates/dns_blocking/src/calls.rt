@@ -2,14 +2,14 @@
 
 ghost use Rattle.std.specs.Prelude.{◌≡◌, ◌<◌, ◌≤◌, length, Ok, Err, IfOk, IfSome, OnErr, MatchResult};
 ghost use Rattle.std.specs.IoError.{error_kind};
-ghost use Rattle.stub_link.specs.declared.link.LinkError.TheVariants.{Failed};
-ghost use Rattle.stub_socket.specs.Calls.{trouble_of};
+ghost use Rattle.dns_blocking.specs.Calls.{trouble_of};
+ghost use Rattle.dns_blocking.specs.declared.error.SocketError.TheVariants.{Failed};
 
+use crate::error::SocketError;
 use std::io;
 use std::io::{ErrorKind, Read, Write};
 use std::net::{Ipv4Addr, SocketAddr, SocketAddrV4, TcpStream, UdpSocket};
 use std::time::Duration;
-use stub_link::LinkError;
 
 /// How long a call waits for the other end, in seconds.
 const PATIENCE: u64 = 1;
@@ -28,13 +28,14 @@ enum Trouble {
     Failed,
 }
 
-/// Returns the address of a new socket: the loopback interface, and a port that the system chooses.
-pub(crate) fn loopback() -> SocketAddr {
+/// Returns an address for a new socket: that of the loopback interface, 127.0.0.1, and port 0, for which the system chooses a
+/// port.
+pub fn loopback() -> SocketAddr {
     SocketAddr::V4(SocketAddrV4::new(Ipv4Addr::LOCALHOST, 0))
 }
 
-/// Returns how long a call waits for the other end.
-pub(crate) fn patience() -> Duration {
+/// Returns how long a call waits for the other end: one second.
+pub fn patience() -> Duration {
     Duration::from_secs(PATIENCE)
 }
 
@@ -50,22 +51,24 @@ fn trouble_of(error: &io::Error) -> Trouble
     }
 }
 
-/// Returns the result of a call, or [`LinkError::Failed`] if it failed.
-pub(crate) fn or_failed<T>(result_of_call: io::Result<T>) -> Result<T, LinkError>
+/// Returns the result of a call, or [`SocketError::Failed`] if it failed.
+pub fn or_failed<T>(result_of_call: io::Result<T>) -> Result<T, SocketError>
     ensures { MatchResult result_of_call (λ value. result ≡ Ok value) (λ _. result ≡ Err Failed) }
 {
     match result_of_call {
         Ok(value) => Ok(value),
-        Err(_) => Err(LinkError::Failed),
+        Err(_) => Err(SocketError::Failed),
     }
 }
 
-/// Receives a datagram to the front of a buffer, and returns its length and the address of its sender, or `None` if the
-/// socket has none for as long as it waits.
-pub(crate) fn receive(
+/// Receives a datagram to the front of a buffer, and returns its length in bytes and the address of its sender, or `None` if
+/// the socket has none for as long as it waits. The bytes of a datagram that the buffer has no room for are lost.
+///
+/// The error is [`SocketError::Failed`] if the socket fails, or signals interrupt the call 1,024 times.
+pub fn receive(
     socket: &UdpSocket,
     buffer: &mut [u8],
-) -> Result<Option<(usize, SocketAddr)>, LinkError>
+) -> Result<Option<(usize, SocketAddr)>, SocketError>
     ensures within { IfOk result (λ found. IfSome found (λ it. it.0 ≤ length buffer.new)) }
     ensures failed { OnErr result (result ≡ Err Failed) }
 {
@@ -75,15 +78,18 @@ pub(crate) fn receive(
             Err(error) => match trouble_of(&error) {
                 Trouble::Interrupted => {}
                 Trouble::NotReady => return Ok(None),
-                Trouble::Failed => return Err(LinkError::Failed),
+                Trouble::Failed => return Err(SocketError::Failed),
             },
         }
     }
-    Err(LinkError::Failed)
+    Err(SocketError::Failed)
 }
 
 /// Sends a datagram to the peer of a socket.
-pub(crate) fn send(socket: &UdpSocket, bytes: &[u8]) -> Result<(), LinkError>
+///
+/// The error is [`SocketError::Failed`] if the socket fails or has no peer, if it takes no datagram for as long as it waits,
+/// or if signals interrupt the call 1,024 times.
+pub fn send(socket: &UdpSocket, bytes: &[u8]) -> Result<(), SocketError>
     ensures { OnErr result (result ≡ Err Failed) }
 {
     for _attempt in 0..MAX_ATTEMPTS {
@@ -91,19 +97,18 @@ pub(crate) fn send(socket: &UdpSocket, bytes: &[u8]) -> Result<(), LinkError>
             Ok(_) => return Ok(()),
             Err(error) => match trouble_of(&error) {
                 Trouble::Interrupted => {}
-                Trouble::NotReady | Trouble::Failed => return Err(LinkError::Failed),
+                Trouble::NotReady | Trouble::Failed => return Err(SocketError::Failed),
             },
         }
     }
-    Err(LinkError::Failed)
+    Err(SocketError::Failed)
 }
 
 /// Sends a datagram to an address.
-pub(crate) fn send_to(
-    socket: &UdpSocket,
-    bytes: &[u8],
-    address: SocketAddr,
-) -> Result<(), LinkError>
+///
+/// The error is [`SocketError::Failed`] if the socket fails, if it takes no datagram for as long as it waits, or if signals
+/// interrupt the call 1,024 times.
+pub fn send_to(socket: &UdpSocket, bytes: &[u8], address: SocketAddr) -> Result<(), SocketError>
     ensures { OnErr result (result ≡ Err Failed) }
 {
     for _attempt in 0..MAX_ATTEMPTS {
@@ -111,49 +116,53 @@ pub(crate) fn send_to(
             Ok(_) => return Ok(()),
             Err(error) => match trouble_of(&error) {
                 Trouble::Interrupted => {}
-                Trouble::NotReady | Trouble::Failed => return Err(LinkError::Failed),
+                Trouble::NotReady | Trouble::Failed => return Err(SocketError::Failed),
             },
         }
     }
-    Err(LinkError::Failed)
+    Err(SocketError::Failed)
 }
 
-/// Reads from a stream to the front of a buffer, and returns the number of bytes, which is above 0. It is an error if the
-/// stream is at its end, or nothing is read for as long as it waits.
-pub(crate) fn read(stream: &TcpStream, buffer: &mut [u8]) -> Result<usize, LinkError>
+/// Reads from a stream to the front of a buffer, and returns the number of bytes, which is above 0.
+///
+/// The error is [`SocketError::Failed`] if the stream fails or is at its end, if the buffer is empty, if nothing arrives for as
+/// long as the stream waits, or if signals interrupt the call 1,024 times.
+pub fn read(stream: &TcpStream, buffer: &mut [u8]) -> Result<usize, SocketError>
     ensures count { IfOk result (λ count. (0 < count) × (count ≤ length buffer.new)) }
     ensures failed { OnErr result (result ≡ Err Failed) }
 {
     let mut source = stream;
     for _attempt in 0..MAX_ATTEMPTS {
         match source.read(buffer) {
-            Ok(0) => return Err(LinkError::Failed),
+            Ok(0) => return Err(SocketError::Failed),
             Ok(count) => return Ok(count),
             Err(error) => match trouble_of(&error) {
                 Trouble::Interrupted => {}
-                Trouble::NotReady | Trouble::Failed => return Err(LinkError::Failed),
+                Trouble::NotReady | Trouble::Failed => return Err(SocketError::Failed),
             },
         }
     }
-    Err(LinkError::Failed)
+    Err(SocketError::Failed)
 }
 
-/// Writes bytes from the front to a stream, and returns their number, which is above 0. It is an error if nothing is written
-/// for as long as the stream waits.
-pub(crate) fn write(stream: &TcpStream, bytes: &[u8]) -> Result<usize, LinkError>
+/// Writes bytes from the front to a stream, and returns their number, which is above 0.
+///
+/// The error is [`SocketError::Failed`] if the stream fails, if there are no bytes, if none is written for as long as the
+/// stream waits, or if signals interrupt the call 1,024 times.
+pub fn write(stream: &TcpStream, bytes: &[u8]) -> Result<usize, SocketError>
     ensures count { IfOk result (λ count. (0 < count) × (count ≤ length bytes.now)) }
     ensures failed { OnErr result (result ≡ Err Failed) }
 {
     let mut sink = stream;
     for _attempt in 0..MAX_ATTEMPTS {
         match sink.write(bytes) {
-            Ok(0) => return Err(LinkError::Failed),
+            Ok(0) => return Err(SocketError::Failed),
             Ok(count) => return Ok(count),
             Err(error) => match trouble_of(&error) {
                 Trouble::Interrupted => {}
-                Trouble::NotReady | Trouble::Failed => return Err(LinkError::Failed),
+                Trouble::NotReady | Trouble::Failed => return Err(SocketError::Failed),
             },
         }
     }
-    Err(LinkError::Failed)
+    Err(SocketError::Failed)
 }

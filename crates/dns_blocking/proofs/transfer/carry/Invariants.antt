@@ -1,5 +1,5 @@
 use Rattle.std.proofs.Common.{length, ◌-◌, ◌≡◌, ◌≤◌}
-use Rattle.stub_socket.proofs.transfer.carry.Given as goal
+use Rattle.dns_blocking.proofs.transfer.carry.Given as goal
 
 -- As many bytes were received as were sent, and the buffer has room for the others.
 abbrev pub invariant-loop-done : goal.invariant-loop-done

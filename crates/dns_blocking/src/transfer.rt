@@ -2,13 +2,13 @@
 
 ghost use Rattle.std.specs.Prelude.{◌≡◌, ◌≤◌, ◌++◌, List, ℕ, length, Err, IfOk, OnErr};
 ghost use Rattle.dns_frames.specs.Frame.{frame};
-ghost use Rattle.stub_link.specs.declared.link.LinkError.TheVariants.{Failed};
+ghost use Rattle.dns_blocking.specs.declared.error.SocketError.TheVariants.{Failed};
 
 use crate::calls::{read, write};
+use crate::error::SocketError;
 use dns_frames::{FrameError, ListSource, read_frame, write_frame};
 use std::alloc::{AllocError, Global};
 use std::net::TcpStream;
-use stub_link::LinkError;
 
 /// The maximum size of a message, in bytes (RFC 1035 section 4.2.2).
 const MAX_MESSAGE_LEN: usize = 65_535;
@@ -16,16 +16,22 @@ const MAX_MESSAGE_LEN: usize = 65_535;
 /// The maximum number of bytes that are written before they are read at the other end. The buffers of sockets hold more.
 const PIECE_LEN: usize = 16_384;
 
-/// Sends a message from one end of a stream, and returns the message that arrives at the other end. A message of more than
-/// 65,535 bytes cannot be sent.
-pub(crate) fn transfer(
+/// Sends a message from one end of a stream, and returns the message that arrives at the other end. Both ends belong to the
+/// caller, whose thread writes and reads in turn.
+///
+/// # Errors
+///
+/// - [`SocketError::Failed`] if the message has more than 65,535 bytes, or an end of the stream fails or is not ready for as
+///   long as it waits;
+/// - [`SocketError::Memory`] if the frame, what is received, or the message cannot be allocated.
+pub fn transfer_message(
     alloc: Global,
     from: &TcpStream,
     to: &TcpStream,
     message: &[u8],
-) -> Result<Vec<u8>, LinkError> {
+) -> Result<Vec<u8>, SocketError> {
     if message.len() > MAX_MESSAGE_LEN {
-        return Err(LinkError::Failed);
+        return Err(SocketError::Failed);
     }
     let sent = frame_of(alloc, message)?;
     let received = received_bytes(alloc, from, to, sent.as_slice())?;
@@ -43,7 +49,7 @@ fn frame_of(alloc: Global, message: &[u8]) -> Result<Vec<u8>, AllocError>
 }
 
 /// Returns the message of the frame with which received bytes begin.
-fn message_in(alloc: Global, received: &[u8]) -> Result<Vec<u8>, LinkError>
+fn message_in(alloc: Global, received: &[u8]) -> Result<Vec<u8>, SocketError>
     ensures { IfOk result (λ message.
         (rest : List ℕ) × (received.now ≡ frame message.items ++ rest)) }
 {
@@ -51,8 +57,8 @@ fn message_in(alloc: Global, received: &[u8]) -> Result<Vec<u8>, LinkError>
     match read_frame(alloc, &mut source) {
         Ok(Some(message)) => Ok(message),
         // There was no memory for the message.
-        Err(FrameError::Memory) => Err(LinkError::Memory),
-        Ok(None) | Err(FrameError::Truncated) | Err(FrameError::Failed) => Err(LinkError::Failed),
+        Err(FrameError::Memory) => Err(SocketError::Memory),
+        Ok(None) | Err(FrameError::Truncated) | Err(FrameError::Failed) => Err(SocketError::Failed),
     }
 }
 
@@ -62,7 +68,7 @@ fn received_bytes(
     from: &TcpStream,
     to: &TcpStream,
     sent: &[u8],
-) -> Result<Vec<u8>, LinkError> {
+) -> Result<Vec<u8>, SocketError> {
     let mut received = vec![in alloc; 0u8; sent.len()]?;
     carry(from, to, sent, received.as_mut_slice())?;
     Ok(received)
@@ -75,7 +81,7 @@ fn carry(
     to: &TcpStream,
     sent: &[u8],
     received: &mut [u8],
-) -> Result<(), LinkError>
+) -> Result<(), SocketError>
     requires { length received.old ≡ length sent.now }
     ensures { OnErr result (result ≡ Err Failed) }
 {
@@ -90,7 +96,7 @@ fn carry(
 }
 
 /// Reads from a stream until a buffer is full. It is an error if the stream ends before.
-fn fill(stream: &TcpStream, buffer: &mut [u8]) -> Result<(), LinkError>
+fn fill(stream: &TcpStream, buffer: &mut [u8]) -> Result<(), SocketError>
     ensures { OnErr result (result ≡ Err Failed) }
 {
     let mut filled = 0;

@@ -1,5 +1,5 @@
 use Rattle.std.proofs.Common.{length, ◌-◌, ◌≡◌, ◌≤◌}
-use Rattle.stub_socket.proofs.transfer.fill.Given as goal
+use Rattle.dns_blocking.proofs.transfer.fill.Given as goal
 
 -- The front of the buffer, whose length stays, is filled.
 abbrev pub invariant-loop-filled : goal.invariant-loop-filled
