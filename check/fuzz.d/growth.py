@@ -12,7 +12,6 @@ from samples import at, header, query, question, record, update, wire
 LIMIT = 120.0
 SOA = b"t. 60 SOA ns.t. h.t. 1 3600 600 86400 30\n"
 LOOKUP = b"0 lookup a.t. A\n"
-SET = "an update compares each record that it adds with those of its set"
 LABELS = "names have more labels, too, up to 108"
 
 
@@ -186,7 +185,7 @@ def cases() -> list[Case]:
         script("script: words of a line", 40000, lambda n: b"0 lookup" + b" a" * n + b"\n"),
         script("script: words of a link script", 10000, lambda n: b"0 lookup a.t. A ;" + b" q0" * n + b"\n"),
         script("script: replies of a link script", 10000, lambda n: b"0 lookup a.t. A ; q0" + b" r1" * n + b"\n"),
-        script("script: additions to one name", 250, lambda n: each(n, "0 update append m.t. 60 A @\n"), SET),
+        script("script: additions to one name", 250, lambda n: each(n, "0 update append m.t. 60 A @\n")),
         script("script: additions of different names", 1000, lambda n: each(n, "0 update append n#.t. 60 A @\n")),
         script("script: strings of an update", 1000, lambda n: b"0 update append a.t. 60 TXT" + b' "a"' * n + b"\n"),
         script("script: comments", 40000, many(b" # c\n")),
@@ -199,7 +198,7 @@ def cases() -> list[Case]:
         wired("message: strings", "message", 7000, lambda n: header((0, 1, 0, 0)) + record(b"\0", 16, bytes(n)), 20),
         wired("message: options", "message", 1900, lambda n: header((0, 0, 0, 1)) + record(b"\0", 41, bytes(4 * n)), 20),
         wired("message: questions", "message", 1000, lambda n: header((n, 0, 0, 0)) + question(b"\0") * n, 10),
-        wired("request: additions to one name", "stream", 350, additions, 1, SET),
+        wired("request: additions to one name", "stream", 350, additions, 1),
         wired("request: prerequisites of one set", "stream", 400, prerequisites),
         wired("request: deletions of a name with many types", "stream", 270, emptied),
         wired("request: aliases at a name that had many types", "stream", 260, replaced),

@@ -9,6 +9,6 @@ pub mod ListingLaws
 pub mod OwnerCodeLaws
 pub mod PlaceLaws
 pub mod UpdateLaws
-mod PutLaws
+pub mod PutLaws
 mod UpdateRows
 mod VoidLaws
