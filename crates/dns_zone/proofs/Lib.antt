@@ -16,6 +16,7 @@ pub mod RowLaws
 pub mod SectionLaws
 pub mod ServingLaws
 pub mod SetLaws
+pub mod SingleLaws
 pub mod StoreLaws
 pub mod UpdatedLaws
 pub mod WholeLaws

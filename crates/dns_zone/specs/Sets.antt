@@ -5,7 +5,7 @@ use Rattle.std.specs.List.Sorted.{IsStrictlySortedBy}
 use Rattle.std.specs.Ordering.{eq_by_cmp}
 use Rattle.arrayvec.specs.ArrayVec.{ArrayVec}
 use Rattle.dns_records.specs.Record.{Record}
-use Rattle.dns_records.specs.RecordSet.{RecordSetValue}
+use Rattle.dns_records.specs.RecordSet.{RecordSetValue, put, record_data}
 use Rattle.dns_updates.specs.Keys.{Place, owner_code, place_cmp, type_code}
 use Rattle.dns_zone.specs.Rows.{Key, key_cmp, set_key}
 
@@ -17,6 +17,11 @@ set_at sets k = find (λ s. eq_by_cmp key_cmp k (set_key s)) sets
 abbrev pub with_records : List Record → Option RecordSetValue → Option RecordSetValue
 with_records records None = None
 with_records records (Some s) = Some (record s { records = records })
+
+-- the set with a record in place of the one with equal data, or as the last, if there is a set
+abbrev pub with_put : Record → Option RecordSetValue → Option RecordSetValue
+with_put r None = None
+with_put r (Some s) = Some (record s { records = put record_data s.records r })
 
 -- ---- the order of sets
 

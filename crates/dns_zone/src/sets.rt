@@ -5,7 +5,7 @@ ghost use Rattle.std.specs.List.{filter, list_any};
 ghost use Rattle.std.specs.Ordering.{eq_by_cmp};
 ghost use Rattle.dns_names.specs.Compare.{at_or_below, same_labels};
 ghost use Rattle.dns_zone.specs.Rows.{Key, key, key_cmp, set_key};
-ghost use Rattle.dns_zone.specs.Sets.{set_at, with_records, AreInOrder};
+ghost use Rattle.dns_zone.specs.Sets.{set_at, with_put, with_records, AreInOrder};
 
 mod store;
 mod zone_rows;
@@ -145,6 +145,27 @@ impl ZoneSets {
     {
         if let Some(set) = self.map.get_mut(&set_key(owner, record_type)) {
             set.set_records(records);
+        }
+    }
+
+    /// Puts a record into the set of an owner and a type, if there is one, in place of the record with equal data or as the
+    /// last. An error leaves the sets unchanged.
+    pub fn put_record(
+        &mut self,
+        owner: &Name,
+        record_type: RecordType,
+        resource_record: Record,
+    ) -> Result<(), AllocError>
+        ensures ok { OnOk result ((k : Key) → set_at self.new k
+            ≡ (if eq_by_cmp key_cmp k (key owner.now.labels record_type)
+            then with_put resource_record (set_at self.old k)
+            else set_at self.old k)) }
+        ensures err { OnErr result ((k : Key) → set_at self.new k ≡ set_at self.old k) }
+        ensures ordered { AreInOrder self.new }
+    {
+        match self.map.get_mut(&set_key(owner, record_type)) {
+            Some(set) => set.put_record(resource_record),
+            None => Ok(()),
         }
     }
 

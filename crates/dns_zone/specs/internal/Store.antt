@@ -1,5 +1,5 @@
 -- How changed sets are stored among those of a zone, in three steps: what the zone has at a key after each.
-use Rattle.std.specs.Prelude.{◌==◌, ◌&&◌, not, Bool, true, false, if◌then◌else◌, List, length, map, find, Option, Some, None}
+use Rattle.std.specs.Prelude.{◌≡◌, ◌==◌, ◌&&◌, not, Bool, true, false, if◌then◌else◌, List, [], ◌∷◌, length, map, find, Option, Some, None}
 use Rattle.std.specs.List.{list_any}
 use Rattle.std.specs.Ordering.{eq_by_cmp}
 use Rattle.dns_codes.specs.RecordType.{type_number, type_of}
@@ -7,7 +7,12 @@ use Rattle.dns_codes.specs.declared.dns_class.DNSClass.TheVariants.{IN}
 use Rattle.dns_records.specs.RecordSet.{RecordSetValue, empty_set}
 use Rattle.dns_updates.specs.Changes.{changed_key}
 use Rattle.dns_updates.specs.declared.changes.changed_set.ChangedSet.{ChangedSet}
-use Rattle.dns_zone.specs.Rows.{Key, key_cmp}
+use Rattle.dns_messages.specs.declared.message.Message.{Message}
+use Rattle.dns_records.specs.Record.{Record}
+use Rattle.dns_records.specs.Rows.{type_of_record}
+use Rattle.dns_updates.specs.Change.{is_put}
+use Rattle.dns_updates.specs.Records.{has_set}
+use Rattle.dns_zone.specs.Rows.{Key, ZoneContent, key_cmp}
 use Rattle.dns_zone.specs.Sets.{with_records}
 
 -- whether a changed set has a key
@@ -74,3 +79,11 @@ released_at keys k o = if list_any (eq_by_cmp key_cmp k) keys && is_empty_set o 
 abbrev pub changed_at : List ChangedSet → Key → Option RecordSetValue → Option RecordSetValue
 changed_at changed k o =
     released_at (changed_keys changed) k (stored_at changed k (reserved_at changed k o))
+
+-- ---- one record
+
+-- An update is one addition, which puts its row into a set that is there.
+pub record IsSingle (zone : ZoneContent) (m : Message) (r : Record) : Type 0 where
+  pub only : m.authorities ≡ r ∷ []
+  pub is_put : is_put zone.rows r.dns_class r ≡ true
+  pub present : has_set zone.rows r.name (type_of_record r) ≡ true
