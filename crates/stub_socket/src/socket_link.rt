@@ -169,6 +169,7 @@ fn link_result<T>(outcome: Result<T, SocketError>) -> Result<T, LinkError>
     match outcome {
         Ok(value) => Ok(value),
         Err(SocketError::Failed) => Err(LinkError::Failed),
+        // The socket had no memory for a message.
         Err(SocketError::Memory) => Err(LinkError::Memory),
     }
 }
