@@ -1,6 +1,6 @@
 //! A connection of a listener.
 
-ghost use Rattle.std.specs.Prelude.{◌+◌, ◌≤◌, length};
+ghost use Rattle.std.specs.Prelude.{◌≡◌, ◌+◌, ◌≤◌, length};
 ghost use Rattle.dns_server.specs.Connection.{max_input_len};
 
 use crate::clock::Milliseconds;
@@ -154,7 +154,9 @@ impl Stream {
     }
 
     /// Returns when bytes were last received or sent.
-    pub(crate) fn last_activity(&self) -> Milliseconds {
+    pub(crate) fn last_activity(&self) -> Milliseconds
+        ensures { result ≡ self.now.last_activity }
+    {
         self.last_activity
     }
 

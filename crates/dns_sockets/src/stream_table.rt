@@ -1,5 +1,8 @@
 //! The connections of a service.
 
+ghost use Rattle.std.specs.Prelude.{◌≡◌};
+ghost use Rattle.dns_sockets.specs.StreamTable.{IsLeastActive, closed_at, is_less_active};
+
 use crate::clock::{Milliseconds, ServiceClock};
 use crate::handler::Handler;
 use crate::stream::Stream;
@@ -58,17 +61,11 @@ impl StreamTable {
     }
 
     /// Closes the connection that has been idle for the longest time, and returns its index, or 0 if there is none.
-    pub(crate) fn close_oldest(&mut self) -> usize {
-        let mut oldest = 0;
-        let mut least = Milliseconds::MAX;
-        for (index, slot) in self.slots.as_slice().iter().enumerate() {
-            if let Some(stream) = slot {
-                if stream.last_activity() < least {
-                    least = stream.last_activity();
-                    oldest = index;
-                }
-            }
-        }
+    pub(crate) fn close_oldest(&mut self) -> usize
+        ensures oldest { IsLeastActive self.old.slots.items result }
+        ensures closed { self.new.slots.items ≡ closed_at self.old.slots.items result }
+    {
+        let oldest = least_active(self.slots.as_slice());
         self.close(oldest);
         oldest
     }
@@ -81,7 +78,9 @@ impl StreamTable {
     }
 
     /// Closes the connection at an index, if there is one.
-    fn close(&mut self, index: usize) {
+    fn close(&mut self, index: usize)
+        ensures { self.new.slots.items ≡ closed_at self.old.slots.items index }
+    {
         if index < self.slots.len() {
             self.slots[index] = None;
         }
@@ -162,5 +161,29 @@ impl StreamTable {
             }
         }
         least
+    }
+}
+
+/// Returns the index of the connection that has been idle for the longest time, or 0 if there is none.
+fn least_active(slots: &[Option<Stream>]) -> usize
+    ensures { IsLeastActive slots.now result }
+{
+    let mut least = 0;
+    for (index, slot) in slots.iter().enumerate() {
+        if is_less_active(slot, &slots[least]) {
+            least = index;
+        }
+    }
+    least
+}
+
+/// Returns `true` for a connection beside none, or beside one that was active later.
+fn is_less_active(slot: &Option<Stream>, other: &Option<Stream>) -> bool
+    ensures { result ≡ is_less_active slot.now other.now }
+{
+    match (slot, other) {
+        (Some(stream), Some(other)) => stream.last_activity() < other.last_activity(),
+        (Some(_), None) => true,
+        (None, _) => false,
     }
 }
