@@ -1,7 +1,7 @@
 -- Changed sets in place of those of a zone: looking them up, writing them, and the types of a name.
-use Rattle.std.proofs.Common.{◌≡◌, ◌==◌, ◌+◌, ◌<◌, ◌≤◌, ℕ, Bool, true, false, cond, not, ◌&&◌, ◌||◌, List, [], ◌∷◌, ◌++◌, map, refl, sym, ap, ◌∙◌, subst, length, set, zero, suc, arith, Option, Some, None, unwrap_or, option_map, is_some}
+use Rattle.std.proofs.Common.{◌≡◌, ◌==◌, ℕ, Bool, true, false, cond, not, ◌&&◌, ◌||◌, List, [], ◌∷◌, map, refl, sym, ap, ◌∙◌, subst, length, suc, arith, Option, Some, None, unwrap_or, option_map, is_some, slice_get}
 use Rattle.std.proofs.lemmas.Bool.Decides.{nat_tests}
-use Rattle.std.specs.List.{filter, fold, list_any, position_or_len}
+use Rattle.std.specs.List.{filter, fold, list_any}
 use Rattle.std.specs.List as list
 use Rattle.std.specs.Ordering.{eq_by_cmp}
 use Rattle.std.specs.FinMap as rows_map
@@ -17,9 +17,10 @@ use Rattle.dns_records.specs.RecordSet.{RecordSetValue}
 use Rattle.dns_records.specs.Rows.{Key, Rows, key, key_cmp, row_of, rows_of, rows_at, with_set}
 use Rattle.dns_updates.specs.declared.changes.changed_set.ChangedSet.{ChangedSet}
 use Rattle.dns_updates.specs.Records.{has_set, has_rows_but}
-use Rattle.dns_updates.specs.Change.{is_kept_set, with_row, without_data, without_name, without_set}
+use Rattle.dns_updates.specs.Change.{is_kept_set, succeeds_soa, without_data, without_name, without_set}
 use Rattle.dns_updates.specs.Sets.{AreTypesAt, is_key_among, rows_of_sets}
 use Rattle.dns_updates.specs.Changes.{changed_at, changed_key, is_other_set, overlay}
+use Rattle.dns_updates.specs.internal.First.{succeeds_first}
 use Rattle.dns_updates.specs.internal.Indexes.{with_records, KeepsName}
 use Rattle.dns_updates.proofs.Walks.{any_alike}
 use Rattle.dns_updates.proofs.SetLaws.{any_set, keys_tie, same_lower}
@@ -32,32 +33,6 @@ true_false e = cc
 
 -- ---- edits of records
 
-abbrev pub same_as : Record → Record → Bool
-same_as r x = same_data x.rdata r.rdata
-
-pub put_there : (r : Record) (xs : List Record) (i : ℕ) → i ≡ position_or_len (same_as r) xs → i < length xs → rows_of (set xs i r) ≡ with_row (rows_of xs) (row_of r)
-put_there r [] i e h = absurd (omega arith)
-put_there r (y ∷ ys) zero e h = by (same_as r y) e
-  where
-    by : (b : Bool) → 0 ≡ cond (not b) (1 + position_or_len (same_as r) ys) 0 → row_of r ∷ rows_of ys ≡ cond b (row_of r ∷ rows_of ys) (row_of y ∷ with_row (rows_of ys) (row_of r))
-    by true f = refl
-    by false f = absurd (omega arith)
-put_there r (y ∷ ys) (suc i) e h = by (put_there r ys i) (same_as r y) e
-  where
-    by : (i ≡ position_or_len (same_as r) ys → i < length ys → rows_of (set ys i r) ≡ with_row (rows_of ys) (row_of r))
-        → (b : Bool) → suc i ≡ cond (not b) (1 + position_or_len (same_as r) ys) 0 → row_of y ∷ rows_of (set ys i r) ≡ cond b (row_of r ∷ rows_of ys) (row_of y ∷ with_row (rows_of ys) (row_of r))
-    by more true f = absurd (omega arith)
-    by more false f = ap (λ rows. row_of y ∷ rows) (more (omega arith) (omega arith))
-
-pub put_last : (r : Record) (xs : List Record) → length xs ≤ position_or_len (same_as r) xs → rows_of (xs ++ r ∷ []) ≡ with_row (rows_of xs) (row_of r)
-put_last r [] h = refl
-put_last r (y ∷ ys) h = by (put_last r ys) (same_as r y) h
-  where
-    by : (length ys ≤ position_or_len (same_as r) ys → rows_of (ys ++ r ∷ []) ≡ with_row (rows_of ys) (row_of r))
-        → (b : Bool) → length (y ∷ ys) ≤ cond (not b) (1 + position_or_len (same_as r) ys) 0 → row_of y ∷ rows_of (ys ++ r ∷ []) ≡ cond b (row_of r ∷ rows_of ys) (row_of y ∷ with_row (rows_of ys) (row_of r))
-    by more true f = absurd (omega arith)
-    by more false f = ap (λ rows. row_of y ∷ rows) (more (omega arith))
-
 pub rows_without : (d : RData) (xs : List Record) → rows_of (filter (λ (x : Record). not (same_data x.rdata d)) xs) ≡ without_data (rows_of xs) d
 rows_without d [] = refl
 rows_without d (x ∷ xs) = by (rows_without d xs) (same_data x.rdata d)
@@ -66,6 +41,18 @@ rows_without d (x ∷ xs) = by (rows_without d xs) (same_data x.rdata d)
         → rows_of (cond (not b) (x ∷ filter (λ (y : Record). not (same_data y.rdata d)) xs) (filter (λ (y : Record). not (same_data y.rdata d)) xs)) ≡ cond (not b) (row_of x ∷ without_data (rows_of xs) d) (without_data (rows_of xs) d)
     by more true = more
     by more false = ap (λ rows. row_of x ∷ rows) more
+
+pub first_row : (xs : List Record) → option_map row_of (slice_get xs 0) ≡ slice_get (rows_of xs) 0
+first_row [] = refl
+first_row (x ∷ xs) = refl
+
+pub row_count : (xs : List Record) → length xs ≡ length (rows_of xs)
+row_count [] = refl
+row_count (x ∷ xs) = ap suc (row_count xs)
+
+pub first_succeeds : (rows : List Row) (r : Record) → succeeds_first (slice_get rows 0) r ≡ succeeds_soa rows r
+first_succeeds [] r = refl
+first_succeeds (row ∷ rows) r = refl
 
 -- ---- looking a changed set up
 

@@ -1,5 +1,5 @@
 -- Changed sets in a map by their places: what a look-up, an insertion and other records make of the list of changed sets.
-use Rattle.std.proofs.Common.{◌≡◌, ℕ, Bool, true, false, cond, List, [], ◌∷◌, refl, sym, ap, ◌∙◌, subst, Option, Some, None, Ordering, Less, Equal, Greater}
+use Rattle.std.proofs.Common.{◌≡◌, ℕ, Bool, true, false, cond, List, [], ◌∷◌, refl, sym, ap, ◌∙◌, Option, Some, None, Ordering, Less, Equal, Greater}
 use Rattle.std.specs.Cmp.{Equal-is, eq_by_cmp_equiv, tied_itself}
 use Rattle.std.specs.Cmp.Lexicographic.{slice_cmp}
 use Rattle.std.specs.Map.{values_of, lookup, set_value}

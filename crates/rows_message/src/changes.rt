@@ -3,6 +3,7 @@
 use crate::record_set::set_of;
 use dns_messages::{Message, ResponseCode};
 use dns_names::Name;
+use dns_set_edits::EditedRecords;
 use dns_updates::{ChangedSet, SetList, ZoneRows, update_changes, update_code};
 use rows::{Answer, RowFault, bytes_of, split};
 use rows_text::{name_of, push_list};
@@ -62,21 +63,23 @@ fn push_changes(
     origin: &Name,
     message: &Message,
 ) -> Result<(), RowFault> {
-    for set in update_changes(alloc, zone, origin, message)?
-        .sets
-        .as_slice()
-    {
-        push_changed_set(answer, set)?;
+    for set in update_changes(alloc, zone, origin, message)?.sets {
+        push_changed_set(alloc, answer, set)?;
     }
     Ok(())
 }
 
 /// Adds a changed set.
-fn push_changed_set(answer: &mut String, set: &ChangedSet) -> Result<(), RowFault> {
+fn push_changed_set(
+    alloc: Global,
+    answer: &mut String,
+    mut set: ChangedSet,
+) -> Result<(), RowFault> {
+    let records = set.records.replace_by(EditedRecords::empty(alloc));
     let (name, record_type) = (&set.name, set.record_type);
     write!(answer, " / {name} {record_type}")?;
-    if !set.records.is_empty() {
+    if !records.is_empty() {
         answer.push_str(": ")?;
     }
-    Ok(push_list(answer, set.records.as_slice())?)
+    Ok(push_list(answer, records.into_vec().as_slice())?)
 }

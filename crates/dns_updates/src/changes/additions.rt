@@ -1,17 +1,19 @@
 //! Additions (RFC 2136 section 3.4.2.2).
 
-ghost use Rattle.std.specs.Prelude.{◌≡◌, true, false, not, [], List, if◌then◌else◌, Ok, IfOk, OnOk, ◌||◌, ◌&&◌};
+ghost use Rattle.std.specs.Prelude.{◌≡◌, true, false, not, [], List, if◌then◌else◌, Ok, IfOk, OnOk, ◌||◌, ◌&&◌, option_map};
+ghost use Rattle.std.specs.Option.{option_copied};
 ghost use Rattle.dns_codes.specs.declared.record_type.RecordType.TheVariants as types;
 ghost use Rattle.dns_codes.specs.SerialNumber.{serial_order};
 ghost use Rattle.dns_records.specs.declared.row.Row.{Row};
-ghost use Rattle.dns_records.specs.Rows.{key_of, rows_of, set_of, with_set};
+ghost use Rattle.dns_records.specs.Rows.{key_of, row_of, rows_of, set_of, with_set};
 ghost use Rattle.dns_updates.specs.Records.{has_set, is_of_type};
 ghost use Rattle.dns_updates.specs.Change.{added, is_ignored, is_less, set_with, succeeds, succeeds_soa};
 ghost use Rattle.dns_updates.specs.Changes.{overlay};
 ghost use Rattle.dns_updates.specs.internal.Indexes.{AreListed};
+ghost use Rattle.dns_updates.specs.internal.First.{succeeds_first};
 
 use crate::changes::changed_sets::ChangedSets;
-use crate::changes::current::{current_records, has_current};
+use crate::changes::current::{current_first, has_current};
 use crate::changes::edits::put_record;
 use crate::changes::listings::{has_current_but, list_added};
 use crate::changes::pending::Pending;
@@ -19,7 +21,8 @@ use crate::changes::store::{store_records, take_records};
 use crate::record_tests::is_of_type;
 use crate::zone_rows::ZoneRows;
 use dns_data::RData;
-use dns_records::{Record, RecordList};
+use dns_records::Record;
+use dns_set_edits::EditedRecords;
 use dns_wire::{RecordType, SerialNumber, SerialOrder};
 use std::alloc::{AllocError, Global};
 
@@ -116,7 +119,7 @@ fn records_beside<Z: ZoneRows>(
     zone: &Z,
     sets: &mut ChangedSets,
     update: &Record,
-) -> Result<RecordList, AllocError>
+) -> Result<EditedRecords, AllocError>
     ensures taken { IfOk result (λ records. rows_of records
         ≡ (if is_of_type types.CNAME update.now || is_of_type types.SOA update.now then []
         else set_of (overlay (Z.rows zone.now) sets.old) update.now)) }
@@ -125,7 +128,7 @@ fn records_beside<Z: ZoneRows>(
         ≡ with_set (overlay (Z.rows zone.now) sets.old) (key_of update.now) s) }
 {
     if is_of_type(RecordType::CNAME, update) || is_of_type(RecordType::SOA, update) {
-        return Ok(RecordList::new(Vec::new(alloc)));
+        return Ok(EditedRecords::empty(alloc));
     }
     let records = take_records(alloc, zone, sets, &update.name, update.record_type())?;
     Ok(records)
@@ -145,17 +148,18 @@ fn is_ignored_row<Z: ZoneRows>(zone: &Z, sets: &ChangedSets, update: &Record) ->
     if !is_of_type(RecordType::SOA, update) {
         return false;
     }
-    let records = current_records(zone, sets, owner, update.record_type());
-    !succeeds_soa(records, update)
+    let first = current_first(zone, sets, owner, update.record_type());
+    !succeeds_soa(first, update)
 }
 
-/// Returns `true` if there is an SOA, and a record is an SOA with a greater serial number.
-fn succeeds_soa(records: &[Record], update: &Record) -> bool
-    ensures { result ≡ succeeds_soa (rows_of records.now) update.now }
+/// Returns `true` if the first record is an SOA, and another is an SOA with a greater serial number.
+fn succeeds_soa(first: Option<&Record>, update: &Record) -> bool
+    ensures { result
+        ≡ succeeds_first (option_map row_of (option_copied first.entry)) update.now }
 {
-    match records {
-        [] => false,
-        [old, ..] => succeeds(&update.rdata, &old.rdata),
+    match first {
+        None => false,
+        Some(old) => succeeds(&update.rdata, &old.rdata),
     }
 }
 

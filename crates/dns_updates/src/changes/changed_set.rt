@@ -1,7 +1,7 @@
 //! A set that an update changes.
 
 use dns_names::Name;
-use dns_records::RecordList;
+use dns_set_edits::EditedRecords;
 use dns_wire::RecordType;
 
 /// The records of an owner and a type after an update. Without records, the set is removed.
@@ -11,7 +11,7 @@ pub struct ChangedSet {
     /// The type.
     pub record_type: RecordType,
     /// The records, in their order.
-    pub records: RecordList,
+    pub records: EditedRecords,
 }
 
 impl Drop for ChangedSet {

@@ -9,7 +9,7 @@ ghost use Rattle.dns_updates.specs.internal.Indexes.{with_records};
 use crate::changes::changed_set::ChangedSet;
 use crate::keys::{SetKey, set_key};
 use dns_names::Name;
-use dns_records::RecordList;
+use dns_set_edits::EditedRecords;
 use dns_wire::RecordType;
 use std::alloc::{AllocError, Global};
 use std::collections::BTreeMap;
@@ -81,8 +81,8 @@ impl ChangedSets {
         &mut self,
         owner: &Name,
         record_type: RecordType,
-        records: RecordList,
-    ) -> Option<RecordList>
+        records: EditedRecords,
+    ) -> Option<EditedRecords>
         ensures some { IfSome result (λ found. option_map (λ s. s.records)
             (changed_at self.old (key owner.now.labels record_type)) ≡ Some found) }
         ensures none { IfNone result

@@ -1,7 +1,8 @@
 //! The rows of a zone with the changes so far.
 
-ghost use Rattle.std.specs.Prelude.{◌≡◌};
-ghost use Rattle.dns_records.specs.Rows.{rows_at, rows_of};
+ghost use Rattle.std.specs.Prelude.{◌≡◌, length, option_map, slice_get};
+ghost use Rattle.std.specs.Option.{option_copied};
+ghost use Rattle.dns_records.specs.Rows.{row_of, rows_at};
 ghost use Rattle.dns_updates.specs.Changes.{is_other_set, overlay};
 ghost use Rattle.dns_updates.specs.Records.{has_set};
 
@@ -11,19 +12,35 @@ use dns_names::Name;
 use dns_records::Record;
 use dns_wire::RecordType;
 
-/// Returns the records of an owner and a type.
-pub fn current_records<'a, Z: ZoneRows>(
+/// Returns the first record of an owner and a type.
+pub fn current_first<'a, Z: ZoneRows>(
     zone: &'a Z,
     sets: &'a ChangedSets,
     owner: &Name,
     record_type: RecordType,
-) -> &'a [Record]
-    ensures { rows_of result.now
-        ≡ rows_at (overlay (Z.rows zone.now) sets.now) owner.now.labels record_type }
+) -> Option<&'a Record>
+    ensures { option_map row_of (option_copied result) ≡ slice_get
+        (rows_at (overlay (Z.rows zone.now) sets.now) owner.now.labels record_type) 0 }
 {
     match sets.get(owner, record_type) {
-        Some(set) => set.records.as_slice(),
-        None => zone.records(owner, record_type),
+        Some(set) => set.records.first(),
+        None => zone.records(owner, record_type).first(),
+    }
+}
+
+/// Returns the number of records of an owner and a type.
+pub fn current_len<Z: ZoneRows>(
+    zone: &Z,
+    sets: &ChangedSets,
+    owner: &Name,
+    record_type: RecordType,
+) -> usize
+    ensures { result ≡ length
+        (rows_at (overlay (Z.rows zone.now) sets.now) owner.now.labels record_type) }
+{
+    match sets.get(owner, record_type) {
+        Some(set) => set.records.len(),
+        None => zone.records(owner, record_type).len(),
     }
 }
 

@@ -12,7 +12,7 @@ ghost use Rattle.dns_updates.specs.Changes.{overlay};
 ghost use Rattle.dns_updates.specs.internal.Indexes.{AreListed};
 
 use crate::changes::changed_sets::ChangedSets;
-use crate::changes::current::current_records;
+use crate::changes::current::current_len;
 use crate::changes::edits::remove_data;
 use crate::changes::listings::take_types;
 use crate::changes::owner_types::Listing;
@@ -21,7 +21,8 @@ use crate::changes::store::{store_records, take_records};
 use crate::record_tests::is_of_type;
 use crate::zone_rows::ZoneRows;
 use dns_names::Name;
-use dns_records::{Record, RecordList};
+use dns_records::Record;
+use dns_set_edits::EditedRecords;
 use dns_wire::RecordType;
 use std::alloc::{AllocError, Global};
 
@@ -126,7 +127,7 @@ fn delete_set(
     if is_kept_set(origin, owner, record_type) {
         return Ok(());
     }
-    store_records(sets, owner, record_type, RecordList::new(Vec::new(alloc)))?;
+    store_records(sets, owner, record_type, EditedRecords::empty(alloc))?;
     Ok(())
 }
 
@@ -157,7 +158,7 @@ pub fn delete_row<Z: ZoneRows>(
     let owner = &update.name;
     let record_type = update.record_type();
     let records = take_records(alloc, zone, sets, owner, record_type)?;
-    let records = remove_data(records, &update.rdata);
+    let records = remove_data(records, &update.rdata)?;
     store_records(sets, owner, record_type, records)?;
     Ok(())
 }
@@ -181,5 +182,5 @@ fn is_last_name_server<Z: ZoneRows>(
 {
     is_of_type(RecordType::NS, update)
         && origin.eq_ignore_root(&update.name)
-        && current_records(zone, sets, &update.name, update.record_type()).len() == 1
+        && current_len(zone, sets, &update.name, update.record_type()) == 1
 }

@@ -8,10 +8,9 @@ ghost use Rattle.dns_updates.specs.internal.Indexes.{KeepsName};
 
 use crate::changes::changed_set::ChangedSet;
 use crate::changes::changed_sets::ChangedSets;
-use crate::changes::edits::copy_records;
 use crate::zone_rows::ZoneRows;
 use dns_names::Name;
-use dns_records::RecordList;
+use dns_set_edits::EditedRecords;
 use dns_wire::RecordType;
 use std::alloc::{AllocError, Global};
 
@@ -22,7 +21,7 @@ pub fn take_records<Z: ZoneRows>(
     sets: &mut ChangedSets,
     owner: &Name,
     record_type: RecordType,
-) -> Result<RecordList, AllocError>
+) -> Result<EditedRecords, AllocError>
     ensures taken { IfOk result (λ records. rows_of records
         ≡ rows_at (overlay (Z.rows zone.now) sets.old) owner.now.labels record_type) }
     ensures others { OnOk result ((s : List Row)
@@ -31,11 +30,11 @@ pub fn take_records<Z: ZoneRows>(
     ensures names { OnOk result ((k : Key)
         → KeepsName (changed_at sets.old k) (changed_at sets.new k)) }
 {
-    if let Some(records) = sets.replace(owner, record_type, RecordList::new(Vec::new(alloc))) {
+    if let Some(records) = sets.replace(owner, record_type, EditedRecords::empty(alloc)) {
         return Ok(records);
     }
-    let records = copy_records(alloc, zone.records(owner, record_type))?;
-    Ok(RecordList::new(records))
+    let records = EditedRecords::copy(alloc, zone.records(owner, record_type))?;
+    Ok(records)
 }
 
 /// Makes records those of an owner and a type. A set that is changed already keeps the spelling of its name.
@@ -43,7 +42,7 @@ pub fn store_records(
     sets: &mut ChangedSets,
     owner: &Name,
     record_type: RecordType,
-    records: RecordList,
+    records: EditedRecords,
 ) -> Result<(), AllocError>
     ensures rows { OnOk result ((rows : Rows) → overlay rows sets.new
         ≡ with_set (overlay rows sets.old) (key owner.now.labels record_type)

@@ -7,7 +7,8 @@ ghost use Rattle.dns_zone.specs.Sets.{AreInOrder, set_at};
 ghost use Rattle.dns_zone.specs.internal.Store.{changed_at, changed_keys, one_reserved, one_stored, released_at, reserved_at, stored_at};
 
 use crate::sets::ZoneSets;
-use dns_records::{RecordList, RecordSet};
+use dns_records::RecordSet;
+use dns_set_edits::EditedRecords;
 use dns_updates::ChangedSet;
 use dns_wire::laws::type_number_round_trips;
 use std::alloc::{AllocError, Global};
@@ -90,8 +91,7 @@ impl ZoneSets {
         ensures sets { (k : Key) → set_at self.new k ≡ one_stored set.old k (set_at self.old k) }
         ensures key { changed_key set.new ≡ changed_key set.old }
     {
-        let none = RecordList::new(Vec::new(alloc));
-        let records = set.records.replace_by(none);
+        let records = set.records.replace_by(EditedRecords::empty(alloc));
         self.set_records(&set.name, set.record_type, records.into_vec());
     }
 

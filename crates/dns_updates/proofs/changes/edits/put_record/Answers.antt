@@ -4,4 +4,4 @@ use Rattle.dns_updates.proofs.PutLaws.{put_rows}
 use Rattle.dns_updates.proofs.changes.edits.put_record.Goals as goal
 
 pub returns : goal.returns
-returns c = ap rows_of c.in_ok-put.ensures.ok ∙ put_rows c.args.records c.args.resource_record
+returns c = ap rows_of c.in_ok-put.ensures ∙ put_rows c.args.records c.args.resource_record

@@ -17,7 +17,7 @@ returns-in-Some-clause-names g c =
 
 pub returns-clause-taken : goal.returns-clause-taken
 returns-clause-taken g c =
-    ap rows_of (c.new-3.ensures ∙ c.in_ok-records.ensures) ∙ c.records.ensures
+    ap rows_of c.in_ok-records.ensures ∙ c.records.ensures
     ∙ sym (rows_below (g.Z.ZoneRows.rows c.args.zone.now) c.args.sets.now c.args.owner.now.labels c.args.record_type c.in_default.ensures.none)
 
 pub returns-clause-others : goal.returns-clause-others
