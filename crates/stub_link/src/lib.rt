@@ -6,8 +6,8 @@
 //! - `link`: what carries requests and replies; `link/scripted`: a link to a server in memory, which follows a script;
 //!   `link/script`: scripts; `link/server`: the server
 //! - `update_event`: updates that can be sent
-//! - `wire_handle`: a handle that asks over any link; `wire_handle/request`: the datagrams of requests;
-//!   `wire_handle/reply`: which datagrams are the reply; `wire_handle/stream`: replies over a stream
+//! - `wire_handle`: a handle that asks over any link; `wire_handle/request`: which requests can be asked, and their
+//!   datagrams; `wire_handle/reply`: which datagrams are the reply; `wire_handle/stream`: replies over a stream
 //! - `laws`: what a request over the scripted link ends in
 #![tactic(auto)]
 
@@ -18,4 +18,4 @@ mod wire_handle;
 
 pub use link::{Link, LinkError, LinkEvent, Script, ScriptedLink};
 pub use update_event::{UpdateError, UpdateEvent};
-pub use wire_handle::{AskCounts, WireHandle};
+pub use wire_handle::{AskCounts, WireHandle, question_of, reply_in, request_bytes};

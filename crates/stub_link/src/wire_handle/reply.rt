@@ -49,9 +49,11 @@ pub(crate) fn wait<L: Link>(
     Err(NetError::Link(LinkFault::NoMatch))
 }
 
-/// Returns the reply in a datagram, if it has one. A datagram without the header of a reply is dropped before memory is
-/// taken.
-fn reply_in(
+/// Returns the reply in a datagram, if it has one: a response with the opcode and the id of the request, and with its
+/// question alone (RFC 5452 section 9.1). The reply to an update, which has none, may have any questions.
+///
+/// A datagram without the header of a reply is dropped before memory is taken.
+pub fn reply_in(
     alloc: Global,
     id: u16,
     question: Option<&Query>,

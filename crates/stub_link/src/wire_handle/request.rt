@@ -15,8 +15,9 @@ use std::alloc::{AllocError, Global};
 /// The maximum size of a message, in bytes (RFC 1035 section 4.2.2).
 const MAX_MESSAGE_LEN: u16 = 65_535;
 
-/// Returns the question of a request that can be asked: a sound query with one question, which is sent whole.
-pub(crate) fn question_of(request: &Message) -> Option<&Query>
+/// Returns the question of a request that can be asked: a sound query with one question, of at most 65,535 bytes
+/// without compression (RFC 1035 section 4.2.2).
+pub fn question_of(request: &Message) -> Option<&Query>
     ensures some { IfSome (option_copied result) (λ q. IsQuestion request.now q) }
     ensures none { result ≡ None → (q : Query) → ¬ IsQuestion request.now q }
 {
@@ -32,8 +33,9 @@ pub(crate) fn question_of(request: &Message) -> Option<&Query>
     }
 }
 
-/// Returns the datagram of a request, which has all of it.
-pub(crate) fn request_bytes(alloc: Global, request: &Message) -> Result<Vec<u8>, AllocError>
+/// Returns the datagram of a request, which has all of it. The request must be sound, and have at most 65,535 bytes
+/// without compression.
+pub fn request_bytes(alloc: Global, request: &Message) -> Result<Vec<u8>, AllocError>
     requires { IsWhole request.now }
     ensures { IfOk result (λ bytes. Encodes request.now bytes.items) }
 {
