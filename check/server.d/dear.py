@@ -83,6 +83,17 @@ def addresses() -> bytes:
     return changes([], added + gone)
 
 
+def swapped() -> bytes:
+    """Addresses of a large set, each deleted and added again as the last of its set."""
+    data = [pack(">I", it) for it in range(2000)]
+    return changes([], [record(NAME, 1, it, *how) for it in data for how in ((0, 254), ())])
+
+
+def repeated() -> bytes:
+    """Additions of addresses that a large set has already."""
+    return changes([], [record(NAME, 1, pack(">I", it)) for it in range(4000)])
+
+
 def required() -> bytes:
     """Prerequisites that list a large set, at a name of 254 bytes."""
     first = record(wire(OWNER), 1, pack(">I", 0), 0)
@@ -90,14 +101,18 @@ def required() -> bytes:
     return changes([first] + [record(place, 1, pack(">I", it), 0) for it in range(1, 4000)], [])
 
 
-def large_set() -> List[bytes]:
-    """Updates that make that set."""
+def large_set(owner: bytes) -> List[bytes]:
+    """Updates that make a set of 4,000 addresses."""
     found = []
     for start in range(0, 4000, 1000):
-        first = record(wire(OWNER), 1, pack(">I", start))
+        first = record(owner, 1, pack(">I", start))
         place = at(12 + len(ZONE_SECTION))
         found.append(changes([], [first] + [record(place, 1, pack(">I", start + it)) for it in range(1, 1000)]))
     return found
+
+
+# The owners of the large sets that requests of a shape are about.
+OWNERS: Dict[Callable[[], bytes], bytes] = {required: wire(OWNER), swapped: NAME, repeated: NAME}
 
 
 SHAPES: Dict[str, Callable[[], bytes]] = {
@@ -107,6 +122,8 @@ SHAPES: Dict[str, Callable[[], bytes]] = {
     "additions of types, a deletion, additions of aliases": replaced,
     "a type that comes and goes at a name of many": by_turns,
     "additions to one set and deletions from it": addresses,
+    "deletions from a large set and additions to it": swapped,
+    "additions of what a large set has": repeated,
     "prerequisites of a large set at a long name": required,
     "a question for 4,000 addresses": lambda: query("many.t."),
 }
@@ -117,7 +134,7 @@ def try_dear(report: Report, program: str, given) -> None:
     for title, make in SHAPES.items():
         count = max(1, given.requests // len(SHAPES))
         with Siege(report, program, f"{count:,} times {title}") as siege:
-            before = large_set() if make is required else []
+            before = large_set(OWNERS[make]) if make in OWNERS else []
             request = make()
             with connect(siege.address, WAIT_SECONDS) as stream:
                 for it in before:
