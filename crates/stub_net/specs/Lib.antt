@@ -1,0 +1,9 @@
+pub mod Ids
+pub mod Network
+pub mod Script
+pub mod Request
+pub mod Wait
+pub mod Try
+pub mod Verdict
+pub mod Exchange
+pub mod Pool

@@ -1,0 +1,3 @@
+pub mod Server
+pub mod Servers
+pub mod ServerList

@@ -1,0 +1,13 @@
+//! The name servers that a resolver asks, and the order in which it asks them.
+//!
+//! - `server`: a server with its addresses, as a configuration has it
+//! - `server_list`: the servers of a configuration, when each last failed, and their order at a moment
+//! - `laws`: what holds of every order
+#![tactic(auto)]
+
+pub mod laws;
+mod server;
+mod server_list;
+
+pub use server::Server;
+pub use server_list::{RETRY_INTERVAL, ServerList};
