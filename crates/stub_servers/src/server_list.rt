@@ -1,6 +1,6 @@
 //! The servers of a configuration, and their order at a moment.
 
-ghost use Rattle.std.specs.Prelude.{◌≡◌, ◌++◌, None, Some, IfOk, OnOk, OnErr, filter_map, length, slice_get, slice_set, slice_index};
+ghost use Rattle.std.specs.Prelude.{◌≡◌, ◌==◌, ◌++◌, None, Some, IfOk, OnOk, OnErr, filter_map, length, slice_get, slice_set, slice_index};
 ghost use Rattle.std.specs.List.{range_with_len};
 ghost use Rattle.stub_servers.specs.Server.{server_of};
 ghost use Rattle.stub_servers.specs.ServerList.{is_fresh, is_round_robin, next_turn, order_at, servers_from, with_failure};
@@ -84,7 +84,7 @@ impl ServerList {
 
     /// Returns `true` if there are no servers.
     pub fn is_empty(&self) -> bool
-        ensures { IsTrue result ↔ (self.now.servers ≡ []) }
+        ensures { result ≡ (length self.now.servers == 0) }
     {
         self.servers.is_empty()
     }
