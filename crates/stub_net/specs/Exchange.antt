@@ -1,5 +1,5 @@
 -- An exchange: the servers are tried in their order, in as many rounds as are configured (RFC 1035 section 7.2).
-use Rattle.std.specs.Prelude.{◌≡◌, zero, suc, List, [], ◌∷◌, ◌++◌, ℕ, Option, Some, None, Result, Ok, Err, slice_get, unwrap_or}
+use Rattle.std.specs.Prelude.{◌≡◌, zero, suc, List, [], ◌∷◌, ◌++◌, ℕ, Some, None, Err, slice_get, unwrap_or}
 use Rattle.std.specs.declared.ops.ControlFlow.{ControlFlow}
 use Rattle.std.specs.declared.ops.ControlFlow.TheVariants.{Break, Continue}
 use Rattle.dns_messages.specs.declared.message.Message.{Message}
@@ -13,7 +13,7 @@ use Rattle.stub_servers.specs.Servers.{Servers}
 use Rattle.stub_servers.specs.declared.server.Server.{Server}
 use Rattle.stub_net.specs.Network.{NetworkCalls}
 use Rattle.stub_net.specs.Try.{Tries, over_network}
-use Rattle.stub_net.specs.Verdict.{verdict}
+use Rattle.stub_net.specs.Verdict.{verdict_on}
 use Rattle.stub_net.specs.declared.pool.NameServerPool.{NameServerPool}
 use Rattle.stub_net.specs.declared.pool.verdict.Verdict.TheVariants.{Accepted, Declined, OutOfMemory}
 use Rattle.stub_net.specs.declared.requester.Requester.{Requester}
@@ -32,18 +32,18 @@ pub data TriesPlace {N I : Type 0} (calls : NetworkCalls N) (m : Message) (bytes
     : ControlFlow Outcome Outcome → NameServerPool N I → Type 0 where
   server_accepted : (tried : Outcome) (requester : Requester N)
       → Tries calls m bytes (server_at old.servers place) old.requester tried requester
-      → verdict m (server_at old.servers place).trust_negative_responses tried ≡ Accepted
+      → verdict_on m (server_at old.servers place).trust_negative_responses tried ≡ Accepted
       → TriesPlace calls m bytes place old (Break tried)
       (record old { requester = requester; servers = with_failure place None old.servers })
   server_declined : (tried : Outcome) (requester : Requester N) (now : ℕ) (network : N)
       → Tries calls m bytes (server_at old.servers place) old.requester tried requester
-      → verdict m (server_at old.servers place).trust_negative_responses tried ≡ Declined
+      → verdict_on m (server_at old.servers place).trust_negative_responses tried ≡ Declined
       → calls.reads_clock requester.network now network
       → TriesPlace calls m bytes place old (Continue tried)
       (record old { requester = over_network network requester; servers = with_failure place (Some now) old.servers })
   memory_is_out : (tried : Outcome) (requester : Requester N)
       → Tries calls m bytes (server_at old.servers place) old.requester tried requester
-      → verdict m (server_at old.servers place).trust_negative_responses tried ≡ OutOfMemory
+      → verdict_on m (server_at old.servers place).trust_negative_responses tried ≡ OutOfMemory
       → TriesPlace calls m bytes place old (Break tried) (after_request requester old)
 
 -- Runs calls m bytes plan last old outcome new: the servers at the places of a plan are tried, one after another, until one of them

@@ -7,3 +7,4 @@ pub mod Try
 pub mod Verdict
 pub mod Exchange
 pub mod Pool
+pub mod Laws

@@ -1,5 +1,5 @@
 -- A handle that asks the servers of a list.
-use Rattle.std.specs.Prelude.{◌≡◌, ◌*◌, ◌-◌, ◌^◌, min, max, true, false, ℕ, Option, Some, None, Result, Ok, Err}
+use Rattle.std.specs.Prelude.{◌≡◌, ◌*◌, ◌-◌, ◌^◌, min, max, true, false, ℕ, Option, Some, None, Result, Err}
 use Rattle.dns_messages.specs.declared.message.Message.{Message}
 use Rattle.dns_messages.specs.declared.query.Query.{Query}
 use Rattle.dns_messages.specs.declared.response_code.ResponseCode.{ResponseCode}
@@ -10,7 +10,7 @@ use Rattle.stub_lookup.specs.declared.error.LinkFault.TheVariants as fault
 use Rattle.stub_lookup.specs.declared.error.NetError.{NetError}
 use Rattle.stub_lookup.specs.declared.error.NetError.TheVariants as net
 use Rattle.stub_servers.specs.Servers.{Servers}
-use Rattle.stub_net.specs.Exchange.{Exchanges, from_start}
+use Rattle.stub_net.specs.Exchange.{Exchanges}
 use Rattle.stub_net.specs.Network.{NetworkCalls}
 use Rattle.stub_net.specs.Try.{count_fault, first_counts}
 use Rattle.stub_net.specs.declared.pool.NameServerPool.{NameServerPool}
@@ -29,10 +29,6 @@ pub record IsFirstPool {N I : Type 0} (network : N) (ids : I) (servers : Servers
 -- a pool that uses streams alone
 abbrev pub streams_alone : {N I : Type 0} → NameServerPool N I → NameServerPool N I
 streams_alone pool = record pool { requester = record pool.requester { streams_alone = true } }
-
--- the pool over another network
-abbrev pub with_network : {N I : Type 0} → NameServerPool N I → N → NameServerPool N I
-with_network pool network = from_start network pool
 
 -- the fault of an outcome is counted, if it is one
 abbrev pub count_pool_fault : {N I : Type 0} → Outcome → NameServerPool N I → NameServerPool N I

@@ -1,5 +1,5 @@
 -- Which outcomes of a try end an exchange.
-use Rattle.std.specs.Prelude.{◌==◌, ◌&&◌, ◌||◌, Bool, true, false, not, if◌then◌else◌, length, ℕ, is_none, Result, Ok, Err}
+use Rattle.std.specs.Prelude.{◌==◌, ◌&&◌, ◌||◌, Bool, true, false, not, if◌then◌else◌, length, ℕ, is_none, Ok, Err}
 use Rattle.dns_messages.specs.declared.message.Message.{Message}
 use Rattle.dns_messages.specs.declared.response_code.ResponseCode.{ResponseCode}
 use Rattle.dns_messages.specs.declared.response_code.ResponseCode.TheVariants.{NXDomain, NoError, NotImp, Refused, ServFail}
@@ -33,7 +33,7 @@ accepts request trusted reply =
     && ((trusted || is_none (question_in request)) || not (is_negative reply))
 
 -- What becomes of the outcome of a try: a reply that is accepted ends the exchange, and so does want of memory.
-abbrev pub verdict : Message → Bool → Outcome → Verdict
-verdict request trusted (Ok response) = if accepts request trusted response.message then Accepted else Declined
-verdict request trusted (Err net.Memory) = OutOfMemory
-verdict request trusted (Err error) = Declined
+abbrev pub verdict_on : Message → Bool → Outcome → Verdict
+verdict_on request trusted (Ok response) = if accepts request trusted response.message then Accepted else Declined
+verdict_on request trusted (Err net.Memory) = OutOfMemory
+verdict_on request trusted (Err error) = Declined

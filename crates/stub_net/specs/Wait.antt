@@ -1,5 +1,5 @@
 -- The wait for the reply to a datagram (RFC 5452 section 9.1): whatever else arrives is dropped, and the time-out stays.
-use Rattle.std.specs.Prelude.{zero, suc, List, ℕ, Some, None, Ok, Err}
+use Rattle.std.specs.Prelude.{◌≡◌, ◌<◌, ◌-◌, List, ℕ, Some, None, Ok, Err}
 use Rattle.dns_messages.specs.declared.message.Message.{Message}
 use Rattle.dns_messages.specs.declared.response.DnsResponse.{DnsResponse}
 use Rattle.stub_client.specs.Handle.{Outcome}
@@ -14,20 +14,21 @@ use Rattle.stub_net.specs.Request.{Finds, IsHeaded}
 -- `left` datagrams. The network goes from `old` to `new`, and the count of datagrams that were dropped rises from `dropped` to
 -- `total`.
 pub data Awaits {N : Type 0} (calls : NetworkCalls N) (m : Message) (deadline : ℕ) : ℕ → N → ℕ → Outcome → N → ℕ → Type 0 where
-  reply_arrives : (left : ℕ) (old : N) (dropped : ℕ) (bytes : List ℕ) (response : DnsResponse) (new : N)
+  reply_arrives : (left : ℕ) (old : N) (dropped : ℕ) (bytes : List ℕ) (response : DnsResponse) (new : N) → 0 < left
       → calls.receives old deadline (Ok (Some bytes)) new → Finds m bytes (Some response)
-      → Awaits calls m deadline (suc left) old dropped (Ok response) new dropped
-  other_arrives : (left : ℕ) (old : N) (dropped : ℕ) (bytes : List ℕ) (mid : N) (outcome : Outcome) (new : N) (total : ℕ)
+      → Awaits calls m deadline left old dropped (Ok response) new dropped
+  other_arrives : (left : ℕ) (old : N) (dropped : ℕ) (bytes : List ℕ) (mid : N) (outcome : Outcome) (new : N) (total : ℕ) → 0 < left
       → calls.receives old deadline (Ok (Some bytes)) mid → Finds m bytes None
-      → Awaits calls m deadline left mid (one_more dropped) outcome new total
-      → Awaits calls m deadline (suc left) old dropped outcome new total
-  no_memory_to_decode : (left : ℕ) (old : N) (dropped : ℕ) (bytes : List ℕ) (new : N)
+      → Awaits calls m deadline (left - 1) mid (one_more dropped) outcome new total
+      → Awaits calls m deadline left old dropped outcome new total
+  no_memory_to_decode : (left : ℕ) (old : N) (dropped : ℕ) (bytes : List ℕ) (new : N) → 0 < left
       → calls.receives old deadline (Ok (Some bytes)) new → IsHeaded m bytes
-      → Awaits calls m deadline (suc left) old dropped (Err net.Memory) new dropped
-  deadline_passes : (left : ℕ) (old : N) (dropped : ℕ) (new : N) → calls.receives old deadline (Ok None) new
-      → Awaits calls m deadline (suc left) old dropped (Err (net.Link fault.Quiet)) new dropped
-  receive_fails : (left : ℕ) (old : N) (dropped : ℕ) (new : N) → calls.receives old deadline (Err Failed) new
-      → Awaits calls m deadline (suc left) old dropped (Err (net.Link fault.NotReceived)) new dropped
-  no_memory_to_receive : (left : ℕ) (old : N) (dropped : ℕ) (new : N) → calls.receives old deadline (Err Memory) new
-      → Awaits calls m deadline (suc left) old dropped (Err net.Memory) new dropped
-  none_left : (old : N) (dropped : ℕ) → Awaits calls m deadline zero old dropped (Err (net.Link fault.NoMatch)) old dropped
+      → Awaits calls m deadline left old dropped (Err net.Memory) new dropped
+  deadline_passes : (left : ℕ) (old : N) (dropped : ℕ) (new : N) → 0 < left → calls.receives old deadline (Ok None) new
+      → Awaits calls m deadline left old dropped (Err (net.Link fault.Quiet)) new dropped
+  receive_fails : (left : ℕ) (old : N) (dropped : ℕ) (new : N) → 0 < left → calls.receives old deadline (Err Failed) new
+      → Awaits calls m deadline left old dropped (Err (net.Link fault.NotReceived)) new dropped
+  no_memory_to_receive : (left : ℕ) (old : N) (dropped : ℕ) (new : N) → 0 < left → calls.receives old deadline (Err Memory) new
+      → Awaits calls m deadline left old dropped (Err net.Memory) new dropped
+  none_left : (left : ℕ) (old : N) (dropped : ℕ) → left ≡ 0
+      → Awaits calls m deadline left old dropped (Err (net.Link fault.NoMatch)) old dropped

@@ -12,6 +12,7 @@
 #![tactic(auto)]
 
 mod ids;
+pub mod laws;
 mod network;
 mod pool;
 mod requester;

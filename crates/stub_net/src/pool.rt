@@ -5,7 +5,7 @@ ghost use Rattle.dns_messages.specs.declared.query.Query.{Query};
 ghost use Rattle.stub_link.specs.Request.{IsQuestion, IsWhole};
 ghost use Rattle.stub_net.specs.Exchange.{Exchanges, Runs, RunsRound, TriesPlace, no_try, rounds};
 ghost use Rattle.stub_net.specs.Network.{network_calls};
-ghost use Rattle.stub_net.specs.Pool.{Asks, IsFirstPool, Updates, streams_alone, with_network};
+ghost use Rattle.stub_net.specs.Pool.{Asks, IsFirstPool, Updates, streams_alone};
 
 mod verdict;
 
@@ -20,7 +20,7 @@ use stub_config::ResolverOpts;
 use stub_link::{UpdateEvent, question_of, request_bytes};
 use stub_lookup::{LinkFault, Moment, NetError};
 use stub_servers::{Server, ServerList};
-use verdict::{Verdict, verdict};
+use verdict::{Verdict, verdict_on};
 
 /// Asks the servers of a list over a network, one after another, each question under an id of its own.
 #[derive(Drop)]
@@ -33,9 +33,6 @@ pub struct NameServerPool<N, I> {
 }
 
 impl<N: Network, I: IdSource> NameServerPool<N, I> {
-    ghost use Rattle.std.specs.Borrow.{sem, Lends};
-    ghost use Rattle.stub_net.specs.contracts.pool.NameServerPool.{the_row as pool_row};
-
     /// Creates a handle that asks servers over a network.
     ///
     /// Of the options, `timeout` is how long it waits for the reply of a server, in seconds, and `attempts` how many rounds it makes
@@ -72,15 +69,6 @@ impl<N: Network, I: IdSource> NameServerPool<N, I> {
         &self.requester.network
     }
 
-    /// Returns a mutable reference to the network.
-    pub fn network_mut(&mut self) -> &mut N
-        ensures* lends { sem 𝓛 (Lends (pool_row N.row I.row) N.row self.entry result
-            (with_network self.old)) }
-        ensures network { result.now ≡ self.old.requester.network }
-    {
-        &mut self.requester.network
-    }
-
     /// Returns the servers.
     pub fn servers(&self) -> &ServerList
         ensures { result.now ≡ self.now.servers }
@@ -112,9 +100,9 @@ impl<N: Network, I: IdSource> NameServerPool<N, I> {
         ensures { Asks (network_calls N.sends N.receives N.streams N.reads_clock) I.draws
             self.old request.old result self.new }
     {
-        if question_of(request).is_none() {
+        let Some(_query) = question_of(request) else {
             return Err(NetError::Unsupported);
-        }
+        };
         match self.ids.draw() {
             Some(id) => {
                 request.metadata.id = id;
@@ -169,12 +157,12 @@ impl<N: Network, I: IdSource> NameServerPool<N, I> {
         message: &Message,
         bytes: &[u8],
         order: &[usize],
-        last: Result<DnsResponse, NetError>,
+        before: Result<DnsResponse, NetError>,
     ) -> ControlFlow<Result<DnsResponse, NetError>, Result<DnsResponse, NetError>>
         ensures { RunsRound (network_calls N.sends N.receives N.streams N.reads_clock) message.now
-            bytes.now order.now last self.old result self.new }
+            bytes.now order.now before self.old result self.new }
     {
-        let mut last = last;
+        let mut last = before;
         for place in order {
             match self.try_place(message, bytes, *place) {
                 ControlFlow::Break(outcome) => return ControlFlow::Break(outcome),
@@ -196,7 +184,7 @@ impl<N: Network, I: IdSource> NameServerPool<N, I> {
     {
         let server = self.servers.get(place).unwrap_or(Server::none());
         let outcome = self.requester.try_server(message, bytes, server);
-        match verdict(message, server.trust_negative_responses, &outcome) {
+        match verdict_on(message, server.trust_negative_responses, &outcome) {
             Verdict::Accepted => {
                 self.servers.record_answer(place);
                 ControlFlow::Break(outcome)

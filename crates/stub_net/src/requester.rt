@@ -1,6 +1,6 @@
 //! One request to one server.
 
-ghost use Rattle.std.specs.Prelude.{◌≡◌, None, Some};
+ghost use Rattle.std.specs.Prelude.{◌≡◌, false};
 ghost use Rattle.stub_net.specs.Network.{network_calls};
 ghost use Rattle.stub_net.specs.Request.{is_cut_reply};
 ghost use Rattle.stub_net.specs.Try.{AfterDatagram, AsksDatagram, AsksStream, ReadsDeadline, SendsDatagram, Tries, count_fault, first_counts};

@@ -1,7 +1,7 @@
 //! Which outcomes of a try end an exchange.
 
 ghost use Rattle.std.specs.Prelude.{◌≡◌};
-ghost use Rattle.stub_net.specs.Verdict.{accepts, declines_by_code, is_negative, verdict};
+ghost use Rattle.stub_net.specs.Verdict.{accepts, declines_by_code, is_negative, verdict_on};
 
 use crate::requester::question_in;
 use dns_messages::{DnsResponse, Message, ResponseCode};
@@ -18,12 +18,12 @@ pub(crate) enum Verdict {
 }
 
 /// Decides on the outcome of a try.
-pub(crate) fn verdict(
+pub(crate) fn verdict_on(
     message: &Message,
     trusted: bool,
     outcome: &Result<DnsResponse, NetError>,
 ) -> Verdict
-    ensures { result ≡ verdict message.now trusted outcome.now }
+    ensures { result ≡ verdict_on message.now trusted outcome.now }
 {
     match outcome {
         Ok(response) => {

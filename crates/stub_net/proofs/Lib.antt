@@ -1,0 +1,7 @@
+pub mod BoundLaws
+pub mod FaultLaws
+pub mod ReplyLaws
+pub mod RunLaws
+pub mod ScriptLaws
+pub mod TryLaws
+pub mod WaitLaws
