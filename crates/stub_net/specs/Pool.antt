@@ -30,6 +30,10 @@ pub record IsFirstPool {N I : Type 0} (network : N) (ids : I) (servers : Servers
 abbrev pub streams_alone : {N I : Type 0} → NameServerPool N I → NameServerPool N I
 streams_alone pool = record pool { requester = record pool.requester { streams_alone = true } }
 
+-- a pool that waits so many milliseconds for each reply
+abbrev pub with_timeout : {N I : Type 0} → ℕ → NameServerPool N I → NameServerPool N I
+with_timeout milliseconds pool = record pool { requester = record pool.requester { timeout = milliseconds } }
+
 -- the fault of an outcome is counted, if it is one
 abbrev pub count_pool_fault : {N I : Type 0} → Outcome → NameServerPool N I → NameServerPool N I
 count_pool_fault outcome pool = record pool { requester = count_fault outcome pool.requester }

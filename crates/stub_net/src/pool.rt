@@ -5,7 +5,7 @@ ghost use Rattle.dns_messages.specs.declared.query.Query.{Query};
 ghost use Rattle.stub_link.specs.Request.{IsQuestion, IsWhole};
 ghost use Rattle.stub_net.specs.Exchange.{Exchanges, Runs, RunsRound, TriesPlace, no_try, rounds};
 ghost use Rattle.stub_net.specs.Network.{network_calls};
-ghost use Rattle.stub_net.specs.Pool.{Asks, IsFirstPool, Updates, streams_alone};
+ghost use Rattle.stub_net.specs.Pool.{Asks, IsFirstPool, Updates, streams_alone, with_timeout};
 
 mod verdict;
 
@@ -60,6 +60,13 @@ impl<N: Network, I: IdSource> NameServerPool<N, I> {
         ensures { self.new ≡ streams_alone self.old }
     {
         self.requester.streams_alone = true;
+    }
+
+    /// Sets how long to wait for the reply of a server, in milliseconds, in place of the time-out of the options.
+    pub fn set_timeout(&mut self, milliseconds: u64)
+        ensures { self.new ≡ with_timeout milliseconds self.old }
+    {
+        self.requester.timeout = milliseconds;
     }
 
     /// Returns the network.

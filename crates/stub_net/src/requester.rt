@@ -41,7 +41,7 @@ pub struct Requester<N> {
     /// The network.
     pub(crate) network: N,
     /// How long to wait for a reply, in milliseconds.
-    timeout: u64,
+    pub(crate) timeout: u64,
     /// Whether servers are asked over streams alone.
     pub(crate) streams_alone: bool,
     /// What is counted.
