@@ -1,0 +1,33 @@
+//! `rows_net FILE..`: tries each row of the files, as the library `rows` describes, on what asks servers over a network.
+//!
+//! - `resolv_conf`: configurations of the system's resolver, and the names that lookups attempt with them.
+#![tactic(auto)]
+
+mod resolv_conf;
+
+use rows::{Answer, Notation, Operations, RowFault};
+use std::alloc::Global;
+use std::io;
+use std::process::ExitCode;
+
+/// The operations on networks.
+struct NetOperations;
+
+impl Operations for NetOperations {
+    fn notation(&self) -> Notation {
+        Notation::Escaped
+    }
+
+    fn answer(&self, alloc: Global, word: &str, input: &str) -> Answer {
+        match word {
+            "conf" => resolv_conf::conf(alloc, input),
+            "conf-bytes" => resolv_conf::conf_of_bytes(alloc, input),
+            "attempts" => resolv_conf::attempts(alloc, input),
+            _ => Err(RowFault::UnknownOperation),
+        }
+    }
+}
+
+fn main(rt: HostRuntime) -> io::Result<ExitCode> {
+    rows::run(&rt, &NetOperations)
+}

@@ -1,0 +1,4 @@
+pub mod LimitLaws
+pub mod LineLaws
+pub mod OptionLaws
+pub mod SettingLaws

@@ -1,0 +1,5 @@
+pub mod Conf
+pub mod Limits
+pub mod Line
+pub mod Options
+pub mod Settings
