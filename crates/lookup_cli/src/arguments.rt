@@ -1,0 +1,214 @@
+//! The arguments of the program.
+
+use crate::command::command;
+use crate::ending::Ending;
+use crate::item::{Item, Question};
+use crate::values::{check_name, name_of, server_of, strategy_of, timeout_of, type_of};
+use clap::ArgMatches;
+use clap::error::ErrorKind;
+use dns_names::Name;
+use std::alloc::{AllocError, Global};
+use std::net::SocketAddr;
+use stub_config::LookupIpStrategy;
+
+/// The argument that stands for the names of standard input.
+const INPUT: &str = "-";
+
+/// The arguments of the program.
+#[derive(Drop)]
+pub struct Arguments {
+    /// What is looked up.
+    pub items: Vec<Item>,
+    /// Whether the names of standard input are looked up, too.
+    pub reads_input: bool,
+    /// What is asked about a name without a type.
+    pub question: Question,
+    /// The addresses of the servers, in place of those of the configuration if there are any.
+    pub servers: Vec<SocketAddr>,
+    /// The path of the configuration, as given.
+    pub resolv_conf: Option<String>,
+    /// The path of the hosts file, as given.
+    pub hosts: Option<String>,
+    /// The names that complete relative names, in place of those of the configuration if there are any.
+    pub search: Vec<Name>,
+    /// The number of labels above which a name is looked up as it is first.
+    pub ndots: Option<usize>,
+    /// The types of addresses.
+    pub strategy: Option<LookupIpStrategy>,
+    /// How long to wait for a reply, in milliseconds.
+    pub timeout: Option<u64>,
+    /// How many times each server is asked.
+    pub attempts: Option<usize>,
+    /// The update that is sent in place of lookups.
+    pub update: Option<UpdateArguments>,
+    /// Whether servers are asked over TCP alone.
+    pub tcp: bool,
+    /// Whether servers are asked in turn.
+    pub rotate: bool,
+    /// Whether requests have an OPT record.
+    pub edns: bool,
+    /// Whether what is found is cached.
+    pub cache: bool,
+    /// Whether JSON is printed.
+    pub json: bool,
+    /// Whether standard error has a line for each event.
+    pub trace: bool,
+}
+
+/// An update, as given.
+#[derive(Drop)]
+pub struct UpdateArguments {
+    /// The words of the update.
+    pub words: String,
+    /// The name of the zone.
+    pub zone: Name,
+}
+
+/// Reads the arguments, of which the first is the program's name.
+///
+/// # Errors
+///
+/// - [`Ending::Arguments`] if an argument is missing, unknown or has no valid value, or help or the version is asked for;
+/// - [`Ending::InvalidValue`] if the value of an argument is none of its values;
+/// - [`Ending::Memory`] if memory is refused.
+pub fn read_arguments(alloc: Global, words: &[&str]) -> Result<Arguments, Ending> {
+    let matches = match command(alloc)?.try_get_matches_from(words) {
+        Ok(matches) => matches,
+        Err(error) if error.kind() == ErrorKind::OutOfMemory => {
+            // Reading the arguments was refused memory.
+            return Err(Ending::Memory);
+        }
+        Err(error) => return Err(Ending::Arguments(error)),
+    };
+    arguments_of(alloc, &matches)
+}
+
+/// Returns the arguments that clap found.
+fn arguments_of(alloc: Global, matches: &ArgMatches<'_>) -> Result<Arguments, Ending> {
+    let question = question_in(alloc, matches)?;
+    Ok(Arguments {
+        items: items_in(alloc, matches, question)?,
+        reads_input: has_input(matches),
+        question,
+        servers: servers_in(alloc, matches)?,
+        resolv_conf: text_in(alloc, matches, "resolv-conf")?,
+        hosts: text_in(alloc, matches, "hosts")?,
+        search: search_in(alloc, matches)?,
+        ndots: number_in(matches, "ndots"),
+        strategy: strategy_in(alloc, matches)?,
+        timeout: timeout_in(alloc, matches)?,
+        attempts: number_in(matches, "attempts"),
+        update: update_in(alloc, matches)?,
+        tcp: flag_in(matches, "tcp"),
+        rotate: flag_in(matches, "rotate"),
+        edns: !flag_in(matches, "no-edns"),
+        cache: !flag_in(matches, "no-cache"),
+        json: flag_in(matches, "json"),
+        trace: flag_in(matches, "trace"),
+    })
+}
+
+/// Returns what is asked about a name without a type.
+fn question_in(alloc: Global, matches: &ArgMatches<'_>) -> Result<Question, Ending> {
+    match matches.get_str("type") {
+        Some(text) => Ok(Question::Records(type_of(alloc, text)?)),
+        None => Ok(Question::Addresses),
+    }
+}
+
+/// Returns what is looked up, without the names of standard input.
+fn items_in(
+    alloc: Global,
+    matches: &ArgMatches<'_>,
+    question: Question,
+) -> Result<Vec<Item>, Ending> {
+    let mut items = Vec::new(alloc);
+    for text in values_in(matches, "NAME") {
+        if *text != INPUT {
+            check_name(alloc, text)?;
+            let name = String::from_str(alloc, text)?;
+            items.push(Item { name, question })?;
+        }
+    }
+    Ok(items)
+}
+
+/// Returns `true` if the names of standard input are looked up.
+fn has_input(matches: &ArgMatches<'_>) -> bool {
+    values_in(matches, "NAME").iter().any(|text| *text == INPUT)
+}
+
+/// Returns the addresses of the servers.
+fn servers_in(alloc: Global, matches: &ArgMatches<'_>) -> Result<Vec<SocketAddr>, Ending> {
+    let mut servers = Vec::new(alloc);
+    for text in values_in(matches, "server") {
+        servers.push(server_of(alloc, text)?)?;
+    }
+    Ok(servers)
+}
+
+/// Returns the names that complete relative names.
+fn search_in(alloc: Global, matches: &ArgMatches<'_>) -> Result<Vec<Name>, Ending> {
+    let mut names = Vec::new(alloc);
+    for text in values_in(matches, "search") {
+        names.push(name_of(alloc, "--search", text)?)?;
+    }
+    Ok(names)
+}
+
+/// Returns the types of addresses.
+fn strategy_in(
+    alloc: Global,
+    matches: &ArgMatches<'_>,
+) -> Result<Option<LookupIpStrategy>, Ending> {
+    match matches.get_str("strategy") {
+        Some(text) => Ok(Some(strategy_of(alloc, text)?)),
+        None => Ok(None),
+    }
+}
+
+/// Returns how long to wait for a reply, in milliseconds.
+fn timeout_in(alloc: Global, matches: &ArgMatches<'_>) -> Result<Option<u64>, Ending> {
+    match matches.get_str("timeout") {
+        Some(text) => Ok(Some(timeout_of(alloc, text)?)),
+        None => Ok(None),
+    }
+}
+
+/// Returns the update. Clap has found that it has a zone.
+fn update_in(alloc: Global, matches: &ArgMatches<'_>) -> Result<Option<UpdateArguments>, Ending> {
+    match (matches.get_str("update"), matches.get_str("zone")) {
+        (Some(words), Some(zone)) => Ok(Some(UpdateArguments {
+            words: String::from_str(alloc, words)?,
+            zone: name_of(alloc, "--zone", zone)?,
+        })),
+        _ => Ok(None),
+    }
+}
+
+/// Returns the values of an argument.
+fn values_in<'m, 'a>(matches: &'m ArgMatches<'a>, name: &str) -> &'m [&'a str] {
+    matches.get_strs(name).unwrap_or(&[])
+}
+
+/// Returns the value of an option, if it has one.
+fn text_in(
+    alloc: Global,
+    matches: &ArgMatches<'_>,
+    name: &str,
+) -> Result<Option<String>, AllocError> {
+    match matches.get_str(name) {
+        Some(text) => Ok(Some(String::from_str(alloc, text)?)),
+        None => Ok(None),
+    }
+}
+
+/// Returns the number of an option, if it has one. Clap has found that it is one.
+fn number_in(matches: &ArgMatches<'_>, name: &str) -> Option<usize> {
+    matches.get_one::<usize>(name)
+}
+
+/// Returns `true` if a flag is given.
+fn flag_in(matches: &ArgMatches<'_>, name: &str) -> bool {
+    matches.get_str(name) == Some("true")
+}

@@ -1,0 +1,158 @@
+//! The command of the arguments, for clap.
+
+use clap::{Arg, ArgAction, Command, value_parser};
+use std::alloc::{AllocError, Global};
+
+/// The version of the program.
+const VERSION: &str = "0.1.0";
+
+/// Returns the program's command.
+pub(crate) fn command<'a>(alloc: Global) -> Result<Command<'a>, AllocError> {
+    let command = Command::new(alloc, "lookup")
+        .version(VERSION)
+        .about("Looks up names at name servers")
+        .arg(names(alloc)?)?
+        .arg(type_option(alloc))?;
+    with_flags(alloc, with_update(alloc, with_time(alloc, with_sources(alloc, command)?)?)?)
+}
+
+/// Returns the argument of the names.
+fn names<'a>(alloc: Global) -> Result<Arg<'a>, AllocError> {
+    Arg::new(alloc, "NAME")
+        .value_name("NAME")
+        .help("The names to look up; with - also those of standard input, one a line, after which a type may follow")
+        .action(ArgAction::Append)
+        .num_args(1..)
+        .required_unless_present("update")?
+        .conflicts_with("update")
+}
+
+/// Returns the option of the type.
+fn type_option<'a>(alloc: Global) -> Arg<'a> {
+    option(
+        alloc,
+        "type",
+        "TYPE",
+        "The type of the records; addresses if it is omitted",
+    )
+    .short('t')
+}
+
+/// Adds the options of servers and of what completes names.
+fn with_sources<'a>(alloc: Global, command: Command<'a>) -> Result<Command<'a>, AllocError> {
+    command
+        .arg(list(
+            alloc,
+            "server",
+            "ADDRESS[:PORT]",
+            "A name server, in place of those of resolv.conf; the port is 53 if it is omitted",
+        ))?
+        .arg(option(
+            alloc,
+            "resolv-conf",
+            "FILE",
+            "The configuration; /etc/resolv.conf if neither it nor a server is given",
+        ))?
+        .arg(option(
+            alloc,
+            "hosts",
+            "FILE",
+            "The hosts file; /etc/hosts if it is omitted",
+        ))?
+        .arg(list(
+            alloc,
+            "search",
+            "NAME",
+            "A name that completes relative names, in place of those of resolv.conf",
+        ))?
+        .arg(ndots_option(alloc))
+}
+
+/// Returns the option of the number of dots.
+fn ndots_option<'a>(alloc: Global) -> Arg<'a> {
+    option(
+        alloc,
+        "ndots",
+        "N",
+        "The number of labels above which a name is looked up as it is before it is completed",
+    )
+    .value_parser(value_parser!(u8).range(0..=15))
+}
+
+/// Adds the options of how servers are asked.
+fn with_time<'a>(alloc: Global, command: Command<'a>) -> Result<Command<'a>, AllocError> {
+    command
+        .arg(option(
+            alloc,
+            "strategy",
+            "STRATEGY",
+            "The types of addresses: ipv4, ipv6, both, ipv4-then-ipv6 or ipv6-then-ipv4",
+        ))?
+        .arg(option(
+            alloc,
+            "timeout",
+            "SECONDS",
+            "How long to wait for a reply, with at most three decimals",
+        ))?
+        .arg(
+            option(
+                alloc,
+                "attempts",
+                "N",
+                "How many times each server is asked",
+            )
+            .value_parser(value_parser!(u16).range(1..=1000)),
+        )
+}
+
+/// Adds the options of updates.
+fn with_update<'a>(alloc: Global, command: Command<'a>) -> Result<Command<'a>, AllocError> {
+    let update = option(
+        alloc,
+        "update",
+        "WORDS",
+        "Send a dynamic update, such as 'append a 60 A 10.0.0.1'",
+    );
+    let zone = option(alloc, "zone", "NAME", "The zone of the update");
+    command
+        .arg(update.requires_arg("zone")?)?
+        .arg(zone.requires_arg("update")?)
+}
+
+/// Adds the options without a value.
+fn with_flags<'a>(alloc: Global, command: Command<'a>) -> Result<Command<'a>, AllocError> {
+    command
+        .arg(flag(alloc, "tcp", "Ask over TCP alone"))?
+        .arg(flag(alloc, "rotate", "Ask the servers in turn"))?
+        .arg(flag(alloc, "no-edns", "Leave the OPT record out of requests"))?
+        .arg(flag(alloc, "no-cache", "Ask again for what was found before"))?
+        .arg(flag(alloc, "json", "Print a JSON object for each lookup"))?
+        .arg(flag(
+            alloc,
+            "trace",
+            "Say on standard error what is sent and received",
+        ))
+}
+
+/// Returns an option that takes one value.
+fn option<'a>(alloc: Global, name: &'a str, value_name: &'a str, help: &'a str) -> Arg<'a> {
+    Arg::new(alloc, name)
+        .long(name)
+        .value_name(value_name)
+        .action(ArgAction::Set)
+        .help(help)
+}
+
+/// Returns an option that may be given several times.
+fn list<'a>(alloc: Global, name: &'a str, value_name: &'a str, help: &'a str) -> Arg<'a> {
+    option(alloc, name, value_name, help).action(ArgAction::Append)
+}
+
+/// Returns an option without a value.
+fn flag<'a>(alloc: Global, name: &'a str, help: &'a str) -> Arg<'a> {
+    Arg::new(alloc, name)
+        .long(name)
+        .action(ArgAction::SetTrue)
+        .value_parser(value_parser!(bool))
+        .help(help)
+}

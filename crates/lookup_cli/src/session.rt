@@ -1,0 +1,74 @@
+//! Lookups over a resolver.
+
+ghost use Rattle.std.specs.Prelude.{◌≤◌, ◌^◌};
+
+use crate::item::{Item, Question};
+use dns_messages::ResponseCode;
+use std::alloc::Global;
+use stub_config::{ResolverConfig, ResolverOpts};
+use stub_core::Resolver;
+use stub_hosts::Hosts;
+use stub_link::UpdateEvent;
+use stub_lookup::{Lookup, Moment, NetError};
+use stub_net::{IdSource, NameServerPool, Network};
+use stub_servers::ServerList;
+
+/// A resolver over a network, and its cache.
+#[derive(Drop)]
+pub struct Session<N, I> {
+    resolver: Resolver<NameServerPool<N, I>>,
+}
+
+impl<N: Network + Drop, I: IdSource + Drop> Session<N, I> {
+    /// Creates a session with an empty cache. A time-out in milliseconds takes the place of that of the options.
+    ///
+    /// The error is [`NetError::Unsupported`] if no resolver has these options.
+    pub fn new(
+        alloc: Global,
+        network: N,
+        ids: I,
+        config: ResolverConfig,
+        options: ResolverOpts,
+        timeout: u64,
+        streams_alone: bool,
+        hosts: Hosts,
+    ) -> Result<Session<N, I>, NetError> {
+        let servers = ServerList::from_config(alloc, &config, &options)?;
+        let mut pool = NameServerPool::new(alloc, network, ids, servers, &options);
+        pool.set_timeout(timeout);
+        if streams_alone {
+            pool.use_streams_alone();
+        }
+        let resolver = Resolver::builder_with_config(alloc, config, pool)
+            .with_options(options)
+            .with_hosts(hosts)
+            .build()?;
+        Ok(Session { resolver })
+    }
+
+    /// Looks up what an item asks, at a moment.
+    pub fn look_up(&mut self, item: &Item, now: Moment) -> Result<Lookup, NetError>
+        requires { now ≤ 2 ^ 62 }
+    {
+        let name = item.name.as_str();
+        match item.question {
+            Question::Addresses => match self.resolver.lookup_ip(name, now) {
+                Ok(addresses) => Ok(Lookup::from(addresses)),
+                Err(error) => Err(error),
+            },
+            Question::Records(record_type) => self.resolver.lookup(name, record_type, now),
+            Question::Unknown => Err(NetError::Unsupported),
+        }
+    }
+
+    /// Sends an update, and returns the response code of its reply.
+    pub fn send_update(&mut self, update: &UpdateEvent) -> Result<ResponseCode, NetError> {
+        self.resolver.handle_mut().send_update(update)
+    }
+
+    /// Returns the number of requests that were sent to servers, or were to be.
+    pub fn questions(&self) -> u64 {
+        let counts = self.resolver.handle().counts();
+        counts.datagrams.saturating_add(counts.streams)
+    }
+}

@@ -1,0 +1,118 @@
+//! The values of options.
+
+use crate::ending::Ending;
+use dns_names::{Name, ParseError};
+use dns_text::parse_ip;
+use dns_wire::RecordType;
+use std::alloc::Global;
+use std::net::SocketAddr;
+use stub_config::LookupIpStrategy;
+
+/// The port of name servers (RFC 1035 section 4.2).
+const DNS_PORT: u16 = 53;
+
+/// The maximum number of seconds to wait for a reply.
+const MAX_SECONDS: u64 = 3_600;
+
+/// Returns the type that a text spells.
+pub(crate) fn type_of(alloc: Global, text: &str) -> Result<RecordType, Ending> {
+    match RecordType::from_ascii_bytes(text.as_bytes()) {
+        Some(record_type) => Ok(record_type),
+        None => Err(Ending::invalid(alloc, "-t", text, "it is not a type")),
+    }
+}
+
+/// Returns the name that a text spells. It is fully qualified, with or without a dot at its end.
+pub(crate) fn name_of(alloc: Global, option: &str, text: &str) -> Result<Name, Ending> {
+    match Name::from_ascii(alloc, text) {
+        Ok(mut name) => {
+            name.set_fqdn(true);
+            Ok(name)
+        }
+        // Memory for the name was refused.
+        Err(ParseError::Memory) => Err(Ending::Memory),
+        Err(_) => Err(Ending::invalid(alloc, option, text, "it is not a domain name")),
+    }
+}
+
+/// Checks that a text is a name that can be looked up.
+pub(crate) fn check_name(alloc: Global, text: &str) -> Result<(), Ending> {
+    match Name::from_ascii(alloc, text) {
+        Ok(_) => Ok(()),
+        // Memory for the name was refused.
+        Err(ParseError::Memory) => Err(Ending::Memory),
+        // An IPv6 address is not a name, and is its own address.
+        Err(_) if parse_ip(text.as_bytes()).is_some() => Ok(()),
+        Err(_) => Err(Ending::invalid(alloc, "NAME", text, "it is not a domain name")),
+    }
+}
+
+/// Returns the address of a server, with port 53 if a text has none.
+pub(crate) fn server_of(alloc: Global, text: &str) -> Result<SocketAddr, Ending> {
+    if let Ok(address) = text.parse::<SocketAddr>() {
+        return Ok(address);
+    }
+    match parse_ip(text.as_bytes()) {
+        Some(ip) => Ok(SocketAddr::new(ip, DNS_PORT)),
+        None => {
+            let reason =
+                "it is not an address, such as 192.0.2.1, 192.0.2.1:53, 2001:db8::1 or [2001:db8::1]:53";
+            Err(Ending::invalid(alloc, "--server", text, reason))
+        }
+    }
+}
+
+/// Returns the strategy that a text names.
+pub(crate) fn strategy_of(alloc: Global, text: &str) -> Result<LookupIpStrategy, Ending> {
+    match text {
+        "ipv4" => Ok(LookupIpStrategy::Ipv4Only),
+        "ipv6" => Ok(LookupIpStrategy::Ipv6Only),
+        "both" => Ok(LookupIpStrategy::Ipv6AndIpv4),
+        "ipv4-then-ipv6" => Ok(LookupIpStrategy::Ipv4thenIpv6),
+        "ipv6-then-ipv4" => Ok(LookupIpStrategy::Ipv6thenIpv4),
+        _ => {
+            let reason = "it is none of ipv4, ipv6, both, ipv4-then-ipv6 and ipv6-then-ipv4";
+            Err(Ending::invalid(alloc, "--strategy", text, reason))
+        }
+    }
+}
+
+/// Returns how many milliseconds a text says, in seconds with at most three decimals: at least one, and at most an hour.
+pub(crate) fn timeout_of(alloc: Global, text: &str) -> Result<u64, Ending> {
+    match milliseconds_of(text) {
+        Some(milliseconds) if milliseconds > 0 => Ok(milliseconds),
+        _ => {
+            let reason = "it is not a number of seconds from 0.001 to 3600, such as 2 or 0.5";
+            Err(Ending::invalid(alloc, "--timeout", text, reason))
+        }
+    }
+}
+
+/// Returns the milliseconds of a text in seconds, at most an hour.
+fn milliseconds_of(text: &str) -> Option<u64> {
+    let (seconds, decimals) = text.split_once('.').unwrap_or((text, "0"));
+    let seconds = number_up_to(seconds, MAX_SECONDS)?;
+    let thousandths = thousandths_of(decimals)?;
+    let milliseconds = seconds * 1_000 + thousandths;
+    if milliseconds <= MAX_SECONDS * 1_000 {
+        Some(milliseconds)
+    } else {
+        None
+    }
+}
+
+/// Returns the thousandths of one to three decimals.
+fn thousandths_of(decimals: &str) -> Option<u64> {
+    let number = number_up_to(decimals, 999)?;
+    match decimals.len() {
+        1 => Some(number * 100),
+        2 => Some(number * 10),
+        3 => Some(number),
+        _ => None,
+    }
+}
+
+/// Returns the number of a text of digits, if it is not above a limit.
+fn number_up_to(text: &str, limit: u64) -> Option<u64> {
+    dns_codes::parse_decimal(text.as_bytes(), limit)
+}

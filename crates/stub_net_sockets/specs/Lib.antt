@@ -1,0 +1,2 @@
+pub mod SocketNetwork
+pub mod RandomIds
