@@ -109,14 +109,20 @@ impl Program<'_> {
 
     /// Says on standard error what answered an item for which no request was sent.
     fn tell_source(&self, item: &Item) {
-        let moment = self.start.elapsed(self.rt).map_or(0, |elapsed| elapsed.as_millis());
+        let moment = self
+            .start
+            .elapsed(self.rt)
+            .map_or(0, |elapsed| elapsed.as_millis());
         let source = if self.is_host(item) {
             "from the hosts"
         } else {
             "from the cache"
         };
         // A failure to write to standard error can't be reported.
-        let _written = eprintln!(self.rt; "{moment} ms {} {} answered {source}", item.name, item.question);
+        let _written = eprintln!(self.rt;
+            "{moment} ms {} {} answered {source}",
+            item.name, item.question
+        );
     }
 
     /// Returns `true` if the hosts answer an item.
@@ -137,7 +143,8 @@ impl Program<'_> {
         };
         name.set_fqdn(true);
         matches!(
-            self.hosts.lookup_static_host(&Query::query(name, record_type), 0),
+            self.hosts
+                .lookup_static_host(&Query::query(name, record_type), 0),
             Ok(Some(_))
         )
     }

@@ -96,7 +96,9 @@ fn open_session<'a>(
 ) -> Result<Session<Sockets<'a>, Ids<'a>>, Ending> {
     let text = read_conf(rt, arguments)?;
     let SystemConf { config, options } = settings_of(rt.alloc(), arguments, text.as_slice())?;
-    let timeout = arguments.timeout.unwrap_or(options.timeout.saturating_mul(1_000));
+    let timeout = arguments
+        .timeout
+        .unwrap_or(options.timeout.saturating_mul(1_000));
     let network = SocketNetwork::new(rt, rt.alloc(), stopwatch(rt)?)?;
     let session = Session::new(
         rt.alloc(),

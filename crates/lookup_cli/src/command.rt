@@ -13,14 +13,19 @@ pub(crate) fn command<'a>(alloc: Global) -> Result<Command<'a>, AllocError> {
         .about("Looks up names at name servers")
         .arg(names(alloc)?)?
         .arg(type_option(alloc))?;
-    with_flags(alloc, with_update(alloc, with_time(alloc, with_sources(alloc, command)?)?)?)
+    with_flags(
+        alloc,
+        with_update(alloc, with_time(alloc, with_sources(alloc, command)?)?)?,
+    )
 }
 
 /// Returns the argument of the names.
 fn names<'a>(alloc: Global) -> Result<Arg<'a>, AllocError> {
     Arg::new(alloc, "NAME")
         .value_name("NAME")
-        .help("The names to look up; with - also those of standard input, one a line, after which a type may follow")
+        .help(
+            "The names to look up; with - also those of standard input, one a line, after which a type may follow",
+        )
         .action(ArgAction::Append)
         .num_args(1..)
         .required_unless_present("update")?
@@ -94,15 +99,13 @@ fn with_time<'a>(alloc: Global, command: Command<'a>) -> Result<Command<'a>, All
             "SECONDS",
             "How long to wait for a reply, with at most three decimals",
         ))?
-        .arg(
-            option(
-                alloc,
-                "attempts",
-                "N",
-                "How many times each server is asked",
-            )
-            .value_parser(value_parser!(u16).range(1..=1000)),
+        .arg(option(
+            alloc,
+            "attempts",
+            "N",
+            "How many times each server is asked",
         )
+        .value_parser(value_parser!(u16).range(1..=1000)))
 }
 
 /// Adds the options of updates.

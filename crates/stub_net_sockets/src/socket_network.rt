@@ -65,7 +65,11 @@ impl<R: Net<Listener = TcpListener, Stream = TcpStream> + Clock + Drop> SocketNe
     }
 
     /// Sends a datagram to a server from a new socket.
-    fn send_from_new_socket(&mut self, server: SocketAddr, bytes: &[u8]) -> Result<(), SocketError> {
+    fn send_from_new_socket(
+        &mut self,
+        server: SocketAddr,
+        bytes: &[u8],
+    ) -> Result<(), SocketError> {
         self.socket = None;
         let socket = DatagramSocket::open(&self.net, server)?;
         socket.send(bytes)?;
@@ -85,8 +89,7 @@ fn network_result<T>(outcome: Result<T, SocketError>) -> Result<T, LinkError> {
 }
 
 impl<R: Net<Listener = TcpListener, Stream = TcpStream> + Clock + Drop> Network
-    for SocketNetwork<R>
-{
+    for SocketNetwork<R> {
     ghost use Rattle.stub_net_sockets.specs.SocketNetwork.{Goes, Reads};
 
     ghost sends = { λ old _ _ _ new. Goes old new };

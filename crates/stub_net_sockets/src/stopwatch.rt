@@ -32,7 +32,9 @@ impl<R: Clock> Stopwatch<R> {
         ensures kept { self.old.last ≤ result }
     {
         if let Ok(elapsed) = self.start.elapsed(&self.rt) {
-            self.last = self.last.max(u64::try_from(elapsed.as_millis()).unwrap_or(u64::MAX));
+            self.last = self
+                .last
+                .max(u64::try_from(elapsed.as_millis()).unwrap_or(u64::MAX));
         }
         self.last
     }

@@ -42,7 +42,10 @@ impl<N, R: Clock + Eprint> Traced<N, R> {
         let Some(server) = server else {
             return;
         };
-        let moment = self.start.elapsed(&self.rt).map_or(0, |elapsed| elapsed.as_millis());
+        let moment = self
+            .start
+            .elapsed(&self.rt)
+            .map_or(0, |elapsed| elapsed.as_millis());
         // A failure to write to standard error can't be reported.
         let _written = eprintln!(self.rt; "{moment} ms {transport} {server} {event}");
     }
