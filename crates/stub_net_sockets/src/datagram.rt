@@ -1,5 +1,7 @@
 //! The socket of a datagram.
 
+ghost use Rattle.std.specs.Prelude.{◌≤◌, IfOk, IfSome, length};
+
 use dns_blocking::{SocketError, or_failed, patience, receive, send};
 use std::net::{Ipv4Addr, Ipv6Addr, Net, SocketAddr, SocketAddrV4, SocketAddrV6, UdpSocket};
 use std::time::Duration;
@@ -33,7 +35,9 @@ impl DatagramSocket {
         &self,
         buffer: &mut [u8],
         milliseconds: u64,
-    ) -> Result<Option<usize>, SocketError> {
+    ) -> Result<Option<usize>, SocketError>
+        ensures { IfOk result (λ found. IfSome found (λ count. count ≤ length buffer.new)) }
+    {
         let limit = Duration::from_millis(milliseconds);
         or_failed(self.socket.set_read_timeout(Some(limit)))?;
         match receive(&self.socket, buffer)? {
