@@ -31,6 +31,15 @@ pub(crate) fn read_hosts(rt: &HostRuntime, path: Option<&String>) -> Result<Host
     }
 }
 
+/// Reads the hosts file if events are told, which say what is answered from it.
+pub(crate) fn read_traced_hosts(rt: &HostRuntime, arguments: &Arguments) -> Result<Hosts, Ending> {
+    if arguments.trace {
+        read_hosts(rt, arguments.hosts.as_ref())
+    } else {
+        Ok(Hosts::default(rt.alloc()))
+    }
+}
+
 /// Reads a file.
 fn read_file(rt: &HostRuntime, path: &str) -> Result<Vec<u8>, Ending> {
     match fs::read(rt, path) {

@@ -4,6 +4,7 @@ use crate::update::update_of;
 use crate::{Ids, Sockets};
 use dns_messages::Query;
 use dns_names::Name;
+use dns_text::parse_ip;
 use dns_wire::RecordType;
 use lookup_cli::{
     Answer, Arguments, Ending, ExitStatus, Item, JsonAnswer, JsonUpdate, PlainAnswer, PlainReason,
@@ -21,7 +22,7 @@ pub(crate) struct Program<'a> {
     pub(crate) rt: &'a HostRuntime,
     /// The clock.
     pub(crate) clock: Stopwatch<&'a HostRuntime>,
-    /// The moment at which it was started.
+    /// The moment from which events are told.
     pub(crate) start: Instant,
     /// The arguments.
     pub(crate) arguments: &'a Arguments,
@@ -75,7 +76,7 @@ impl Program<'_> {
             item,
             outcome,
         };
-        if self.arguments.trace && answer.questions == 0 {
+        if self.arguments.trace && answer.questions == 0 && answer.status() != Status::Failed {
             self.tell_source(&answer.item);
         }
         self.status.count(answer.status());
@@ -115,6 +116,8 @@ impl Program<'_> {
             .map_or(0, |elapsed| elapsed.as_millis());
         let source = if self.is_host(item) {
             "from the hosts"
+        } else if parse_ip(item.name.as_str().as_bytes()).is_some() {
+            "as an address"
         } else {
             "from the cache"
         };

@@ -7,7 +7,7 @@ mod files;
 mod lookups;
 mod update;
 
-use files::{read_conf, read_hosts};
+use files::{read_conf, read_hosts, read_traced_hosts};
 use lookup_cli::{Arguments, Ending, ExitStatus, Session, read_arguments, settings_of};
 use lookups::Program;
 use std::process::ExitCode;
@@ -60,7 +60,7 @@ fn run_program(rt: &HostRuntime) -> Result<ExitStatus, Ending> {
         start,
         arguments: &arguments,
         session,
-        hosts: read_hosts(rt, arguments.hosts.as_ref())?,
+        hosts: read_traced_hosts(rt, &arguments)?,
         status: ExitStatus::new(),
     };
     match &arguments.update {

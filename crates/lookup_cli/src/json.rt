@@ -6,6 +6,7 @@ use crate::record_text::OwnerText;
 use crate::status::Status;
 use dns_log::JsonText;
 use dns_messages::{Record, ResponseCode};
+use dns_names::Name;
 use std::alloc::{AllocError, Global};
 use std::fmt;
 use stub_lookup::NetError;
@@ -167,7 +168,7 @@ impl<'a> JsonUpdate<'a> {
     pub fn new(
         alloc: Global,
         words: &'a str,
-        zone: &dns_names::Name,
+        zone: &Name,
         outcome: &Result<ResponseCode, NetError>,
         questions: u64,
         milliseconds: u64,

@@ -1,5 +1,8 @@
 //! The configuration and the options of the resolver.
 
+ghost use Rattle.std.specs.Prelude.{◌≡◌};
+ghost use Rattle.lookup_cli.specs.Settings.{options_by};
+
 use crate::arguments::Arguments;
 use std::alloc::{AllocError, Global};
 use std::net::SocketAddr;
@@ -40,12 +43,15 @@ pub fn settings_of(
     })
 }
 
-/// Sets the options that the arguments give.
-fn set_options(arguments: &Arguments, options: &mut ResolverOpts) {
+/// Sets the options that the arguments give. Aliases are left out of answers.
+fn set_options(arguments: &Arguments, options: &mut ResolverOpts)
+    ensures { options.new ≡ options_by arguments.now options.old }
+{
     options.ndots = arguments.ndots.unwrap_or(options.ndots);
     options.attempts = arguments.attempts.unwrap_or(options.attempts);
     options.ip_strategy = arguments.strategy.unwrap_or(options.ip_strategy);
     options.edns0 = arguments.edns;
+    options.preserve_intermediates = false;
     if arguments.rotate {
         options.server_ordering_strategy = ServerOrderingStrategy::RoundRobin;
     }

@@ -1,5 +1,8 @@
 //! What a lookup led to, and the exit status.
 
+ghost use Rattle.std.specs.Prelude.{◌≡◌, max};
+ghost use Rattle.lookup_cli.specs.Status.{exit_code, status_of, status_of_count, status_of_update};
+
 use dns_messages::ResponseCode;
 use stub_lookup::{DnsError, Lookup, NetError};
 
@@ -22,7 +25,9 @@ pub struct ExitStatus {
 
 impl Status {
     /// Returns what a lookup led to.
-    pub fn of(outcome: &Result<Lookup, NetError>) -> Status {
+    pub fn of(outcome: &Result<Lookup, NetError>) -> Status
+        ensures { result ≡ status_of outcome.now }
+    {
         match outcome {
             Ok(lookup) => Status::of_count(lookup.answers().len()),
             Err(NetError::Dns(DnsError::NoRecordsFound(_))) => Status::Nothing,
@@ -31,7 +36,9 @@ impl Status {
     }
 
     /// Returns what a lookup with so many answers led to.
-    fn of_count(count: usize) -> Status {
+    fn of_count(count: usize) -> Status
+        ensures { result ≡ status_of_count count }
+    {
         if count == 0 {
             Status::Nothing
         } else {
@@ -40,7 +47,9 @@ impl Status {
     }
 
     /// Returns what an update led to.
-    pub fn of_update(outcome: &Result<ResponseCode, NetError>) -> Status {
+    pub fn of_update(outcome: &Result<ResponseCode, NetError>) -> Status
+        ensures { result ≡ status_of_update outcome.now }
+    {
         match outcome {
             Ok(ResponseCode::NoError) => Status::Found,
             Ok(_) => Status::Nothing,
@@ -58,7 +67,9 @@ impl Status {
     }
 
     /// Returns the exit status of a program with this lookup alone.
-    fn code(self) -> u8 {
+    fn exit_code(self) -> u8
+        ensures { result ≡ exit_code self }
+    {
         match self {
             Status::Found => 0,
             Status::Nothing => 1,
@@ -69,17 +80,23 @@ impl Status {
 
 impl ExitStatus {
     /// The status without a lookup.
-    pub fn new() -> ExitStatus {
+    pub fn new() -> ExitStatus
+        ensures { result.code ≡ 0 }
+    {
         ExitStatus { code: 0 }
     }
 
     /// Counts a lookup.
-    pub fn count(&mut self, status: Status) {
-        self.code = self.code.max(status.code());
+    pub fn count(&mut self, status: Status)
+        ensures { self.new.code ≡ max self.old.code (exit_code status) }
+    {
+        self.code = self.code.max(status.exit_code());
     }
 
     /// Returns the status: 0 if each lookup found something, 3 if one of them failed, and else 1.
-    pub fn code(self) -> u8 {
+    pub fn code(self) -> u8
+        ensures { result ≡ self.code }
+    {
         self.code
     }
 }

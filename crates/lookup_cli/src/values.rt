@@ -1,6 +1,9 @@
 //! The values of options.
 
+ghost use Rattle.std.specs.Prelude.{◌<◌, ◌≤◌, IfOk, IfSome};
+
 use crate::ending::Ending;
+use dns_codes::parse_decimal;
 use dns_names::{Name, ParseError};
 use dns_text::parse_ip;
 use dns_wire::RecordType;
@@ -78,7 +81,9 @@ pub(crate) fn strategy_of(alloc: Global, text: &str) -> Result<LookupIpStrategy,
 }
 
 /// Returns how many milliseconds a text says, in seconds with at most three decimals: at least one, and at most an hour.
-pub(crate) fn timeout_of(alloc: Global, text: &str) -> Result<u64, Ending> {
+pub(crate) fn timeout_of(alloc: Global, text: &str) -> Result<u64, Ending>
+    ensures { IfOk result (λ milliseconds. (0 < milliseconds) × (milliseconds ≤ 3600000)) }
+{
     match milliseconds_of(text) {
         Some(milliseconds) if milliseconds > 0 => Ok(milliseconds),
         _ => {
@@ -89,7 +94,9 @@ pub(crate) fn timeout_of(alloc: Global, text: &str) -> Result<u64, Ending> {
 }
 
 /// Returns the milliseconds of a text in seconds, at most an hour.
-fn milliseconds_of(text: &str) -> Option<u64> {
+fn milliseconds_of(text: &str) -> Option<u64>
+    ensures { IfSome result (λ milliseconds. milliseconds ≤ 3600000) }
+{
     let (seconds, decimals) = text.split_once('.').unwrap_or((text, "0"));
     let seconds = number_up_to(seconds, MAX_SECONDS)?;
     let thousandths = thousandths_of(decimals)?;
@@ -102,7 +109,9 @@ fn milliseconds_of(text: &str) -> Option<u64> {
 }
 
 /// Returns the thousandths of one to three decimals.
-fn thousandths_of(decimals: &str) -> Option<u64> {
+fn thousandths_of(decimals: &str) -> Option<u64>
+    ensures { IfSome result (λ number. number ≤ 99900) }
+{
     let number = number_up_to(decimals, 999)?;
     match decimals.len() {
         1 => Some(number * 100),
@@ -113,6 +122,8 @@ fn thousandths_of(decimals: &str) -> Option<u64> {
 }
 
 /// Returns the number of a text of digits, if it is not above a limit.
-fn number_up_to(text: &str, limit: u64) -> Option<u64> {
-    dns_codes::parse_decimal(text.as_bytes(), limit)
+fn number_up_to(text: &str, limit: u64) -> Option<u64>
+    ensures { IfSome result (λ number. number ≤ limit) }
+{
+    parse_decimal(text.as_bytes(), limit)
 }

@@ -1,11 +1,16 @@
--- What the calls of a network over sockets do to its clock. What sockets carry is not known.
+-- What the calls of a network over sockets may do. What sockets carry is not known.
 use Rattle.std.specs.Prelude.{◌≡◌, ◌≤◌, ℕ}
 use Rattle.stub_net_sockets.specs.declared.socket_network.SocketNetwork.{SocketNetwork}
 
--- a call: the clock may go on, and does not go back
-abbrev pub Goes : {R : Type 0} → SocketNetwork R → SocketNetwork R → Type 0
-Goes old new = old.clock.last ≤ new.clock.last
+-- A receive, or an exchange over a stream, may have any result.
+abbrev pub Anything : Type 0
+Anything = Unit {0}
 
--- the clock is read: it has not gone back since it was read last
-abbrev pub Reads : {R : Type 0} → SocketNetwork R → ℕ → SocketNetwork R → Type 0
-Reads old now new = (old.clock.last ≤ now) × (new.clock.last ≡ now)
+-- A datagram may be sent or not, and the clock is not read.
+abbrev pub KeepsClock : {R : Type 0} → SocketNetwork R → SocketNetwork R → Type 0
+KeepsClock old new = new.clock ≡ old.clock
+
+-- The clock is read: it has not gone back since it was read last.
+pub record ReadsClock {R : Type 0} (old : SocketNetwork R) (now : ℕ) (new : SocketNetwork R) : Type 0 where
+  pub kept : old.clock.last ≤ now
+  pub noted : new.clock.last ≡ now

@@ -1,5 +1,8 @@
 //! Ids from the system's entropy.
 
+ghost use Rattle.std.specs.Prelude.{◌≡◌, ◌<◌, ◌≤◌, None, IfSome, IsSome};
+ghost use Rattle.stub_net_sockets.specs.RandomIds.{Takes};
+
 use std::random::RandomSource;
 use stub_net::IdSource;
 
@@ -16,7 +19,9 @@ pub struct RandomIds<R> {
 
 impl<R: RandomSource> RandomIds<R> {
     /// Creates a source of ids, which has drawn no bytes from the system.
-    pub fn new(rt: R) -> RandomIds<R> {
+    pub fn new(rt: R) -> RandomIds<R>
+        ensures { result.used ≡ 256 }
+    {
         RandomIds {
             rt,
             bytes: [0u8; BUFFER_LEN],
@@ -25,17 +30,23 @@ impl<R: RandomSource> RandomIds<R> {
     }
 
     /// Takes two of the bytes that were drawn from the system, if they are left.
-    fn take(&mut self) -> Option<u16> {
-        let [high, low, ..] = self.bytes.get(self.used..)? else {
+    fn take(&mut self) -> Option<u16>
+        ensures taken { IfSome result (λ id. Takes self.old id self.new) }
+        ensures none { result ≡ None → 254 < self.old.used }
+        ensures kept { self.old.used ≤ 254 → IsSome result }
+    {
+        let place = self.used;
+        if place > BUFFER_LEN - 2 {
             return None;
-        };
-        let id = u16::from_be_bytes([*high, *low]);
-        self.used += 2;
-        Some(id)
+        }
+        self.used = place + 2;
+        Some(256 * u16::from(self.bytes[place]) + u16::from(self.bytes[place + 1]))
     }
 
     /// Draws bytes from the system.
-    fn refill(&mut self) -> Option<()> {
+    fn refill(&mut self) -> Option<()>
+        ensures { IsSome result → self.new.used ≡ 0 }
+    {
         match self.rt.fill_bytes(&mut self.bytes) {
             Ok(()) => {
                 self.used = 0;
@@ -49,7 +60,7 @@ impl<R: RandomSource> RandomIds<R> {
 impl<R: RandomSource> IdSource for RandomIds<R> {
     ghost use Rattle.stub_net_sockets.specs.RandomIds.{Draws};
 
-    ghost draws = { Draws };
+    ghost draws = { λ old id new. Draws old id new };
 
     /// Draws an id, or `None` if the system has no entropy.
     fn draw(&mut self) -> Option<u16> {

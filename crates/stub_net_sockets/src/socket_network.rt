@@ -1,6 +1,6 @@
 //! The network.
 
-ghost use Rattle.std.specs.Prelude.{◌≡◌, ◌≤◌, IfOk};
+ghost use Rattle.std.specs.Prelude.{◌≡◌, IfOk};
 
 use crate::datagram::DatagramSocket;
 use crate::stopwatch::Stopwatch;
@@ -47,19 +47,21 @@ impl<R: Net<Listener = TcpListener, Stream = TcpStream> + Clock + Drop> SocketNe
     }
 
     /// Receives the next datagram of the open socket, or `None` once the deadline has passed.
-    fn receive(&mut self, deadline: u64) -> Result<Option<Vec<u8>>, SocketError>
-        ensures { self.old.clock.last ≤ self.new.clock.last }
-    {
-        match &self.socket {
-            Some(socket) => receive_until(
-                socket,
-                self.alloc,
-                &mut self.clock,
-                self.buffer.as_mut_slice(),
-                deadline,
-            ),
-            None => Err(SocketError::Failed),
+    fn receive(&mut self, deadline: u64) -> Result<Option<Vec<u8>>, SocketError> {
+        let Some(socket) = &self.socket else {
+            return Err(SocketError::Failed);
+        };
+        for _wait in 0..MAX_WAITS {
+            let left = deadline.saturating_sub(self.clock.milliseconds());
+            if left == 0 {
+                return Ok(None);
+            }
+            if let Some(count) = socket.receive(self.buffer.as_mut_slice(), left)? {
+                let bytes = &self.buffer.as_slice()[..count];
+                return Ok(Some(Vec::from_slice(self.alloc, bytes)?));
+            }
         }
+        Err(SocketError::Failed)
     }
 
     /// Sends a datagram to a server from a new socket.
@@ -74,28 +76,6 @@ impl<R: Net<Listener = TcpListener, Stream = TcpStream> + Clock + Drop> SocketNe
     }
 }
 
-/// Receives the next datagram of a socket to a buffer, and returns a copy of it, or `None` once the deadline has passed.
-fn receive_until<C: Clock>(
-    socket: &DatagramSocket,
-    alloc: Global,
-    clock: &mut Stopwatch<C>,
-    buffer: &mut [u8],
-    deadline: u64,
-) -> Result<Option<Vec<u8>>, SocketError>
-    ensures { clock.old.last ≤ clock.new.last }
-{
-    for _wait in 0..MAX_WAITS {
-        let left = deadline.saturating_sub(clock.milliseconds());
-        if left == 0 {
-            return Ok(None);
-        }
-        if let Some(count) = socket.receive(buffer, left)? {
-            return Ok(Some(Vec::from_slice(alloc, &buffer[..count])?));
-        }
-    }
-    Err(SocketError::Failed)
-}
-
 /// Returns the result of calls of sockets as that of a call of a network.
 fn network_result<T>(outcome: Result<T, SocketError>) -> Result<T, LinkError> {
     match outcome {
@@ -108,15 +88,15 @@ fn network_result<T>(outcome: Result<T, SocketError>) -> Result<T, LinkError> {
 
 impl<R: Net<Listener = TcpListener, Stream = TcpStream> + Clock + Drop> Network
     for SocketNetwork<R> {
-    ghost use Rattle.stub_net_sockets.specs.SocketNetwork.{Goes, Reads};
+    ghost use Rattle.stub_net_sockets.specs.SocketNetwork.{Anything, KeepsClock, ReadsClock};
 
-    ghost sends = { λ old _ _ _ new. Goes old new };
+    ghost sends = { λ old _ _ _ new. KeepsClock old new };
 
-    ghost receives = { λ old _ _ new. Goes old new };
+    ghost receives = { λ _ _ _ _. Anything };
 
-    ghost streams = { λ old _ _ _ _ new. Goes old new };
+    ghost streams = { λ _ _ _ _ _ _. Anything };
 
-    ghost reads_clock = { Reads };
+    ghost reads_clock = { λ old now new. ReadsClock old now new };
 
     fn send(&mut self, server: SocketAddr, bytes: &[u8]) -> Result<(), LinkError> {
         network_result(self.send_from_new_socket(server, bytes))

@@ -1,5 +1,7 @@
 //! A network that tells what it does.
 
+ghost use Rattle.std.specs.Prelude.{◌≡◌};
+
 use std::fmt;
 use std::net::SocketAddr;
 use std::time::{Clock, Instant};
@@ -22,7 +24,9 @@ pub struct Traced<N, R> {
 
 impl<N, R> Traced<N, R> {
     /// Creates a network that tells what another one does, with milliseconds since a moment, if it is on.
-    pub fn new(network: N, rt: R, start: Instant, is_on: bool) -> Traced<N, R> {
+    pub fn new(network: N, rt: R, start: Instant, is_on: bool) -> Traced<N, R>
+        ensures { result.network ≡ network }
+    {
         Traced {
             network,
             rt,
