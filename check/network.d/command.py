@@ -1,0 +1,2 @@
+def try_program(report, given):
+    pass

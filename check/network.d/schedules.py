@@ -1,0 +1,2 @@
+def try_faults(report, given):
+    pass

@@ -1,0 +1,2 @@
+def try_spoofer(report, given):
+    pass
