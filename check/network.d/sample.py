@@ -8,6 +8,8 @@ ORIGIN = "net.test."
 TYPES = ["A", "AAAA", "CNAME", "MX", "NS", "PTR", "SOA", "SRV", "TXT"]
 TTLS = [30, 60, 60, 300, 3600, 86400, 604800]
 LONGEST_CHAIN = 7
+# Chains that are longer than those that `nameserver` follows, so that a lookup needs more than one question.
+FAR_CHAINS = [8, 9, 10]
 # A label of the greatest length, and what is left of 255 bytes in a name of the zone.
 LABEL = 63
 ODD_LABELS = [r"a\.dot", r"a\032space", r"\200\255", r"a\\backslash", r"semi\;colon", "under_score", "x--y", "*-star"]
@@ -37,7 +39,8 @@ class Sample:
         self.add_chains()
         self.text = "".join(f"{it}\n" for it in self.lines)
         self.zone: Zone = zone_of(self.text)
-        self.names = sorted({owner for owner, _ in self.zone.sets}, key=repr)
+        # Of the longer chains alone those of its own kind are drawn.
+        self.names = sorted({owner for owner, _ in self.zone.sets if not owner[0].startswith(b"far")}, key=repr)
 
     # ---- the zone
 
@@ -118,16 +121,24 @@ class Sample:
 
     def add_chains(self) -> None:
         """Aliases to each kind of end, and loops."""
-        ends = ["host0", "host1", "domain3", "text4", "_http._tcp.svc5", "nowhere", "z.empty2", "large-A", "ns1", "3.0.200.10.rev"]
+        ends = ["host0", "host1", "domain3", "text4", "_http._tcp.svc5", "3.0.200.10.rev", "ns1", "large-A"]
+        ends += ["nowhere", "z.empty2"]
         for length in range(1, LONGEST_CHAIN + 1):
             for which, end in enumerate(ends):
                 links = [f"c{length}-{which}-{it}" for it in range(length)] + [end]
-                for name, target in zip(links, links[1:]):
-                    self.add(name, "CNAME", f"{self.mixed(target)}.{ORIGIN}", kind="chain")
+                self.add_chain(links, "chain")
+        for length in FAR_CHAINS:
+            for which, end in enumerate(("host0", "domain3", "nowhere")):
+                self.add_chain([*(f"far{length}-{which}-{it}" for it in range(length)), end], "far")
         for length in (1, 2, 3):
             for at in range(length):
                 self.add(f"loop{length}-{at}", "CNAME", f"loop{length}-{(at + 1) % length}.{ORIGIN}", kind="loop")
         self.add("into-loop", "CNAME", f"loop3-0.{ORIGIN}", kind="loop")
+
+    def add_chain(self, links: List[str], kind: str) -> None:
+        """Adds an alias of each name to the next one."""
+        for name, target in zip(links, links[1:]):
+            self.add(name, "CNAME", f"{self.mixed(target)}.{ORIGIN}", kind=kind)
 
     def mixed(self, text: str) -> str:
         """A text with letters of either case, at times."""
@@ -137,19 +148,19 @@ class Sample:
 
     # ---- lookups
 
-    def question(self, has_outside: bool = False) -> Question:
-        """A random lookup: of what is there, of another type, of what is not there, or of what is outside of the zone."""
+    def question(self, has_zone: bool = False) -> Question:
+        """A random lookup: of what is there, of another type, and of what is not there. A server that has the zone is asked for
+        what is outside of it, too, and for chains of aliases that others may find too long."""
         draw = self.random.random()
-        if has_outside and draw < 0.02:
+        if has_zone and draw < 0.02:
             return self.spelled(self.random.choice(["outside.example.", "test.", "xnet.test."]), self.any_type())
         if draw < 0.12:
             owner = name_text(self.random.choice(self.names))
             return self.spelled(self.absent(owner), self.any_type())
         if draw < 0.32:
             return self.spelled(name_text(self.random.choice(self.names)), self.any_type())
-        kind = self.random.choices(
-            ["plain", "chain", "large", "deep", "long", "odd", "loop"], [40, 25, 8, 5, 10, 10, 2]
-        )[0]
+        kinds, weights = ["plain", "chain", "large", "deep", "long", "odd", "loop", "far"], [40, 25, 8, 5, 10, 10, 2, 3]
+        kind = self.random.choices(kinds, weights if has_zone else [*weights[:-1], 0])[0]
         owner, rtype = self.random.choice(self.by_kind[kind])
         if rtype == type_text(CNAME) and self.random.random() < 0.9:
             rtype = self.any_type()

@@ -1,10 +1,10 @@
-"""Which server is asked when, and what a lookup leads to: the model of the program's schedule, over servers with fault tables.
+"""Which server is asked when, and what a lookup leads to: a model of the program's schedule, over servers with fault tables.
 
-A lookup has a number of rounds. In each, every server is tried, in the order that is drawn at the start: as configured, turned by
-one more with each lookup if servers rotate, and those that failed within the last 30 seconds behind all others. A try sends a
+A lookup has a number of rounds. In each, every server is tried, in an order that is determined at the start: as configured, turned
+by one more with each lookup if servers rotate, and those that failed within the last 30 seconds after all others. A try sends a
 datagram and waits for the time-out, or asks over a stream, which it also does after a truncated reply. What is not the reply to
-the question is dropped, and the wait goes on. A reply is accepted unless its code is `ServFail`, `Refused` or `NotImp`, and is the
-outcome. Without one, the last failure is.
+the question is dropped, and the wait goes on. The first reply whose code is not `ServFail`, `Refused` or `NotImp` is the outcome,
+or else the last failure.
 """
 from dataclasses import dataclass, field
 from typing import Dict, List, NamedTuple, Optional, Sequence, Set, Tuple

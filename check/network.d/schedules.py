@@ -1,4 +1,4 @@
-"""Servers with faults, and the model of the schedule: which server answers, how many questions each has, and what is found."""
+"""Servers with faults, and the model of the schedule: which server answers, what each is asked, and what is found."""
 import contextlib
 import copy
 import random
@@ -176,7 +176,7 @@ def by_hand() -> List[Scenario]:
     ):
         rules = [[Rule("*", dict(actions))] if actions else [], []]
         found.append(Scenario(title, rules, named("n0", "n1"), by_hand=answers))
-    once = Rule("*", {"truncate": None})
+    once, six = Rule("*", {"truncate": None}), named(*(f"n{it}" for it in range(NAMES)))
     for title, actions, answers in (
         ("a stream without a reply", {"drop": None}, [(1, 3), (1, 1)]),
         ("a stream with a wrong id", {"wrong-id": None}, [(1, 3), (1, 1)]),
@@ -194,7 +194,8 @@ def by_hand() -> List[Scenario]:
         Scenario("three attempts", [[Rule("*", {"drop": None}, 2)]], named("n0"), attempts=3, by_hand=[(0, 3)]),
         Scenario("no attempt is left", [[Rule("*", {"drop": None})]], named("n0"), by_hand=[(None, 2)]),
         Scenario("one attempt", [[Rule("*", {"drop": None})]], named("n0"), attempts=1, by_hand=[(None, 1)]),
-        Scenario("ServFail from all", [[Rule("*", {"code": 2})], [Rule("*", {"code": 5})]], named("n0"), by_hand=[(None, 4)]),
+        Scenario("failures from all", [[Rule("*", {"code": 2})], [Rule("*", {"code": 5})]], named("n0"),
+                 by_hand=[(None, 4)]),
         Scenario("ServFail, then silence", [[Rule("*", {"code": 2})], [Rule("*", {"drop": None})]], named("n0"), attempts=1,
                  by_hand=[(None, 2)]),
         Scenario("a server that is not there", [[], []], named("n0", "n1"), absent=[0], by_hand=[(1, 2), (1, 1)]),
@@ -206,9 +207,8 @@ def by_hand() -> List[Scenario]:
                  by_hand=[(1, 2), (1, 1)]),
         Scenario("a failed server answers, and is the first again", [[Rule("*", {"drop": None}, 1)],
                  [Rule(f"n1.{ORIGIN}", {"code": 2})]], named("n0", "n1", "n2"), by_hand=[(1, 2), (0, 2), (0, 1)]),
-        Scenario("in turn", [[], [], []], named(*(f"n{it}" for it in range(NAMES))), rotates=True,
-                 by_hand=[(it % 3, 1) for it in range(NAMES)]),
-        Scenario("in turn, one silent", [[], [Rule("*", {"drop": None})], []], named(*(f"n{it}" for it in range(NAMES))), rotates=True,
+        Scenario("in turn", [[], [], []], six, rotates=True, by_hand=[(it % 3, 1) for it in range(NAMES)]),
+        Scenario("in turn, one silent", [[], [Rule("*", {"drop": None})], []], six, rotates=True,
                  by_hand=[(0, 1), (2, 2), (2, 1), (0, 1), (2, 1), (2, 1)]),
     ]  # fmt: skip
     return found
@@ -287,7 +287,12 @@ def try_memory(report: Report, given: Given) -> None:
         resolver = started.enter_context(Resolver(given.program, addresses, ["--timeout", 1, "--strategy", "ipv4"]))
         conversation = started.enter_context(resolver.interactive())
         start = time.monotonic()
-        for label, moment, place, questions in (("n0", 0, 1, 2), ("n1", 0, 1, 1), ("n2", MEMORY - 2, 1, 1), ("n3", MEMORY + 1, 0, 1)):
+        for label, moment, place, questions in (
+            ("n0", 0, 1, 2),
+            ("n1", 0, 1, 1),
+            ("n2", MEMORY - 2, 1, 1),
+            ("n3", MEMORY + 1, 0, 1),
+        ):
             time.sleep(max(0.0, start + moment - time.monotonic()))
             outcome = conversation.ask(f"{label}.{ORIGIN}")
             wanted = (list(data_of(place)[f"{label}.{ORIGIN}"].records), questions)

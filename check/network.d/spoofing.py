@@ -1,9 +1,9 @@
-"""False replies (RFC 5452): floods of wrong ids from the server's address, and of right ids from other addresses, and how hard it
-is to guess the id and the port of a question.
+"""False replies (RFC 5452): floods of wrong ids from the server's address, and of right ids from other addresses, and whether the
+id and the port of a question can be guessed.
 
 A proxy between the program and the name server holds each reply back for some milliseconds. Meanwhile it sends wrong ids itself,
-and tells two others the port and the id of the question: a socket at another port, and one at another address. Beside it a
-process floods each port that is connected to the proxy, which it finds in /proc/net/udp, with every id in turn.
+and the right id from a socket at another port, and from one at another address. Besides, a process floods each port that is
+connected to the proxy, which it finds in /proc/net/udp, with every id in turn.
 """
 import collections
 import contextlib
@@ -56,7 +56,8 @@ class Proxy:
         self.server, self.random, self.false, self.questions = server, random.Random(1), collections.Counter(), 0
 
     def __enter__(self) -> "Proxy":
-        self.socket, self.other_port, self.other_address = (socket.socket(socket.AF_INET, socket.SOCK_DGRAM) for _ in range(3))
+        sockets = [socket.socket(socket.AF_INET, socket.SOCK_DGRAM) for _ in range(3)]
+        self.socket, self.other_port, self.other_address = sockets
         self.socket.bind(("127.0.0.1", 0))
         self.socket.settimeout(0.2)
         self.other_port.bind(("127.0.0.1", 0))

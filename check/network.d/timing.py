@@ -11,8 +11,8 @@ from processes import free_port
 from report import Report
 
 ORIGIN = "p.test."
-# The goal for one lookup from start to end, in seconds, and for the lookups of one process a second. A machine may be busy: only
-# what misses a goal by this factor is a failure.
+# The goal for one lookup from start to end, in seconds, and for the lookups of one process a second. As a machine may be busy,
+# only what misses a goal by a factor is a failure.
 START_GOAL, RATE_GOAL, BUSY = 0.010, 5000, 10
 STARTS, NAMES, QUICK_NAMES = 50, 10_000, 2000
 # The time-out of lookups with a silent server, and what they may take in all, in seconds.
@@ -49,11 +49,10 @@ def try_rate(report: Report, given: Given, server: NameServer, count: int) -> No
         found = [[it.data[0] for it in outcome.records] for outcome in outcomes]
         report.check("what many lookups find", [[bytes([10, at >> 8, at & 255, 1])] for at in range(count)], found)
         report.check("questions of many lookups", {1}, {it.questions for it in outcomes})
-        # The cache has room for 8,192 answers; those that stayed are the newer ones, since the lifetimes are equal.
         again = twice.outcomes()[count:]
         report.check("what many lookups find again", found, [[it.data[0] for it in outcome.records] for outcome in again])
     rate = count / once.seconds
-    print(f"{count:,} names of one process: {rate:,.0f} a second (goal: {RATE_GOAL:,}), {twice.seconds:.2f} s for two rounds", flush=True)
+    print(f"{count:,} names of one process: {rate:,.0f} a second (goal: {RATE_GOAL:,})", flush=True)
     report.check(f"{rate:,.0f} lookups a second", True, rate >= RATE_GOAL / BUSY)
 
 
@@ -68,7 +67,8 @@ def try_silence(report: Report, given: Given, server: NameServer) -> None:
         for _ in range(SILENT_RUNS):
             run = resolver.run("-", "--json", lines=[f"n0.{ORIGIN}", f"n1.{ORIGIN}"])
             first, second = run.outcomes()
-            report.check("with a silent server", [("found", 2), ("found", 1)], [(it.status, it.questions) for it in (first, second)])
+            got = [(it.status, it.questions) for it in (first, second)]
+            report.check("with a silent server", [("found", 2), ("found", 1)], got)
             report.check(f"at least a time-out: {first.milliseconds} ms", True, first.milliseconds >= TIMEOUT * 1000 - 2)
             report.check(f"no time-out: {second.milliseconds} ms", True, second.milliseconds < TIMEOUT * 1000 / 2)
             report.check(f"the whole run: {run.seconds:.3f} s", True, TIMEOUT <= run.seconds < TIMEOUT * 2)

@@ -50,7 +50,7 @@ def records_of(owner: Name, rtype: int, rows: Sequence[Row]) -> Tuple[Record, ..
 
 
 def walk_addresses(zone: Zone, name: Name, strategy: str) -> Walk:
-    """The addresses of a name by a strategy: those of both types, or of the first that has some, or else the first failure."""
+    """The addresses of a name by a strategy: those of both types, or of the first that has some, or else a failure."""
     types, is_one_enough = STRATEGIES[strategy]
     walks = [walk(zone, name, it) for it in types]
     found = [it for it in walks if it.records][: 1 if is_one_enough else 2]
