@@ -155,6 +155,8 @@ def status_of(outcomes: Sequence[Outcome]) -> int:
 
 def try_server(report: Report, title: str, server: Server, given: Given) -> None:
     sample = Sample(given.seed)
+    # The zone is the same for all servers, and the lookups are not.
+    sample.random.seed(f"{given.seed} {title}")
     with server.start(given, sample.text) as address, Resolver(given.program, [address]) as resolver:
         asked = Asked(report, title, server, sample, resolver)
         fresh = given.lookups // FRESH_SHARE

@@ -2,6 +2,7 @@
 import random
 from typing import List, NamedTuple, Optional
 
+from wire import lower
 from zones import CNAME, Name, Zone, name_of, name_text, type_text, zone_of
 
 ORIGIN = "net.test."
@@ -163,12 +164,20 @@ class Sample:
         kind = self.random.choices(kinds, weights if has_zone else [*weights[:-1], 0])[0]
         owner, rtype = self.random.choice(self.by_kind[kind])
         if rtype == type_text(CNAME) and self.random.random() < 0.9:
-            rtype = self.any_type()
+            rtype = self.random.choice([self.any_type(), *self.types_at_end(owner)])
         if rtype in ("A", "AAAA") and self.random.random() < 0.6:
             rtype = None
         if kind == "deep" and self.random.random() < 0.5:
             owner = owner.split(".", self.random.randint(1, 3))[-1]
         return self.spelled(owner, rtype)
+
+    def types_at_end(self, owner: str) -> List[str]:
+        """The types of what is at the end of aliases, or nothing in a loop."""
+        name, seen = lower(name_of(owner)), set()
+        while self.zone.at(name, CNAME) and name not in seen:
+            seen.add(name)
+            name = lower(self.zone.at(name, CNAME)[0].data[0])
+        return [type_text(it) for it in sorted(self.zone.types_at(name)) if it != CNAME]
 
     def any_type(self) -> Optional[str]:
         return self.random.choice([*TYPES, "A", "AAAA", None, None, None])
