@@ -11,6 +11,8 @@ TTLS = [30, 60, 60, 300, 3600, 86400, 604800]
 LONGEST_CHAIN = 7
 # Chains that are longer than those that `nameserver` follows, so that a lookup needs more than one question.
 FAR_CHAINS = [8, 9, 10]
+# How their names begin. Where one has more aliases, the cache also has what was asked for on the way.
+FAR = b"far"
 # A label of the greatest length, and what is left of 255 bytes in a name of the zone.
 LABEL = 63
 ODD_LABELS = [r"a\.dot", r"a\032space", r"\200\255", r"a\\backslash", r"semi\;colon", "under_score", "x--y", "*-star"]
@@ -41,7 +43,7 @@ class Sample:
         self.text = "".join(f"{it}\n" for it in self.lines)
         self.zone: Zone = zone_of(self.text)
         # Of the longer chains alone those of its own kind are drawn.
-        self.names = sorted({owner for owner, _ in self.zone.sets if not owner[0].startswith(b"far")}, key=repr)
+        self.names = sorted({owner for owner, _ in self.zone.sets if not owner[0].startswith(FAR)}, key=repr)
 
     # ---- the zone
 
