@@ -32,7 +32,9 @@ FALSE = bytes([6, 6, 6, 6])
 HELD, FALSE_REPLIES = 0.004, 12
 OTHER_ADDRESS = "127.0.0.66"
 # How long the flood lasts at most, in seconds.
-FLOOD_SECONDS = 120
+FLOOD_SECONDS = 300
+# How long the process that floods pauses between looks at the ports, in seconds, so that others have their turn.
+PAUSE = 0.0005
 # By how many standard deviations a number may differ from what is to be expected of random ones.
 DEVIATIONS = 6
 
@@ -142,6 +144,7 @@ def flood(port: int) -> None:
                 number, sent = (number + 1) % 65536, sent + 1
                 with contextlib.suppress(OSError):
                     sender.sendto(false_reply(question, number), ("127.0.0.1", target))
+        time.sleep(PAUSE)
         # The count so far: the parent reads the last one.
         if sent >= told + 100:
             print(sent, flush=True)
