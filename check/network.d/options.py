@@ -2,7 +2,7 @@
 import re
 from typing import List, Optional, Tuple
 
-from asked import ORIGIN, ROOT, Asked, addresses_of, attempted, found_in_root, why_not_bound
+from asked import ORIGIN, ROOT, ZONE, Asked, addresses_of, attempted, found_in_root, why_not_bound
 from given import Given
 from report import Report
 from zones import name_text
@@ -20,6 +20,13 @@ def try_transports(report: Report, given: Given) -> None:
             size = 12 + len(f".a.{ORIGIN}") + 4 + (11 if has_edns else 0)
             report.check(f"{options}: bytes", size, requests[0].request_bytes)
             report.check(f"{options}: opcode and class", [(0, "IN")] * 3, [(it.opcode, it.rclass) for it in requests])
+    # A reply with 2,000 addresses has about 50,000 bytes, which only a stream has room for.
+    large = [f"10.{at >> 8}.{at & 255}.9" for at in range(2000)]
+    zone = ZONE + "".join(f"\nlarge.{ORIGIN} 60 IN A {it}" for it in large)
+    with Asked(given, zone) as asked:
+        (outcome,) = asked.resolver.ask([f"large.{ORIGIN} A"])
+        report.check("a reply of 50,000 bytes", (large, 2), (addresses_of(outcome), outcome.questions))
+        report.check("its requests", ["udp", "tcp"], [it.transport for it in asked.requests(2)])
     reason = why_not_bound("::1", 0)
     if reason:
         report.skip("a server with an IPv6 address", reason)

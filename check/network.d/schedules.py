@@ -2,8 +2,6 @@
 import contextlib
 import copy
 import random
-import socket
-import threading
 import time
 from concurrent.futures import ThreadPoolExecutor
 from dataclasses import dataclass
@@ -15,6 +13,9 @@ from nameserver import NameServer, NameServerError
 from processes import free_port
 from report import Report
 from schedule import MEMORY, NO_ERROR, NX_DOMAIN, Data, Rule, Schedule, Server
+from schedule import Outcome as Wanted
+from slow_servers import Chatter, Dribbler
+from transport import Address
 from zones import name_text
 
 ORIGIN = "f.test."
@@ -83,7 +84,8 @@ class Scenario:
                 outcomes = resolver.ask(self.names)
             found = [("outcomes", len(wanted), len(outcomes))]
             for number, (name, one, other) in enumerate(zip(self.names, wanted, outcomes)):
-                found += compare(f"{number} {name}", one, other, known_addresses(servers, name))
+                slack = (SLACK * one.questions + SLACK_ONCE) * timeout / TIMEOUT
+                found += compare(f"{number} {name}", one, other, known_addresses(servers, name), slack)
             for number, (place, questions) in enumerate(self.by_hand):
                 one = wanted[number]
                 found.append((f"{number}: the model, by hand", (place, questions), (one.place, one.questions)))
@@ -125,8 +127,10 @@ def known_addresses(servers: Sequence[Server], name: str) -> Set[str]:
 NEVER = "no wrong record"
 
 
-def compare(title: str, wanted, outcome: Outcome, known: Set[str]) -> Iterator[Tuple[str, object, object]]:
-    """What is compared of a lookup."""
+def compare(
+    title: str, wanted: Wanted, outcome: Outcome, known: Set[str], slack: float
+) -> Iterator[Tuple[str, object, object]]:
+    """What is compared of a lookup, which takes as long as the schedule, or longer by no more than the slack."""
     addresses = addresses_of(outcome)
     owners = {name_text(it.owner).lower() for it in outcome.records} - {outcome.name.lower()}
     yield f"{title}: {NEVER}", (set(), set()), (owners, set(addresses) - known)
@@ -135,7 +139,7 @@ def compare(title: str, wanted, outcome: Outcome, known: Set[str]) -> Iterator[T
         (wanted.status, wanted.code, sorted(wanted.records), wanted.questions),
         (outcome.status, outcome.code, addresses, outcome.questions),
     )
-    took, most = outcome.milliseconds / 1000, wanted.seconds + SLACK * wanted.questions + SLACK_ONCE
+    took, most = outcome.milliseconds / 1000, wanted.seconds + slack
     is_in_time = wanted.seconds - 0.005 <= took <= most
     yield f"{title}: {took:.3f} s of {wanted.seconds:.3f} to {most:.3f}", True, is_in_time
 
@@ -301,56 +305,37 @@ def try_memory(report: Report, given: Given) -> None:
         report.check("requests", [2, 3], [len(it.requests()) for it in running.values()])
 
 
-class Chatter:
-    """A server that answers each question with wrong ids, again and again, inside a `with` block."""
-
-    def __init__(self, every: float, seconds: float):
-        self.every, self.seconds, self.count = every, seconds, 0
-
-    def __enter__(self) -> "Chatter":
-        self.socket = socket.socket(socket.AF_INET, socket.SOCK_DGRAM)
-        self.socket.bind(("127.0.0.1", 0))
-        self.socket.settimeout(0.2)
-        self.is_closed = False
-        self.thread = threading.Thread(target=self.chat, daemon=True)
-        self.thread.start()
-        return self
-
-    def __exit__(self, *_) -> None:
-        self.is_closed = True
-        self.thread.join(self.seconds + 5)
-        self.socket.close()
-
-    @property
-    def address(self):
-        return self.socket.getsockname()
-
-    def chat(self) -> None:
-        while not self.is_closed:
-            with contextlib.suppress(OSError):
-                request, peer = self.socket.recvfrom(65535)
-                end = time.monotonic() + self.seconds
-                while time.monotonic() < end and not self.is_closed:
-                    number = (int.from_bytes(request[:2], "big") + 1 + self.count % 1000) % 65536
-                    self.socket.sendto(number.to_bytes(2, "big") + b"\x81\x80" + request[4:], peer)
-                    self.count += 1
-                    time.sleep(self.every)
+def ask_two(given: Given, first: Address, second: str) -> Outcome:
+    """A lookup by a server and, after it, by one with a fault table."""
+    with contextlib.ExitStack() as started:
+        _, addresses = start_servers(started, given, ["", second], [0])
+        options = ["--timeout", TIMEOUT, "--strategy", "ipv4"]
+        resolver = started.enter_context(Resolver(given.program, [first, addresses[1]], options))
+        (outcome,) = resolver.ask([f"n0.{ORIGIN}"])
+    return outcome
 
 
-def try_chatter(report: Report, given: Given) -> None:
-    """Datagrams that aren't the reply don't prolong the time-out, few or many."""
+def is_one_timeout(outcome: Outcome) -> bool:
+    return TIMEOUT - 0.005 <= outcome.milliseconds / 1000 <= TIMEOUT + 0.3
+
+
+def try_slow_servers(report: Report, given: Given) -> None:
+    """Neither datagrams that aren't the reply nor pieces of a stream prolong the time-out."""
     for every in (0.05, 0.0005):
-        with contextlib.ExitStack() as started:
-            chatter = started.enter_context(Chatter(every, TIMEOUT * 4))
-            _, addresses = start_servers(started, given, [""], [])
-            options = ["--timeout", TIMEOUT, "--strategy", "ipv4"]
-            resolver = started.enter_context(Resolver(given.program, [chatter.address, *addresses], options))
-            (outcome,) = resolver.ask([f"n0.{ORIGIN}"])
-            got = (addresses_of(outcome), outcome.questions)
-            report.check(f"wrong ids each {every * 1000:g} ms", (["10.0.0.0"], 2), got)
-            took = outcome.milliseconds / 1000
-            report.check(f"a time-out with wrong ids: {took:.3f} s", True, TIMEOUT - 0.005 <= took <= TIMEOUT + 0.3)
-            report.check("wrong ids were sent", True, chatter.count >= 5)
+        with Chatter(every, TIMEOUT * 4) as chatter:
+            outcome = ask_two(given, chatter.address, "")
+        title = f"wrong ids each {every * 1000:g} ms"
+        report.check(title, (["10.1.0.0"], 2), (addresses_of(outcome), outcome.questions))
+        report.check(f"{title}: one time-out, {outcome.milliseconds} ms", True, is_one_timeout(outcome))
+        report.check(f"{title}: they were sent", True, chatter.count >= 5)
+    with NameServer(zone_text(0), program=given.nameserver, seconds=60, log=False) as server:
+        for every, place in ((0, 0), (0.002, 0), (0.05, 1)):
+            with Dribbler((server.address, server.port), every) as dribbler:
+                outcome = ask_two(given, dribbler.address, "")
+            title = f"a byte of a stream each {every * 1000:g} ms"
+            report.check(title, ([f"10.{place}.0.0"], 2 + place), (addresses_of(outcome), outcome.questions))
+            if place:
+                report.check(f"{title}: one time-out, {outcome.milliseconds} ms", True, is_one_timeout(outcome))
 
 
 def try_faults(report: Report, given: Given) -> None:
@@ -358,8 +343,8 @@ def try_faults(report: Report, given: Given) -> None:
     again = try_scenarios(report, given, by_hand())
     report.end("faults, by hand", f", {again} of {len(by_hand())} scenarios again with longer times")
     report.begin()
-    report.attempt("datagrams that are not the reply", try_chatter, given)
-    report.end("datagrams that are not the reply")
+    report.attempt("slow servers", try_slow_servers, given)
+    report.end("servers that send much, or slowly")
     report.begin()
     count = QUICK_SCENARIOS if given.is_quick else SCENARIOS
     again = try_scenarios(report, given, [random_scenario(given.seed * 10_000 + it) for it in range(count)])
