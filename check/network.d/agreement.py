@@ -11,8 +11,9 @@ from walk import STRATEGIES, Walk, got_of, keys, most_ttls, walk, walk_addresses
 from wire import lower
 from zones import CNAME, Name, Record, type_of, type_text
 
-# How many lookups a process has, and how many lookups there are for each process that starts for one to three names.
-BATCH, FRESH_SHARE = 200, 20
+# How many processes have many lookups, so that there are two for each strategy, and how many lookups there are for each process
+# that starts for one to three names.
+BATCHES, FRESH_SHARE = 10, 20
 DEFAULT_STRATEGY = "both"
 # By how many seconds a TTL may be lower than that of the zone, where the server has the zone itself.
 AGE = 10
@@ -160,8 +161,9 @@ def try_server(report: Report, title: str, server: Server, given: Given) -> None
     with server.start(given, sample.text) as address, Resolver(given.program, [address]) as resolver:
         asked = Asked(report, title, server, sample, resolver)
         fresh = given.lookups // FRESH_SHARE
-        for number, start in enumerate(range(0, given.lookups - fresh, BATCH)):
-            asked.try_batch(number, min(BATCH, given.lookups - fresh - start))
+        many = given.lookups - fresh
+        for number in range(BATCHES):
+            asked.try_batch(number, many // BATCHES + (number < many % BATCHES))
         for number in range(fresh):
             asked.try_fresh(is_plain=number % 2 == 0)
 
