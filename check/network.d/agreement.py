@@ -22,8 +22,8 @@ MOST_QUESTIONS = 2 * 8 * 2 * 2
 NOT_FOUND = {"NXDomain": "no such name", "NoError": "no records of the type"}
 
 
-class Asked:
-    """A server while it is asked, and the comparisons."""
+class Comparison:
+    """The lookups of a server, which are compared."""
 
     def __init__(self, report: Report, title: str, server: Server, sample: Sample, resolver: Resolver):
         self.report, self.title, self.server, self.sample, self.resolver = report, title, server, sample, resolver
@@ -159,7 +159,7 @@ def try_server(report: Report, title: str, server: Server, given: Given) -> None
     # The zone is the same for all servers, and the lookups are not.
     sample.random.seed(f"{given.seed} {title}")
     with server.start(given, sample.text) as address, Resolver(given.program, [address]) as resolver:
-        asked = Asked(report, title, server, sample, resolver)
+        asked = Comparison(report, title, server, sample, resolver)
         fresh = given.lookups // FRESH_SHARE
         many = given.lookups - fresh
         for number in range(BATCHES):
