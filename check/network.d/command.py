@@ -19,6 +19,7 @@ WRONG: List[List[str]] = [
     ["--update", "append a 60 A 10.0.0.1", "--server", "127.0.0.1:1"], ["--update", "append a 60 A", "--zone", "t."],
     ["--update", "add a 60 A 10.0.0.1", "--zone", "t."], ["--update", "append a 60 A 10.0.0.1", "--zone", "a..b"],
     ["--update", "swap a 60 A 10.0.0.1", "--zone", "t."], ["--update", "", "--zone", "t."],
+    ["--update", "append @ 60 A 10.0.0.1", "--zone", "t."], ["--update", "delete-set u. A", "--zone", "t."],
 ]  # fmt: skip
 
 

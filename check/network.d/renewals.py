@@ -38,8 +38,10 @@ CHANGES = [
     Change("delete-set new A", 0, "NoError", "new", "MX", ["10 made.o.test."]),
     Change("delete-name new", 0, "NoError", "new", "MX", []),
     Change("delete-name new", 0, "NoError", "new", "TXT", []),
-    Change("append @ 60 TXT apex", 0, "NoError", "@", "TXT", ['"apex"']),
-    Change("delete-set @ NS", 0, "NoError", "@", "NS", [f"ns.{ORIGIN}"]),
+    Change("append o.test. 60 TXT apex", 0, "NoError", "", "TXT", ['"apex"']),
+    Change("append o.test. 60 MX 5 @", 0, "NoError", "", "MX", [f"5 {ORIGIN}"]),
+    # The last NS record of an origin stays (RFC 2136 section 3.4.2.4).
+    Change("delete-set o.test. NS", 0, "NoError", "", "NS", [f"ns.{ORIGIN}"]),
     Change("append al 60 CNAME made", 0, "NoError", "al", "CNAME", [f"made.{ORIGIN}"]),
     Change("append al 60 A 10.5.0.7", 0, "NoError", "al", "CNAME", [f"made.{ORIGIN}"]),
 ]
@@ -57,7 +59,7 @@ def try_updates(report: Report, given: Given) -> None:
                 wanted = (5, ORIGIN, "tcp" if options else "udp", change.code == "NoError")
                 got = (request.opcode, request.name.lower(), request.transport, request.updated)
                 report.check(f"{title}: request", wanted, got)
-                name = ORIGIN if change.name == "@" else f"{change.name}.{ORIGIN}"
+                name = f"{change.name}.{ORIGIN}".lstrip(".")
                 run = asked.resolver.run(name, "-t", change.rtype)
                 found = [line.split(None, 4) for line in run.output.splitlines()]
                 report.check(f"{title}: then", change.data, [it[4] for it in found if it[3] == change.rtype])
