@@ -5,7 +5,7 @@ from typing import List, Optional, Sequence, Set, Tuple
 from asking import Outcome, Resolver, Run
 from given import Given
 from report import Report
-from sample import FAR, Question, Sample
+from sample import Question, Sample
 from servers import SERVERS, Server
 from walk import STRATEGIES, Walk, got_of, keys, most_ttls, walk, walk_addresses, wanted_of
 from wire import lower
@@ -82,7 +82,7 @@ class Comparison:
             return
         if (name, rtype) in known:
             self.report.check(f"{title}: questions, after the same lookup", 0, outcome.questions)
-        elif not known & related(name, rtype) and not name[0].startswith(FAR):
+        elif not known & related(name, rtype) and name not in self.sample.targets:
             self.report.check(f"{title}: questions", True, outcome.questions > 0)
         known.add((name, rtype))
 

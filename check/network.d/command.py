@@ -2,13 +2,14 @@
 import time
 from typing import List, Tuple
 
-from asked import ORIGIN, Asked, addresses_of
+from asked import ORIGIN, ZONE, Asked, addresses_of
 from asking import Outcome, Resolver
 from configured import try_system
 from given import Given
 from options import try_local, try_search, try_trace, try_transports
 from renewals import try_updates
 from report import Report
+from zones import name_text
 
 WRONG: List[List[str]] = [
     [], ["--unknown", "a.test."], ["a.test.", "-t"], ["a.test.", "-t", "NOTHING"], ["a.test.", "--server", "here"],
@@ -113,6 +114,41 @@ def try_cache(report: Report, given: Given) -> None:
         report.check("without a cache: requests", 3, len(asked.requests(3)))
 
 
+# A chain of nine aliases, of which `nameserver` follows seven at once, two of eight, and one to services.
+CHAINS = "".join(
+    [
+        *(f"\na{at}.{ORIGIN} 60 IN CNAME a{at + 1}.{ORIGIN}" for at in range(9)),
+        f"\na9.{ORIGIN} 60 IN A 10.0.1.1",
+        *(f"\nb{at}.{ORIGIN} 60 IN CNAME b{at + 1}.{ORIGIN}" for at in range(8)),
+        *(f"\nc{at}.{ORIGIN} 60 IN CNAME c{at + 1}.{ORIGIN}" for at in range(7)),
+        f"\nc7.{ORIGIN} 60 IN CNAME {ORIGIN}",
+        f"\ns.{ORIGIN} 60 IN CNAME _s._tcp.{ORIGIN}",
+    ]
+)
+
+
+def try_aliases(report: Report, given: Given) -> None:
+    """Aliases that need more than one question, in either order of lookups, and for the types that other rules know of."""
+    from_a0, from_a7 = ([f"a{it}.{ORIGIN}" for it in range(first, 10)] for first in (0, 7))
+    with Asked(given, ZONE + CHAINS) as asked:
+        for lines, wanted in (
+            (["a0 A"], [("found", "NoError", from_a0)]),
+            (["a7 A"], [("found", "NoError", from_a7)]),
+            (["a0 A", "a0 A"], [("found", "NoError", from_a0)] * 2),
+            (["a0 A", "a7 A"], [("found", "NoError", from_a0), ("found", "NoError", from_a7)]),
+            (["a7 A", "a0 A"], [("found", "NoError", from_a7), ("found", "NoError", from_a0)]),
+            (["b0 A"], [("nothing", "NXDomain", [])]),
+            (["b0 MX"], [("nothing", "NXDomain", [])]),
+            (["b0 SOA"], [("nothing", "NXDomain", [])]),
+            (["c0 NS"], [("found", "NoError", [*(f"c{it}.{ORIGIN}" for it in range(8)), ORIGIN])]),
+            (["c0 SOA"], [("found", "NoError", [*(f"c{it}.{ORIGIN}" for it in range(8)), ORIGIN])]),
+            (["s SRV"], [("found", "NoError", [f"s.{ORIGIN}", f"_s._tcp.{ORIGIN}"])]),
+        ):
+            outcomes = asked.resolver.ask(line.replace(" ", f".{ORIGIN} ") for line in lines)
+            got = [(it.status, it.code, [name_text(record.owner) for record in it.records]) for it in outcomes]
+            report.check(f"aliases: {lines}", wanted, got)
+
+
 def ttls(outcome: Outcome) -> List[int]:
     return [it.ttl for it in outcome.records]
 
@@ -127,6 +163,7 @@ def try_program(report: Report, given: Given) -> None:
         ("output", try_output),
         ("standard input", try_lines),
         ("the cache and the clock", try_cache),
+        ("aliases", try_aliases),
         ("transports", try_transports),
         ("search lists", try_search),
         ("what asks nothing", try_local),

@@ -11,7 +11,7 @@ TTLS = [30, 60, 60, 300, 3600, 86400, 604800]
 LONGEST_CHAIN = 7
 # Chains that are longer than those that `nameserver` follows, so that a lookup needs more than one question.
 FAR_CHAINS = [8, 9, 10]
-# How their names begin. Where one has more aliases, the cache also has what was asked for on the way.
+# How their names begin.
 FAR = b"far"
 # A label of the greatest length, and what is left of 255 bytes in a name of the zone.
 LABEL = 63
@@ -42,6 +42,8 @@ class Sample:
         self.add_chains()
         self.text = "".join(f"{it}\n" for it in self.lines)
         self.zone: Zone = zone_of(self.text)
+        # Where a server doesn't follow all aliases, the target of one may be asked for on the way to another.
+        self.targets = {lower(self.zone.at(owner, CNAME)[0].data[0]) for owner, rtype in self.zone.sets if rtype == CNAME}
         # Of the longer chains alone those of its own kind are drawn.
         self.names = sorted({owner for owner, _ in self.zone.sets if not owner[0].startswith(FAR)}, key=repr)
 
