@@ -21,7 +21,8 @@ options {{
     session-keyfile none;
     recursion no;
     notify no;
-    minimal-responses yes;
+    minimal-responses {minimal};
+    check-names primary ignore;
     allow-transfer {{ none; }};
     dnssec-validation no;
 }};
@@ -61,7 +62,7 @@ server:
     logfile: "{folder}/nsd.log"
     rrl-ratelimit: 0
     rrl-whitelist-ratelimit: 0
-    minimal-responses: yes
+    minimal-responses: {minimal}
 remote-control:
     control-enable: no
 zone:
@@ -89,22 +90,25 @@ def words_of(name: str, configuration: str) -> List[str]:
 
 
 @contextlib.contextmanager
-def other_server(name: str, zone: str) -> Iterator[Peer]:
-    """One of the others while it runs."""
+def other_server(name: str, zone: str, origin: str = ORIGIN, is_minimal: bool = True) -> Iterator[Peer]:
+    """One of the others while it runs. Replies that are not minimal have what a server likes to add."""
     with tempfile.TemporaryDirectory() as folder:
         os.chmod(folder, 0o755)
         port = free_port()
         Path(folder, "zone").write_text(zone, encoding="ascii")
         configuration = Path(folder, "configuration")
-        configuration.write_text(TEXTS[name].format(folder=folder, port=port, origin=ORIGIN.rstrip(".")), encoding="ascii")
+        text = TEXTS[name].format(
+            folder=folder, port=port, origin=origin.rstrip("."), minimal="yes" if is_minimal else "no"
+        )
+        configuration.write_text(text, encoding="ascii")
         with running(words_of(name, str(configuration)), folder) as process:
-            wait_until(lambda: is_loaded(port), process, name)
+            wait_until(lambda: is_loaded(port, origin), process, name)
             yield Peer(port, process.pid)
 
 
-def is_loaded(port: int) -> bool:
+def is_loaded(port: int, origin: str) -> bool:
     """Whether a server answers from the zone."""
-    reply = ask_datagram(("127.0.0.1", port), query(ORIGIN, "SOA"), 0.5)
+    reply = ask_datagram(("127.0.0.1", port), query(origin, "SOA"), 0.5)
     return reply is not None and reply[3] & 15 == 0 and reply[6:8] == b"\0\1"
 
 
