@@ -128,21 +128,18 @@ CHAINS = "".join(
 
 
 def try_aliases(report: Report, given: Given) -> None:
-    """Aliases that need more than one question, in either order of lookups, and for the types that other rules know of."""
-    from_a0, from_a7 = ([f"a{it}.{ORIGIN}" for it in range(first, 10)] for first in (0, 7))
+    """Aliases that need more than one question, in either order of lookups, which are left out of answers."""
+    found = ("found", "NoError", [f"a9.{ORIGIN}"])
     with Asked(given, ZONE + CHAINS) as asked:
         for lines, wanted in (
-            (["a0 A"], [("found", "NoError", from_a0)]),
-            (["a7 A"], [("found", "NoError", from_a7)]),
-            (["a0 A", "a0 A"], [("found", "NoError", from_a0)] * 2),
-            (["a0 A", "a7 A"], [("found", "NoError", from_a0), ("found", "NoError", from_a7)]),
-            (["a7 A", "a0 A"], [("found", "NoError", from_a7), ("found", "NoError", from_a0)]),
+            (["a0 A"], [found]),
+            (["a7 A"], [found]),
+            (["a0 A", "a0 A"], [found] * 2),
+            (["a0 A", "a7 A"], [found] * 2),
+            (["a7 A", "a0 A"], [found] * 2),
             (["b0 A"], [("nothing", "NXDomain", [])]),
             (["b0 MX"], [("nothing", "NXDomain", [])]),
-            (["b0 SOA"], [("nothing", "NXDomain", [])]),
-            (["c0 NS"], [("found", "NoError", [*(f"c{it}.{ORIGIN}" for it in range(8)), ORIGIN])]),
-            (["c0 SOA"], [("found", "NoError", [*(f"c{it}.{ORIGIN}" for it in range(8)), ORIGIN])]),
-            (["s SRV"], [("found", "NoError", [f"s.{ORIGIN}", f"_s._tcp.{ORIGIN}"])]),
+            (["c0 NS"], [("found", "NoError", [ORIGIN])]),
         ):
             outcomes = asked.resolver.ask(line.replace(" ", f".{ORIGIN} ") for line in lines)
             got = [(it.status, it.code, [name_text(record.owner) for record in it.records]) for it in outcomes]

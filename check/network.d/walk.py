@@ -64,8 +64,8 @@ def keys(records: Sequence[Record]) -> List[tuple]:
     return sorted({(name_text(lower(it.owner)), type_text(it.rtype), comparable(it.data)) for it in records}, key=repr)
 
 
-def wanted_of(found: Walk, has_aliases: bool = True) -> tuple:
-    """What is compared of a walk."""
+def wanted_of(found: Walk, has_aliases: bool = False) -> tuple:
+    """What is compared of a walk: lookups leave aliases out."""
     if not found.records:
         return ("failed" if found.code == "Refused" else "nothing", found.code, [])
     return ("found", "NoError", keys([*(found.aliases if has_aliases else ()), *found.records]))
