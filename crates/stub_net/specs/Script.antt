@@ -24,10 +24,6 @@ first_script script = record { clock = 0; script = script; sent = [] }
 abbrev pub later : ℕ → ℕ → ℕ
 later clock delay = min (clock + delay) (2 ^ 64 - 1)
 
--- time passes
-abbrev pub advance : ℕ → ScriptState → ScriptState
-advance delay state = record state { clock = later state.clock delay }
-
 -- a message is given to send
 abbrev pub transmit : Protocol → SocketAddr → List ℕ → ScriptState → ScriptState
 transmit protocol server bytes state = record state {

@@ -1,7 +1,7 @@
 //! A network in memory, which follows a script.
 
 ghost use Rattle.std.specs.Prelude.{◌≡◌, ◌∷◌, ◌++◌, [], OnOk, OnErr};
-ghost use Rattle.stub_net.specs.Script.{TakesEvent, TakesSendFailure, advance, first_script, is_send_failure, transmit};
+ghost use Rattle.stub_net.specs.Script.{TakesEvent, TakesSendFailure, first_script, is_send_failure, transmit};
 
 use crate::network::Network;
 use dns_messages::Sequence;
@@ -88,24 +88,6 @@ impl ScriptedNetwork {
         ensures { result.now ≡ self.now.sent }
     {
         self.sent.as_slice()
-    }
-
-    /// Lets time pass, in milliseconds. The clock stays at `u64::MAX` once it is there.
-    pub fn advance(&mut self, delay: u64)
-        ensures { self.new ≡ advance delay self.old }
-    {
-        self.clock = self.clock.saturating_add(delay);
-    }
-
-    /// Appends an event to the script.
-    pub fn push_event(&mut self, event: TimedEvent) -> Result<(), AllocError>
-        ensures ok { OnOk result (self.new ≡ record self.old {
-          script = self.old.script ++ event ∷ [];
-        }) }
-        ensures err { OnErr result (self.new ≡ self.old) }
-    {
-        self.script.push(event)?;
-        Ok(())
     }
 
     /// Records a message that the network was given to send.
