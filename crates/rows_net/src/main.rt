@@ -1,9 +1,11 @@
 //! `rows_net FILE..`: tries each row of the files, as the library `rows` describes, on what asks servers over a network.
 //!
-//! - `resolv_conf`: configurations of the system's resolver, and the names that lookups attempt with them.
+//! - `resolv_conf`: configurations of the system's resolver, and the names that lookups attempt with them;
+//! - `schedules`: which servers a handle over a network asks, when, and what it returns.
 #![tactic(auto)]
 
 mod resolv_conf;
+mod schedules;
 
 use rows::{Answer, Notation, Operations, RowFault};
 use std::alloc::Global;
@@ -23,6 +25,8 @@ impl Operations for NetOperations {
             "conf" => resolv_conf::conf(alloc, input),
             "conf-bytes" => resolv_conf::conf_of_bytes(alloc, input),
             "attempts" => resolv_conf::attempts(alloc, input),
+            "schedule" => schedules::schedule(alloc, input),
+            "update" => schedules::update(alloc, input),
             _ => Err(RowFault::UnknownOperation),
         }
     }

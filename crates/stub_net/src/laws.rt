@@ -1,7 +1,7 @@
 //! What holds of every exchange, over every network.
 //!
-//! The laws are functions with an empty body. Their contracts state what holds of any exchange, by the relations that are the
-//! contracts of [`NameServerPool`](crate::NameServerPool).
+//! The laws are functions with an empty body. Their contracts state what holds of any exchange, by the relations that
+//! are the contracts of [`NameServerPool`](crate::NameServerPool).
 
 ghost use Rattle.std.specs.Prelude.{◌+◌, ◌*◌, ◌≤◌, ℕ, Ok, Err, length};
 ghost use Rattle.dns_messages.specs.declared.message.Message.{Message};
@@ -18,8 +18,8 @@ ghost use Rattle.stub_net.specs.declared.pool.NameServerPool.{NameServerPool};
 use crate::ids::IdSource;
 use crate::network::Network;
 
-/// An exchange ends in a fault only after each server was tried in each round, and none gave a reply that is accepted. So where the
-/// reply of one server arrives before its time-out in one round, and is accepted, the outcome is a reply.
+/// An exchange ends in a fault only after each server was tried in each round, and none gave a reply that is accepted.
+/// So where the reply of one server arrives before its time-out in one round, and is accepted, the outcome is a reply.
 pub fn faults_come_after_every_try<N: Network, I: IdSource>()
     ensures { (m : Message) (old new : NameServerPool N I) (fault : LinkFault)
         → Exchanges (network_calls N.sends N.receives N.streams N.reads_clock) m old
@@ -27,8 +27,8 @@ pub fn faults_come_after_every_try<N: Network, I: IdSource>()
         → IsDeclinedByAll (network_calls N.sends N.receives N.streams N.reads_clock) m old new }
 {}
 
-/// An exchange makes at most as many tries as there are servers in all rounds, and each sends at most one datagram and asks over at
-/// most one stream: a count of either rises by no more.
+/// An exchange makes at most as many tries as there are servers in all rounds, and each sends at most one datagram and
+/// asks over at most one stream: a count of either rises by no more.
 pub fn exchanges_are_bounded<N: Network, I: IdSource>()
     ensures { (count : N → ℕ) (by_send by_stream : ℕ) (m : Message) (old new : NameServerPool N I)
         (outcome : Outcome)

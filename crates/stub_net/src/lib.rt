@@ -1,10 +1,11 @@
 //! A handle that asks the name servers of a configuration over a network.
 //!
-//! The handle asks the servers in their order, in as many rounds as are configured, and returns the first reply that a server does
-//! not decline to give (RFC 1035 section 7.2). Datagrams that are not the reply are dropped while the wait for it goes on (RFC 5452
-//! section 9.1), and a truncated reply is asked for again over a stream (RFC 7766 section 5).
+//! The handle asks the servers in their order, in as many rounds as are configured, and returns the first reply that is
+//! accepted (RFC 1035 section 7.2). Datagrams that are not the reply are dropped while the wait for it goes on (RFC
+//! 5452 section 9.1), and a truncated reply is asked for again over a stream (RFC 7766 section 5).
 //!
-//! - `network`: what carries requests and replies to servers; `network/scripted`: a network in memory, which follows a script
+//! - `network`: what carries requests to servers, and replies; `network/scripted`: a network in memory, which follows a
+//!   script
 //! - `ids`: where ids of questions come from
 //! - `requester`: one request to one server; `requester/wait`: the wait for its reply; `requester/stream`: streams
 //! - `pool`: the handle; `pool/verdict`: which replies are accepted

@@ -25,7 +25,8 @@ pub trait Network {
     /// From a state, the clock may read this and lead to that state.
     ghost reads_clock: { Self → ℕ → Self → Type 0 };
 
-    /// Sends a datagram to a server. From then on, datagrams are received that this server sends in reply (RFC 5452 section 9.2).
+    /// Sends a datagram to a server. From then on, datagrams are received that this server sends in reply (RFC 5452
+    /// section 9.2).
     fn send(&mut self, server: SocketAddr, bytes: &[u8]) -> Result<(), LinkError>
         ensures { sends self.old server bytes.now result self.new };
 
@@ -33,8 +34,8 @@ pub trait Network {
     fn receive_until(&mut self, deadline: u64) -> Result<Option<Vec<u8>>, LinkError>
         ensures { receives self.old deadline (datagram_of result) self.new };
 
-    /// Sends a message to a server over a stream, and returns the message that is received over it before the deadline, in
-    /// milliseconds (RFC 7766 section 5).
+    /// Sends a message to a server over a stream, and returns the message that is received over it before the deadline,
+    /// in milliseconds (RFC 7766 section 5).
     fn ask_stream(
         &mut self,
         server: SocketAddr,

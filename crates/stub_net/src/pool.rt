@@ -35,8 +35,8 @@ pub struct NameServerPool<N, I> {
 impl<N: Network, I: IdSource> NameServerPool<N, I> {
     /// Creates a handle that asks servers over a network.
     ///
-    /// Of the options, `timeout` is how long it waits for the reply of a server, in seconds, and `attempts` how many rounds it makes
-    /// through the servers, at least one.
+    /// Of the options, `timeout` is how long it waits for the reply of a server, in seconds, and `attempts` how many
+    /// rounds it makes through the servers, at least one.
     pub fn new(
         alloc: Global,
         network: N,
@@ -55,7 +55,8 @@ impl<N: Network, I: IdSource> NameServerPool<N, I> {
         }
     }
 
-    /// Asks servers over streams alone from now on (RFC 7766 section 5). A server without an address for streams is not asked.
+    /// Asks servers over streams alone from now on (RFC 7766 section 5). A server without an address for streams is not
+    /// asked.
     pub fn use_streams_alone(&mut self)
         ensures { self.new ≡ streams_alone self.old }
     {
@@ -90,7 +91,8 @@ impl<N: Network, I: IdSource> NameServerPool<N, I> {
         self.requester.counts
     }
 
-    /// Sends an update under its own id, and returns the response code of its reply, which may be truncated (RFC 2136 section 2).
+    /// Sends an update under its own id, and returns the response code of its reply, which may be truncated (RFC 2136
+    /// section 2).
     ///
     /// The servers are asked as for a question, and so are the errors.
     pub fn send_update(&mut self, update: &UpdateEvent) -> Result<ResponseCode, NetError>
@@ -137,7 +139,8 @@ impl<N: Network, I: IdSource> NameServerPool<N, I> {
         self.run(message, bytes.as_slice(), order.as_slice())
     }
 
-    /// Tries the servers at the places of an order, in as many rounds as are configured. The outcome is that of the last try.
+    /// Tries the servers at the places of an order, in as many rounds as are configured. The outcome is that of the
+    /// last try.
     fn run(
         &mut self,
         message: &Message,
@@ -157,8 +160,8 @@ impl<N: Network, I: IdSource> NameServerPool<N, I> {
         last
     }
 
-    /// Tries the servers at the places of an order once, until one of them ends the exchange. The outcome is that of the last try, or
-    /// of the last one before.
+    /// Tries the servers at the places of an order once, until one of them ends the exchange. The outcome is that of
+    /// the last try, or of the last one before.
     fn run_round(
         &mut self,
         message: &Message,
@@ -227,14 +230,15 @@ impl<N: Network, I: IdSource> DnsHandle for NameServerPool<N, I> {
 
     /// Asks the question of a request under an id that is drawn for it, and returns the first reply that is accepted.
     ///
-    /// The servers are tried in their order, in as many rounds as are configured. A reply is accepted unless its response code is
-    /// `ServFail`, `Refused` or `NotImp`, or it is negative and the server is not trusted with such replies. When all tries are made,
-    /// the outcome is that of the last one.
+    /// The servers are tried in their order, in as many rounds as are configured. A reply is accepted unless its
+    /// response code is `ServFail`, `Refused` or `NotImp`, or it is negative and the server is not trusted with such
+    /// replies. When all tries are made, the outcome is that of the last one.
     ///
-    /// The error is [`NetError::Unsupported`] if the request is not a sound query with one question, or has more than 65,535 bytes
-    /// without compression. Otherwise it is a [`LinkFault`]: `NoId` if there is no id; and of the last try `NotSent` if the network could
-    /// not send, or there is no server; `NotReceived` if it could not receive; `Quiet` if the time-out passed; `Truncated` if the
-    /// reply is truncated, and so is that over a stream, or the server has no address for streams; `StreamFailed` if the stream
+    /// The error is [`NetError::Unsupported`] if the request is not a sound query with one question, or has more than
+    /// 65,535 bytes without compression. Otherwise it is a [`LinkFault`]: `NoId` if there is no id; and of the last try
+    /// `NotSent` if the network could not send, or there is no server; `NotReceived` if it could not receive; `Quiet`
+    /// if the time-out passed; `NoMatch` if none of 2^64 - 1 datagrams is the reply; `Truncated` if the reply is
+    /// truncated, and so is that over a stream, or the server has no address for streams; `StreamFailed` if the stream
     /// failed; `StreamMismatch` if its message is not the reply.
     fn send(&mut self, request: DnsRequest, _now: Moment) -> Result<DnsResponse, NetError> {
         let (mut message, _options) = request.into_parts();

@@ -70,8 +70,8 @@ impl<N: Network> Requester<N> {
         }
     }
 
-    /// Sends a request to a server, and returns its reply: by a datagram if the server has an address for it, and over a stream
-    /// otherwise, or if the reply is truncated.
+    /// Sends a request to a server, and returns its reply: by a datagram if the server has an address for it, and over
+    /// a stream otherwise, or if the reply is truncated.
     pub(crate) fn try_server(
         &mut self,
         message: &Message,

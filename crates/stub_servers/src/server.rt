@@ -29,8 +29,8 @@ impl Server {
         }
     }
 
-    /// Returns the server of a configuration, at the address and port of its first connection of each protocol, or `None` if it
-    /// has no connection.
+    /// Returns the server of a configuration, at the address and port of its first connection of each protocol, or
+    /// `None` if it has no connection.
     pub fn from_config(config: &NameServerConfig) -> Option<Server>
         ensures { result ≡ server_of config.now }
     {

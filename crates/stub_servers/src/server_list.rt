@@ -42,8 +42,8 @@ impl Model for ServerList {
 impl ServerList {
     /// Creates the list of the servers of a configuration that can be asked over UDP or TCP. None of them has failed.
     ///
-    /// With [`ServerOrderingStrategy::RoundRobin`] each order begins one server after the last, and otherwise with the first
-    /// server of the configuration.
+    /// With [`ServerOrderingStrategy::RoundRobin`] each order begins one server after the last, and otherwise with the
+    /// first server of the configuration.
     pub fn from_config(
         alloc: Global,
         config: &ResolverConfig,

@@ -46,8 +46,8 @@ pub struct Transmission {
     pub bytes: Sequence<u8>,
 }
 
-/// A network in memory, which follows a script: each receive and each stream takes the next event. A send succeeds, unless the next
-/// event is [`NetworkEvent::SendFailure`], which it takes.
+/// A network in memory, which follows a script: each receive and each stream takes the next event. A send succeeds,
+/// unless the next event is [`NetworkEvent::SendFailure`], which it takes.
 ///
 /// What arrives after the deadline is lost. When the script is used up, nothing arrives.
 #[derive(Drop)]
@@ -123,8 +123,8 @@ impl ScriptedNetwork {
         }
     }
 
-    /// Takes the next event, if there is one that comes up to a deadline, and sets the clock to its moment. Otherwise nothing arrives
-    /// before the deadline.
+    /// Takes the next event, if there is one that comes up to a deadline, and sets the clock to its moment. Otherwise
+    /// nothing arrives before the deadline.
     fn take_event(&mut self, deadline: u64) -> NetworkEvent
         ensures { TakesEvent deadline self.old result self.new }
     {

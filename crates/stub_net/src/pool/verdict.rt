@@ -38,8 +38,8 @@ pub(crate) fn verdict_on(
     }
 }
 
-/// Returns `true` if a reply to a request is accepted. Whether a server is trusted with negative responses decides only on replies to
-/// questions.
+/// Returns `true` if a reply to a request is accepted. Whether a server is trusted with negative responses decides only
+/// on replies to questions.
 fn accepts(request: &Message, trusted: bool, reply: &Message) -> bool
     ensures { result ≡ accepts request.now trusted reply.now }
 {
