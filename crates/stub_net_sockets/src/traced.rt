@@ -84,6 +84,7 @@ fn received(bytes: &[u8]) -> Event {
 fn failed(error: LinkError) -> Event {
     match error {
         LinkError::Failed => Event::Failed,
+        // The network was refused memory.
         LinkError::Memory => Event::Memory,
     }
 }

@@ -33,6 +33,7 @@ pub(crate) fn verdict_on(
                 Verdict::Declined
             }
         }
+        // The try was refused memory.
         Err(NetError::Memory) => Verdict::OutOfMemory,
         Err(_) => Verdict::Declined,
     }
