@@ -83,28 +83,87 @@ pub fn read_arguments(alloc: Global, words: &[&str]) -> Result<Arguments, Ending
     arguments_of(alloc, &matches)
 }
 
+/// The values that are lists of servers and names.
+#[derive(Drop)]
+struct Lists {
+    servers: Vec<SocketAddr>,
+    search: Vec<Name>,
+}
+
+/// The values that are paths.
+#[derive(Drop)]
+struct Paths {
+    resolv_conf: Option<String>,
+    hosts: Option<String>,
+}
+
+/// What is to be done.
+#[derive(Drop)]
+struct Task {
+    items: Vec<Item>,
+    update: Option<UpdateArguments>,
+}
+
 /// Returns the arguments that clap found.
 fn arguments_of(alloc: Global, matches: &ArgMatches<'_>) -> Result<Arguments, Ending> {
     let question = question_in(alloc, matches)?;
+    let strategy = strategy_in(alloc, matches)?;
+    let timeout = timeout_in(alloc, matches)?;
+    let task = task_in(alloc, matches, question)?;
+    let (lists, paths) = sources_in(alloc, matches)?;
+    let Task { items, update } = task;
     Ok(Arguments {
-        items: items_in(alloc, matches, question)?,
+        items,
         reads_input: has_input(matches),
         question,
-        servers: servers_in(alloc, matches)?,
-        resolv_conf: text_in(alloc, matches, "resolv-conf")?,
-        hosts: text_in(alloc, matches, "hosts")?,
-        search: search_in(alloc, matches)?,
+        servers: lists.servers,
+        resolv_conf: paths.resolv_conf,
+        hosts: paths.hosts,
+        search: lists.search,
         ndots: number_in(matches, "ndots"),
-        strategy: strategy_in(alloc, matches)?,
-        timeout: timeout_in(alloc, matches)?,
+        strategy,
+        timeout,
         attempts: number_in(matches, "attempts"),
-        update: update_in(alloc, matches)?,
+        update,
         tcp: flag_in(matches, "tcp"),
         rotate: flag_in(matches, "rotate"),
         edns: !flag_in(matches, "no-edns"),
         cache: !flag_in(matches, "no-cache"),
         json: flag_in(matches, "json"),
         trace: flag_in(matches, "trace"),
+    })
+}
+
+/// Returns what is to be done.
+fn task_in(alloc: Global, matches: &ArgMatches<'_>, question: Question) -> Result<Task, Ending> {
+    let items = items_in(alloc, matches, question)?;
+    Ok(Task {
+        items,
+        update: update_in(alloc, matches)?,
+    })
+}
+
+/// Returns the lists and the paths.
+fn sources_in(alloc: Global, matches: &ArgMatches<'_>) -> Result<(Lists, Paths), Ending> {
+    let lists = lists_in(alloc, matches)?;
+    Ok((lists, paths_in(alloc, matches)?))
+}
+
+/// Returns the lists.
+fn lists_in(alloc: Global, matches: &ArgMatches<'_>) -> Result<Lists, Ending> {
+    let servers = servers_in(alloc, matches)?;
+    Ok(Lists {
+        servers,
+        search: search_in(alloc, matches)?,
+    })
+}
+
+/// Returns the paths.
+fn paths_in(alloc: Global, matches: &ArgMatches<'_>) -> Result<Paths, AllocError> {
+    let resolv_conf = text_in(alloc, matches, "resolv-conf")?;
+    Ok(Paths {
+        resolv_conf,
+        hosts: text_in(alloc, matches, "hosts")?,
     })
 }
 
@@ -123,7 +182,7 @@ fn items_in(
     question: Question,
 ) -> Result<Vec<Item>, Ending> {
     let mut items = Vec::new(alloc);
-    for text in values_in(matches, "NAME") {
+    for text in matches.get_strs("NAME").unwrap_or(&[]) {
         if *text != INPUT {
             check_name(alloc, text)?;
             let name = String::from_str(alloc, text)?;
@@ -135,13 +194,16 @@ fn items_in(
 
 /// Returns `true` if the names of standard input are looked up.
 fn has_input(matches: &ArgMatches<'_>) -> bool {
-    values_in(matches, "NAME").iter().any(|text| *text == INPUT)
+    match matches.get_strs("NAME") {
+        Some(names) => names.iter().any(|text| *text == INPUT),
+        None => false,
+    }
 }
 
 /// Returns the addresses of the servers.
 fn servers_in(alloc: Global, matches: &ArgMatches<'_>) -> Result<Vec<SocketAddr>, Ending> {
     let mut servers = Vec::new(alloc);
-    for text in values_in(matches, "server") {
+    for text in matches.get_strs("server").unwrap_or(&[]) {
         servers.push(server_of(alloc, text)?)?;
     }
     Ok(servers)
@@ -150,7 +212,7 @@ fn servers_in(alloc: Global, matches: &ArgMatches<'_>) -> Result<Vec<SocketAddr>
 /// Returns the names that complete relative names.
 fn search_in(alloc: Global, matches: &ArgMatches<'_>) -> Result<Vec<Name>, Ending> {
     let mut names = Vec::new(alloc);
-    for text in values_in(matches, "search") {
+    for text in matches.get_strs("search").unwrap_or(&[]) {
         names.push(name_of(alloc, "--search", text)?)?;
     }
     Ok(names)
@@ -184,11 +246,6 @@ fn update_in(alloc: Global, matches: &ArgMatches<'_>) -> Result<Option<UpdateArg
         })),
         _ => Ok(None),
     }
-}
-
-/// Returns the values of an argument.
-fn values_in<'m, 'a>(matches: &'m ArgMatches<'a>, name: &str) -> &'m [&'a str] {
-    matches.get_strs(name).unwrap_or(&[])
 }
 
 /// Returns the value of an option, if it has one.

@@ -28,6 +28,6 @@ pub use ending::Ending;
 pub use item::{Item, Question, item_of_line};
 pub use json::{JsonAnswer, JsonUpdate};
 pub use plain::{PlainAnswer, PlainReason};
-pub use session::Session;
+pub use session::{Session, moment_of};
 pub use settings::{default_conf_path, settings_of};
 pub use status::{ExitStatus, Status};

@@ -1,6 +1,6 @@
 //! Lookups over a resolver.
 
-ghost use Rattle.std.specs.Prelude.{◌≤◌, ◌^◌};
+ghost use Rattle.std.specs.Prelude.{◌≡◌, ◌/◌, ◌≤◌, ◌^◌, min};
 
 use crate::item::{Item, Question};
 use dns_messages::ResponseCode;
@@ -12,6 +12,17 @@ use stub_link::UpdateEvent;
 use stub_lookup::{Lookup, Moment, NetError};
 use stub_net::{IdSource, NameServerPool, Network};
 use stub_servers::ServerList;
+
+/// The greatest moment of a resolver, in seconds: 2^62.
+const MAX_MOMENT: Moment = 4_611_686_018_427_387_904;
+
+/// Returns the moment of a clock that counts milliseconds.
+pub fn moment_of(milliseconds: u64) -> Moment
+    ensures moment { result ≡ min (milliseconds / 1000) (2 ^ 62) }
+    ensures bound { result ≤ 2 ^ 62 }
+{
+    (milliseconds / 1_000).min(MAX_MOMENT)
+}
 
 /// A resolver over a network, and its cache.
 #[derive(Drop)]
