@@ -46,7 +46,7 @@ def try_output(report: Report, given: Given) -> None:
             ([f"a.{ORIGIN}", "-t", "A"], [a], [], 0),
             ([f"a.{ORIGIN}"], [f"a.{ORIGIN} 60 IN AAAA 2001:db8::1", a], [], 0),
             ([f"a.{ORIGIN}", "--strategy", "ipv4-then-ipv6"], [a], [], 0),
-            ([f"alias.{ORIGIN}", "-t", "a"], [f"alias.{ORIGIN} 60 IN CNAME a.{ORIGIN}", a], [], 0),
+            ([f"alias.{ORIGIN}", "-t", "a"], [a], [], 0),
             ([f"alias.{ORIGIN}", "-t", "CNAME"], [f"alias.{ORIGIN} 60 IN CNAME a.{ORIGIN}"], [], 0),
             ([f"mail.{ORIGIN}", "-t", "MX"], [f"mail.{ORIGIN} 60 IN MX 10 a.{ORIGIN}"], [], 0),
             ([f"_s._tcp.{ORIGIN}", "-t", "SRV"], [f"_s._tcp.{ORIGIN} 60 IN SRV 1 2 443 a.{ORIGIN}"], [], 0),
