@@ -6,7 +6,7 @@ from pathlib import Path
 from crates import in_order, lines_of, parts_of, read_crates
 
 # The programs that have a front at the top of the repository, which are those that `./install` installs.
-PROGRAMS = ("nameserver", "zonecheck", "stub")
+PROGRAMS = ("lookup", "nameserver", "zonecheck", "stub")
 # What is compiled of a crate, and what is proved of it.
 CODE, ALL = ("src",), ("src", "specs", "proofs")
 
