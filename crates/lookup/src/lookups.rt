@@ -13,7 +13,7 @@ use lookup_cli::{
 use std::fmt;
 use std::time::Instant;
 use stub_hosts::Hosts;
-use stub_net_sockets::{RandomIds, Stopwatch};
+use stub_net_sockets::{RandomIds, Stopwatch, SystemEntropy};
 
 /// The program at work.
 #[derive(Drop)]
@@ -35,8 +35,17 @@ pub(crate) struct Program<'a> {
 }
 
 impl Program<'_> {
+    /// Sends the update of the arguments, or looks up their names.
+    pub(crate) fn run(&mut self) -> Result<(), Ending> {
+        let arguments = self.arguments;
+        match &arguments.update {
+            Some(update) => self.send_update(update),
+            None => self.look_up_all(),
+        }
+    }
+
     /// Looks up the names of the arguments, and then those of standard input if it is among them.
-    pub(crate) fn look_up_all(&mut self) -> Result<(), Ending> {
+    fn look_up_all(&mut self) -> Result<(), Ending> {
         let arguments = self.arguments;
         let has_heading = arguments.reads_input || arguments.items.len() > 1;
         for item in arguments.items.as_slice() {
@@ -153,8 +162,8 @@ impl Program<'_> {
     }
 
     /// Sends an update, and prints what became of it.
-    pub(crate) fn send_update(&mut self, arguments: &UpdateArguments) -> Result<(), Ending> {
-        let mut ids = RandomIds::new(self.rt);
+    fn send_update(&mut self, arguments: &UpdateArguments) -> Result<(), Ending> {
+        let mut ids = RandomIds::new(SystemEntropy::new(self.rt));
         let update = update_of(self.rt.alloc(), arguments, &mut ids)?;
         let start = self.clock.milliseconds();
         let outcome = self.session.send_update(&update);

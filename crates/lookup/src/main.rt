@@ -16,7 +16,7 @@ use std::process::ExitCode;
 use std::time::Instant;
 use std::{env, io};
 use stub_lookup::NetError;
-use stub_net_sockets::{RandomIds, SocketNetwork, Stopwatch, Traced};
+use stub_net_sockets::{RandomIds, SocketNetwork, Stopwatch, SystemEntropy, Traced};
 use stub_resolv_conf::SystemConf;
 
 /// The status if the arguments or the files are at fault, or the program ends early for another reason.
@@ -26,7 +26,7 @@ const INVALID: u8 = 2;
 pub(crate) type Sockets<'a> = ProgramNetwork<'a>;
 
 /// The ids of the program.
-pub(crate) type Ids<'a> = RandomIds<&'a HostRuntime>;
+pub(crate) type Ids<'a> = RandomIds<SystemEntropy<&'a HostRuntime>>;
 
 fn main(rt: HostRuntime) -> ExitCode {
     match run_program(&rt) {
@@ -51,25 +51,26 @@ fn end(rt: &HostRuntime, ending: &Ending) -> ExitCode {
 /// Does what the arguments say.
 fn run_program(rt: &HostRuntime) -> Result<ExitStatus, Ending> {
     let arguments = given_arguments(rt)?;
-    let start = match Instant::now(rt) {
-        Ok(start) => start,
-        Err(error) => return Err(Ending::NoClock(error)),
-    };
-    let session = open_session(rt, &arguments, start)?;
-    let mut program = Program {
-        rt,
-        clock: stopwatch(rt)?,
-        start,
-        arguments: &arguments,
-        session,
-        hosts: read_traced_hosts(rt, &arguments)?,
-        status: ExitStatus::new(),
-    };
-    match &arguments.update {
-        Some(update) => program.send_update(update)?,
-        None => program.look_up_all()?,
-    }
+    let mut program = open_program(rt, &arguments)?;
+    program.run()?;
     Ok(program.status)
+}
+
+/// Starts the clock, and opens the session of the arguments.
+fn open_program<'a>(rt: &'a HostRuntime, arguments: &'a Arguments) -> Result<Program<'a>, Ending> {
+    let start = now(rt)?;
+    let clock = stopwatch(rt)?;
+    let hosts = read_traced_hosts(rt, arguments)?;
+    let session = open_session(rt, arguments, start)?;
+    Ok(Program {
+        rt,
+        clock,
+        start,
+        arguments,
+        session,
+        hosts,
+        status: ExitStatus::new(),
+    })
 }
 
 /// Returns the arguments of the program.
@@ -96,21 +97,21 @@ fn open_session<'a>(
     arguments: &Arguments,
     start: Instant,
 ) -> Result<Session<Sockets<'a>, Ids<'a>>, Ending> {
-    let text = read_conf(rt, arguments)?;
-    let SystemConf { config, options } = settings_of(rt.alloc(), arguments, text.as_slice())?;
+    let SystemConf { config, options } = read_settings(rt, arguments)?;
+    let hosts = read_hosts(rt, arguments.hosts.as_ref())?;
+    let network = open_network(rt, arguments, start)?;
     let timeout = arguments
         .timeout
         .unwrap_or(options.timeout.saturating_mul(1_000));
-    let network = SocketNetwork::new(rt, rt.alloc(), stopwatch(rt)?)?;
     let session = Session::new(
         rt.alloc(),
-        ProgramNetwork::new(Traced::new(network, rt, start, arguments.trace)),
-        RandomIds::new(rt),
+        network,
+        RandomIds::new(SystemEntropy::new(rt)),
         config,
         options,
         timeout,
         arguments.tcp,
-        read_hosts(rt, arguments.hosts.as_ref())?,
+        hosts,
     );
     match session {
         Ok(session) => Ok(session),
@@ -119,7 +120,32 @@ fn open_session<'a>(
     }
 }
 
-/// Starts a clock.
+/// Reads the configuration, and returns it with what the arguments say.
+fn read_settings(rt: &HostRuntime, arguments: &Arguments) -> Result<SystemConf, Ending> {
+    let text = read_conf(rt, arguments)?;
+    Ok(settings_of(rt.alloc(), arguments, text.as_slice())?)
+}
+
+/// Opens the network, which tells what it does since a moment if the arguments say so.
+fn open_network<'a>(
+    rt: &'a HostRuntime,
+    arguments: &Arguments,
+    start: Instant,
+) -> Result<Sockets<'a>, Ending> {
+    let network = SocketNetwork::new(rt, rt.alloc(), stopwatch(rt)?)?;
+    let traced = Traced::new(network, rt, start, arguments.trace);
+    Ok(ProgramNetwork::new(traced))
+}
+
+/// Returns the moment of the clock.
+fn now(rt: &HostRuntime) -> Result<Instant, Ending> {
+    match Instant::now(rt) {
+        Ok(moment) => Ok(moment),
+        Err(error) => Err(Ending::NoClock(error)),
+    }
+}
+
+/// Starts a clock that counts from now.
 fn stopwatch(rt: &HostRuntime) -> Result<Stopwatch<&HostRuntime>, Ending> {
     match Stopwatch::start(rt) {
         Ok(clock) => Ok(clock),

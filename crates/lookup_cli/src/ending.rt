@@ -22,6 +22,8 @@ pub enum Ending {
     CannotPrint,
     /// The system's clock failed.
     NoClock(io::Error),
+    /// The system has no random bytes for the id of a request.
+    NoEntropy,
     /// Out of memory.
     Memory,
 }
@@ -99,6 +101,7 @@ impl fmt::Display for Ending {
             }
             Ending::CannotPrint => f.write_str("lookup: cannot write to standard output\n"),
             Ending::NoClock(error) => writeln!(f, "lookup: cannot read the clock: {error}"),
+            Ending::NoEntropy => f.write_str("lookup: the system has no random bytes\n"),
             Ending::Memory => f.write_str("lookup: out of memory\n"),
         }
     }

@@ -29,6 +29,10 @@ struct JsonRecord {
     data: String,
 }
 
+/// A text as it was given, which `Display` writes as a JSON string of the same characters (RFC 8259 section 7).
+#[derive(Clone, Copy)]
+struct GivenText<'a>(&'a str);
+
 /// A text, or none, which `Display` writes as a JSON string or `null`.
 #[derive(Clone, Copy)]
 struct TextOrNull<'a>(&'a Option<String>);
@@ -88,7 +92,7 @@ fn error_of(alloc: Global, answer: &Answer) -> Result<Option<String>, AllocError
 impl fmt::Display for JsonAnswer<'_> {
     /// Writes the object, with a line break.
     fn fmt<W: fmt::Write>(&self, f: &mut fmt::Formatter<W>) -> fmt::Result {
-        let name = JsonText(self.answer.item.name.as_bytes());
+        let name = GivenText(self.answer.item.name.as_str());
         let record_type = JsonText(self.record_type.as_bytes());
         let status = self.answer.status().word();
         let code = CodeOrNull(self.answer.code());
@@ -131,6 +135,26 @@ impl fmt::Display for JsonRecord {
             f,
             "{{\"name\":{name},\"ttl\":{ttl},\"class\":\"IN\",\"type\":{record_type},\"data\":{data}}}"
         )
+    }
+}
+
+impl fmt::Display for GivenText<'_> {
+    fn fmt<W: fmt::Write>(&self, f: &mut fmt::Formatter<W>) -> fmt::Result {
+        f.write_char('"')?;
+        for c in self.0.chars() {
+            write_character(c, f)?;
+        }
+        f.write_char('"')
+    }
+}
+
+/// Writes a character of a JSON string, with an escape where it needs one.
+fn write_character<W: fmt::Write>(c: char, f: &mut fmt::Formatter<W>) -> fmt::Result {
+    match c {
+        '"' => f.write_str("\\\""),
+        '\\' => f.write_str("\\\\"),
+        c if c < ' ' => write!(f, "\\u{:04x}", u32::from(c)),
+        c => f.write_char(c),
     }
 }
 
@@ -191,7 +215,7 @@ impl<'a> JsonUpdate<'a> {
 impl fmt::Display for JsonUpdate<'_> {
     /// Writes the object, with a line break.
     fn fmt<W: fmt::Write>(&self, f: &mut fmt::Formatter<W>) -> fmt::Result {
-        let words = JsonText(self.words.as_bytes());
+        let words = GivenText(self.words);
         let zone = JsonText(self.zone.as_bytes());
         let code = CodeOrNull(self.code);
         let error = TextOrNull(&self.error);

@@ -6,17 +6,19 @@
 //!
 //! - `socket_network`: the network; `datagram`: the socket of a datagram; `stream`: an exchange over a stream
 //! - `stopwatch`: a clock that counts milliseconds and does not go back
-//! - `random_ids`: ids from the system's entropy
+//! - `entropy`: sources of random bytes, of which one is the system; `random_ids`: ids from such bytes
 //! - `traced`: a network that tells on standard error what it does
 #![tactic(auto)]
 
 mod datagram;
+mod entropy;
 mod random_ids;
 mod socket_network;
 mod stopwatch;
 mod stream;
 mod traced;
 
+pub use entropy::{Entropy, ListedEntropy, SystemEntropy};
 pub use random_ids::RandomIds;
 pub use socket_network::SocketNetwork;
 pub use stopwatch::Stopwatch;

@@ -1,35 +1,36 @@
-//! Ids from the system's entropy.
+//! Ids from random bytes.
 
 ghost use Rattle.std.specs.Prelude.{◌≡◌, ◌<◌, ◌≤◌, None, IfSome, IsSome};
 ghost use Rattle.stub_net_sockets.specs.RandomIds.{Takes};
 
-use std::random::RandomSource;
+use crate::entropy::Entropy;
 use stub_net::IdSource;
 
-/// How many random bytes are drawn from the system at once: as many as it gives in a call.
+/// How many random bytes are drawn at once: as many as the system gives in a call.
 const BUFFER_LEN: usize = 256;
 
-/// Draws ids at random from the system's entropy (RFC 5452 section 9.2). `R` is the runtime, or a reference to it.
+/// Draws ids at random (RFC 5452 section 9.2), from random bytes of which each is used once.
 #[derive(Drop)]
-pub struct RandomIds<R> {
-    rt: R,
+pub struct RandomIds<E> {
+    entropy: E,
     bytes: [u8; BUFFER_LEN],
     used: usize,
 }
 
-impl<R: RandomSource> RandomIds<R> {
-    /// Creates a source of ids, which has drawn no bytes from the system.
-    pub fn new(rt: R) -> RandomIds<R>
-        ensures { result.used ≡ 256 }
+impl<E: Entropy> RandomIds<E> {
+    /// Creates a source of ids, which has drawn no bytes.
+    pub fn new(entropy: E) -> RandomIds<E>
+        ensures entropy { result.entropy ≡ entropy }
+        ensures used { result.used ≡ 256 }
     {
         RandomIds {
-            rt,
+            entropy,
             bytes: [0u8; BUFFER_LEN],
             used: BUFFER_LEN,
         }
     }
 
-    /// Takes two of the bytes that were drawn from the system, if they are left.
+    /// Takes two of the bytes that were drawn, if they are left.
     fn take(&mut self) -> Option<u16>
         ensures taken { IfSome result (λ id. Takes self.old id self.new) }
         ensures none { result ≡ None → 254 < self.old.used }
@@ -43,26 +44,23 @@ impl<R: RandomSource> RandomIds<R> {
         Some(256 * u16::from(self.bytes[place]) + u16::from(self.bytes[place + 1]))
     }
 
-    /// Draws bytes from the system.
+    /// Draws bytes.
     fn refill(&mut self) -> Option<()>
-        ensures { IsSome result → self.new.used ≡ 0 }
+        ensures given { IsSome result → E.gives self.old.entropy self.new.bytes self.new.entropy }
+        ensures used { IsSome result → self.new.used ≡ 0 }
     {
-        match self.rt.fill_bytes(&mut self.bytes) {
-            Ok(()) => {
-                self.used = 0;
-                Some(())
-            }
-            Err(_) => None,
-        }
+        self.entropy.fill(&mut self.bytes)?;
+        self.used = 0;
+        Some(())
     }
 }
 
-impl<R: RandomSource> IdSource for RandomIds<R> {
+impl<E: Entropy> IdSource for RandomIds<E> {
     ghost use Rattle.stub_net_sockets.specs.RandomIds.{Draws};
 
-    ghost draws = { λ old id new. Draws old id new };
+    ghost draws = { λ old id new. Draws E.gives old id new };
 
-    /// Draws an id, or `None` if the system has no entropy.
+    /// Draws an id, or `None` if there are no random bytes.
     fn draw(&mut self) -> Option<u16> {
         if let Some(id) = self.take() {
             return Some(id);

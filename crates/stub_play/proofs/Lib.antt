@@ -6,6 +6,4 @@ pub mod OrderLaws
 pub mod PlayLaws
 pub mod ReportLaws
 pub mod ScriptLaws
-pub mod UpdateLaws
-pub mod WordsGrammarLaws
 pub mod WordsLaws

@@ -1,205 +1,35 @@
--- Lines of words, with or without a link script.
-use Rattle.std.proofs.Common.{◌≡◌, ◌≤◌, ◌<◌, ◌+◌, ◌⊎◌, ◌||◌, if◌then◌else◌, ℕ, Bool, true, false, zero, suc, List, [], ◌∷◌, ◌++◌, length, map, drop, get_or, Option, Some, None, Result, Ok, Err, IfOk, option_map, Vec, Global, length-drop, refl, sym, ap, subst, ◌∙◌, inl, inr, arith, add-one, drop-cons}
+-- The events of lines of words, with or without a link script.
+use Rattle.std.proofs.Common.{◌≡◌, ◌∙◌, ℕ, List, map, Option, Some, None, Result, Ok, Err, IfOk, option_map, Vec, Global, refl, sym, ap, subst}
 use Rattle.dns_names.specs.Name.{DomainName}
-use Rattle.stub_play.specs.declared.script_words.LineWords.{LineWords}
-use Rattle.stub_play.specs.declared.script_words.Role.{Role}
 use Rattle.stub_link.specs.declared.link.script.Script.{Script}
 use Rattle.stub_run.specs.declared.event.Event.{Event}
+use Rattle.update_text.specs.Words.{AreLineWords}
+use Rattle.update_text.specs.declared.line.Line.{Line}
 use Rattle.stub_play.specs.EventContent.{EventContent, LinkScript, content_of, link_content}
 use Rattle.stub_play.specs.LinkWords.{link_of_words}
-use Rattle.stub_play.specs.ScriptText.{IsEvent, IsEventIf, IsEventOfLine, of_line, of_no_line}
-use Rattle.stub_play.specs.ScriptWords.{IsLine, WordsGoTo, no_word, with_link_script, words_alone}
-use Rattle.stub_play.specs.internal.ScriptText.{IsLinkScript}
-use Rattle.stub_play.specs.internal.ScriptWords.{AreWordsUpTo, IsOver, IsSplit, by_semicolon, by_text_end, complete_words, ends_words, is_escape, is_quoted, open_word, role_of, word_if_any}
-use Rattle.stub_play.proofs.WordsGrammarLaws.{Holds, Scanned, front_of_front, in_front, scan, scan_holds, words_scan}
-use Rattle.stub_play.proofs.ScriptLaws.{drop_all}
+use Rattle.stub_play.specs.ScriptText.{IsEvent, IsEventIf, IsEventOfLine, of_line}
 
--- ---- what a scan finds
+abbrev pub texts : List (Vec ℕ Global) → List (List ℕ)
+texts = map (λ word. word.items)
 
-pub words_to : (text : List ℕ) (words : List (List ℕ)) (end : ℕ) → scan false false [] text ≡ Some (words, drop end text)
-    → AreWordsUpTo text words (drop end text)
-words_to text words end is = subst (Holds text) is (scan_holds text)
-
-no_words : (text : List ℕ) → scan false false [] text ≡ None → ¬ ((words : List (List ℕ)) × (rest : List ℕ) × AreWordsUpTo text words rest)
-no_words text is found =
-    let other : scan false false [] text ≡ Some (found.0, found.1) = words_scan found.2.0 found.2.1 in
-    let both : None ≡ Some (found.0, found.1) = sym is ∙ other in
-    cc both
-
-picks_first : (t : Bool) (a b : Scanned) → t ≡ true → (if t then a else b) ≡ a
-picks_first t a b e = rw e refl
-
-picks_second : (t : Bool) (a b : Scanned) → t ≡ false → (if t then a else b) ≡ b
-picks_second t a b e = rw e refl
-
-at_place : (text : List ℕ) (i : ℕ) → i < length text → drop i text ≡ get_or text i 0 ∷ drop (i + 1) text
-at_place text i lt = rw (add-one, drop-cons text i 0 lt) refl
-
--- the words end at a semicolon
-pub scan_ends : (text : List ℕ) (i : ℕ) (is_escaped quoted : Bool) (word : List ℕ) (done : List (List ℕ)) → i < length text
-    → ends_words is_escaped quoted (get_or text i 0) ≡ true → scan false false [] text ≡ in_front done (scan is_escaped quoted word (drop i text))
-    → scan false false [] text ≡ Some (done ++ word_if_any word, drop i text)
-scan_ends text i is_escaped quoted word done lt ends is =
-    let c = get_or text i 0 in
-    let there : scan is_escaped quoted word (c ∷ drop (i + 1) text) ≡ Some (word_if_any word, c ∷ drop (i + 1) text) =
-    picks_first (ends_words is_escaped quoted c) _ _ ends in
-    let here : scan is_escaped quoted word (drop i text) ≡ Some (word_if_any word, drop i text) = rw (at_place text i lt) there in
-    is ∙ ap (in_front done) here
-
--- a character is taken
-pub scan_goes_on : (text : List ℕ) (i : ℕ) (is_escaped quoted next_escaped next_quoted : Bool) (word next_word : List ℕ)
-    (done next_done : List (List ℕ)) (role : Role) → i < length text → ends_words is_escaped quoted (get_or text i 0) ≡ false
-    → role ≡ role_of is_escaped quoted (get_or text i 0) → next_done ≡ done ++ complete_words role word (get_or text i 0)
-    → next_word ≡ open_word role word (get_or text i 0) → next_quoted ≡ is_quoted is_escaped quoted (get_or text i 0)
-    → next_escaped ≡ is_escape is_escaped (get_or text i 0)
-    → scan false false [] text ≡ in_front done (scan is_escaped quoted word (drop i text))
-    → scan false false [] text ≡ in_front next_done (scan next_escaped next_quoted next_word (drop (i + 1) text))
-scan_goes_on text i is_escaped quoted next_escaped next_quoted word next_word done next_done role lt goes role_is done_is word_is quoted_is escaped_is is =
-    let c = get_or text i 0 in
-    let cs = drop (i + 1) text in
-    let r = role_of is_escaped quoted c in
-    let rest : Scanned = scan (is_escape is_escaped c) (is_quoted is_escaped quoted c) (open_word r word c) cs in
-    let there : scan is_escaped quoted word (c ∷ cs) ≡ in_front (complete_words r word c) rest =
-    picks_second (ends_words is_escaped quoted c) _ _ goes in
-    let here : scan is_escaped quoted word (drop i text) ≡ in_front (complete_words r word c) rest = rw (at_place text i lt) there in
-    let all : scan false false [] text ≡ in_front (done ++ complete_words r word c) rest =
-    is ∙ ap (in_front done) here ∙ front_of_front done (complete_words r word c) rest in
-    rw (done_is, word_is, quoted_is, escaped_is, role_is) all
-
--- the text ends
-pub scan_is_over : (text : List ℕ) (i : ℕ) (is_escaped quoted : Bool) (word : List ℕ) (done : List (List ℕ)) → length text ≤ i
-    → is_escaped ≡ false → quoted ≡ false → scan false false [] text ≡ in_front done (scan is_escaped quoted word (drop i text))
-    → scan false false [] text ≡ Some (done ++ word_if_any word, drop (length text) text)
-scan_is_over text i is_escaped quoted word done few escaped_is quoted_is is =
-    let over : scan false false [] text ≡ in_front done (scan false false word []) = rw (drop_all text i few, escaped_is, quoted_is) at is in
-    over ∙ ap (λ (rest : List ℕ). Some (done ++ word_if_any word, rest)) (sym (drop_all text (length text) (omega arith)))
-
--- a quote is open, or a backslash is last
-pub scan_fails : (text : List ℕ) (i : ℕ) (is_escaped quoted : Bool) (word : List ℕ) (done : List (List ℕ)) → length text ≤ i
-    → (is_escaped || quoted) ≡ true → scan false false [] text ≡ in_front done (scan is_escaped quoted word (drop i text))
-    → ¬ ((words : List (List ℕ)) × (rest : List ℕ) × AreWordsUpTo text words rest)
-scan_fails text i is_escaped quoted word done few fails is =
-    let over : scan false false [] text ≡ in_front done (scan is_escaped quoted word []) = rw (drop_all text i few) at is in
-    let none : scan is_escaped quoted word [] ≡ None = picks_first (is_escaped || quoted) _ _ fails in
-    no_words text (over ∙ ap (in_front done) none)
-
--- ---- what the words of a line are
-
--- one character more is dropped
-drop_more : {A : Type 0} (n : ℕ) (xs : List A) → drop (suc n) xs ≡ drop 1 (drop n xs)
-drop_more zero xs = refl
-drop_more (suc n) [] = refl
-drop_more (suc n) (x ∷ xs) = drop_more n xs
-
-after : (n : ℕ) (text rest : List ℕ) → rest ≡ drop n text → drop (n + 1) text ≡ drop 1 rest
-after n text rest is = rw add-one (drop_more n text ∙ ap (drop 1) (sym is))
-
-abbrev words_of : Scanned → List (List ℕ)
-words_of None = []
-words_of (Some found) = found.0
-
-no_words_in_nothing : (link : List (List ℕ)) → WordsGoTo [] link [] → [] ≡ link
-no_words_in_nothing link goes =
-    let both : Some ([], []) ≡ Some (link, []) = words_scan goes by_text_end in
-    ap words_of both
-
--- words end at one place alone
-abbrev rest_of : Scanned → List ℕ
-rest_of None = []
-rest_of (Some found) = found.1
-
-same_rest : {text rest other : List ℕ} {words others : List (List ℕ)} → AreWordsUpTo text words rest → AreWordsUpTo text others other → other ≡ rest
-same_rest {rest = rest} {other = other} {words = words} {others = others} one two =
-    let both : Some (others, other) ≡ Some (words, rest) = sym (words_scan two.0 two.1) ∙ words_scan one.0 one.1 in
-    ap rest_of both
-
-semicolon_of : {c : ℕ} {rest : List ℕ} → IsOver (c ∷ rest) → c ≡ 59
-semicolon_of by_semicolon = refl
-
-line_is_over : (text : List ℕ) (words link : List (List ℕ)) (end : ℕ) (rest : List ℕ) → rest ≡ drop end text → IsOver rest
-    → WordsGoTo text words rest → WordsGoTo (drop (end + 1) text) link [] → IsLine text words link
-line_is_over text words link end [] is over goes script =
-    let none : WordsGoTo [] link [] = rw (after end text [] is) at script in
-    rw (← no_words_in_nothing link none) (words_alone goes)
-line_is_over text words link end (c ∷ rest) is over goes script =
-    let same : c ≡ 59 = semicolon_of over in
-    let there : WordsGoTo rest link [] = rw (after end text (c ∷ rest) is) at script in
-    with_link_script (rw same at goes) there
-
--- the words of a line, and of its link script
-pub line_is : (text : List ℕ) (found : LineWords) (link : List (List ℕ)) → IsSplit text (Some found)
-    → WordsGoTo (drop (found.end + 1) text) link [] → IsLine text (map (λ word. word.items) found.words.items) link
-line_is text found link split script =
-    line_is_over text (map (λ word. word.items) found.words.items) link found.end (drop found.end text) refl split.1.1 split.1.0 script
-
-abbrev pub HasNoLine : List ℕ → Type 0
-HasNoLine text = ¬ ((words : List (List ℕ)) × (link : List (List ℕ)) × IsLine text words link)
-
-pub no_line : (text : List ℕ) → IsSplit text None → HasNoLine text
-no_line text split line = at line.0 line.1 line.2
-  where
-    at : (words link : List (List ℕ)) → IsLine text words link → ⊥
-    at words link (words_alone goes) = split (words, [], (goes, by_text_end))
-    at words link (with_link_script {script = script} goes more) = split (words, 59 ∷ script, (goes, by_semicolon))
-
--- what follows the semicolon is no link script
-pub no_link : (text : List ℕ) (found : LineWords) → IsSplit text (Some found)
-    → ¬ ((link : List (List ℕ)) × WordsGoTo (drop (found.end + 1) text) link []) → HasNoLine text
-no_link text found split none line = at line.0 line.1 line.2
-  where
-    at : (words link : List (List ℕ)) → IsLine text words link → ⊥
-    at words link (words_alone goes) =
-        let same : [] ≡ drop found.end text = same_rest split.1 (goes, by_text_end) in
-        none ([], rw (after found.end text [] same) no_word)
-    at words link (with_link_script {script = script} goes more) =
-        let same : 59 ∷ script ≡ drop found.end text = same_rest split.1 (goes, by_semicolon) in
-        none (link, rw (after found.end text (59 ∷ script) same) more)
-
--- the event of a line, by its words and its link script
-pub event_of_line : (origin : DomainName) (id : ℕ) (text after : List ℕ) (found : LineWords) (link : Option LinkScript) (event : Option EventContent)
-    → IsSplit text (Some found) → after ≡ drop (found.end + 1) text → IsLinkScript after link
-    → IsEventIf origin id link (map (λ word. word.items) found.words.items) event → IsEventOfLine origin id text event
-event_of_line origin id text after found link event split same script is = at (rw same at script)
-  where
-    at : IsLinkScript (drop (found.end + 1) text) link → IsEventOfLine origin id text event
-    at (inl spelled) =
-        of_line (line_is text found spelled.0 split spelled.1)
-        (subst (λ (l : Option LinkScript). IsEventIf origin id l (map (λ word. word.items) found.words.items) event) spelled.2 is)
-    at (inr none) =
-        let nothing : event ≡ None =
-        subst (λ (l : Option LinkScript). IsEventIf origin id l (map (λ word. word.items) found.words.items) event) none.1 is in
-        subst (λ (e : Option EventContent). IsEventOfLine origin id text e) (sym nothing) (of_no_line (no_link text found split none.0))
-
--- another semicolon follows
-pub no_words_alone : (text : List ℕ) (found : LineWords) → IsSplit text (Some found) → found.end < length text
-    → ¬ ((link : List (List ℕ)) × WordsGoTo text link [])
-no_words_alone text found split before alone =
-    let same : [] ≡ drop found.end text = same_rest split.1 (alone.1, by_text_end) in
-    let none : 0 ≡ length (drop found.end text) = ap length same in
-    absurd (omega (arith, length-drop found.end text))
-
--- the words of a text are those of a link script
-pub link_words_are : {E : Type 0} (text : List ℕ) (found : LineWords) (given : List (Vec ℕ Global)) (result : Result (Option Script) E)
-    → IsSplit text (Some found) → length text ≤ found.end → given ≡ found.words.items
-    → IfOk result (λ script. option_map link_content script ≡ link_of_words (map (λ word. word.items) given))
-    → IfOk result (λ script. IsLinkScript text (option_map link_content script))
-link_words_are text found given (Ok script) split few same is =
-    inl (map (λ word. word.items) found.words.items, rw (drop_all text found.end few) at split.1.0, rw same at is)
-link_words_are text found given (Err e) split few same is = tt
-
--- the event of a line with a script
-pub event_is : {E : Type 0} (origin : DomainName) (id : ℕ) (text after : List ℕ) (found : LineWords) (given : List (Vec ℕ Global))
-    (script : Option Script) (s : Script) (result : Result (Option Event) E) → IsSplit text (Some found) → after ≡ drop (found.end + 1) text
-    → script ≡ Some s → IsLinkScript after (option_map link_content script) → given ≡ found.words.items
-    → IfOk result (λ e. IsEvent origin id (link_content s) (map (λ word. word.items) given) (option_map content_of e))
+-- the event of a line by its words, with the link script that those after its semicolon spell
+pub event_of_words : {E : Type 0} (origin : DomainName) (id : ℕ) (text : List ℕ) (line : Line) (words more : List (Vec ℕ Global))
+    (script : Option Script) (s : Script) (result : Result (Option Event) E)
+    → AreLineWords text (Some (texts line.words.items, texts line.more.items)) → words ≡ line.words.items → more ≡ line.more.items
+    → script ≡ Some s → option_map link_content script ≡ link_of_words (texts more)
+    → IfOk result (λ e. IsEvent origin id (link_content s) (texts words) (option_map content_of e))
     → IfOk result (λ e. IsEventOfLine origin id text (option_map content_of e))
-event_is origin id text after found given script s (Ok e) split same is linked words event =
-    event_of_line origin id text after found (Some (link_content s)) (option_map content_of e) split same
-    (subst (λ (x : Option Script). IsLinkScript after (option_map link_content x)) is linked) (rw words at event)
-event_is origin id text after found given script s (Err e) split same is linked words event = tt
+event_of_words origin id text line words more script s (Ok e) are words_are more_is is spelled event =
+    let link : Some (link_content s) ≡ link_of_words (texts line.more.items) =
+    sym (ap (λ (x : Option Script). option_map link_content x) is) ∙ spelled ∙ ap (λ (x : List (Vec ℕ Global)). link_of_words (texts x)) more_is in
+    of_line are (subst (λ (x : Option LinkScript). IsEventIf origin id x (texts line.words.items) (option_map content_of e)) link (rw words_are at event))
+event_of_words origin id text line words more script s (Err e) are words_are more_is is spelled event = tt
 
 -- the words after the semicolon are no link script
-pub no_event_is : (origin : DomainName) (id : ℕ) (text after : List ℕ) (found : LineWords) (script : Option Script) → IsSplit text (Some found)
-    → after ≡ drop (found.end + 1) text → script ≡ None → IsLinkScript after (option_map link_content script) → IsEventOfLine origin id text None
-no_event_is origin id text after found script split same is linked =
-    event_of_line origin id text after found None None split same (subst (λ (x : Option Script). IsLinkScript after (option_map link_content x)) is linked) refl
+pub no_event_of_words : (origin : DomainName) (id : ℕ) (text : List ℕ) (line : Line) (more : List (Vec ℕ Global)) (script : Option Script)
+    → AreLineWords text (Some (texts line.words.items, texts line.more.items)) → more ≡ line.more.items → script ≡ None
+    → option_map link_content script ≡ link_of_words (texts more) → IsEventOfLine origin id text None
+no_event_of_words origin id text line more script are more_is is spelled =
+    let none : None ≡ link_of_words (texts line.more.items) =
+    sym (ap (λ (x : Option Script). option_map link_content x) is) ∙ spelled ∙ ap (λ (x : List (Vec ℕ Global)). link_of_words (texts x)) more_is in
+    of_line are (subst (λ (x : Option LinkScript). IsEventIf origin id x (texts line.words.items) None) none refl)

@@ -1,4 +1,3 @@
-pub mod internal
 pub mod ClearLine
 pub mod EventContent
 pub mod LinkWords
@@ -9,6 +8,5 @@ pub mod Program
 pub mod ReportText
 pub mod ScriptFields
 pub mod ScriptText
-pub mod ScriptWords
 pub mod UpdateLine
 pub mod Words

@@ -10,7 +10,7 @@ use Rattle.stub_play.specs.EventContent.{EventContent, LinkScript, Update, conte
 use Rattle.stub_play.specs.LinkWords.{link_of_words}
 use Rattle.stub_play.specs.LookupLine.{ip_of, lookup_of}
 use Rattle.stub_play.specs.ScriptFields.{moment}
-use Rattle.stub_play.specs.ScriptWords.{IsLine, is_blank}
+use Rattle.update_text.specs.Words.{IsLine, is_blank}
 use Rattle.stub_play.specs.UpdateLine.{IsUpdateLine}
 use Rattle.stub_play.specs.declared.script_text.Keyword.{Keyword}
 use Rattle.stub_play.specs.declared.script_text.Keyword.TheVariants as keyword

@@ -1,8 +1,7 @@
 //! What the program does: its arguments, its files, and the text that it prints.
 //!
 //! - `words`: the arguments; `program`: the files that the program reads, and how it reports each fault
-//! - `script_text`: the events of a script, one a line; `script_words`: the words of a line; `script_fields`: moments, names,
-//!   types and hosts
+//! - `script_text`: the events of a script, one a line; `script_fields`: moments, names, types and hosts
 //! - `lookup_line`, `clear_line`, `update_line`: the kinds of lines; `link_words`: the link scripts of lines
 //! - `report_text`: the text of a report
 //! - `plays`: a whole run, from the contents of the files to the text that is printed; `plays/input`: its input;
@@ -19,7 +18,6 @@ mod program;
 mod report_text;
 mod script_fields;
 mod script_text;
-mod script_words;
 mod update_line;
 mod words;
 

@@ -4,18 +4,17 @@ ghost use Rattle.std.specs.Prelude.{◌≡◌, ◌≢◌, ◌≤◌, ◌+◌, If
 ghost use Rattle.std.specs.Str.Lines.{lines};
 ghost use Rattle.stub_play.specs.EventContent.{content_of, link_content};
 ghost use Rattle.stub_play.specs.ScriptText.{IsEvent, IsEventOfLine, IsScriptFrom, IsScriptOf, Means, contents_of, is_skipped, is_update, keyword_of, meaning_of, side_by_side, update_id};
-ghost use Rattle.stub_play.specs.internal.ScriptText.{IsLinkScript};
 
 use crate::clear_line::{read_clear, read_clear_all};
 use crate::link_words::read_link_words;
 use crate::lookup_line::{read_ip, read_lookup};
 use crate::script_fields::parse_moment;
-use crate::script_words::{is_blank, split_words};
 use crate::update_line::read_update;
 use dns_names::Name;
 use std::alloc::{AllocError, AllocFailed, Global};
 use stub_run::{Event, Script};
 use thiserror::Error;
+use update_text::{is_blank, split_line};
 
 /// The events of a script, in order.
 #[derive(Drop)]
@@ -191,39 +190,11 @@ fn read_event_line(
     ensures { IfOk result (λ found. IsEventOfLine origin.now id line.now
         (option_map content_of found)) }
 {
-    let Some(split) = split_words(alloc, line)? else {
+    let Some(line) = split_line(alloc, line)? else {
         return Ok(None);
     };
-    match read_link(alloc, after_semicolon(line, split.end))? {
-        Some(script) => read_event(alloc, split.words.as_slice(), script, origin, id),
-        None => Ok(None),
-    }
-}
-
-/// Returns the text after the character at a place, if there is one.
-fn after_semicolon(line: &[u8], place: usize) -> &[u8]
-    requires { place ≤ length line.now }
-    ensures { result.now ≡ drop (place + 1) line.now }
-{
-    if place < line.len() {
-        &line[place + 1..]
-    } else {
-        &line[place..]
-    }
-}
-
-/// Reads a link script, without its semicolon.
-fn read_link(alloc: Global, text: &[u8]) -> Result<Option<Script>, AllocError>
-    ensures { IfOk result (λ found. IsLinkScript text.now (option_map link_content found)) }
-{
-    match split_words(alloc, text)? {
-        Some(split) => {
-            if split.end < text.len() {
-                // Another semicolon.
-                return Ok(None);
-            }
-            read_link_words(alloc, split.words.as_slice())
-        }
+    match read_link_words(alloc, line.more.as_slice())? {
+        Some(script) => read_event(alloc, line.words.as_slice(), script, origin, id),
         None => Ok(None),
     }
 }

@@ -1,8 +1,0 @@
-use Rattle.std.proofs.Common.{◌<◌, length, arith}
-use Rattle.stub_play.proofs.UpdateLaws.{no_set_with_ttl}
-use Rattle.stub_play.proofs.update_line.read_set_with_ttl.Goals as goal
-
-pub returns-in_default : goal.returns-in_default
-returns-in_default c =
-    let few : length c.args.arguments.now < 2 = omega arith in
-    no_set_with_ttl c.args.origin.now c.args.owner c.args.arguments.now few

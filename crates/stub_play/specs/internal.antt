@@ -1,3 +1,0 @@
--- Definitions that no public clause cites.
-pub mod ScriptText
-pub mod ScriptWords

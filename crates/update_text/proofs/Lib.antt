@@ -1,0 +1,3 @@
+pub mod LineLaws
+pub mod UpdateLaws
+pub mod WordsGrammarLaws

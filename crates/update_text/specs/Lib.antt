@@ -1,0 +1,3 @@
+pub mod internal
+pub mod Update
+pub mod Words

@@ -1,0 +1,15 @@
+//! The text of updates: words, and the update that they say.
+//!
+//! A line of a script has such words after its keyword, and so has an argument of a program.
+//!
+//! - `words`: the words of a text; `line`: lines of words, with more words after a semicolon
+//! - `update`: the words of an update
+#![tactic(auto)]
+
+mod line;
+mod update;
+mod words;
+
+pub use line::{Line, split_line};
+pub use update::{parse_update, read_update};
+pub use words::is_blank;
