@@ -2,7 +2,7 @@
 -- `create <name> <ttl> <type> <data>` and `append` alike, `swap <name> <ttl> <type> <data> -> <data>`,
 -- `delete-record <name> <type> <data>`, `delete-set <name> <type>`, `delete-name <name>`.
 -- The zone's origin completes names; the owner of an update is at or below it.
-use Rattle.std.specs.Prelude.{◌≡◌, ◌==◌, ◌+◌, ◌-◌, if◌then◌else◌, Bool, true, false, List, [], ◌∷◌, ℕ, map, take, drop, length, codes, Option, Some, None, option_map, Result, Ok, Err}
+use Rattle.std.specs.Prelude.{◌≡◌, ◌==◌, ◌+◌, ◌-◌, if◌then◌else◌, false, List, [], ◌∷◌, ℕ, map, take, drop, length, codes, Option, Some, None, option_map, Result, Ok, Err}
 use Rattle.std.specs.Str.{bytes_eq}
 use Rattle.dns_codes.specs.CodeText.{type_of_text}
 use Rattle.dns_codes.specs.Decimal.{decimal_up_to}

@@ -1,6 +1,6 @@
 //! Lines of words, with more words after a semicolon.
 
-ghost use Rattle.std.specs.Prelude.{◌≡◌, ◌+◌, ◌≤◌, IfOk, drop, length, map, option_map};
+ghost use Rattle.std.specs.Prelude.{◌≡◌, ◌+◌, ◌≤◌, [], IfOk, IsOk, drop, length, map, option_map};
 ghost use Rattle.update_text.specs.Words.{AreLineWords};
 
 use crate::words::{FirstWords, split_words, words_alone};
@@ -18,11 +18,15 @@ pub struct Line {
 /// Returns the words of a line, which may have a semicolon that is neither quoted nor escaped, and more words after it.
 ///
 /// The result is `None` if the line has a second semicolon, if a quote is not closed, or if a backslash at the end has nothing
-/// to escape.
+/// to escape. An empty line takes no memory.
 pub fn split_line(alloc: Global, text: &[u8]) -> Result<Option<Line>, AllocError>
-    ensures { IfOk result (λ found. AreLineWords text.now (option_map (λ line.
+    ensures words { IfOk result (λ found. AreLineWords text.now (option_map (λ line.
         (map (λ word. word.items) line.words.items, map (λ word. word.items) line.more.items)) found)) }
+    ensures empty { text.now ≡ [] → IsOk result }
 {
+    if text.is_empty() {
+        return Ok(Some(no_words(alloc)));
+    }
     let Some(FirstWords { words, end }) = split_words(alloc, text)? else {
         return Ok(None);
     };
@@ -30,6 +34,16 @@ pub fn split_line(alloc: Global, text: &[u8]) -> Result<Option<Line>, AllocError
         Some(more) => Ok(Some(Line { words, more })),
         None => Ok(None),
     }
+}
+
+/// Creates a line without words.
+fn no_words(alloc: Global) -> Line
+    ensures words { result.words.items ≡ [] }
+    ensures more { result.more.items ≡ [] }
+{
+    let words = Vec::new(alloc);
+    let more = Vec::new(alloc);
+    Line { words, more }
 }
 
 /// Returns the text after the character at a place, if there is one.

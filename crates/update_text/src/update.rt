@@ -3,7 +3,7 @@
 //! The actions are `create` and `append` (`<ttl> <type> <data>`), `swap` (`<ttl> <type> <data> -> <data>`),
 //! `delete-record` (`<type> <data>`), `delete-set` (`<type>`), and `delete-name`. The zone's origin completes names.
 
-ghost use Rattle.std.specs.Prelude.{◌≡◌, ◌<◌, ◌+◌, IfOk, IfSome, length, map, take, drop};
+ghost use Rattle.std.specs.Prelude.{◌≡◌, ◌<◌, ◌+◌, [], IfOk, IfSome, IsOk, length, map, take, drop};
 ghost use Rattle.dns_text.specs.Token.{lexeme};
 ghost use Rattle.update_text.specs.Update.{IsAction, IsAppend, IsCreate, IsData, IsDeleteRecord, IsMessage, IsSendable, IsSet, IsSetWithTtl, IsSetWithoutTtl, IsSwap, IsSwapBetween, IsSwapOf, IsSwapTo, IsUpdateOf, IsUpdateText, action_of, arrow_from, delete_name, delete_set, only_type, owner_of, ttl_of, word_lexeme};
 
@@ -38,15 +38,19 @@ enum Action {
 /// Reads the update that a text says: words, and no semicolon after them. The origin is that of the zone, and the update has this
 /// id.
 ///
-/// The result is `None` if the text is no update of the zone, or if its message cannot be sent.
+/// The result is `None` if the text is no update of the zone, or if its message cannot be sent. An empty text takes no memory.
 pub fn parse_update(
     alloc: Global,
     text: &[u8],
     origin: &Name,
     id: u16,
 ) -> Result<Option<UpdateEvent>, AllocError>
-    ensures { IfOk result (IsUpdateText origin.now id text.now) }
+    ensures update { IfOk result (IsUpdateText origin.now id text.now) }
+    ensures empty { text.now ≡ [] → IsOk result }
 {
+    if text.is_empty() {
+        return Ok(None);
+    }
     match words_alone(alloc, text)? {
         Some(words) => read_update(alloc, words.as_slice(), origin, id),
         None => Ok(None),
@@ -57,14 +61,15 @@ pub fn parse_update(
 /// update has this id.
 ///
 /// The result is `None` if the words are no update of the zone, or if its message cannot be sent: one that deletes a set of type
-/// `OPT` would be decoded as another, and one may be too long.
+/// `OPT` would be decoded as another, and one may be too long. Less than two words take no memory.
 pub fn read_update(
     alloc: Global,
     arguments: &[Vec<u8>],
     origin: &Name,
     id: u16,
 ) -> Result<Option<UpdateEvent>, AllocError>
-    ensures { IfOk result (IsUpdateOf origin.now id (map (λ word. word.items) arguments.now)) }
+    ensures update { IfOk result (IsUpdateOf origin.now id (map (λ word. word.items) arguments.now)) }
+    ensures short { length arguments.now < 2 → IsOk result }
 {
     match message_of(alloc, arguments, origin, id)? {
         Some(message) => Ok(sendable(message)),
@@ -89,8 +94,9 @@ fn message_of(
     origin: &Name,
     id: u16,
 ) -> Result<Option<Message>, AllocError>
-    ensures { IfOk result (λ message. IsMessage origin.now id
+    ensures message { IfOk result (λ message. IsMessage origin.now id
         (map (λ word. word.items) arguments.now) message) }
+    ensures short { length arguments.now < 2 → IsOk result }
 {
     let [action, owner, arguments @ ..] = arguments else {
         return Ok(None);

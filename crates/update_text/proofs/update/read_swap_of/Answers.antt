@@ -1,4 +1,4 @@
-use Rattle.std.proofs.Common.{◌≡◌, ◌∙◌, sym}
+use Rattle.std.proofs.Common.{◌∙◌, sym}
 use Rattle.update_text.proofs.UpdateLaws.{swaps_at}
 use Rattle.update_text.proofs.update.read_swap_of.Goals as goal
 
