@@ -1,13 +1,13 @@
 //! `rows_net FILE..`: tries each row of the files, as the library `rows` describes, on what asks servers over a network.
 //!
 //! - `resolv_conf`: configurations of the system's resolver, and the names that lookups attempt with them;
-//! - `update_text`: the words of lines, and the updates that they say;
+//! - `updates`: the words of lines, and the updates that they say;
 //! - `schedules`: which servers a handle over a network asks, when, and what it returns.
 #![tactic(auto)]
 
 mod resolv_conf;
 mod schedules;
-mod update_text;
+mod updates;
 
 use rows::{Answer, Notation, Operations, RowFault};
 use std::alloc::Global;
@@ -29,8 +29,8 @@ impl Operations for NetOperations {
             "attempts" => resolv_conf::attempts(alloc, input),
             "schedule" => schedules::schedule(alloc, input),
             "update" => schedules::update(alloc, input),
-            "line" => update_text::line(alloc, input),
-            "update-text" => update_text::update_text(alloc, input),
+            "line" => updates::line(alloc, input),
+            "update-text" => updates::update(alloc, input),
             _ => Err(RowFault::UnknownOperation),
         }
     }

@@ -40,7 +40,7 @@ fn push_words(text: &mut String, words: &[Vec<u8>]) -> Result<(), AllocError> {
 }
 
 /// `update-text ZONE || TEXT`: the bytes of the update that a text says, or `none`.
-pub(crate) fn update_text(alloc: Global, input: &str) -> Answer {
+pub(crate) fn update(alloc: Global, input: &str) -> Answer {
     let (zone, text) = split(input, " || ", "a text")?;
     let zone = name_of(alloc, zone)?;
     update_bytes(alloc, &zone, text)
