@@ -34,6 +34,7 @@ impl<E: Entropy> RandomIds<E> {
     fn take(&mut self) -> Option<u16>
         ensures taken { IfSome result (λ id. Takes self.old id self.new) }
         ensures none { result ≡ None → 254 < self.old.used }
+        ensures unchanged { result ≡ None → self.new ≡ self.old }
         ensures kept { self.old.used ≤ 254 → IsSome result }
     {
         let place = self.used;
