@@ -73,8 +73,13 @@ def constant(data: bytes) -> Callable[[random.Random], bytes]:
 
 
 def text(chance: random.Random) -> bytes:
-    """A text without a length, not empty. dnspython does not escape the quotes and backslashes of a URI record."""
-    return string(chance)[1:].replace(b"\\", b"/").replace(b'"', b"/") or b"x"
+    """A text of printable characters without a length, not empty. dnspython does not escape that of a URI record."""
+    return bytes(chance.choice(PLAIN) for _ in range(chance.randint(1, 20))).replace(b"\\", b"/").replace(b'"', b"/")
+
+
+def value(chance: random.Random) -> bytes:
+    """The value of a CAA record, not empty: ldns writes no token for an empty one."""
+    return string(chance)[1:] or b";"
 
 
 def salt(chance: random.Random) -> bytes:
@@ -87,6 +92,11 @@ def covered(chance: random.Random) -> bytes:
     """A type that all tools and `RecordType` give the same name, or a number without a name."""
     named = [1, 2, 5, 6, 12, 13, 15, 16, 28, 33, 35, 39, 43, 44, 46, 47, 48, 50, 51, 52, 257]
     return struct.pack(">H", chance.choice(named) if chance.random() < 0.5 else chance.randint(1000, 30000))
+
+
+def time(chance: random.Random) -> bytes:
+    """A time between 1990 and 2050: ldns and BIND write others as dates before 1970 or after 2106 (RFC 4034 section 3.1.5)."""
+    return struct.pack(">I", chance.randint(631152000, 2524608000))
 
 
 def unnamed(least: int) -> Callable[[random.Random], bytes]:
@@ -102,7 +112,7 @@ TYPES = {
     "DNAME": Type(39, "DNAME", name),
     "DS": Type(43, "DS", fields(numbers("H"), constant(b"\x08\x02"), sized(32))),
     "SSHFP": Type(44, "SSHFP", fields(constant(b"\x01\x02"), sized(32))),
-    "RRSIG": Type(46, "RRSIG", fields(covered, constant(b"\x08\x03"), numbers("III"), numbers("H"), name, some(1, 80))),
+    "RRSIG": Type(46, "RRSIG", fields(covered, constant(b"\x08\x03"), numbers("I"), time, time, numbers("H"), name, some(1, 80))),
     "DNSKEY": Type(48, "DNSKEY", fields(numbers("H"), constant(b"\x03\x08"), some(4, 80))),
     "NSEC3PARAM": Type(51, "NSEC3PARAM", fields(constant(b"\x01\x00"), numbers("H"), salt)),
     "TLSA": Type(52, "TLSA", fields(constant(b"\x03\x01\x01"), sized(32))),
@@ -112,7 +122,7 @@ TYPES = {
     "OPENPGPKEY": Type(61, "OPENPGPKEY", some(1, 80)),
     "ZONEMD": Type(63, "TYPE63", fields(numbers("I"), constant(b"\x01\x01"), sized(48))),
     "URI": Type(256, "TYPE256", fields(numbers("HH"), text)),
-    "CAA": Type(257, "CAA", fields(numbers("B"), tag, lambda chance: string(chance)[1:])),
+    "CAA": Type(257, "CAA", fields(numbers("B"), tag, value)),
 }
 
 
