@@ -1,0 +1,131 @@
+"""Random data of each type, as bytes, by the layouts of the RFCs."""
+import random
+import struct
+from collections.abc import Callable
+from dataclasses import dataclass
+
+# Characters that mean nothing to the notation of rows.
+PLAIN = bytes(c for c in range(33, 127) if c not in b'{}>#')
+
+
+@dataclass
+class Type:
+    """A type: its number, its word in rows, and random data of it."""
+
+    number: int
+    word: str
+    data: Callable[[random.Random], bytes]
+
+
+def octets(chance: random.Random, least: int, most: int) -> bytes:
+    """Random bytes."""
+    return chance.randbytes(chance.randint(least, most))
+
+
+def name(chance: random.Random) -> bytes:
+    """An uncompressed name, of up to five labels. All tools escape its other octets, as `dns_names` requires."""
+    out = b""
+    for _ in range(chance.randint(0, 5)):
+        length = chance.randint(1, 12)
+        if chance.random() < 0.8:
+            label = bytes(chance.choice(b"abcXYZ0189_") for _ in range(length))
+        else:
+            label = bytes(chance.choice(b"\0\x07\n \x7f\x80\xe9\xffa") for _ in range(length))
+        out += bytes([length]) + label
+    return out + b"\0"
+
+
+def string(chance: random.Random) -> bytes:
+    """A character string."""
+    text = octets(chance, 0, 20) if chance.random() < 0.3 else bytes(chance.choice(PLAIN) for _ in range(chance.randint(0, 20)))
+    return bytes([len(text)]) + text
+
+
+def tag(chance: random.Random) -> bytes:
+    """A tag of a CAA record."""
+    text = bytes(chance.choice(b"abcdefxyz0189") for _ in range(chance.randint(1, 15)))
+    return bytes([len(text)]) + text
+
+
+def numbers(form: str) -> Callable[[random.Random], bytes]:
+    """Numbers of a layout of `struct`."""
+    return lambda chance: struct.pack(">" + form, *(chance.randrange(256 ** struct.calcsize(">" + it)) for it in form))
+
+
+def fields(*parts: Callable[[random.Random], bytes]) -> Callable[[random.Random], bytes]:
+    """Fields one after another."""
+    return lambda chance: b"".join(part(chance) for part in parts)
+
+
+def some(least: int, most: int) -> Callable[[random.Random], bytes]:
+    """Bytes to the end."""
+    return lambda chance: octets(chance, least, most)
+
+
+def sized(size: int) -> Callable[[random.Random], bytes]:
+    """A number of bytes."""
+    return lambda chance: chance.randbytes(size)
+
+
+def constant(data: bytes) -> Callable[[random.Random], bytes]:
+    """The same bytes each time."""
+    return lambda chance: data
+
+
+def text(chance: random.Random) -> bytes:
+    """A text of printable characters without a length, not empty. dnspython does not escape that of a URI record."""
+    return bytes(chance.choice(PLAIN) for _ in range(chance.randint(1, 20))).replace(b"\\", b"/").replace(b'"', b"/")
+
+
+def value(chance: random.Random) -> bytes:
+    """The value of a CAA record, not empty: ldns writes no token for an empty one."""
+    return string(chance)[1:] or b";"
+
+
+def salt(chance: random.Random) -> bytes:
+    """A salt after its length."""
+    data = octets(chance, 0, 12)
+    return bytes([len(data)]) + data
+
+
+def covered(chance: random.Random) -> bytes:
+    """A type that all tools and `RecordType` give the same name, or a number without a name."""
+    named = [1, 2, 5, 6, 12, 13, 15, 16, 28, 33, 35, 39, 43, 44, 46, 47, 48, 50, 51, 52, 257]
+    return struct.pack(">H", chance.choice(named) if chance.random() < 0.5 else chance.randint(1000, 30000))
+
+
+def time(chance: random.Random) -> bytes:
+    """A time between 1990 and 2050: ldns and BIND write others as dates before 1970 or after 2106 (RFC 4034 section 3.1.5)."""
+    return struct.pack(">I", chance.randint(631152000, 2524608000))
+
+
+def unnamed(least: int) -> Callable[[random.Random], bytes]:
+    """A number of 16 bits from some number on, below which there are mnemonics, which are refused here."""
+    return lambda chance: struct.pack(">H", chance.randint(least, 60000))
+
+
+TYPES = {
+    "HINFO": Type(13, "HINFO", fields(string, string)),
+    "RP": Type(17, "TYPE17", fields(name, name)),
+    "NAPTR": Type(35, "NAPTR", fields(numbers("HH"), string, string, string, name)),
+    "CERT": Type(37, "CERT", fields(unnamed(1000), numbers("H"), constant(b"\xc8"), some(1, 60))),
+    "DNAME": Type(39, "DNAME", name),
+    "DS": Type(43, "DS", fields(numbers("H"), constant(b"\x08\x02"), sized(32))),
+    "SSHFP": Type(44, "SSHFP", fields(constant(b"\x01\x02"), sized(32))),
+    "RRSIG": Type(46, "RRSIG", fields(covered, constant(b"\x08\x03"), numbers("I"), time, time, numbers("H"), name, some(1, 80))),
+    "DNSKEY": Type(48, "DNSKEY", fields(numbers("H"), constant(b"\x03\x08"), some(4, 80))),
+    "NSEC3PARAM": Type(51, "NSEC3PARAM", fields(constant(b"\x01\x00"), numbers("H"), salt)),
+    "TLSA": Type(52, "TLSA", fields(constant(b"\x03\x01\x01"), sized(32))),
+    "SMIMEA": Type(53, "SMIMEA", fields(constant(b"\x03\x01\x01"), sized(32))),
+    "CDS": Type(59, "CDS", fields(numbers("H"), constant(b"\x08\x02"), sized(32))),
+    "CDNSKEY": Type(60, "CDNSKEY", fields(numbers("H"), constant(b"\x03\x08"), some(4, 80))),
+    "OPENPGPKEY": Type(61, "OPENPGPKEY", some(1, 80)),
+    "ZONEMD": Type(63, "TYPE63", fields(numbers("I"), constant(b"\x01\x01"), sized(48))),
+    "URI": Type(256, "TYPE256", fields(numbers("HH"), text)),
+    "CAA": Type(257, "CAA", fields(numbers("B"), tag, value)),
+}
+
+
+def random_data(chance: random.Random, kind: str) -> bytes:
+    """Random data of a type."""
+    return TYPES[kind].data(chance)

@@ -1,0 +1,11 @@
+pub mod ValueLaws
+pub mod ReadLaws
+pub mod NameLaws
+pub mod WireLaws
+pub mod DecimalLaws
+pub mod WordLaws
+pub mod EncodingLaws
+pub mod PrintLaws
+pub mod BackLaws
+pub mod DataLaws
+pub mod TypeLaws

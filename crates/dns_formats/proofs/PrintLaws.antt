@@ -1,0 +1,155 @@
+-- What is written, value by value.
+use Rattle.std.proofs.Common.{◌≡◌, ℕ, zero, suc, ◌+◌, ◌/◌, ◌%◌, ◌<◌, ◌≤◌, Bool, true, false, List, [], ◌∷◌, ◌++◌, length, take, drop, get_or, Option, Some, None, refl, sym, ap, subst, ◌∙◌, append_assoc, arith}
+use Rattle.std.specs.Prelude.{◌==◌, ◌≢◌, slice_index, flat_map, is_some, unwrap_or, if◌then◌else◌}
+use Rattle.std.specs.Fmt.{decimal}
+use Rattle.std.proofs.lemmas.Bool.Decides.{nat_tests}
+use Rattle.std.proofs.lemmas.List.{append-nil}
+use Rattle.hex.specs.Hex.{encode_with, encode_lower, lower_digits}
+use Rattle.dns_names.specs.Print.{label_text, dotted_labels, text_of_labels}
+use Rattle.dns_text.specs.Lexer.{Lexeme}
+use Rattle.dns_text.specs.Tokens.{datum_text, data_text}
+use Rattle.dns_formats.specs.Wire.{counted_octets, value_len, value_size, fits}
+use Rattle.dns_formats.specs.Print.{labels_at, front_token, data_tokens, lead, generic_text}
+use Rattle.dns_formats.specs.Value.{is_tag}
+use Rattle.dns_formats.specs.declared.field.Field.{Field}
+use Rattle.dns_formats.specs.declared.field.Field.TheVariants.{Tag}
+use Rattle.dns_formats.proofs.ValueLaws.{at_place}
+use Rattle.dns_formats.proofs.ReadLaws.{none_left}
+use Rattle.dns_formats.proofs.NameLaws.{labels_skip}
+use Rattle.dns_formats.proofs.WordLaws.{tag_label}
+
+-- ---- fields
+
+-- tokens, with a blank before each but the first
+abbrev pub spaced : Bool → List Lexeme → List ℕ
+spaced is_first [] = []
+spaced is_first (token ∷ tokens) = (lead is_first ++ datum_text token) ++ spaced false tokens
+
+pub spaced_is : (tokens : List Lexeme) → spaced true tokens ≡ data_text tokens
+spaced_is [] = refl
+spaced_is (token ∷ []) = append-nil (datum_text token)
+spaced_is (token ∷ next ∷ tokens) = ap (λ (l : List ℕ). datum_text token ++ (32 ∷ l)) (spaced_is (next ∷ tokens))
+
+-- a field whose value is there, and the fields after it
+pub record IsFront (field : Field) (fields : List Field) (bytes : List ℕ) : Type 0 where
+  pub some : is_some (value_len field bytes) ≡ true
+  pub rest : fits fields (drop (value_size field bytes) bytes) ≡ true
+
+pub front_fits : (field : Field) (fields : List Field) (bytes : List ℕ) → fits (field ∷ fields) bytes ≡ true → IsFront field fields bytes
+front_fits field fields bytes e = by (value_len field bytes) refl e
+  where
+    by : (o : Option ℕ) → value_len field bytes ≡ o → (elim o as (λ _. Bool) [ None ↦ false | Some k ↦ fits fields (drop k bytes) ]) ≡ true → IsFront field fields bytes
+    by None q r = absurd (cc)
+    by (Some n) q r = record { some = ap (λ (o : Option ℕ). is_some o) q; rest = ap (λ (o : Option ℕ). fits fields (drop (unwrap_or o 0) bytes)) q ∙ r }
+
+module _ (fields : List Field) (i : ℕ) (d : Field) (left : List ℕ) (here : i < length fields) where
+  pub front_there : fits (drop i fields) left ≡ true → IsFront (get_or fields i d) (drop (i + 1) fields) left
+  front_there e = front_fits (get_or fields i d) (drop (i + 1) fields) left (ap (λ (fs : List Field). fits fs left) (sym (at_place fields i d here)) ∙ e)
+
+  pub rest_fits : (len : ℕ) → len ≡ value_size (get_or fields i d) left → fits (drop i fields) left ≡ true → fits (drop (i + 1) fields) (drop len left) ≡ true
+  rest_fits len is e = ap (λ (n : ℕ). fits (drop (i + 1) fields) (drop n left)) is ∙ (front_there e).rest
+
+  pub more_further : (is_first : Bool) (done whole : List ℕ) (len : ℕ) → len ≡ value_size (get_or fields i d) left → done ++ spaced is_first (data_tokens (drop i fields) left) ≡ whole
+      → (done ++ (lead is_first ++ datum_text (front_token (get_or fields i d) left))) ++ spaced false (data_tokens (drop (i + 1) fields) (drop len left)) ≡ whole
+  more_further is_first done whole len is e =
+      append_assoc done (lead is_first ++ datum_text (front_token (get_or fields i d) left)) (spaced false (data_tokens (drop (i + 1) fields) (drop len left)))
+      ∙ ap (λ (n : ℕ). done ++ ((lead is_first ++ datum_text (front_token (get_or fields i d) left)) ++ spaced false (data_tokens (drop (i + 1) fields) (drop n left)))) is
+      ∙ ap (λ (fs : List Field). done ++ spaced is_first (data_tokens fs left)) (sym (at_place fields i d here)) ∙ e
+
+pub some_of : (n : ℕ) → false ≡ (n == 0) → 0 < n
+some_of zero e = absurd (cc)
+some_of (suc n) e = omega arith
+
+-- ---- tags
+
+some_tag : (b : Bool) (o : Option ℕ) → is_some (if b then o else None) ≡ true → b ≡ true
+some_tag true o e = refl
+some_tag false o e = absurd (cc)
+
+pub tag_written : (field : Field) (bytes octets : List ℕ) → field ≡ Tag → octets ≡ counted_octets bytes → is_some (value_len field bytes) ≡ true
+    → label_text octets ≡ datum_text (front_token field bytes)
+tag_written field bytes octets is same there =
+    let tag : is_some (value_len Tag bytes) ≡ true = subst (λ (k : Field). is_some (value_len k bytes) ≡ true) is there in
+    ap label_text same ∙ tag_label (counted_octets bytes) (some_tag (is_tag (counted_octets bytes)) _ tag) ∙ ap (λ (k : Field). datum_text (front_token k bytes)) (sym is)
+
+-- ---- names
+
+-- labels, each before a dot
+abbrev pub each_dotted : List (List ℕ) → List ℕ
+each_dotted labels = flat_map (λ label. label_text label ++ 46 ∷ []) labels
+
+last_dot : (labels : List (List ℕ)) → dotted_labels labels ++ 46 ∷ [] ≡ 46 ∷ each_dotted labels
+last_dot [] = refl
+last_dot (l ∷ ls) =
+    ap (λ (x : List ℕ). 46 ∷ x)
+    (append_assoc (label_text l) (dotted_labels ls) (46 ∷ []) ∙ ap (λ (x : List ℕ). label_text l ++ x) (last_dot ls) ∙ sym (append_assoc (label_text l) (46 ∷ []) (each_dotted ls)))
+
+pub name_is : (label : List ℕ) (labels : List (List ℕ)) → each_dotted (label ∷ labels) ≡ text_of_labels true (label ∷ labels)
+name_is l ls = append_assoc (label_text l) (46 ∷ []) (each_dotted ls) ∙ ap (λ (x : List ℕ). label_text l ++ x) (sym (last_dot ls))
+
+drop_taken : (c : ℕ) (cs : List ℕ) → drop (length (take c cs)) cs ≡ drop c cs
+drop_taken zero [] = refl
+drop_taken zero (x ∷ xs) = refl
+drop_taken (suc c) [] = refl
+drop_taken (suc c) (x ∷ xs) = drop_taken c xs
+
+nonzero : (c : ℕ) (cs : List ℕ) → c ≢ 0 → labels_at 0 (c ∷ cs) ≡ take c cs ∷ labels_at c cs
+nonzero c cs some = by (c == 0) refl
+  where
+    equal : (n : ℕ) → (n == 0) ≡ true → n ≡ 0
+    equal n q = grind (arith, nat_tests)
+
+    by : (b : Bool) → (c == 0) ≡ b → (if b then [] else take c cs ∷ labels_at c cs) ≡ take c cs ∷ labels_at c cs
+    by true q = absurd (some (equal c q))
+    by false q = refl
+
+-- the labels at the front of bytes, from the first on
+pub labels_front : (left label : List ℕ) → 0 < length left → get_or left 0 0 ≢ 0 → label ≡ counted_octets left → labels_at 0 left ≡ label ∷ labels_at 0 (drop (1 + length label) left)
+labels_front [] label some first is = absurd (omega arith)
+labels_front (c ∷ cs) label some first is =
+    let next : 1 + length label ≡ suc (length label) = omega arith in
+    nonzero c cs first
+    ∙ ap (λ (ls : List (List ℕ)). take c cs ∷ ls) (labels_skip c cs ∙ ap (labels_at 0) (sym (drop_taken c cs)) ∙ ap (λ (l : List ℕ). labels_at 0 (drop (length l) cs)) (sym is))
+    ∙ ap (λ (l : List ℕ). l ∷ labels_at 0 (drop (length label) cs)) (sym is)
+    ∙ ap (λ (n : ℕ). label ∷ labels_at 0 (drop n (c ∷ cs))) (sym next)
+
+pub labels_further : (left label done whole : List ℕ) → 0 < length left → get_or left 0 0 ≢ 0 → label ≡ counted_octets left → done ++ each_dotted (labels_at 0 left) ≡ whole
+    → (done ++ (label_text label ++ 46 ∷ [])) ++ each_dotted (labels_at 0 (drop (1 + length label) left)) ≡ whole
+labels_further left label done whole some first is e =
+    append_assoc done (label_text label ++ 46 ∷ []) (each_dotted (labels_at 0 (drop (1 + length label) left)))
+    ∙ ap (λ (ls : List (List ℕ)). done ++ each_dotted ls) (sym (labels_front left label some first is)) ∙ e
+
+pub no_labels : (left : List ℕ) → length left ≡ 0 → labels_at 0 left ≡ []
+no_labels [] e = refl
+no_labels (c ∷ cs) e = absurd (omega arith)
+
+pub root_labels : (left : List ℕ) → get_or left 0 0 ≡ 0 → labels_at 0 left ≡ []
+root_labels [] e = refl
+root_labels (c ∷ cs) e = ap (λ (n : ℕ). labels_at 0 (n ∷ cs)) e
+
+pub labels_end : (left done whole : List ℕ) → labels_at 0 left ≡ [] → done ++ each_dotted (labels_at 0 left) ≡ whole → done ≡ whole
+labels_end left done whole none e = sym (append-nil done) ∙ ap (λ (ls : List (List ℕ)). done ++ each_dotted ls) (sym none) ∙ e
+
+pub some_name : (bytes : List ℕ) → 0 < length bytes → get_or bytes 0 0 ≢ 0 → each_dotted (labels_at 0 bytes) ≡ text_of_labels true (labels_at 0 bytes)
+some_name bytes some first =
+    let front = labels_front bytes (counted_octets bytes) some first refl in
+    ap each_dotted front ∙ name_is (counted_octets bytes) (labels_at 0 (drop (1 + length (counted_octets bytes)) bytes)) ∙ ap (text_of_labels true) (sym front)
+
+-- ---- hexadecimal digits
+
+pub hex_further : (bytes : List ℕ) (i : ℕ) (done whole : List ℕ) → i < length bytes → done ++ encode_lower (drop i bytes) ≡ whole
+    → (done ++ (slice_index lower_digits (get_or bytes i 0 / 16) ∷ slice_index lower_digits (get_or bytes i 0 % 16) ∷ [])) ++ encode_lower (drop (i + 1) bytes) ≡ whole
+unfolding encode_with
+hex_further bytes i done whole within e =
+    append_assoc done (slice_index lower_digits (get_or bytes i 0 / 16) ∷ slice_index lower_digits (get_or bytes i 0 % 16) ∷ []) (encode_lower (drop (i + 1) bytes))
+    ∙ ap (λ (l : List ℕ). done ++ encode_lower l) (sym (at_place bytes i 0 within)) ∙ e
+
+pub hex_end : (bytes : List ℕ) (i : ℕ) (done whole : List ℕ) → length bytes ≤ i → done ++ encode_lower (drop i bytes) ≡ whole → done ≡ whole
+unfolding encode_with
+hex_end bytes i done whole past e = sym (append-nil done) ∙ ap (λ (l : List ℕ). done ++ encode_lower l) (sym (none_left bytes i past)) ∙ e
+
+pub generic_parts : (bytes : List ℕ) (len : ℕ) → 0 < length bytes → len ≡ length bytes → (92 ∷ 35 ∷ 32 ∷ (decimal len ++ 32 ∷ [])) ++ encode_lower bytes ≡ generic_text bytes
+generic_parts [] len some is = absurd (omega arith)
+generic_parts (b ∷ bs) len some is =
+    ap (λ (n : ℕ). (92 ∷ 35 ∷ 32 ∷ (decimal n ++ 32 ∷ [])) ++ encode_lower (b ∷ bs)) is
+    ∙ ap (λ (l : List ℕ). 92 ∷ 35 ∷ 32 ∷ l) (append_assoc (decimal (length (b ∷ bs))) (32 ∷ []) (encode_lower (b ∷ bs)))

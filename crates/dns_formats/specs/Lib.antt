@@ -1,0 +1,11 @@
+pub mod Fault
+pub mod Field
+pub mod Value
+pub mod Rest
+pub mod Read
+pub mod Wire
+pub mod Print
+pub mod Data
+pub mod ReadBack
+pub mod Dnssec
+pub mod Counted

@@ -1,0 +1,41 @@
+-- All tokens that are left, as the bytes of one field: hexadecimal digits and base64 in any number of words.
+use Rattle.std.specs.Prelude.{ℕ, List, [], ◌∷◌, ◌++◌, Option, Some, None, option_map, Result, Ok, Err}
+use Rattle.base64.specs.Engines.{standard}
+use Rattle.base64.specs.GeneralPurpose.{decode_of}
+use Rattle.base64.specs.declared.decode.DecodeError.{DecodeError}
+use Rattle.hex.specs.Hex as hex
+use Rattle.hex.specs.declared.error.FromHexError.{FromHexError}
+use Rattle.dns_text.specs.Lexer.{Lexeme, CharData}
+use Rattle.dns_formats.specs.declared.fault.TokenFault.{TokenFault}
+use Rattle.dns_formats.specs.declared.fault.TokenFault.TheVariants.{NotAWord, NotHex, NotBase64}
+use Rattle.dns_formats.specs.declared.field.Field.{Field}
+use Rattle.dns_formats.specs.declared.field.Field.TheVariants as kind
+
+-- the words of tokens, joined, unless one of the tokens is no word
+abbrev pub joined : List Lexeme → Option (List ℕ)
+joined [] = Some []
+joined (CharData text ∷ tokens) = option_map (λ more. text ++ more) (joined tokens)
+joined (token ∷ tokens) = None
+
+-- bytes in hexadecimal digits, of which there is at least one
+abbrev pub hex_outcome : Result (List ℕ) FromHexError → Result (List ℕ) TokenFault
+hex_outcome (Ok []) = Err NotHex
+hex_outcome (Ok (byte ∷ bytes)) = Ok (byte ∷ bytes)
+hex_outcome (Err error) = Err NotHex
+
+-- bytes in base64, of which there is at least one (RFC 4648 section 4)
+abbrev pub base64_outcome : Result (List ℕ) DecodeError → Result (List ℕ) TokenFault
+base64_outcome (Ok []) = Err NotBase64
+base64_outcome (Ok (byte ∷ bytes)) = Ok (byte ∷ bytes)
+base64_outcome (Err error) = Err NotBase64
+
+-- the bytes that the words denote
+abbrev pub words_bytes : Field → Option (List ℕ) → Result (List ℕ) TokenFault
+words_bytes field None = Err NotAWord
+words_bytes kind.Hex (Some words) = hex_outcome (hex.decode_of words)
+words_bytes kind.Base64 (Some words) = base64_outcome (decode_of standard words)
+words_bytes field (Some words) = Err NotAWord
+
+-- the bytes of a field that takes all tokens that are left
+abbrev pub rest_bytes : Field → List Lexeme → Result (List ℕ) TokenFault
+rest_bytes field tokens = words_bytes field (joined tokens)

@@ -1,0 +1,28 @@
+//! Record data of many types in the text of zone files, as views of its bytes.
+//!
+//! A type is a sequence of fields, one line in the table of `field`; what the text of its data is, and which bytes it
+//! denotes, follows from their kinds. The generic form of RFC 3597 section 5 has data of any type.
+//!
+//! - `field`: the kinds of fields, and the fields of each type; `fault`: why tokens or bytes are refused
+//! - `dnssec`: the fields of DNSSEC: types by their names, times, and salts
+//! - `value`: a token as the bytes of one field; `rest`: all tokens that are left, as one field
+//! - `read`: the tokens of record data, read as its bytes
+#![tactic(auto)]
+
+mod dnssec;
+mod fault;
+mod field;
+mod generic;
+pub mod laws;
+mod print;
+mod read;
+mod rest;
+mod value;
+mod wire;
+
+pub use fault::{FormatFault, TokenFault};
+pub use field::{Field, format_of};
+pub use generic::is_generic;
+pub use print::DataText;
+pub use read::read_data;
+pub use wire::fits;
