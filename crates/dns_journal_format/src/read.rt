@@ -34,6 +34,8 @@ pub fn read_journal(alloc: Global, bytes: &[u8]) -> Result<JournalContent<'_>, R
         (map (λ p. p.now) content.payloads.items) content.end.now) }
     ensures link { IfOk result (λ content. content.link.now ≡ link_after
         (first_link content.digest.now) (map (λ p. p.now) content.payloads.items)) }
+    ensures link_len { IfOk result (λ content. length content.link.now ≡ 8) }
+    ensures end_within { IfOk result (λ content. length content.end.now ≤ length bytes.now) }
     ensures refused { IfErr result (IsFault bytes.now) }
     ensures decided { ¬ (HasHeader bytes.now) → result ≡ Err errors.Header }
 {
@@ -90,6 +92,8 @@ fn read_content<'a>(
         (map (λ p. p.now) content.payloads.items) content.end.now) }
     ensures link { IfOk result (λ content. content.link.now ≡ link_after
         (first_link content.digest.now) (map (λ p. p.now) content.payloads.items)) }
+    ensures link_len { IfOk result (λ content. length content.link.now ≡ 8) }
+    ensures end_within { IfOk result (λ content. length content.end.now ≤ length bytes.now) }
     ensures refused { IfErr result (IsFault bytes.now) }
 {
     match read_entries(alloc, link_of(digest), rest) {
@@ -129,6 +133,8 @@ fn content_of<'a>(
         (map (λ p. p.now) content.payloads.items) content.end.now) }
     ensures link { IfOk result (λ content. content.link.now ≡ link_after
         (first_link content.digest.now) (map (λ p. p.now) content.payloads.items)) }
+    ensures link_len { IfOk result (λ content. length content.link.now ≡ 8) }
+    ensures end_within { IfOk result (λ content. length content.end.now ≤ length bytes.now) }
     ensures refused { IfErr result (IsFault bytes.now) }
 {
     let place = bytes.len() - entries.end.len();
