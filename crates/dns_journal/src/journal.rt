@@ -38,6 +38,7 @@ pub struct Position {
 ///
 /// A payload is on the disk when its append returns. A crash before that leaves the payloads from before, with the new one or without
 /// it, and never a part of it.
+#[derive(Drop)]
 pub struct Journal<S: Storage> {
     /// What keeps the journal.
     pub storage: S,
