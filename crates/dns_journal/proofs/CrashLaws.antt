@@ -2,7 +2,7 @@
 use Rattle.std.proofs.Common.{◌≡◌, ℕ, zero, suc, ◌+◌, ◌^◌, ◌<◌, ◌≤◌, ◌⊎◌, true, false, List, [], ◌∷◌, ◌++◌, length, take, drop, refl, sym, ap, subst, ◌∙◌, arith, inl, inr, length-append}
 use Rattle.std.proofs.lemmas.Bool.{cases_eq}
 use Rattle.std.proofs.lemmas.List.{take_at, take_all, take-append-drop}
-use Rattle.dns_journal_format.specs.Format.{entry, first_link, link_after, seal, HasEntry, IsJournal}
+use Rattle.dns_journal_format.specs.Format.{entry, HasEntry, IsJournal}
 use Rattle.dns_journal.specs.declared.journal.Position.{Position}
 use Rattle.dns_journal.specs.declared.journal.State.TheVariants as states
 use Rattle.dns_journal.specs.Appending.{Appends, IsBeforeOrAfter, IsStored}
@@ -34,13 +34,10 @@ take_take (suc k) (suc m) (x ∷ l) within = ap (λ (r : List ℕ). x ∷ r) (ta
 
 abbrev pub EntriesAreRead : Type 0
 EntriesAreRead = (bytes digest payload : List ℕ) (payloads : List (List ℕ)) → IsJournal bytes digest payloads [] → length payload < 2 ^ 32
-    → IsJournal (bytes ++ entry (link_after (first_link digest) payloads) payload) digest (payloads ++ payload ∷ []) []
-
-abbrev pub LinksAreSeals : Type 0
-LinksAreSeals = (digest payload : List ℕ) (payloads : List (List ℕ)) → link_after (first_link digest) (payloads ++ payload ∷ []) ≡ seal (link_after (first_link digest) payloads) payload
+    → IsJournal (bytes ++ entry digest (length bytes) payload) digest (payloads ++ payload ∷ []) []
 
 abbrev pub EndsAreCutOff : Type 0
-EndsAreCutOff = (bytes digest end : List ℕ) (payloads : List (List ℕ)) → IsJournal bytes digest payloads [] → (HasEntry (link_after (first_link digest) payloads ++ end) → ⊥) → IsJournal (bytes ++ end) digest payloads end
+EndsAreCutOff = (bytes digest end : List ℕ) (payloads : List (List ℕ)) → IsJournal bytes digest payloads [] → (HasEntry digest (length bytes) end → ⊥) → IsJournal (bytes ++ end) digest payloads end
 
 -- ---- a crash
 
@@ -49,7 +46,7 @@ module _ (read : EntriesAreRead) (cut_off : EndsAreCutOff) (text bytes digest pa
   kept : (files : Files) → files.text ≡ text → take (length bytes) files.journal ≡ bytes → IsBeforeOrAfter text bytes digest payloads payload files
   kept files same front =
       let end = drop (length bytes) files.journal in
-      let written = entry (link_after (first_link digest) payloads) payload in
+      let written = entry digest (length bytes) payload in
       let whole : files.journal ≡ bytes ++ end = sym (take-append-drop (length bytes) files.journal) ∙ ap (λ (l : List ℕ). l ++ end) front in
       record {
         text_is = same;
@@ -89,15 +86,15 @@ module _ (read : EntriesAreRead) (cut_off : EndsAreCutOff) (text bytes digest pa
 
   -- ---- the calls of an append
 
-  module _ (old : Position) (link_is : old.link ≡ link_after (first_link digest) payloads) (end_is : old.end ≡ length bytes) (stored : List ℕ) (stored_is : stored ≡ entry old.link payload) (es : List Event) where
-    written : stored ≡ entry (link_after (first_link digest) payloads) payload
-    written = stored_is ∙ ap (λ (l : List ℕ). entry l payload) link_is
+  module _ (old : Position) (digest_is : old.digest ≡ digest) (end_is : old.end ≡ length bytes) (stored : List ℕ) (stored_is : stored ≡ entry old.digest old.end payload) (es : List Event) where
+    written : stored ≡ entry digest (length bytes) payload
+    written = stored_is ∙ ap (λ (l : List ℕ). entry l old.end payload) digest_is ∙ ap (λ (k : ℕ). entry digest k payload) end_is
 
-    pub ready_appends : LinksAreSeals → (next : Position) → next.end ≡ old.end + length (entry old.link payload) → next.link ≡ seal old.link payload → next.state ≡ states.Ready → IsStored stored states.Ready es
+    pub ready_appends : (next : Position) → next.end ≡ old.end + length (entry old.digest old.end payload) → next.digest ≡ old.digest → next.state ≡ states.Ready → IsStored stored states.Ready es
         → Appends old next payload true text bytes digest payloads es
-    ready_appends seals next next_end next_link ready is =
+    ready_appends next next_end next_digest ready is =
         let P = LeavesOnly (IsBeforeOrAfter text bytes digest payloads payload) in
-        let E = entry (link_after (first_link digest) payloads) payload in
+        let E = entry digest (length bytes) payload in
         let both : List Event = events.Append stored true ∷ events.Sync true ∷ [] in
         let moments : Always P (at_rest text bytes) both =
         (before, λ e s. subst (λ (d : Disk). Always P d (events.Sync true ∷ [])) (sym s) (during stored, λ e' s'. subst P (sym s') (after stored))) in
@@ -108,8 +105,8 @@ module _ (read : EntriesAreRead) (cut_off : EndsAreCutOff) (text bytes digest pa
           stored = λ _. subst (Ends (λ d. d ≡ at_rest text (bytes ++ E)) (at_rest text bytes)) (sym is) ends;
           position = λ _. record {
             journal = read bytes digest payload payloads journal short;
-            end_is = omega (arith, next_end, end_is, ap (λ (l : List ℕ). length (entry l payload)) link_is, length-append bytes E);
-            link_is = next_link ∙ ap (λ (l : List ℕ). seal l payload) link_is ∙ sym (seals digest payload payloads);
+            end_is = next_end ∙ ap (λ (k : ℕ). k + length (entry old.digest old.end payload)) end_is ∙ ap (λ (l : List ℕ). length bytes + length l) (sym stored_is ∙ written) ∙ sym (length-append bytes E);
+            digest_is = next_digest ∙ digest_is;
           };
           ready = λ _. ready;
           refused = λ e. absurd cc;

@@ -1,7 +1,7 @@
 -- What a crash leaves of a journal whose end is cut off.
 use Rattle.std.proofs.Common.{◌≡◌, ℕ, ◌-◌, ◌≤◌, true, false, List, [], ◌∷◌, ◌++◌, length, take, drop, refl, sym, ap, subst, ◌∙◌, arith, ⊎_elim}
 use Rattle.std.proofs.lemmas.List.{take_all, take-append-drop, length-take}
-use Rattle.dns_journal_format.specs.Format.{first_link, link_after, IsJournal}
+use Rattle.dns_journal_format.specs.Format.{HasEntry, IsJournal}
 use Rattle.dns_journal.specs.declared.journal.Position.{Position}
 use Rattle.dns_journal.specs.declared.journal.State.TheVariants as states
 use Rattle.dns_journal.specs.Appending.{IsPosition}
@@ -24,12 +24,13 @@ module _ (cut_off : EndsAreCutOff) (fronts : FrontsAreWhole) (text bytes digest 
   kept files same front =
       let n = length bytes - length end in
       let rest = drop n files.journal in
+      let front_len : length (whole_front bytes end) ≡ n = omega (arith, length-take n bytes) in
       let whole : files.journal ≡ whole_front bytes end ++ rest = sym (take-append-drop n files.journal) ∙ ap (λ (l : List ℕ). l ++ rest) front in
       record {
         text_is = same;
         journal = λ torn. record {
           end = rest;
-          is = subst (λ (l : List ℕ). IsJournal l digest payloads rest) (sym whole) (cut_off (whole_front bytes end) digest rest payloads (fronts bytes digest end payloads journal) torn);
+          is = subst (λ (l : List ℕ). IsJournal l digest payloads rest) (sym whole) (cut_off (whole_front bytes end) digest rest payloads (fronts bytes digest end payloads journal) (subst (λ (k : ℕ). HasEntry digest k rest → ⊥) (sym front_len) torn));
         };
       }
 
@@ -107,6 +108,6 @@ module _ (cut_off : EndsAreCutOff) (fronts : FrontsAreWhole) (text bytes digest 
         whole = fronts bytes digest end payloads journal;
       }
 
-  pub position_is : (p : Position) (link : List ℕ) → p.end ≡ length bytes - length end → p.link ≡ link → link ≡ link_after (first_link digest) payloads → IsPosition p (whole_front bytes end) digest payloads
-  position_is p link end_is same is =
-      record { journal = fronts bytes digest end payloads journal; end_is = omega (arith, end_is, length-take (length bytes - length end) bytes); link_is = same ∙ is }
+  pub position_is : (p : Position) → p.end ≡ length bytes - length end → p.digest ≡ digest → IsPosition p (whole_front bytes end) digest payloads
+  position_is p end_is same =
+      record { journal = fronts bytes digest end payloads journal; end_is = omega (arith, end_is, length-take (length bytes - length end) bytes); digest_is = same }

@@ -1,6 +1,6 @@
 -- What an append to a journal does, and what a crash leaves of it.
 use Rattle.std.specs.Prelude.{◌≡◌, ◌⊎◌, ℕ, Bool, true, false, List, [], ◌∷◌, ◌++◌, length, drop}
-use Rattle.dns_journal_format.specs.Format.{entry, first_link, link_after, HasEntry, IsJournal}
+use Rattle.dns_journal_format.specs.Format.{entry, HasEntry, IsJournal}
 use Rattle.dns_journal.specs.declared.journal.Position.{Position}
 use Rattle.dns_journal.specs.declared.journal.State.{State}
 use Rattle.dns_journal.specs.declared.journal.State.TheVariants as states
@@ -12,7 +12,7 @@ use Rattle.dns_journal.specs.Event as events
 pub record IsPosition (p : Position) (bytes digest : List ℕ) (payloads : List (List ℕ)) : Type 0 where
   pub journal : IsJournal bytes digest payloads []
   pub end_is : p.end ≡ length bytes
-  pub link_is : p.link ≡ link_after (first_link digest) payloads
+  pub digest_is : p.digest ≡ digest
 
 -- bytes are a journal with these payloads, and perhaps the end of a write that was cut short
 pub record StandsFor (bytes digest : List ℕ) (payloads : List (List ℕ)) : Type 0 where
@@ -20,13 +20,13 @@ pub record StandsFor (bytes digest : List ℕ) (payloads : List (List ℕ)) : Ty
   pub is : IsJournal bytes digest payloads end
 
 -- No seal is right by chance: if an entry is found in what follows a journal after a crash, then that is the entry which was appended.
-abbrev pub HasNoForgery : List ℕ → List ℕ → List ℕ → Type 0
-HasNoForgery link payload end = HasEntry (link ++ end) → end ≡ entry link payload
+abbrev pub HasNoForgery : List ℕ → ℕ → List ℕ → List ℕ → Type 0
+HasNoForgery digest place payload end = HasEntry digest place end → end ≡ entry digest place payload
 
 -- The text is unchanged, and the journal has the payloads from before an append, with the new one or without.
 pub record IsBeforeOrAfter (text bytes digest : List ℕ) (payloads : List (List ℕ)) (payload : List ℕ) (files : Files) : Type 0 where
   pub text_is : files.text ≡ text
-  pub journal : HasNoForgery (link_after (first_link digest) payloads) payload (drop (length bytes) files.journal)
+  pub journal : HasNoForgery digest (length bytes) payload (drop (length bytes) files.journal)
       → StandsFor files.journal digest payloads ⊎ StandsFor files.journal digest (payloads ++ payload ∷ [])
 
 -- the calls of an append, by the state that it leaves
@@ -41,7 +41,7 @@ IsStored bytes states.Lost es = es ≡ events.Append bytes true ∷ events.Sync 
 pub record Appends (old new : Position) (payload : List ℕ) (done : Bool) (text bytes digest : List ℕ) (payloads : List (List ℕ)) (es : List Event) : Type 0 where
   pub any_moment : Always (LeavesOnly (IsBeforeOrAfter text bytes digest payloads payload)) (at_rest text bytes) es
   pub stored : done ≡ true
-      → Ends (λ d. d ≡ at_rest text (bytes ++ entry (link_after (first_link digest) payloads) payload)) (at_rest text bytes) es
-  pub position : done ≡ true → IsPosition new (bytes ++ entry (link_after (first_link digest) payloads) payload) digest (payloads ++ payload ∷ [])
+      → Ends (λ d. d ≡ at_rest text (bytes ++ entry digest (length bytes) payload)) (at_rest text bytes) es
+  pub position : done ≡ true → IsPosition new (bytes ++ entry digest (length bytes) payload) digest (payloads ++ payload ∷ [])
   pub ready : done ≡ true → new.state ≡ states.Ready
   pub refused : done ≡ false → new.state ≡ states.Ready → (es ≡ []) × (new ≡ old)

@@ -1,6 +1,6 @@
 -- What opening a journal does, and what a crash leaves of it.
-use Rattle.std.specs.Prelude.{◌≡◌, ◌-◌, ℕ, Bool, true, false, List, [], ◌∷◌, ◌++◌, length, take, drop}
-use Rattle.dns_journal_format.specs.Format.{first_link, link_after, HasEntry, IsJournal}
+use Rattle.std.specs.Prelude.{◌≡◌, ◌-◌, ℕ, Bool, true, false, List, [], ◌∷◌, length, take, drop}
+use Rattle.dns_journal_format.specs.Format.{HasEntry, IsJournal}
 use Rattle.dns_journal.specs.declared.journal.State.{State}
 use Rattle.dns_journal.specs.declared.journal.State.TheVariants as states
 use Rattle.dns_journal.specs.Appending.{StandsFor}
@@ -15,7 +15,7 @@ whole_front bytes end = take (length bytes - length end) bytes
 -- The text is unchanged, and the journal has the same payloads, unless a seal is right by chance in what follows them.
 pub record IsUnchanged (text bytes digest : List ℕ) (payloads : List (List ℕ)) (end : List ℕ) (files : Files) : Type 0 where
   pub text_is : files.text ≡ text
-  pub journal : ¬ (HasEntry (link_after (first_link digest) payloads ++ drop (length bytes - length end) files.journal)) → StandsFor files.journal digest payloads
+  pub journal : ¬ (HasEntry digest (length bytes - length end) (drop (length bytes - length end) files.journal)) → StandsFor files.journal digest payloads
 
 -- the calls that cut a journal to a length, by the state that they leave
 abbrev pub IsCutOff : ℕ → State → List Event → Type 0

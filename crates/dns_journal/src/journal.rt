@@ -1,7 +1,7 @@
 //! A journal to which payloads are appended.
 
 ghost use Rattle.std.specs.Prelude.{◌≡◌, ◌<◌, ◌+◌, ◌^◌, List, ℕ, length, is_ok, IfOk, IfErr};
-ghost use Rattle.dns_journal_format.specs.Format.{entry, seal};
+ghost use Rattle.dns_journal_format.specs.Format.{entry};
 ghost use Rattle.dns_journal.specs.Appending.{Appends, IsPosition, IsStored};
 ghost use Rattle.dns_journal.specs.Storage.{Performs};
 ghost use Rattle.dns_journal.specs.declared.journal.State.TheVariants as states;
@@ -28,8 +28,8 @@ pub enum State {
 pub struct Position {
     /// The length of the journal, in bytes.
     pub end: usize,
-    /// Its last eight bytes, which the next entry follows.
-    pub link: [u8; 8],
+    /// The digest of the text that it belongs to.
+    pub digest: [u8; 32],
     /// Whether it takes entries.
     pub state: State,
 }
@@ -94,20 +94,27 @@ impl<S: Storage> Journal<S> {
 /// Makes the entry with a payload at a position.
 fn next_entry(alloc: Global, position: Position, payload: &[u8]) -> Result<NextEntry, AppendError>
     requires { length payload.now < 2 ^ 32 }
-    ensures bytes { IfOk result (λ next. next.bytes.items ≡ entry position.link payload.now) }
+    ensures bytes { IfOk result (λ next. next.bytes.items
+        ≡ entry position.digest position.end payload.now) }
     ensures end { IfOk result (λ next. next.position.end
-        ≡ position.end + length (entry position.link payload.now)) }
-    ensures link { IfOk result (λ next. next.position.link ≡ seal position.link payload.now) }
+        ≡ position.end + length (entry position.digest position.end payload.now)) }
+    ensures digest { IfOk result (λ next. next.position.digest ≡ position.digest) }
     ensures state { IfOk result (λ next. next.position.state ≡ states.Ready) }
 {
     if position.state != State::Ready {
         return Err(AppendError::NotReady);
     }
     let mut bytes = Vec::new(alloc);
-    let Ok(link) = write_entry(&mut bytes, position.link.as_slice(), payload) else {
+    match write_entry(
+        &mut bytes,
+        position.digest.as_slice(),
+        position.end,
+        payload,
+    ) {
+        Ok(()) => {}
         // Memory for the entry was refused.
-        return Err(AppendError::Memory);
-    };
+        Err(_) => return Err(AppendError::Memory),
+    }
     let Some(end) = position.end.checked_add(bytes.len()) else {
         return Err(AppendError::Full);
     };
@@ -115,7 +122,7 @@ fn next_entry(alloc: Global, position: Position, payload: &[u8]) -> Result<NextE
         bytes,
         position: Position {
             end,
-            link,
+            digest: position.digest,
             state: State::Ready,
         },
     })

@@ -1,7 +1,7 @@
 //! A journal that was read is opened: what follows its entries is cut off.
 
-ghost use Rattle.std.specs.Prelude.{◌≡◌, ◌≤◌, List, ℕ, length, is_ok, IfOk};
-ghost use Rattle.dns_journal_format.specs.Format.{first_link, link_after, IsJournal};
+ghost use Rattle.std.specs.Prelude.{◌≡◌, ◌+◌, List, ℕ, length, is_ok, IfOk};
+ghost use Rattle.dns_journal_format.specs.Format.{IsJournal};
 ghost use Rattle.dns_journal.specs.Appending.{IsPosition};
 ghost use Rattle.dns_journal.specs.Opening.{IsCutOff, Resumes, whole_front};
 ghost use Rattle.dns_journal.specs.Storage.{Performs};
@@ -22,32 +22,30 @@ use dns_journal_format::laws::{
 /// [`StorageError`] if the storage fails. The same entries are in the journal.
 pub fn resume<S: Storage>(
     storage: &mut S,
-    len: usize,
     content: &JournalContent<'_>,
 ) -> Result<Position, StorageError>
-    requires end { length content.now.end.now ≤ len }
-    requires link { length content.now.link.now ≡ 8 }
+    requires { length content.now.digest.now ≡ 32 }
     ensures resumes { Performs S.performs storage.old storage.new (λ es. (text bytes digest : List ℕ)
         (payloads : List (List ℕ)) → IsJournal bytes digest payloads content.now.end.now
-        → len ≡ length bytes
+        → content.now.len + length content.now.end.now ≡ length bytes
         → Resumes content.now.end.now (is_ok result) text bytes digest payloads es) }
     ensures position { IfOk result (λ position. (bytes digest : List ℕ) (payloads : List (List ℕ))
-        → IsJournal bytes digest payloads content.now.end.now → len ≡ length bytes
-        → content.now.link.now ≡ link_after (first_link digest) payloads
+        → IsJournal bytes digest payloads content.now.end.now
+        → content.now.len + length content.now.end.now ≡ length bytes
+        → content.now.digest.now ≡ digest
         → IsPosition position (whole_front bytes content.now.end.now) digest payloads) }
 {
     an_end_without_entry_is_cut_off();
     a_journal_without_its_end_is_whole();
-    let end = len - content.end.len();
     let position = Position {
-        end,
-        link: link_array(content.link),
+        end: content.len,
+        digest: digest_array(content.digest),
         state: State::Ready,
     };
     if content.end.is_empty() {
         return Ok(position);
     }
-    match cut_off(storage, end) {
+    match cut_off(storage, content.len) {
         State::Ready => Ok(position),
         State::Torn => Err(StorageError::Failed),
         State::Lost => Err(StorageError::Failed),
@@ -67,12 +65,12 @@ fn cut_off<S: Storage>(storage: &mut S, len: usize) -> State
     }
 }
 
-/// Returns eight bytes as an array.
-fn link_array(link: &[u8]) -> [u8; 8]
-    requires { length link.now ≡ 8 }
-    ensures { result ≡ link.now }
+/// Returns a digest as an array.
+fn digest_array(digest: &[u8]) -> [u8; 32]
+    requires { length digest.now ≡ 32 }
+    ensures { result ≡ digest.now }
 {
-    let mut array = [0u8; 8];
-    array.copy_from_slice(link);
+    let mut array = [0u8; 32];
+    array.copy_from_slice(digest);
     array
 }

@@ -1,156 +1,126 @@
 -- Whole journals.
 use Rattle.std.proofs.Common.{◌≡◌, ℕ, ◌+◌, ◌-◌, ◌^◌, ◌<◌, ◌≤◌, List, [], ◌∷◌, ◌++◌, length, take, drop, refl, sym, ap, subst, ◌∙◌, append_assoc, arith, length-append}
-use Rattle.std.proofs.lemmas.List.{take_at, take_all, drop_at, take-append-drop, length-drop, append-nil}
-use Rattle.dns_journal_format.specs.Format.{seal, entry, entries, link_after, first_link, header, magic, AreEntriesOf, AreShort, BeginsWith, HasEntry, IsDamagedAt, IsJournal}
-use Rattle.dns_journal_format.proofs.EntryLaws.{length-seal, length-entry, same_entry, drop_drop}
+use Rattle.std.proofs.lemmas.List.{take_at, take_all, drop_all, drop_at, take-append-drop, length-drop, append-nil}
+use Rattle.dns_journal_format.specs.Format.{entry, entries, place_after, header, magic, AreEntriesOf, AreShort, BeginsWith, HasEntry, IsDamagedAt, IsJournal}
+use Rattle.dns_journal_format.proofs.EntryLaws.{length-entry, same_entry, drop_drop}
 
 -- ---- entries are added at the end
 
-pub entries_push : (link : List ℕ) (payloads : List (List ℕ)) (payload : List ℕ) → entries link (payloads ++ payload ∷ []) ≡ entries link payloads ++ entry (link_after link payloads) payload
-entries_push link [] payload = append-nil (entry link payload)
-entries_push link (p ∷ payloads) payload =
-    ap (λ (l : List ℕ). entry link p ++ l) (entries_push (seal link p) payloads payload)
-    ∙ sym (append_assoc (entry link p) (entries (seal link p) payloads) (entry (link_after (seal link p) payloads) payload))
+pub entries_push : (digest : List ℕ) (place : ℕ) (payloads : List (List ℕ)) (payload : List ℕ) → entries digest place (payloads ++ payload ∷ []) ≡ entries digest place payloads ++ entry digest (place_after place payloads) payload
+entries_push digest place [] payload = append-nil (entry digest place payload)
+entries_push digest place (p ∷ payloads) payload =
+    let next = place + (12 + length p) in
+    ap (λ (l : List ℕ). entry digest place p ++ l) (entries_push digest next payloads payload)
+    ∙ sym (append_assoc (entry digest place p) (entries digest next payloads) (entry digest (place_after next payloads) payload))
 
-pub link_after_push : (link : List ℕ) (payloads : List (List ℕ)) (payload : List ℕ) → link_after link (payloads ++ payload ∷ []) ≡ seal (link_after link payloads) payload
-link_after_push link [] payload = refl
-link_after_push link (p ∷ payloads) payload = link_after_push (seal link p) payloads payload
+pub place_after_push : (place : ℕ) (payloads : List (List ℕ)) (payload : List ℕ) → place_after place (payloads ++ payload ∷ []) ≡ place_after place payloads + (12 + length payload)
+place_after_push place [] payload = refl
+place_after_push place (p ∷ payloads) payload = place_after_push (place + (12 + length p)) payloads payload
+
+pub length-entries : (digest : List ℕ) (place : ℕ) (payloads : List (List ℕ)) → place + length (entries digest place payloads) ≡ place_after place payloads
+length-entries digest place [] = omega arith
+length-entries digest place (p ∷ payloads) =
+    let next = place + (12 + length p) in
+    omega (arith, length-entries digest next payloads, length-append (entry digest place p) (entries digest next payloads), length-entry digest place p)
 
 pub short_push : (payloads : List (List ℕ)) (payload : List ℕ) → AreShort payloads → length payload < 2 ^ 32 → AreShort (payloads ++ payload ∷ [])
 short_push [] payload short fits = (fits, tt)
 short_push (p ∷ payloads) payload short fits = (short.0, short_push payloads payload short.1 fits)
 
-pub length-link_after : (link : List ℕ) (payloads : List (List ℕ)) → length link ≡ 8 → length (link_after link payloads) ≡ 8
-length-link_after link [] len = len
-length-link_after link (p ∷ payloads) len = length-link_after (seal link p) payloads (length-seal link p)
-
-pub length-first_link : (digest : List ℕ) → length digest ≡ 32 → length (first_link digest) ≡ 8
-length-first_link digest len = omega (arith, length-drop 24 digest)
-
--- ---- the link of what follows entries is their last eight bytes
-
-pub record EndsWith (bytes link : List ℕ) : Type 0 where
-  pub front : List ℕ
-  pub parts : bytes ≡ front ++ link
-
-pub ends_with_link : (link : List ℕ) (payloads : List (List ℕ)) (before : List ℕ) → EndsWith ((before ++ link) ++ entries link payloads) (link_after link payloads)
-ends_with_link link [] before = record { front = before; parts = append-nil (before ++ link) }
-ends_with_link link (p ∷ payloads) before =
-    let s = seal link p in
-    let n = take 4 (entry link p) in
-    let more = ends_with_link s payloads ((before ++ link) ++ (n ++ p)) in
-    record {
-      front = more.front;
-      parts = sym (append_assoc (before ++ link) (entry link p) (entries s payloads))
-          ∙ ap (λ (l : List ℕ). l ++ entries s payloads) (sym (append_assoc (before ++ link) (n ++ p) s ∙ ap (λ (l : List ℕ). (before ++ link) ++ l) (append_assoc n p s)))
-          ∙ more.parts;
-    }
-
-pub header_ends : (digest : List ℕ) (payloads : List (List ℕ)) → EndsWith (header digest ++ entries (first_link digest) payloads) (link_after (first_link digest) payloads)
-header_ends digest payloads =
-    let e = ends_with_link (first_link digest) payloads (magic ++ take 24 digest) in
-    let split : header digest ≡ (magic ++ take 24 digest) ++ first_link digest =
-    sym (append_assoc magic (take 24 digest) (drop 24 digest) ∙ ap (λ (l : List ℕ). magic ++ l) (take-append-drop 24 digest)) in
-    record { front = e.front; parts = ap (λ (l : List ℕ). l ++ entries (first_link digest) payloads) split ∙ e.parts }
-
--- the last eight bytes of the entries, and the end
-pub tail_is : (bytes digest end : List ℕ) (payloads : List (List ℕ)) (at : ℕ) → length digest ≡ 32 → bytes ≡ header digest ++ (entries (first_link digest) payloads ++ end)
-    → at + (8 + length end) ≡ length bytes → drop at bytes ≡ link_after (first_link digest) payloads ++ end
-tail_is bytes digest end payloads at len parts place =
-    let link = link_after (first_link digest) payloads in
-    let link_len = length-link_after (first_link digest) payloads (length-first_link digest len) in
-    let e = header_ends digest payloads in
-    let split : bytes ≡ e.front ++ (link ++ end) =
-    parts ∙ sym (append_assoc (header digest) (entries (first_link digest) payloads) end) ∙ ap (λ (l : List ℕ). l ++ end) e.parts ∙ append_assoc e.front link end in
-    let front_len : length e.front ≡ at = omega (arith, ap length split, length-append e.front (link ++ end), length-append link end, link_len) in
-    ap (λ (l : List ℕ). drop at l) split ∙ drop_at e.front (link ++ end) at front_len
+-- the place after the entries of a journal is its length without its end
+pub length-front : (bytes digest end : List ℕ) (payloads : List (List ℕ)) → length digest ≡ 32 → bytes ≡ header digest ++ (entries digest 40 payloads ++ end) → place_after 40 payloads + length end ≡ length bytes
+length-front bytes digest end payloads len parts =
+    let xs = entries digest 40 payloads in
+    omega (arith, ap length parts, len, length-append digest (xs ++ end), length-append xs end, length-entries digest 40 payloads)
 
 -- ---- one reading
 
--- an end without an entry does not begin with one
-no_front : (link end payload rest : List ℕ) → length link ≡ 8 → ¬ (HasEntry (link ++ end)) → BeginsWith link payload end rest → ⊥
-no_front link end payload rest len torn begins =
-    torn (record { front = []; link = link; payload = payload; rest = rest; link_len = len; short = begins.short; parts = ap (λ (l : List ℕ). link ++ l) begins.parts })
+-- bytes in which no entry is found do not begin with one
+pub no_front : (digest : List ℕ) (place : ℕ) (end payload rest : List ℕ) → ¬ (HasEntry digest place end) → ¬ (BeginsWith digest place payload end rest)
+no_front digest place end payload rest torn begins =
+    let same : place ≡ place + 0 = omega arith in
+    torn (record { at = 0; payload = payload; rest = rest; begins = subst (λ (k : ℕ). BeginsWith digest k payload end rest) same begins })
 
-first_of : (link p rest : List ℕ) (payloads : List (List ℕ)) (end : List ℕ) → AreShort (p ∷ payloads) → rest ≡ entries link (p ∷ payloads) ++ end → BeginsWith link p rest (entries (seal link p) payloads ++ end)
-first_of link p rest payloads end short parts = record { short = short.0; parts = parts ∙ append_assoc (entry link p) (entries (seal link p) payloads) end }
+first_of : (digest : List ℕ) (place : ℕ) (p rest : List ℕ) (payloads : List (List ℕ)) (end : List ℕ) → AreShort (p ∷ payloads) → rest ≡ entries digest place (p ∷ payloads) ++ end → BeginsWith digest place p rest (entries digest (place + (12 + length p)) payloads ++ end)
+first_of digest place p rest payloads end short parts = record { short = short.0; parts = parts ∙ append_assoc (entry digest place p) (entries digest (place + (12 + length p)) payloads) end }
 
-one_reading : (link : List ℕ) (payloads others : List (List ℕ)) (end rest : List ℕ) → length link ≡ 8 → AreShort payloads → AreShort others
-    → entries link payloads ++ end ≡ entries link others ++ rest → ¬ (HasEntry (link_after link payloads ++ end)) → ¬ (HasEntry (link_after link others ++ rest)) → (payloads ≡ others) × (end ≡ rest)
-one_reading link [] [] end rest len short short' same torn torn' = (refl, same)
-one_reading link [] (q ∷ others) end rest len short short' same torn torn' =
-    absurd (no_front link end q _ len torn (first_of link q end others rest short' same))
-one_reading link (p ∷ payloads) [] end rest len short short' same torn torn' =
-    absurd (no_front link rest p _ len torn' (first_of link p rest payloads end short (sym same)))
-one_reading link (p ∷ payloads) (q ∷ others) end rest len short short' same torn torn' =
-    let bytes = entries link (p ∷ payloads) ++ end in
-    let one = same_entry link p q bytes (entries (seal link p) payloads ++ end) (entries (seal link q) others ++ rest) (first_of link p bytes payloads end short refl) (first_of link q bytes others rest short' same) in
-    let same_seal : seal link q ≡ seal link p = ap (λ (l : List ℕ). seal link l) (sym one.0) in
-    let more = one_reading (seal link p) payloads others end rest (length-seal link p) short.1 short'.1
-    (one.1 ∙ ap (λ (s : List ℕ). entries s others ++ rest) same_seal) torn
-    (subst (λ (s : List ℕ). HasEntry (link_after s others ++ rest) → ⊥) same_seal torn') in
+one_reading : (digest : List ℕ) (place : ℕ) (payloads others : List (List ℕ)) (end rest : List ℕ) → AreShort payloads → AreShort others
+    → entries digest place payloads ++ end ≡ entries digest place others ++ rest → ¬ (HasEntry digest (place_after place payloads) end) → ¬ (HasEntry digest (place_after place others) rest) → (payloads ≡ others) × (end ≡ rest)
+one_reading digest place [] [] end rest short short' same torn torn' = (refl, same)
+one_reading digest place [] (q ∷ others) end rest short short' same torn torn' =
+    absurd (no_front digest place end q _ torn (first_of digest place q end others rest short' same))
+one_reading digest place (p ∷ payloads) [] end rest short short' same torn torn' =
+    absurd (no_front digest place rest p _ torn' (first_of digest place p rest payloads end short (sym same)))
+one_reading digest place (p ∷ payloads) (q ∷ others) end rest short short' same torn torn' =
+    let bytes = entries digest place (p ∷ payloads) ++ end in
+    let next = place + (12 + length p) in
+    let other = place + (12 + length q) in
+    let one = same_entry digest place p q bytes (entries digest next payloads ++ end) (entries digest other others ++ rest) (first_of digest place p bytes payloads end short refl) (first_of digest place q bytes others rest short' same) in
+    let same_place : other ≡ next = ap (λ (l : List ℕ). place + (12 + length l)) (sym one.0) in
+    let more = one_reading digest next payloads others end rest short.1 short'.1
+    (one.1 ∙ ap (λ (k : ℕ). entries digest k others ++ rest) same_place) torn
+    (subst (λ (k : ℕ). HasEntry digest (place_after k others) rest → ⊥) same_place torn') in
     (cc (one.0, more.0), more.1)
 
 pub one_journal : (bytes digest other : List ℕ) (payloads others : List (List ℕ)) (end rest : List ℕ) → IsJournal bytes digest payloads end → IsJournal bytes other others rest
     → (digest ≡ other) × ((payloads ≡ others) × (end ≡ rest))
 one_journal bytes digest other payloads others end rest one two =
-    let xs = entries (first_link digest) payloads ++ end in
-    let ys = entries (first_link other) others ++ rest in
+    let xs = entries digest 40 payloads ++ end in
+    let ys = entries other 40 others ++ rest in
     let behind : digest ++ xs ≡ other ++ ys = ap (λ (l : List ℕ). drop 8 l) (sym one.front.parts ∙ two.front.parts) in
     let digests : digest ≡ other = sym (take_at digest xs 32 one.front.digest_len) ∙ ap (λ (l : List ℕ). take 32 l) behind ∙ take_at other ys 32 two.front.digest_len in
     let rests : xs ≡ ys = sym (drop_at digest xs 32 one.front.digest_len) ∙ ap (λ (l : List ℕ). drop 32 l) behind ∙ drop_at other ys 32 two.front.digest_len in
-    let same : first_link other ≡ first_link digest = ap first_link (sym digests) in (
+    let same : other ≡ digest = sym digests in (
       digests,
-      one_reading (first_link digest) payloads others end rest (length-first_link digest one.front.digest_len) one.front.short two.front.short
-          (rests ∙ ap (λ (l : List ℕ). entries l others ++ rest) same) one.torn
-          (subst (λ (l : List ℕ). HasEntry (link_after l others ++ rest) → ⊥) same two.torn),
+      one_reading digest 40 payloads others end rest one.front.short two.front.short
+          (rests ∙ ap (λ (l : List ℕ). entries l 40 others ++ rest) same) one.torn
+          (subst (λ (l : List ℕ). HasEntry l (place_after 40 others) rest → ⊥) same two.torn),
     )
 
 -- ---- what follows the entries
 
-pub end_within : (bytes digest end : List ℕ) (payloads : List (List ℕ)) → AreEntriesOf bytes digest payloads end → 40 + length end ≤ length bytes
-end_within bytes digest end payloads front =
-    let xs = entries (first_link digest) payloads in
-    omega (arith, ap length front.parts, front.digest_len, length-append digest (xs ++ end), length-append xs end)
-
-later_is : (bytes digest end : List ℕ) (payloads : List (List ℕ)) (place : ℕ) → AreEntriesOf bytes digest payloads end → place + length end ≡ length bytes → drop (place - 8) bytes ≡ link_after (first_link digest) payloads ++ end
-later_is bytes digest end payloads place front is =
-    tail_is bytes digest end payloads (place - 8) front.digest_len front.parts (omega (arith, is, end_within bytes digest end payloads front))
-
-pub damaged : (bytes digest end : List ℕ) (payloads : List (List ℕ)) (place : ℕ) → AreEntriesOf bytes digest payloads end → place + length end ≡ length bytes → HasEntry (drop (place - 8) bytes) → IsDamagedAt bytes place
+pub damaged : (bytes digest end : List ℕ) (payloads : List (List ℕ)) (place : ℕ) → AreEntriesOf bytes digest payloads end → place ≡ place_after 40 payloads → HasEntry digest place end → IsDamagedAt bytes place
 damaged bytes digest end payloads place front is has =
-    record { digest = digest; payloads = payloads; end = end; front = front; place_is = is; later = subst HasEntry (later_is bytes digest end payloads place front is) has }
+    record {
+      digest = digest;
+      payloads = payloads;
+      end = end;
+      front = front;
+      place_is = ap (λ (k : ℕ). k + length end) is ∙ length-front bytes digest end payloads front.digest_len front.parts;
+      later = subst (λ (k : ℕ). HasEntry digest k end) is has;
+    }
 
-pub whole : (bytes digest end : List ℕ) (payloads : List (List ℕ)) (place : ℕ) → AreEntriesOf bytes digest payloads end → place + length end ≡ length bytes → ¬ (HasEntry (drop (place - 8) bytes)) → IsJournal bytes digest payloads end
-whole bytes digest end payloads place front is none =
-    record { front = front; torn = λ h. none (subst HasEntry (sym (later_is bytes digest end payloads place front is)) h) }
+pub whole : (bytes digest end : List ℕ) (payloads : List (List ℕ)) (place : ℕ) → AreEntriesOf bytes digest payloads end → place ≡ place_after 40 payloads → ¬ (HasEntry digest place end) → IsJournal bytes digest payloads end
+whole bytes digest end payloads place front is none = record { front = front; torn = subst (λ (k : ℕ). HasEntry digest k end → ⊥) is none }
 
 -- ---- reading on
 
-pub record ReadSoFar (first : List ℕ) (payloads : List (List ℕ)) (link rest bytes : List ℕ) : Type 0 where
-  pub parts : bytes ≡ entries first payloads ++ rest
+pub record ReadSoFar (digest : List ℕ) (first : ℕ) (payloads : List (List ℕ)) (place : ℕ) (rest bytes : List ℕ) : Type 0 where
+  pub parts : bytes ≡ entries digest first payloads ++ rest
   pub short : AreShort payloads
-  pub link_is : link ≡ link_after first payloads
+  pub place_is : place ≡ place_after first payloads
+  pub sum : place + length rest ≡ first + length bytes
 
-pub read_none : (first bytes : List ℕ) (payloads : List (List ℕ)) → payloads ≡ [] → ReadSoFar first payloads first bytes bytes
-read_none first bytes payloads none = subst (λ (ps : List (List ℕ)). ReadSoFar first ps first bytes bytes) (sym none) (record { parts = refl; short = tt; link_is = refl })
+pub read_none : (digest : List ℕ) (first : ℕ) (bytes : List ℕ) (payloads : List (List ℕ)) → payloads ≡ [] → ReadSoFar digest first payloads first bytes bytes
+read_none digest first bytes payloads none = subst (λ (ps : List (List ℕ)). ReadSoFar digest first ps first bytes bytes) (sym none) (record { parts = refl; short = tt; place_is = refl; sum = refl })
 
-pub read_more : (first : List ℕ) (payloads more : List (List ℕ)) (link rest bytes payload sealed after : List ℕ) → ReadSoFar first payloads link rest bytes → BeginsWith link payload rest after → sealed ≡ seal link payload
-    → more ≡ payloads ++ payload ∷ [] → ReadSoFar first more sealed after bytes
-read_more first payloads more link rest bytes payload sealed after so_far begins is added =
-    let at_end : entry link payload ≡ entry (link_after first payloads) payload = ap (λ (l : List ℕ). entry l payload) so_far.link_is in
-    let grown : ReadSoFar first (payloads ++ payload ∷ []) sealed after bytes =
+pub read_more : (digest : List ℕ) (first : ℕ) (payloads more : List (List ℕ)) (place next : ℕ) (rest bytes payload after : List ℕ) → ReadSoFar digest first payloads place rest bytes → BeginsWith digest place payload rest after → next ≡ place + (12 + length payload)
+    → more ≡ payloads ++ payload ∷ [] → ReadSoFar digest first more next after bytes
+read_more digest first payloads more place next rest bytes payload after so_far begins is added =
+    let at_end : entry digest place payload ≡ entry digest (place_after first payloads) payload = ap (λ (k : ℕ). entry digest k payload) so_far.place_is in
+    let grown : ReadSoFar digest first (payloads ++ payload ∷ []) next after bytes =
     record {
-      parts = so_far.parts ∙ ap (λ (l : List ℕ). entries first payloads ++ l) (begins.parts ∙ ap (λ (l : List ℕ). l ++ after) at_end)
-          ∙ sym (append_assoc (entries first payloads) (entry (link_after first payloads) payload) after)
-          ∙ ap (λ (l : List ℕ). l ++ after) (sym (entries_push first payloads payload));
+      parts = so_far.parts ∙ ap (λ (l : List ℕ). entries digest first payloads ++ l) (begins.parts ∙ ap (λ (l : List ℕ). l ++ after) at_end)
+          ∙ sym (append_assoc (entries digest first payloads) (entry digest (place_after first payloads) payload) after)
+          ∙ ap (λ (l : List ℕ). l ++ after) (sym (entries_push digest first payloads payload));
       short = short_push payloads payload so_far.short begins.short;
-      link_is = is ∙ ap (λ (l : List ℕ). seal l payload) so_far.link_is ∙ sym (link_after_push first payloads payload);
+      place_is = is ∙ ap (λ (k : ℕ). k + (12 + length payload)) so_far.place_is ∙ sym (place_after_push first payloads payload);
+      sum = omega (arith, is, so_far.sum, ap length begins.parts, length-append (entry digest place payload) after, length-entry digest place payload);
     } in
-    subst (λ (ps : List (List ℕ)). ReadSoFar first ps sealed after bytes) (sym added) grown
+    subst (λ (ps : List (List ℕ)). ReadSoFar digest first ps next after bytes) (sym added) grown
 
-pub shorter : (link payload rest after : List ℕ) → BeginsWith link payload rest after → length after < length rest
-shorter link payload rest after begins = omega (arith, ap length begins.parts, length-append (entry link payload) after, length-entry link payload)
+pub longer : (digest : List ℕ) (place : ℕ) (payload rest after : List ℕ) → BeginsWith digest place payload rest after → 12 + length payload + length after ≡ length rest
+longer digest place payload rest after begins = omega (arith, ap length begins.parts, length-append (entry digest place payload) after, length-entry digest place payload)
 
 -- ---- headers
 
@@ -164,64 +134,65 @@ header_found bytes n m long is all rest =
 
 -- ---- journals that end with their entries
 
--- after its entries a whole journal has nothing
-nothing_torn : (link : List ℕ) → length link ≡ 8 → ¬ (HasEntry (link ++ []))
-nothing_torn link len h =
-    let more = entry h.link h.payload ++ h.rest in
-    omega (arith, len, ap length h.parts, length-append link [], length-append h.front (h.link ++ more), length-append h.link more, length-append (entry h.link h.payload) h.rest, length-entry h.link h.payload)
+nothing_begins : (digest : List ℕ) (place : ℕ) (payload rest : List ℕ) → ¬ (BeginsWith digest place payload [] rest)
+nothing_begins digest place payload rest begins = omega (arith, longer digest place payload [] rest begins)
 
-nothing_begins : (link payload rest : List ℕ) → ¬ (BeginsWith link payload [] rest)
-nothing_begins link payload rest begins = omega (arith, ap length begins.parts, length-append (entry link payload) rest, length-entry link payload)
+-- nothing has no entry
+nothing_torn : (digest : List ℕ) (place : ℕ) → ¬ (HasEntry digest place [])
+nothing_torn digest place h =
+    omega (arith, longer digest (place + h.at) h.payload (drop h.at []) h.rest h.begins, ap (λ (l : List ℕ). length l) (drop_all h.at [] (omega arith)))
 
 pub new_journal : (digest : List ℕ) → length digest ≡ 32 → IsJournal (header digest) digest [] []
 new_journal digest len =
     record {
-      front = record { digest_len = len; short = tt; parts = sym (append-nil (header digest)); no_entry = nothing_begins (first_link digest) };
-      torn = nothing_torn (first_link digest) (length-first_link digest len);
+      front = record { digest_len = len; short = tt; parts = sym (append-nil (header digest)); no_entry = nothing_begins digest 40 };
+      torn = nothing_torn digest 40;
     }
 
 -- bytes with more after them
-with_more : (bytes digest end : List ℕ) (payloads : List (List ℕ)) → IsJournal bytes digest payloads [] → bytes ++ end ≡ header digest ++ (entries (first_link digest) payloads ++ end)
-with_more bytes digest end payloads whole =
-    let xs = entries (first_link digest) payloads in
-    ap (λ (l : List ℕ). l ++ end) (whole.front.parts ∙ ap (λ (l : List ℕ). header digest ++ l) (append-nil xs)) ∙ append_assoc (header digest) xs end
+with_more : (bytes digest end : List ℕ) (payloads : List (List ℕ)) → IsJournal bytes digest payloads [] → bytes ++ end ≡ header digest ++ (entries digest 40 payloads ++ end)
+with_more bytes digest end payloads journal =
+    let xs = entries digest 40 payloads in
+    ap (λ (l : List ℕ). l ++ end) (journal.front.parts ∙ ap (λ (l : List ℕ). header digest ++ l) (append-nil xs)) ∙ append_assoc (header digest) xs end
+
+-- the place after its entries is the length of a whole journal
+whole_len : (bytes digest : List ℕ) (payloads : List (List ℕ)) → IsJournal bytes digest payloads [] → length bytes ≡ place_after 40 payloads
+whole_len bytes digest payloads journal = omega (arith, length-front bytes digest [] payloads journal.front.digest_len journal.front.parts)
 
 pub appended : (bytes digest payload : List ℕ) (payloads : List (List ℕ)) → IsJournal bytes digest payloads [] → length payload < 2 ^ 32
-    → IsJournal (bytes ++ entry (link_after (first_link digest) payloads) payload) digest (payloads ++ payload ∷ []) []
-appended bytes digest payload payloads whole short =
-    let first = first_link digest in
-    let more = entries first (payloads ++ payload ∷ []) in
-    let link = link_after first (payloads ++ payload ∷ []) in
+    → IsJournal (bytes ++ entry digest (length bytes) payload) digest (payloads ++ payload ∷ []) []
+appended bytes digest payload payloads journal short =
+    let more = entries digest 40 (payloads ++ payload ∷ []) in
+    let place = place_after 40 (payloads ++ payload ∷ []) in
+    let at_end : entry digest (length bytes) payload ≡ entry digest (place_after 40 payloads) payload = ap (λ (k : ℕ). entry digest k payload) (whole_len bytes digest payloads journal) in
     record {
       front = record {
-        digest_len = whole.front.digest_len;
-        short = short_push payloads payload whole.front.short short;
-        parts = with_more bytes digest (entry (link_after first payloads) payload) payloads whole
-            ∙ ap (λ (l : List ℕ). header digest ++ l) (sym (entries_push first payloads payload) ∙ sym (append-nil more));
-        no_entry = nothing_begins link;
+        digest_len = journal.front.digest_len;
+        short = short_push payloads payload journal.front.short short;
+        parts = with_more bytes digest (entry digest (length bytes) payload) payloads journal
+            ∙ ap (λ (l : List ℕ). header digest ++ (entries digest 40 payloads ++ l)) at_end
+            ∙ ap (λ (l : List ℕ). header digest ++ l) (sym (entries_push digest 40 payloads payload) ∙ sym (append-nil more));
+        no_entry = nothing_begins digest place;
       };
-      torn = nothing_torn link (length-link_after first (payloads ++ payload ∷ []) (length-first_link digest whole.front.digest_len));
+      torn = nothing_torn digest place;
     }
 
-pub with_end : (bytes digest end : List ℕ) (payloads : List (List ℕ)) → IsJournal bytes digest payloads [] → ¬ (HasEntry (link_after (first_link digest) payloads ++ end)) → IsJournal (bytes ++ end) digest payloads end
-with_end bytes digest end payloads whole torn =
-    let link = link_after (first_link digest) payloads in
-    let len = length-link_after (first_link digest) payloads (length-first_link digest whole.front.digest_len) in
+pub with_end : (bytes digest end : List ℕ) (payloads : List (List ℕ)) → IsJournal bytes digest payloads [] → ¬ (HasEntry digest (length bytes) end) → IsJournal (bytes ++ end) digest payloads end
+with_end bytes digest end payloads journal none =
+    let torn : HasEntry digest (place_after 40 payloads) end → ⊥ = subst (λ (k : ℕ). HasEntry digest k end → ⊥) (whole_len bytes digest payloads journal) none in
     record {
       front = record {
-        digest_len = whole.front.digest_len;
-        short = whole.front.short;
-        parts = with_more bytes digest end payloads whole;
-        no_entry = λ payload rest begins. no_front link end payload rest len torn begins;
+        digest_len = journal.front.digest_len;
+        short = journal.front.short;
+        parts = with_more bytes digest end payloads journal;
+        no_entry = λ payload rest begins. no_front digest (place_after 40 payloads) end payload rest torn begins;
       };
       torn = torn;
     }
 
 pub without_end : (bytes digest end : List ℕ) (payloads : List (List ℕ)) → IsJournal bytes digest payloads end → IsJournal (take (length bytes - length end) bytes) digest payloads []
 without_end bytes digest end payloads journal =
-    let first = first_link digest in
-    let xs = entries first payloads in
-    let link = link_after first payloads in
+    let xs = entries digest 40 payloads in
     let split : bytes ≡ (header digest ++ xs) ++ end = journal.front.parts ∙ sym (append_assoc (header digest) xs end) in
     let size : length (header digest ++ xs) ≡ length bytes - length end = omega (arith, ap length split, length-append (header digest ++ xs) end) in
     let front : take (length bytes - length end) bytes ≡ header digest ++ xs =
@@ -231,7 +202,7 @@ without_end bytes digest end payloads journal =
         digest_len = journal.front.digest_len;
         short = journal.front.short;
         parts = front ∙ ap (λ (l : List ℕ). header digest ++ l) (sym (append-nil xs));
-        no_entry = nothing_begins link;
+        no_entry = nothing_begins digest (place_after 40 payloads);
       };
-      torn = nothing_torn link (length-link_after first payloads (length-first_link digest journal.front.digest_len));
+      torn = nothing_torn digest (place_after 40 payloads);
     }

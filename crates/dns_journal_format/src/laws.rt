@@ -1,7 +1,7 @@
 //! Theorems about the definitions of this crate, as functions with empty bodies.
 
 ghost use Rattle.std.specs.Prelude.{◌≡◌, ◌<◌, ◌-◌, ◌^◌, ◌++◌, ◌∷◌, [], List, ℕ, length, take};
-ghost use Rattle.dns_journal_format.specs.Format.{entry, first_link, header, link_after, seal, HasEntry, IsJournal};
+ghost use Rattle.dns_journal_format.specs.Format.{entry, header, HasEntry, IsJournal};
 
 /// Bytes are a journal in one way at most: its digest, its payloads and its end are determined.
 pub fn journals_read_unambiguously()
@@ -18,20 +18,17 @@ pub fn a_header_is_a_journal()
 
 /// An entry that is appended to a whole journal is read after the others.
 pub fn an_appended_entry_is_read()
-    ensures journal { (bytes digest payload : List ℕ) (payloads : List (List ℕ))
+    ensures { (bytes digest payload : List ℕ) (payloads : List (List ℕ))
         → IsJournal bytes digest payloads [] → length payload < 2 ^ 32
-        → IsJournal (bytes ++ entry (link_after (first_link digest) payloads) payload) digest
+        → IsJournal (bytes ++ entry digest (length bytes) payload) digest
         (payloads ++ payload ∷ []) [] }
-    ensures link { (digest payload : List ℕ) (payloads : List (List ℕ))
-        → link_after (first_link digest) (payloads ++ payload ∷ [])
-        ≡ seal (link_after (first_link digest) payloads) payload }
 {}
 
 /// Bytes that follow a whole journal are its end, if no entry is found in them.
 pub fn an_end_without_entry_is_cut_off()
     ensures { (bytes digest end : List ℕ) (payloads : List (List ℕ))
         → IsJournal bytes digest payloads []
-        → ¬ (HasEntry (link_after (first_link digest) payloads ++ end))
+        → ¬ (HasEntry digest (length bytes) end)
         → IsJournal (bytes ++ end) digest payloads end }
 {}
 

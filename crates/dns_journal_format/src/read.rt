@@ -1,11 +1,11 @@
 //! A whole journal is read.
 
-ghost use Rattle.std.specs.Prelude.{◌≡◌, ◌≤◌, ◌+◌, ◌++◌, ◌∷◌, [], List, ℕ, length, map, take, IsTrue, ◌↔◌, Err, IfOk, IfSome, IfNone, IfErr, OnOk};
-ghost use Rattle.dns_journal_format.specs.Format.{entries, first_link, header, link_after, magic, AreEntriesOf, AreShort, BeginsWith, HasHeader, IsFault, IsJournal};
+ghost use Rattle.std.specs.Prelude.{◌≡◌, ◌<◌, ◌≤◌, ◌+◌, ◌^◌, ◌++◌, ◌∷◌, [], List, ℕ, length, map, take, IsTrue, ◌↔◌, Err, IfOk, IfSome, IfNone, IfErr, OnOk};
+ghost use Rattle.dns_journal_format.specs.Format.{entries, header, magic, place_after, AreEntriesOf, AreShort, BeginsWith, HasHeader, IsFault, IsJournal};
 ghost use Rattle.dns_journal_format.specs.declared.error.ReadError.TheVariants as errors;
 
 use crate::error::ReadError;
-use crate::find::{first_entry, has_later_entry};
+use crate::find::{first_entry, has_entry};
 use crate::write::{HEADER_LEN, MAGIC};
 use std::alloc::{AllocError, Global};
 
@@ -16,8 +16,8 @@ pub struct JournalContent<'a> {
     pub digest: &'a [u8],
     /// The payloads of its entries, in order.
     pub payloads: Vec<&'a [u8]>,
-    /// The last eight bytes of the entries or, if there are none, of the header.
-    pub link: &'a [u8],
+    /// The length of the header and the entries, in bytes.
+    pub len: usize,
     /// What follows the entries: the end of a write that was cut short.
     pub end: &'a [u8],
 }
@@ -32,10 +32,9 @@ pub struct JournalContent<'a> {
 pub fn read_journal(alloc: Global, bytes: &[u8]) -> Result<JournalContent<'_>, ReadError>
     ensures journal { IfOk result (λ content. IsJournal bytes.now content.digest.now
         (map (λ p. p.now) content.payloads.items) content.end.now) }
-    ensures link { IfOk result (λ content. content.link.now ≡ link_after
-        (first_link content.digest.now) (map (λ p. p.now) content.payloads.items)) }
-    ensures link_len { IfOk result (λ content. length content.link.now ≡ 8) }
-    ensures end_within { IfOk result (λ content. length content.end.now ≤ length bytes.now) }
+    ensures len { IfOk result (λ content. content.len + length content.end.now
+        ≡ length bytes.now) }
+    ensures digest { IfOk result (λ content. length content.digest.now ≡ 32) }
     ensures refused { IfErr result (IsFault bytes.now) }
     ensures decided { ¬ (HasHeader bytes.now) → result ≡ Err errors.Header }
 {
@@ -90,32 +89,23 @@ fn read_content<'a>(
     requires parts { bytes.now ≡ header digest.now ++ rest.now }
     ensures journal { IfOk result (λ content. IsJournal bytes.now content.digest.now
         (map (λ p. p.now) content.payloads.items) content.end.now) }
-    ensures link { IfOk result (λ content. content.link.now ≡ link_after
-        (first_link content.digest.now) (map (λ p. p.now) content.payloads.items)) }
-    ensures link_len { IfOk result (λ content. length content.link.now ≡ 8) }
-    ensures end_within { IfOk result (λ content. length content.end.now ≤ length bytes.now) }
+    ensures len { IfOk result (λ content. content.len + length content.end.now
+        ≡ length bytes.now) }
+    ensures digest { IfOk result (λ content. length content.digest.now ≡ 32) }
     ensures refused { IfErr result (IsFault bytes.now) }
 {
-    match read_entries(alloc, link_of(digest), rest) {
+    match read_entries(alloc, digest, HEADER_LEN, rest) {
         Ok(entries) => content_of(bytes, digest, entries),
         // Memory for the list of payloads was refused.
         Err(_) => Err(ReadError::Memory),
     }
 }
 
-/// Returns the link of the first entry.
-fn link_of(digest: &[u8]) -> &[u8]
-    requires { length digest.now ≡ 32 }
-    ensures { result.now ≡ first_link digest.now }
-{
-    &digest[24..]
-}
-
 /// Entries that are read, and what follows them.
 #[derive(Drop)]
 struct ReadEntries<'a> {
     payloads: Vec<&'a [u8]>,
-    link: &'a [u8],
+    place: usize,
     end: &'a [u8],
 }
 
@@ -127,53 +117,52 @@ fn content_of<'a>(
 ) -> Result<JournalContent<'a>, ReadError>
     requires front { AreEntriesOf bytes.now digest.now
         (map (λ p. p.now) entries.payloads.items) entries.end.now }
-    requires link { entries.link.now ≡ link_after (first_link digest.now)
-        (map (λ p. p.now) entries.payloads.items) }
+    requires place { entries.place ≡ place_after 40 (map (λ p. p.now) entries.payloads.items) }
     ensures journal { IfOk result (λ content. IsJournal bytes.now content.digest.now
         (map (λ p. p.now) content.payloads.items) content.end.now) }
-    ensures link { IfOk result (λ content. content.link.now ≡ link_after
-        (first_link content.digest.now) (map (λ p. p.now) content.payloads.items)) }
-    ensures link_len { IfOk result (λ content. length content.link.now ≡ 8) }
-    ensures end_within { IfOk result (λ content. length content.end.now ≤ length bytes.now) }
+    ensures len { IfOk result (λ content. content.len + length content.end.now
+        ≡ length bytes.now) }
+    ensures digest { IfOk result (λ content. length content.digest.now ≡ 32) }
     ensures refused { IfErr result (IsFault bytes.now) }
 {
-    let place = bytes.len() - entries.end.len();
-    if has_later_entry(bytes, place) {
-        return Err(ReadError::Damaged(place));
+    if has_entry(digest, entries.place, entries.end) {
+        return Err(ReadError::Damaged(entries.place));
     }
     Ok(JournalContent {
         digest,
         payloads: entries.payloads,
-        link: entries.link,
+        len: entries.place,
         end: entries.end,
     })
 }
 
-/// Reads entries up to the first bytes that are not one.
+/// Reads entries, from a place on, up to the first bytes that are not one.
 fn read_entries<'a>(
     alloc: Global,
-    first: &'a [u8],
+    digest: &'a [u8],
+    first: usize,
     bytes: &'a [u8],
 ) -> Result<ReadEntries<'a>, AllocError>
-    ensures parts { IfOk result (λ read. bytes.now
-        ≡ entries first.now (map (λ p. p.now) read.payloads.items) ++ read.end.now) }
+    requires { first + length bytes.now < 2 ^ 64 }
+    ensures parts { IfOk result (λ read. bytes.now ≡ entries digest.now first
+        (map (λ p. p.now) read.payloads.items) ++ read.end.now) }
     ensures short { IfOk result (λ read. AreShort (map (λ p. p.now) read.payloads.items)) }
-    ensures link { IfOk result (λ read. read.link.now
-        ≡ link_after first.now (map (λ p. p.now) read.payloads.items)) }
+    ensures place { IfOk result (λ read. read.place
+        ≡ place_after first (map (λ p. p.now) read.payloads.items)) }
     ensures none { IfOk result (λ read. (payload rest : List ℕ)
-        → ¬ (BeginsWith read.link.now payload read.end.now rest)) }
+        → ¬ (BeginsWith digest.now read.place payload read.end.now rest)) }
 {
     let mut payloads = Vec::new(alloc);
-    let mut link = first;
+    let mut place = first;
     let mut rest = bytes;
-    while let Some(found) = first_entry(link, rest) {
+    while let Some(found) = first_entry(digest, place, rest) {
         push_payload(&mut payloads, found.payload)?;
-        link = found.seal;
+        place += 12 + found.payload.len();
         rest = found.rest;
     }
     Ok(ReadEntries {
         payloads,
-        link,
+        place,
         end: rest,
     })
 }

@@ -1,7 +1,7 @@
 //! Headers and entries are appended to bytes.
 
-ghost use Rattle.std.specs.Prelude.{◌≡◌, ◌<◌, ◌^◌, ◌++◌, length, IfOk, OnOk, OnErr};
-ghost use Rattle.dns_journal_format.specs.Format.{entry, header, seal};
+ghost use Rattle.std.specs.Prelude.{◌≡◌, ◌<◌, ◌^◌, ◌++◌, length, OnOk, OnErr};
+ghost use Rattle.dns_journal_format.specs.Format.{entry, header};
 
 use crate::sealing::seal;
 use std::alloc::AllocError;
@@ -25,18 +25,21 @@ pub fn write_header(out: &mut Vec<u8>, digest: &[u8; 32]) -> Result<(), AllocErr
     out.extend_from_slice(digest.as_slice())
 }
 
-/// Appends the entry with a payload that follows eight bytes, and returns its seal, which the next entry follows. An error leaves
-/// `out` unchanged.
-pub fn write_entry(out: &mut Vec<u8>, link: &[u8], payload: &[u8]) -> Result<[u8; 8], AllocError>
+/// Appends the entry with a payload at a place of the journal of a text with this digest. An error leaves `out` unchanged.
+pub fn write_entry(
+    out: &mut Vec<u8>,
+    digest: &[u8],
+    place: usize,
+    payload: &[u8],
+) -> Result<(), AllocError>
     requires { length payload.now < 2 ^ 32 }
-    ensures ok { OnOk result (out.new.items ≡ out.old.items ++ entry link.now payload.now) }
-    ensures seal { IfOk result (λ written. written ≡ seal link.now payload.now) }
+    ensures ok { OnOk result (out.new.items
+        ≡ out.old.items ++ entry digest.now place payload.now) }
     ensures err { OnErr result (out.new.items ≡ out.old.items) }
 {
-    let sealed = seal(link, payload);
+    let sealed = seal(digest, place, payload);
     out.reserve(12 + payload.len())?;
     out.extend_from_slice((payload.len() as u32).to_be_bytes().as_slice())?;
     out.extend_from_slice(payload)?;
-    out.extend_from_slice(sealed.as_slice())?;
-    Ok(sealed)
+    out.extend_from_slice(sealed.as_slice())
 }

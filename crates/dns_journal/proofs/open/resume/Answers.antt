@@ -1,10 +1,13 @@
-use Rattle.std.proofs.Common.{◌≡◌, ◌≤◌, ◌-◌, ℕ, [], length, refl, ap, arith}
+use Rattle.std.proofs.Common.{◌≡◌, ◌≤◌, ◌+◌, ◌-◌, ℕ, [], length, refl, arith, ◌∙◌}
 use Rattle.std.proofs.lemmas.Bool.Decides.{nat_tests}
 use Rattle.dns_journal.proofs.OpeningLaws.{nothing, nothing_cut, cut_done, cut_torn, cut_lost, position_is}
 use Rattle.dns_journal.proofs.open.resume.Goals as goal
 
-within : (end len size : ℕ) → end ≤ len → len ≡ size → end ≤ size
-within end len size le same = omega (arith, le, same)
+within : (len end size : ℕ) → len + end ≡ size → end ≤ size
+within len end size sum = omega (arith, sum)
+
+place : (len end size : ℕ) → len + end ≡ size → len ≡ size - end
+place len end size sum = omega (arith, sum)
 
 pub returns-then-is_empty-clause-resumes : goal.returns-then-is_empty-clause-resumes
 returns-then-is_empty-clause-resumes g c =
@@ -13,36 +16,36 @@ returns-then-is_empty-clause-resumes g c =
     record {
       events = [];
       led = refl;
-      holds = λ text bytes digest payloads journal len_is. nothing_cut c.an_end_without_entry_is_cut_off.ensures c.a_journal_without_its_end_is_whole.ensures text bytes digest c.args.content.now.end.now payloads journal
-          (within _ _ _ c.requires.end len_is) none;
+      holds = λ text bytes digest payloads journal sum. nothing_cut c.an_end_without_entry_is_cut_off.ensures c.a_journal_without_its_end_is_whole.ensures text bytes digest c.args.content.now.end.now payloads journal
+          (within _ _ _ sum) none;
     }
 
 pub returns-then-is_empty-clause-position : goal.returns-then-is_empty-clause-position
-returns-then-is_empty-clause-position g c bytes digest payloads journal len_is link_is =
+returns-then-is_empty-clause-position g c bytes digest payloads journal sum same =
     position_is c.an_end_without_entry_is_cut_off.ensures c.a_journal_without_its_end_is_whole.ensures [] bytes digest c.args.content.now.end.now payloads journal
-    (within _ _ _ c.requires.end len_is) _ c.args.content.now.link.now (ap (λ (k : ℕ). k - length c.args.content.now.end.now) len_is) c.link_array.ensures link_is
+    (within _ _ _ sum) _ (place _ _ _ sum) (c.digest_array.ensures ∙ same)
+
+pub returns-in-Ready-clause-position : goal.returns-in-Ready-clause-position
+returns-in-Ready-clause-position g c bytes digest payloads journal sum same =
+    position_is c.an_end_without_entry_is_cut_off.ensures c.a_journal_without_its_end_is_whole.ensures [] bytes digest c.args.content.now.end.now payloads journal
+    (within _ _ _ sum) _ (place _ _ _ sum) (c.digest_array.ensures ∙ same)
 
 pub returns-in-Ready-clause-resumes : goal.returns-in-Ready-clause-resumes
 returns-in-Ready-clause-resumes g c =
     record {
       events = c.in-Ready.ensures.events;
       led = c.in-Ready.ensures.led;
-      holds = λ text bytes digest payloads journal len_is. cut_done c.an_end_without_entry_is_cut_off.ensures c.a_journal_without_its_end_is_whole.ensures text bytes digest c.args.content.now.end.now payloads journal
-          (within _ _ _ c.requires.end len_is) c.in-Ready.ensures.events _ (ap (λ (k : ℕ). k - length c.args.content.now.end.now) len_is) c.in-Ready.ensures.holds;
+      holds = λ text bytes digest payloads journal sum. cut_done c.an_end_without_entry_is_cut_off.ensures c.a_journal_without_its_end_is_whole.ensures text bytes digest c.args.content.now.end.now payloads journal
+          (within _ _ _ sum) c.in-Ready.ensures.events _ (place _ _ _ sum) c.in-Ready.ensures.holds;
     }
-
-pub returns-in-Ready-clause-position : goal.returns-in-Ready-clause-position
-returns-in-Ready-clause-position g c bytes digest payloads journal len_is link_is =
-    position_is c.an_end_without_entry_is_cut_off.ensures c.a_journal_without_its_end_is_whole.ensures [] bytes digest c.args.content.now.end.now payloads journal
-    (within _ _ _ c.requires.end len_is) _ c.args.content.now.link.now (ap (λ (k : ℕ). k - length c.args.content.now.end.now) len_is) c.link_array.ensures link_is
 
 pub returns-in-Torn-clause-resumes : goal.returns-in-Torn-clause-resumes
 returns-in-Torn-clause-resumes g c =
     record {
       events = c.in-Torn.ensures.events;
       led = c.in-Torn.ensures.led;
-      holds = λ text bytes digest payloads journal len_is. cut_torn c.an_end_without_entry_is_cut_off.ensures c.a_journal_without_its_end_is_whole.ensures text bytes digest c.args.content.now.end.now payloads journal
-          (within _ _ _ c.requires.end len_is) c.in-Torn.ensures.events _ (ap (λ (k : ℕ). k - length c.args.content.now.end.now) len_is) c.in-Torn.ensures.holds;
+      holds = λ text bytes digest payloads journal sum. cut_torn c.an_end_without_entry_is_cut_off.ensures c.a_journal_without_its_end_is_whole.ensures text bytes digest c.args.content.now.end.now payloads journal
+          (within _ _ _ sum) c.in-Torn.ensures.events _ (place _ _ _ sum) c.in-Torn.ensures.holds;
     }
 
 pub returns-in-Lost-clause-resumes : goal.returns-in-Lost-clause-resumes
@@ -50,6 +53,6 @@ returns-in-Lost-clause-resumes g c =
     record {
       events = c.in-Lost.ensures.events;
       led = c.in-Lost.ensures.led;
-      holds = λ text bytes digest payloads journal len_is. cut_lost c.an_end_without_entry_is_cut_off.ensures c.a_journal_without_its_end_is_whole.ensures text bytes digest c.args.content.now.end.now payloads journal
-          (within _ _ _ c.requires.end len_is) c.in-Lost.ensures.events _ (ap (λ (k : ℕ). k - length c.args.content.now.end.now) len_is) c.in-Lost.ensures.holds;
+      holds = λ text bytes digest payloads journal sum. cut_lost c.an_end_without_entry_is_cut_off.ensures c.a_journal_without_its_end_is_whole.ensures text bytes digest c.args.content.now.end.now payloads journal
+          (within _ _ _ sum) c.in-Lost.ensures.events _ (place _ _ _ sum) c.in-Lost.ensures.holds;
     }
