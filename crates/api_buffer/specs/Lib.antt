@@ -1,0 +1,3 @@
+pub mod Arguments
+pub mod Buffer
+pub mod Given

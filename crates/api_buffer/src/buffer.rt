@@ -1,0 +1,19 @@
+//! Bytes for a buffer of the caller.
+
+ghost use Rattle.api_buffer.specs.Buffer.{Writes};
+
+use crate::refusal::Refusal;
+
+/// Writes bytes to the front of a buffer, and their number to `len`.
+///
+/// The error is [`Refusal::TooSmall`] if they do not fit. Then nothing is written but their number.
+pub fn write_bytes(bytes: &[u8], buffer: &mut [u8], len: &mut usize) -> Result<(), Refusal>
+    ensures { Writes bytes.now buffer.old result buffer.new len.new }
+{
+    *len = bytes.len();
+    if buffer.len() < bytes.len() {
+        return Err(Refusal::TooSmall);
+    }
+    buffer[..bytes.len()].copy_from_slice(bytes);
+    Ok(())
+}
