@@ -11,5 +11,5 @@ mod buffer;
 mod refusal;
 
 pub use arguments::{name_in, origin_in, text_in};
-pub use buffer::write_bytes;
+pub use buffer::{deliver, write_bytes};
 pub use refusal::Refusal;
