@@ -3,23 +3,45 @@
 ghost use Rattle.std.specs.Prelude.{◌≡◌, IfErr, IfOk, OnErr, OnOk};
 ghost use Rattle.dns_messages.specs.Sound.{IsSound};
 ghost use Rattle.dns_zone.specs.Serving.{IsReplyTo, zone_after};
-ghost use Rattle.api_zones.specs.Serving.{IsUnserved, Serves, zone_within};
+ghost use Rattle.api_buffer.specs.Buffer.{bytes_in};
+ghost use Rattle.api_zones.specs.Serving.{IsUnserved, Replies, Serves, zone_within};
 
+use crate::transport::road_of;
 use api_buffer::Refusal;
 use dns_messages::{Message, OpCode};
 use dns_zone::{Road, Zone, decode_request};
 use std::alloc::{AllocError, Global};
 
-/// Serves a request whose sender has room for so many bytes, and returns its reply.
+/// Serves a request over the transport with a number, as for [`road_of`], to a sender with room for so many bytes, and
+/// returns its reply.
 ///
 /// An update with the response code `NoError` changes the zone, unless its reply is longer than the room: then nothing
 /// changes, and the request can be made again with more.
 ///
 /// # Errors
 ///
+/// - [`Refusal::Transport`] and [`Refusal::Limit`] as for [`road_of`];
 /// - [`Refusal::NoReply`] if the bytes do not decode, or are a response;
 /// - [`Refusal::Memory`] if memory is refused.
 pub fn serve_request(
+    alloc: Global,
+    zone: &mut Zone,
+    transport: u32,
+    limit: u16,
+    request: &[u8],
+    room: usize,
+) -> Result<Vec<u8>, Refusal>
+    ensures { Replies zone.old transport limit request.now room
+        (bytes_in (λ reply. reply.items) result) zone.new }
+{
+    match road_of(transport, limit) {
+        Ok(road) => serve_over(alloc, zone, request, road, room),
+        Err(refusal) => Err(refusal),
+    }
+}
+
+/// Serves a request over a transport.
+fn serve_over(
     alloc: Global,
     zone: &mut Zone,
     request: &[u8],
