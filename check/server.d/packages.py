@@ -6,6 +6,7 @@ import subprocess
 # The programs that are tried, and their packages.
 PACKAGES = {
     "dig": "bind9-dnsutils",
+    "valgrind": "valgrind",
     "nsupdate": "bind9-dnsutils",
     "named": "bind9",
     "kdig": "knot-dnsutils",

@@ -1,0 +1,80 @@
+/* Each allocation fails in turn: a code, a null handle, a zone that is as it was, and no memory that is lost. Link with
+ * --wrap=malloc and --wrap=realloc. */
+#include "common.h"
+
+static long left = -1;
+static long failed = 0;
+
+void *__real_malloc(size_t size);
+void *__real_realloc(void *block, size_t size);
+
+static int fails(void) {
+    if (left < 0) return 0;
+    if (left == 0) {
+        failed++;
+        return 1;
+    }
+    left--;
+    return 0;
+}
+
+void *__wrap_malloc(size_t size) { return fails() ? NULL : __real_malloc(size); }
+void *__wrap_realloc(void *block, size_t size) { return fails() ? NULL : __real_realloc(block, size); }
+
+/* A zone, and its text. */
+static size_t text_of(rumstrait_zone *zone, uint8_t *text, size_t room) {
+    size_t len = 0;
+    left = -1;
+    WANT(rumstrait_zone_text(zone, text, room, &len) == RUMSTRAIT_OK);
+    return len;
+}
+
+/* A request with all allocations from the n-th on refused: whether it is served. */
+static int serve(rumstrait_zone *zone, const uint8_t *request, size_t request_len, long n) {
+    uint8_t reply[512];
+    size_t len = 77;
+    memset(reply, 0xee, sizeof reply);
+    left = n;
+    int32_t code = rumstrait_zone_serve(zone, RUMSTRAIT_DATAGRAM, 512, request, request_len, reply, sizeof reply, &len);
+    left = -1;
+    if (code == RUMSTRAIT_OK) return 1;
+    WANT(code == RUMSTRAIT_OUT_OF_MEMORY && len == 77);
+    for (size_t at = 0; at < sizeof reply; at++) WANT(reply[at] == 0xee);
+    return 0;
+}
+
+int main(void) {
+    static uint8_t text[4096], same[4096];
+    rumstrait_zone *zone = NULL;
+    long n = 0;
+    for (;; n++) {
+        zone = (rumstrait_zone *)1;
+        left = n;
+        int32_t code = new_zone(&zone);
+        left = -1;
+        if (code == RUMSTRAIT_OK) break;
+        WANT(code == RUMSTRAIT_OUT_OF_MEMORY && zone == NULL);
+    }
+    WANT(zone && n > 10);
+    printf("new: %ld\n", n);
+    size_t len = text_of(zone, text, sizeof text);
+    for (n = 0; !serve(zone, QUERY, QUERY_LEN, n); n++);
+    printf("query: %ld\n", n);
+    for (n = 0; !serve(zone, UPDATE, UPDATE_LEN, n); n++) {
+        WANT(text_of(zone, same, sizeof same) == len && !memcmp(text, same, len));
+    }
+    printf("update: %ld\n", n);
+    for (n = 0;; n++) {
+        size_t told = 77;
+        left = n;
+        int32_t code = rumstrait_zone_text(zone, same, sizeof same, &told);
+        left = -1;
+        if (code == RUMSTRAIT_OK) break;
+        WANT(code == RUMSTRAIT_OUT_OF_MEMORY && told == 77);
+    }
+    printf("text: %ld\n", n);
+    rumstrait_zone_free(zone);
+    WANT(failed > 20);
+    puts("ok");
+    return 0;
+}

@@ -1,0 +1,87 @@
+"""The C library: its functions, and what they return."""
+import ctypes
+import os
+from enum import IntEnum
+from pathlib import Path
+from typing import Callable, Optional
+
+Handle = ctypes.c_void_p
+Bytes, Room = ctypes.c_char_p, ctypes.c_void_p
+Size, SizePointer = ctypes.c_size_t, ctypes.POINTER(ctypes.c_size_t)
+# The room of the first call: most replies and texts fit it, and the call is made again for those that do not.
+FIRST_ROOM = 4096
+
+
+class Refusal(IntEnum):
+    """Why a call of the library does not do what it was asked for."""
+
+    NO_REPLY = 1
+    TOO_SMALL = 2
+    OUT_OF_MEMORY = 3
+    INVALID_TRANSPORT = 5
+    INVALID_LIMIT = 6
+    INVALID_ENCODING = 7
+    INVALID_NAME = 8
+    INVALID_ZONE = 9
+
+
+TEXTS = {
+    Refusal.NO_REPLY: "no reply",
+    Refusal.TOO_SMALL: "the buffer is too small",
+    Refusal.OUT_OF_MEMORY: "out of memory",
+    Refusal.INVALID_TRANSPORT: "no such transport",
+    Refusal.INVALID_LIMIT: "a limit of less than 512 bytes",
+    Refusal.INVALID_ENCODING: "the text is not UTF-8",
+    Refusal.INVALID_NAME: "no domain name",
+    Refusal.INVALID_ZONE: "not the zone file of a zone",
+}
+
+
+class RumstraitError(Exception):
+    """A call of the library is refused."""
+
+    def __init__(self, refusal: Refusal, text: Optional[str] = None) -> None:
+        super().__init__(text or TEXTS[refusal])
+        self.refusal = refusal
+
+
+def check(code: int) -> None:
+    """Raises the error of a code, unless it is 0."""
+    if code == Refusal.OUT_OF_MEMORY:
+        raise MemoryError
+    if code:
+        raise RumstraitError(Refusal(code))
+
+
+def load() -> ctypes.CDLL:
+    """Loads the library, and declares its functions."""
+    beside = Path(__file__).with_name("librumstrait.so")
+    place = os.environ.get("RUMSTRAIT_LIBRARY") or (str(beside) if beside.exists() else "librumstrait.so")
+    library = ctypes.CDLL(place)
+    declare(library, "rumstrait_zone_new", Bytes, Size, Bytes, Size, ctypes.POINTER(Handle))
+    declare(library, "rumstrait_zone_serve", Handle, ctypes.c_uint32, ctypes.c_uint16, Bytes, Size, Room, Size, SizePointer)
+    declare(library, "rumstrait_zone_text", Handle, Room, Size, SizePointer)
+    declare(library, "rumstrait_zone_free", Handle)
+    library.rumstrait_zone_free.restype = None
+    return library
+
+
+def declare(library: ctypes.CDLL, name: str, *parameters: object) -> None:
+    """Declares a function that returns a code."""
+    function = getattr(library, name)
+    function.argtypes, function.restype = parameters, ctypes.c_int32
+
+
+def bytes_of(call: Callable[..., int], *arguments: object) -> bytes:
+    """Calls a function that writes bytes, with as much room as it needs, and returns them."""
+    room, size = FIRST_ROOM, ctypes.c_size_t()
+    while True:
+        buffer = ctypes.create_string_buffer(room)
+        code = call(*arguments, buffer, room, size)
+        if code != Refusal.TOO_SMALL:
+            check(code)
+            return buffer.raw[: size.value]
+        room = size.value
+
+
+LIBRARY = load()

@@ -1,0 +1,2 @@
+pub mod HandleSteps
+mod PrintLaws
