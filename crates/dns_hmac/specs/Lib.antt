@@ -1,0 +1,3 @@
+pub mod Algorithm
+pub mod Hasher
+pub mod Hmac

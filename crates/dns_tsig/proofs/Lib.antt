@@ -1,0 +1,3 @@
+pub mod CoveredLaws
+pub mod SkipLaws
+pub mod VerifyLaws

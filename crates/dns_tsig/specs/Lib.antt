@@ -1,0 +1,15 @@
+pub mod Client
+pub mod Covered
+pub mod Found
+pub mod Judge
+pub mod Key
+pub mod Layout
+pub mod Numbers
+pub mod Record
+pub mod Reply
+pub mod Sign
+pub mod Skip
+pub mod Tsig
+pub mod TsigFields
+pub mod Verify
+pub mod WireName
