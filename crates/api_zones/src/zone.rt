@@ -41,6 +41,7 @@ pub fn zone_text(zone: &Zone) -> Result<Vec<u8>, Refusal>
 {
     match zone.to_text() {
         Ok(text) => Ok(text.into_bytes()),
+        // Memory was refused for the text.
         Err(_) => Err(Refusal::Memory),
     }
 }

@@ -115,6 +115,7 @@ fn read_to_heap(alloc: Global, text: &[u8], origin: &[u8]) -> Result<Box<Zone>, 
     let zone = read_zone(alloc, text, origin)?;
     match Box::new(alloc, zone) {
         Ok(moved) => Ok(moved),
+        // Memory was refused for the zone on the heap.
         Err(_) => Err(Refusal::Memory),
     }
 }

@@ -1,2 +1,0 @@
-pub mod CrashLaws
-pub mod OpeningLaws

@@ -1,5 +1,0 @@
-pub mod Appending
-pub mod Event
-pub mod Memory
-pub mod Opening
-pub mod Storage
