@@ -1,0 +1,5 @@
+pub mod Appending
+pub mod Event
+pub mod Memory
+pub mod Opening
+pub mod Storage

@@ -1,0 +1,142 @@
+//! A journal to which payloads are appended.
+
+ghost use Rattle.std.specs.Prelude.{◌≡◌, ◌<◌, ◌+◌, ◌^◌, List, ℕ, length, is_ok, IfOk, IfErr};
+ghost use Rattle.dns_journal_format.specs.Format.{entry};
+ghost use Rattle.dns_journal.specs.Appending.{Appends, IsPosition, IsStored};
+ghost use Rattle.dns_journal.specs.Storage.{Performs};
+ghost use Rattle.dns_journal.specs.declared.journal.State.TheVariants as states;
+
+use crate::error::AppendError;
+use crate::storage::Storage;
+use dns_journal_format::laws::{an_appended_entry_is_read, an_end_without_entry_is_cut_off};
+use dns_journal_format::write_entry;
+use std::alloc::Global;
+
+/// Whether a journal takes entries.
+#[derive(Clone, Copy, Debug, PartialEq, Eq)]
+pub enum State {
+    /// It does: what was appended is on the disk.
+    Ready,
+    /// An append failed. What it left is cut off by a repair.
+    Torn,
+    /// A call failed after which nothing is known of the disk. The journal has to be opened again.
+    Lost,
+}
+
+/// The end of a journal.
+#[derive(Clone, Copy, Debug, PartialEq, Eq)]
+pub struct Position {
+    /// The length of the journal, in bytes.
+    pub end: usize,
+    /// The digest of the text that it belongs to.
+    pub digest: [u8; 32],
+    /// Whether it takes entries.
+    pub state: State,
+}
+
+/// A journal to which payloads are appended.
+///
+/// A payload is on the disk when its append returns. A crash before that leaves the payloads from before, with the new one or without
+/// it, and never a part of it.
+#[derive(Drop)]
+pub struct Journal<S: Storage> {
+    /// What keeps the journal.
+    pub storage: S,
+    /// The end of the journal.
+    pub position: Position,
+}
+
+/// An entry to be appended, and the position after it.
+#[derive(Drop)]
+struct NextEntry {
+    bytes: Vec<u8>,
+    position: Position,
+}
+
+impl<S: Storage> Journal<S> {
+    /// Appends a payload, and returns once it is on the disk.
+    ///
+    /// # Errors
+    ///
+    /// - [`AppendError::NotReady`] if an earlier call failed and the journal was not repaired;
+    /// - [`AppendError::Full`] if the length of the journal would pass the greatest number of bytes;
+    /// - [`AppendError::Storage`] if the storage fails: then the journal is not ready, and the entry may be on the disk or not;
+    /// - [`AppendError::Memory`] if memory is refused, before anything is asked of the storage.
+    pub fn append(&mut self, alloc: Global, payload: &[u8]) -> Result<(), AppendError>
+        requires { length payload.now < 2 ^ 32 }
+        ensures { Performs S.performs self.old.storage self.new.storage (λ es. (text bytes digest : List ℕ)
+            (payloads : List (List ℕ)) → IsPosition self.old.position bytes digest payloads
+            → Appends self.old.position self.new.position payload.now (is_ok result) text bytes digest payloads es) }
+    {
+        an_appended_entry_is_read();
+        an_end_without_entry_is_cut_off();
+        let next = match next_entry(alloc, self.position, payload) {
+            Ok(next) => next,
+            Err(error) => return Err(error),
+        };
+        match store(&mut self.storage, next.bytes.as_slice()) {
+            State::Ready => {
+                self.position = next.position;
+                Ok(())
+            }
+            State::Torn => {
+                self.position.state = State::Torn;
+                Err(AppendError::Storage)
+            }
+            State::Lost => {
+                self.position.state = State::Lost;
+                Err(AppendError::Storage)
+            }
+        }
+    }
+}
+
+/// Makes the entry with a payload at a position.
+fn next_entry(alloc: Global, position: Position, payload: &[u8]) -> Result<NextEntry, AppendError>
+    requires { length payload.now < 2 ^ 32 }
+    ensures bytes { IfOk result (λ next. next.bytes.items
+        ≡ entry position.digest position.end payload.now) }
+    ensures end { IfOk result (λ next. next.position.end
+        ≡ position.end + length (entry position.digest position.end payload.now)) }
+    ensures digest { IfOk result (λ next. next.position.digest ≡ position.digest) }
+    ensures state { IfOk result (λ next. next.position.state ≡ states.Ready) }
+{
+    if position.state != State::Ready {
+        return Err(AppendError::NotReady);
+    }
+    let mut bytes = Vec::new(alloc);
+    match write_entry(
+        &mut bytes,
+        position.digest.as_slice(),
+        position.end,
+        payload,
+    ) {
+        Ok(()) => {}
+        // Memory for the entry was refused.
+        Err(_) => return Err(AppendError::Memory),
+    }
+    let Some(end) = position.end.checked_add(bytes.len()) else {
+        return Err(AppendError::Full);
+    };
+    Ok(NextEntry {
+        bytes,
+        position: Position {
+            end,
+            digest: position.digest,
+            state: State::Ready,
+        },
+    })
+}
+
+/// Appends bytes to the journal of a storage and synchronizes it, and returns the state that this leaves.
+fn store<S: Storage>(storage: &mut S, bytes: &[u8]) -> State
+    ensures { Performs S.performs storage.old storage.new (IsStored bytes.now result) }
+{
+    match storage.append(bytes) {
+        Ok(()) => match storage.sync() {
+            Ok(()) => State::Ready,
+            Err(_) => State::Lost,
+        },
+        Err(_) => State::Torn,
+    }
+}

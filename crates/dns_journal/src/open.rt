@@ -1,0 +1,76 @@
+//! A journal that was read is opened: what follows its entries is cut off.
+
+ghost use Rattle.std.specs.Prelude.{◌≡◌, ◌+◌, List, ℕ, length, is_ok, IfOk};
+ghost use Rattle.dns_journal_format.specs.Format.{IsJournal};
+ghost use Rattle.dns_journal.specs.Appending.{IsPosition};
+ghost use Rattle.dns_journal.specs.Opening.{IsCutOff, Resumes, whole_front};
+ghost use Rattle.dns_journal.specs.Storage.{Performs};
+
+use crate::error::StorageError;
+use crate::journal::{Position, State};
+use crate::storage::Storage;
+use dns_journal_format::JournalContent;
+use dns_journal_format::laws::{
+    a_journal_without_its_end_is_whole, an_end_without_entry_is_cut_off,
+};
+
+/// Cuts off what follows the entries of a journal that was read, synchronizes the journal, and returns its position. Nothing is asked
+/// of the storage if nothing follows the entries.
+///
+/// # Errors
+///
+/// [`StorageError`] if the storage fails. The same entries are in the journal.
+pub fn resume<S: Storage>(
+    storage: &mut S,
+    content: &JournalContent<'_>,
+) -> Result<Position, StorageError>
+    requires { length content.now.digest.now ≡ 32 }
+    ensures resumes { Performs S.performs storage.old storage.new (λ es. (text bytes digest : List ℕ)
+        (payloads : List (List ℕ)) → IsJournal bytes digest payloads content.now.end.now
+        → content.now.len + length content.now.end.now ≡ length bytes
+        → Resumes content.now.end.now (is_ok result) text bytes digest payloads es) }
+    ensures position { IfOk result (λ position. (bytes digest : List ℕ) (payloads : List (List ℕ))
+        → IsJournal bytes digest payloads content.now.end.now
+        → content.now.len + length content.now.end.now ≡ length bytes
+        → content.now.digest.now ≡ digest
+        → IsPosition position (whole_front bytes content.now.end.now) digest payloads) }
+{
+    an_end_without_entry_is_cut_off();
+    a_journal_without_its_end_is_whole();
+    let position = Position {
+        end: content.len,
+        digest: digest_array(content.digest),
+        state: State::Ready,
+    };
+    if content.end.is_empty() {
+        return Ok(position);
+    }
+    match cut_off(storage, content.len) {
+        State::Ready => Ok(position),
+        State::Torn => Err(StorageError::Failed),
+        State::Lost => Err(StorageError::Failed),
+    }
+}
+
+/// Cuts a journal to a length and synchronizes it, and returns the state that this leaves.
+fn cut_off<S: Storage>(storage: &mut S, len: usize) -> State
+    ensures { Performs S.performs storage.old storage.new (IsCutOff len result) }
+{
+    match storage.cut(len) {
+        Ok(()) => match storage.sync() {
+            Ok(()) => State::Ready,
+            Err(_) => State::Lost,
+        },
+        Err(_) => State::Torn,
+    }
+}
+
+/// Returns a digest as an array.
+fn digest_array(digest: &[u8]) -> [u8; 32]
+    requires { length digest.now ≡ 32 }
+    ensures { result ≡ digest.now }
+{
+    let mut array = [0u8; 32];
+    array.copy_from_slice(digest);
+    array
+}

@@ -1,0 +1,40 @@
+//! Why bytes are not a journal.
+
+ghost use Rattle.std.specs.Prelude.{◌≡◌};
+
+use std::alloc::{AllocError, AllocFailed};
+use thiserror::Error;
+
+/// Why bytes are not a journal.
+#[derive(Clone, Copy, Debug, PartialEq, Eq, Drop, Error)]
+pub enum ReadError {
+    /// The bytes do not begin with the header of a journal.
+    #[error("not a journal")]
+    Header,
+    /// What is at this place, in bytes from the start, is not an entry, and entries follow it.
+    #[error("damaged at byte {0}")]
+    Damaged(usize),
+    /// Memory could not be allocated.
+    #[error("out of memory")]
+    Memory,
+}
+
+impl From<AllocError> for ReadError {
+    ghost use Rattle.dns_journal_format.specs.declared.error.ReadError.TheVariants.{Memory};
+
+    ghost from_gives = { λ _ error. error ≡ Memory };
+
+    fn from(_error: AllocError) -> ReadError {
+        ReadError::Memory
+    }
+}
+
+impl<T: Drop> From<AllocFailed<T>> for ReadError {
+    ghost use Rattle.dns_journal_format.specs.declared.error.ReadError.TheVariants.{Memory};
+
+    ghost from_gives = { λ _ error. error ≡ Memory };
+
+    fn from(_error: AllocFailed<T>) -> ReadError {
+        ReadError::Memory
+    }
+}
