@@ -1,6 +1,6 @@
 //! A journal to which payloads are appended.
 
-ghost use Rattle.std.specs.Prelude.{◌≡◌, ◌<◌, ◌+◌, ◌^◌, List, ℕ, length, is_ok, IfOk, IfErr};
+ghost use Rattle.std.specs.Prelude.{◌≡◌, ◌<◌, ◌+◌, ◌^◌, List, ℕ, length, is_ok, IfOk, IfErr, IsOk};
 ghost use Rattle.dns_journal_format.specs.Format.{entry};
 ghost use Rattle.dns_journal.specs.Appending.{Appends, IsPosition, IsStored};
 ghost use Rattle.dns_journal.specs.Storage.{Performs};
@@ -64,7 +64,8 @@ impl<S: Storage> Journal<S> {
     /// - [`AppendError::Memory`] if memory is refused, before anything is asked of the storage.
     pub fn append(&mut self, alloc: Global, payload: &[u8]) -> Result<(), AppendError>
         requires { length payload.now < 2 ^ 32 }
-        ensures { Performs S.performs self.old.storage self.new.storage (λ es. (text bytes digest : List ℕ)
+        ensures ready { IsOk result → self.old.position.state ≡ states.Ready }
+        ensures performs { Performs S.performs self.old.storage self.new.storage (λ es. (text bytes digest : List ℕ)
             (payloads : List (List ℕ)) → IsPosition self.old.position bytes digest payloads
             → Appends self.old.position self.new.position payload.now (is_ok result) text bytes digest payloads es) }
     {
@@ -100,6 +101,7 @@ fn next_entry(alloc: Global, position: Position, payload: &[u8]) -> Result<NextE
         ≡ position.end + length (entry position.digest position.end payload.now)) }
     ensures digest { IfOk result (λ next. next.position.digest ≡ position.digest) }
     ensures state { IfOk result (λ next. next.position.state ≡ states.Ready) }
+    ensures ready { IfOk result (λ _. position.state ≡ states.Ready) }
 {
     if position.state != State::Ready {
         return Err(AppendError::NotReady);

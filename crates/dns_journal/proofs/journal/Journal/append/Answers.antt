@@ -3,8 +3,8 @@ use Rattle.dns_journal_format.specs.Format.{entry}
 use Rattle.dns_journal.proofs.CrashLaws.{ready_appends, torn_appends, lost_appends, nothing_appends}
 use Rattle.dns_journal.proofs.journal.Journal.append.Goals as goal
 
-pub returns-in-Err : goal.returns-in-Err
-returns-in-Err g c =
+pub returns-in-Err-clause-performs : goal.returns-in-Err-clause-performs
+returns-in-Err-clause-performs g c =
     let read = c.an_appended_entry_is_read.ensures in
     let cut_off = c.an_end_without_entry_is_cut_off.ensures in
     record {
@@ -13,8 +13,8 @@ returns-in-Err g c =
       holds = λ text bytes digest payloads at. nothing_appends read cut_off text bytes digest c.args.payload.now payloads at.journal c.requires c.args.self.now.position;
     }
 
-pub returns-in-Ready : goal.returns-in-Ready
-returns-in-Ready g c =
+pub returns-in-Ready-clause-performs : goal.returns-in-Ready-clause-performs
+returns-in-Ready-clause-performs g c =
     let read = c.an_appended_entry_is_read.ensures in
     let cut_off = c.an_end_without_entry_is_cut_off.ensures in
     let old = c.args.self.now.position in
@@ -26,8 +26,8 @@ returns-in-Ready g c =
           c.as_slice.result.now stored_is c.in-Ready.ensures.events c.in-Ok.next.position c.in-Ok.ensures.end c.in-Ok.ensures.digest c.in-Ok.ensures.state c.in-Ready.ensures.holds;
     }
 
-pub returns-in-Torn : goal.returns-in-Torn
-returns-in-Torn g c =
+pub returns-in-Torn-clause-performs : goal.returns-in-Torn-clause-performs
+returns-in-Torn-clause-performs g c =
     let read = c.an_appended_entry_is_read.ensures in
     let cut_off = c.an_end_without_entry_is_cut_off.ensures in
     let old = c.args.self.now.position in
@@ -39,8 +39,8 @@ returns-in-Torn g c =
           c.as_slice.result.now stored_is c.in-Torn.ensures.events _ refl c.in-Torn.ensures.holds;
     }
 
-pub returns : goal.returns
-returns g c =
+pub returns-clause-performs : goal.returns-clause-performs
+returns-clause-performs g c =
     let read = c.an_appended_entry_is_read.ensures in
     let cut_off = c.an_end_without_entry_is_cut_off.ensures in
     let old = c.args.self.now.position in
