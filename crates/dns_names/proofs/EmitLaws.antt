@@ -1,6 +1,6 @@
 -- Writing a name, label by label.
-use Rattle.std.proofs.Common.{◌≡◌, ℕ, zero, suc, ◌+◌, ◌<◌, ◌≤◌, Bool, true, false, cond, ltb, List, [], ◌∷◌, ◌++◌, length, take, drop, Some, Result, Ok, Err, refl, sym, ap, ◌∙◌, subst, add-one, arith, length-append}
-use Rattle.std.specs.Prelude.{slice_get, OnOk, OnErr}
+use Rattle.std.proofs.Common.{◌≡◌, ℕ, ◌+◌, ◌<◌, ◌≤◌, Bool, true, false, cond, ltb, List, [], ◌∷◌, ◌++◌, length, Result, Ok, Err, refl, sym, ap, ◌∙◌, subst, arith, length-append}
+use Rattle.std.specs.Prelude.{OnOk, OnErr}
 use Rattle.std.proofs.lemmas.List.{append-nil, length-map}
 use Rattle.std.specs.Char.{to_ascii_lowercase}
 use Rattle.std.specs.List.{AllByRecursion}
@@ -13,34 +13,11 @@ use Rattle.dns_wire.specs.Encodable.{Piece, Plain, Domain, Position, position_of
 use Rattle.dns_wire.specs.declared.error.EncodeError.{EncodeError}
 use Rattle.dns_wire.specs.declared.error.EncodeError.TheVariants.{MaxBufferSizeExceeded}
 use Rattle.dns_wire.proofs.NameLaws.{name_len-spelling, length-labels_form, length-whole_form}
-use Rattle.dns_wire.proofs.PieceLaws.{form-append, after-append, reach-append, append_pieces-end, emits_then, emits_stop}
-use Rattle.dns_names.specs.internal.Wire.{label_pieces, labels_pieces, whole_pieces, append_compressed, compressed_reach}
-
--- ---- one label more
-
-labels_pieces-next : (labels : List (List ℕ)) (i : ℕ) (label : List ℕ) → slice_get labels i ≡ Some label → labels_pieces (take (suc i) labels) ≡ labels_pieces (take i labels) ++ label_pieces label
-labels_pieces-next [] i label e = absurd (cc)
-labels_pieces-next (l ∷ ls) zero label e = let same : l ≡ label = cc in ap label_pieces same
-labels_pieces-next (l ∷ ls) (suc i) label e = ap (λ (ps : List Piece). label_pieces l ++ ps) (labels_pieces-next ls i label e)
-
-labels_pieces-split : (labels : List (List ℕ)) (i : ℕ) → labels_pieces labels ≡ labels_pieces (take i labels) ++ labels_pieces (drop i labels)
-labels_pieces-split labels zero = refl
-labels_pieces-split [] (suc i) = refl
-labels_pieces-split (l ∷ ls) (suc i) = ap (λ (ps : List Piece). label_pieces l ++ ps) (labels_pieces-split ls i)
+use Rattle.dns_wire.proofs.PieceLaws.{form-append, after-append, reach-append, append_pieces-end, emits_then}
+use Rattle.dns_names.specs.internal.Wire.{labels_pieces, whole_pieces, append_compressed, compressed_reach}
 
 pub still_at_end : (old mid : EncoderState) (ps : List Piece) → IsAtEnd old → Emits old ps (Ok tt) mid → IsAtEnd mid
 still_at_end old mid ps end e = subst IsAtEnd (sym e.ok) (append_pieces-end old ps end)
-
-pub one_more : (old mid new : EncoderState) (labels : List (List ℕ)) (i : ℕ) (label : List ℕ) (r : Result (Unit {0}) EncodeError) → IsAtEnd old → slice_get labels i ≡ Some label
-    → Emits old (labels_pieces (take i labels)) (Ok tt) mid → Emits mid (label_pieces label) r new → Emits old (labels_pieces (take (i + 1) labels)) r new
-one_more old mid new labels i label r end at before here =
-    rw (add-one, labels_pieces-next labels i label at) (emits_then old mid new (labels_pieces (take i labels)) (label_pieces label) r end before here)
-
-pub one_refused : (old mid new : EncoderState) (labels : List (List ℕ)) (i : ℕ) (label : List ℕ) (error : EncodeError) → IsAtEnd old → slice_get labels i ≡ Some label
-    → Emits old (labels_pieces (take i labels)) (Ok tt) mid → Emits mid (label_pieces label) (Err error) new → Emits old (labels_pieces labels) (Err error) new
-one_refused old mid new labels i label error end at before here =
-    subst (λ (ps : List Piece). Emits old ps (Err error) new) (sym (labels_pieces-split labels (i + 1)))
-    (emits_stop old new (labels_pieces (take (i + 1) labels)) (labels_pieces (drop (i + 1) labels)) error (one_more old mid new labels i label (Err error) end at before here))
 
 pub closes : (old mid new : EncoderState) (labels : List (List ℕ)) (r : Result (Unit {0}) EncodeError) → IsAtEnd old → Emits old (labels_pieces labels) (Ok tt) mid → Emits mid (Plain (0 ∷ []) ∷ []) r new → Emits old (whole_pieces labels) r new
 closes old mid new labels r end before here = emits_then old mid new (labels_pieces labels) (Plain (0 ∷ []) ∷ []) r end before here
@@ -48,31 +25,22 @@ closes old mid new labels r end before here = emits_then old mid new (labels_pie
 -- ---- what the plain pieces come to
 
 pub form-labels : (s : Position) (labels : List (List ℕ)) → form s (labels_pieces labels) ≡ labels_form labels
-form-labels s [] = refl
-form-labels s (l ∷ ls) = ap (λ (bytes : List ℕ). length l ∷ (l ++ bytes)) (form-labels (after s (label_pieces l)) ls)
+form-labels s labels = append-nil (labels_form labels)
 
 form-whole : (s : Position) (labels : List (List ℕ)) → form s (whole_pieces labels) ≡ whole_form labels
 form-whole s labels = form-append s (labels_pieces labels) (Plain (0 ∷ []) ∷ []) ∙ ap (λ (bytes : List ℕ). bytes ++ 0 ∷ []) (form-labels s labels)
 
 -- only the place goes on
 pub after-labels : (s : Position) (labels : List (List ℕ)) → after s (labels_pieces labels) ≡ record s { place = s.place + length (labels_form labels) }
-after-labels s [] = ap (λ (n : ℕ). record s { place = n }) (omega arith)
-after-labels s (l ∷ ls) = after-labels (after s (label_pieces l)) ls ∙ ap (λ (n : ℕ). record s { place = n }) (omega (arith, length-append l (labels_form ls)))
+after-labels s labels = refl
 
 after-whole : (s : Position) (labels : List (List ℕ)) → after s (whole_pieces labels) ≡ record s { place = s.place + length (whole_form labels) }
 after-whole s labels =
     after-append s (labels_pieces labels) (Plain (0 ∷ []) ∷ []) ∙ ap (λ (t : Position). record t { place = t.place + 1 }) (after-labels s labels)
     ∙ ap (λ (n : ℕ). record s { place = n }) (omega (arith, length-append (labels_form labels) (0 ∷ [])))
 
-pub reach-labels : (s : Position) (labels : List (List ℕ)) → reach s (labels_pieces labels) ≤ s.place + length (labels_form labels)
-reach-labels s [] = omega arith
-reach-labels s (l ∷ ls) = omega (arith, reach-labels (after s (label_pieces l)) ls, length-append l (labels_form ls))
-
-pub reach-some_labels : (s : Position) (labels : List (List ℕ)) → 0 < length labels → reach s (labels_pieces labels) ≡ s.place + length (labels_form labels)
-reach-some_labels s [] some = absurd (omega arith)
-reach-some_labels s (l ∷ []) some = omega (arith, length-append l [])
-reach-some_labels s (l ∷ m ∷ ls) some =
-    omega (arith, reach-some_labels (after s (label_pieces l)) (m ∷ ls) (omega arith), length-append l (labels_form (m ∷ ls)))
+pub reach-labels : (s : Position) (labels : List (List ℕ)) → reach s (labels_pieces labels) ≡ s.place + length (labels_form labels)
+reach-labels s labels = omega arith
 
 reach-whole : (s : Position) (labels : List (List ℕ)) → reach s (whole_pieces labels) ≡ s.place + length (whole_form labels)
 reach-whole s labels =
@@ -80,13 +48,11 @@ reach-whole s labels =
 
 -- no name is tried
 tried-labels : (limit : ℕ) (s : Position) (labels : List (List ℕ)) (qs : List Piece) → attempts_at_limit limit (after s (labels_pieces labels)) qs ≡ s.attempts → attempts_at_limit limit s (labels_pieces labels ++ qs) ≡ s.attempts
-tried-labels limit s [] qs more = more
-tried-labels limit s (l ∷ ls) qs more = at (ltb limit (s.place + 1)) (ltb limit (s.place + 1 + length l)) (tried-labels limit (after s (label_pieces l)) ls qs more)
+tried-labels limit s labels qs more = at (ltb limit (s.place + length (labels_form labels))) more
   where
-    at : (a b : Bool) → attempts_at_limit limit (after s (label_pieces l)) (labels_pieces ls ++ qs) ≡ s.attempts → cond a s.attempts (cond b s.attempts (attempts_at_limit limit (after s (label_pieces l)) (labels_pieces ls ++ qs))) ≡ s.attempts
-    at true b more = refl
-    at false true more = refl
-    at false false more = more
+    at : (a : Bool) → attempts_at_limit limit (after s (labels_pieces labels)) qs ≡ s.attempts → cond a s.attempts (attempts_at_limit limit (after s (labels_pieces labels)) qs) ≡ s.attempts
+    at true more = refl
+    at false more = more
 
 pub tried-only_labels : (limit : ℕ) (s : Position) (labels : List (List ℕ)) → attempts_at_limit limit s (labels_pieces labels) ≡ s.attempts
 tried-only_labels limit s labels =

@@ -1,8 +1,9 @@
 pub mod ArpaLaws
 pub mod ArpaRoundTrip
 pub mod BuildingLaws
+pub mod CaseLaws
 pub mod ComparisonLaws
-pub mod CutLaws
+pub mod WireLaws
 pub mod PartialLaws
 pub mod EachLaws
 pub mod EmitLaws

@@ -11,7 +11,7 @@ use Rattle.std.proofs.lemmas.List.{get_or-reverse, length-reverse}
 use Rattle.dns_names.specs.Name.{DomainName}
 use Rattle.dns_names.specs.Compare.{labels_order, name_order}
 use Rattle.dns_names.specs.internal.Compare.{labels_equal, unreversed, name_total, labels_total}
-use Rattle.dns_names.proofs.CutLaws.{slice_get_or}
+use Rattle.dns_names.proofs.WireLaws.{slice_get_or}
 use Rattle.dns_names.proofs.IterLaws.{drop-at, by_length}
 
 -- the label at a place from the right

@@ -1,5 +1,5 @@
 -- Seeking a pointer for the labels of a name, after they were written.
-use Rattle.std.proofs.Common.{◌≡◌, ℕ, zero, suc, ◌+◌, ◌-◌, ◌≤◌, List, [], ◌∷◌, ◌++◌, length, take, drop, Option, Some, None, refl, sym, ap, ◌∙◌, append_assoc, arith, length-append, add-one}
+use Rattle.std.proofs.Common.{◌≡◌, ℕ, zero, suc, ◌+◌, ◌-◌, ◌<◌, ◌≤◌, get_or, List, [], ◌∷◌, ◌++◌, length, take, drop, Option, Some, None, refl, sym, ap, ◌∙◌, append_assoc, arith, length-append, add-one}
 use Rattle.std.specs.Prelude.{slice_get, slice_range, is_some, if◌then◌else◌}
 use Rattle.std.specs.Option.{option_map_or}
 use Rattle.std.proofs.lemmas.List.{append-nil, take-append-le, drop_at, take_at, take_all, drop_all}
@@ -11,6 +11,7 @@ use Rattle.dns_wire.proofs.NameLaws.{length-labels_form}
 use Rattle.dns_wire.proofs.SuffixLaws.{suffixes_before-before, suffixes_before-remember, AgreeBelow, remember-agree}
 use Rattle.dns_names.specs.internal.Wire.{labels_pieces, append_compressed}
 use Rattle.dns_names.proofs.EmitLaws.{form-labels, after-labels}
+use Rattle.dns_names.proofs.WireLaws.{labels_form-split, front_le, front-next, len_after}
 
 -- ---- label by label
 
@@ -24,14 +25,6 @@ labels_form-next labels i label e = rw add-one (go labels i label e)
     go [] i label e = absurd (cc)
     go (l ∷ labels) zero label e = rw (some_same e) (ap (λ (xs : List ℕ). length label ∷ xs) (append-nil label))
     go (l ∷ labels) (suc i) label e = ap (λ (xs : List ℕ). length l ∷ (l ++ xs)) (go labels i label e) ∙ ap (λ (xs : List ℕ). length l ∷ xs) (sym (append_assoc l (labels_form (take i labels)) (length label ∷ label)))
-
-labels_form-split : (i : ℕ) (labels : List (List ℕ)) → labels_form labels ≡ labels_form (take i labels) ++ labels_form (drop i labels)
-labels_form-split zero labels = refl
-labels_form-split (suc i) [] = refl
-labels_form-split (suc i) (l ∷ labels) = ap (λ (xs : List ℕ). length l ∷ (l ++ xs)) (labels_form-split i labels) ∙ ap (λ (xs : List ℕ). length l ∷ xs) (sym (append_assoc l (labels_form (take i labels)) (labels_form (drop i labels))))
-
-front_le : (i : ℕ) (labels : List (List ℕ)) → length (labels_form (take i labels)) ≤ length (labels_form labels)
-front_le i labels = omega (arith, ap length (labels_form-split i labels), length-append (labels_form (take i labels)) (labels_form (drop i labels)))
 
 drop-next : (labels : List (List ℕ)) (i : ℕ) (label : List ℕ) → slice_get labels i ≡ Some label → drop i labels ≡ label ∷ drop (i + 1) labels
 drop-next labels i label e = rw add-one (go labels i label e)
@@ -117,6 +110,16 @@ module _ {old w : EncoderState} {labels : List (List ℕ)} {i place : ℕ} (end 
 
   pub place_within : place ≤ w.offset
   place_within = omega (arith, s.offset, s.place_is, front_le i labels)
+
+  -- where the next label is in the name's own bytes
+  own_place : place - old.offset ≡ length (labels_form (take i labels))
+  own_place = omega (arith, s.place_is)
+
+  pub len_here : i < length labels → get_or (labels_form labels) (place - old.offset) 0 ≡ length (get_or labels i [])
+  len_here lt = ap (λ (n : ℕ). get_or (labels_form labels) n 0) own_place ∙ len_after labels i lt
+
+  pub place_in : i < length labels → place - old.offset < length (labels_form labels)
+  place_in lt = omega (arith, own_place, front-next labels i lt, front_le (i + 1) labels)
 
   pub at_end : w.offset ≡ length w.bytes
   at_end = omega (arith, s.offset, ap length s.bytes, length-append old.bytes (labels_form labels), end)

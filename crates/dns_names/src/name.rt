@@ -1,10 +1,11 @@
 //! Domain names.
 
-ghost use Rattle.std.specs.Prelude.{◌≡◌, ◌==◌, ◌+◌, ◌<◌, ◌≤◌, ◌&&◌, [], ◌∷◌, ◌++◌, false, true, length, slice_get, slice_index_or, IfOk, IsOk, OnOk, OnErr};
+ghost use Rattle.std.specs.Prelude.{◌≡◌, ◌==◌, ◌+◌, ◌<◌, ◌≤◌, ◌&&◌, [], ◌∷◌, ◌++◌, false, true, drop, length, take, slice_get, IfOk, IsOk, OnOk, OnErr};
 ghost use Rattle.dns_wire.specs.Name.{IsLabel, AreLabels, name_len, max_name_len};
+ghost use Rattle.dns_wire.specs.Writing.{labels_form};
 ghost use Rattle.dns_names.specs.Compare.{lower};
 ghost use Rattle.dns_names.specs.Name.{IsInline};
-ghost use Rattle.dns_names.specs.internal.Name.{CutsFrom, labels_from};
+ghost use Rattle.dns_names.specs.internal.Name.{IsRun, labels_in};
 
 mod build;
 mod compare;
@@ -21,32 +22,32 @@ use std::marker::Model;
 /// A domain name (RFC 1035 section 3.1), fully qualified or relative.
 pub struct Name {
     is_fqdn: bool,
-    label_data: SmallVec<u8, 32>,
-    label_ends: SmallVec<u8, 24>,
+    label_count: u8,
+    /// The labels as they are encoded, each after its length, without the root's zero byte.
+    wire: SmallVec<u8, 56>,
 }
 
 impl Drop for Name {
     fn drop(self) {
         let Name {
             is_fqdn: _is_fqdn,
-            label_data,
-            label_ends,
+            label_count: _label_count,
+            wire,
         } = self;
-        drop(label_data);
-        drop(label_ends);
+        drop(wire);
     }
 }
 
 impl Model for Name {
     ghost use Rattle.dns_names.specs.Name.{DomainName};
-    ghost use Rattle.dns_names.specs.internal.Name.{labels_from, IsCut};
+    ghost use Rattle.dns_names.specs.internal.Name.{labels_in, IsWire};
 
     ghost Value = { DomainName };
 
     ghost view = { λ n. record
-        { is_fqdn = n.is_fqdn; labels = labels_from 0 n.label_data.items n.label_ends.items } };
+        { is_fqdn = n.is_fqdn; labels = labels_in n.label_count n.wire.items } };
 
-    ghost invariant = { λ n. IsCut n.label_data.items n.label_ends.items };
+    ghost invariant = { λ n. IsWire n.label_count n.wire.items };
 }
 
 impl Name {
@@ -59,8 +60,8 @@ impl Name {
     {
         Name {
             is_fqdn: false,
-            label_data: SmallVec::new(alloc),
-            label_ends: SmallVec::new(alloc),
+            label_count: 0,
+            wire: SmallVec::new(alloc),
         }
     }
 
@@ -70,8 +71,8 @@ impl Name {
     {
         Name {
             is_fqdn: true,
-            label_data: SmallVec::new(alloc),
-            label_ends: SmallVec::new(alloc),
+            label_count: 0,
+            wire: SmallVec::new(alloc),
         }
     }
 
@@ -79,7 +80,7 @@ impl Name {
     pub fn is_root(&self) -> bool
         ensures { result ≡ (self.now.is_fqdn && length self.now.labels == 0) }
     {
-        self.is_fqdn && self.label_ends.is_empty()
+        self.is_fqdn && self.label_count == 0
     }
 
     /// Returns `true` if the name is fully qualified, that is, ends at the root.
@@ -98,14 +99,8 @@ impl Name {
     {
         Ok(Name {
             is_fqdn: self.is_fqdn,
-            label_data: SmallVec::from_slice(
-                *self.label_data.allocator(),
-                self.label_data.as_slice(),
-            )?,
-            label_ends: SmallVec::from_slice(
-                *self.label_ends.allocator(),
-                self.label_ends.as_slice(),
-            )?,
+            label_count: self.label_count,
+            wire: SmallVec::from_slice(*self.wire.allocator(), self.wire.as_slice())?,
         })
     }
 
@@ -124,7 +119,7 @@ impl Name {
 
     /// Returns the name's allocator.
     pub(crate) fn allocator(&self) -> Global {
-        *self.label_data.allocator()
+        *self.wire.allocator()
     }
 
     /// Returns the number of labels, with a leading `*`.
@@ -132,7 +127,7 @@ impl Name {
         ensures value { result ≡ length self.now.labels }
         ensures labels { AreLabels self.now.labels }
     {
-        self.label_ends.len()
+        self.label_count as usize
     }
 
     /// Returns the length of the name's uncompressed encoding.
@@ -140,7 +135,38 @@ impl Name {
         ensures value { result ≡ name_len self.now.labels }
         ensures labels { AreLabels self.now.labels }
     {
-        self.label_data.len() + self.label_ends.len() + 1
+        self.wire.len() + 1
+    }
+
+    /// Returns the labels, each after its length.
+    pub(crate) fn wire(&self) -> &[u8]
+        ensures form { result.now ≡ labels_form self.now.labels }
+        ensures labels { AreLabels self.now.labels }
+    {
+        self.wire.as_slice()
+    }
+
+    /// Returns the length of the encoding of the first labels.
+    fn offset_of(&self, index: usize) -> usize
+        requires { index ≤ length self.now.labels }
+        ensures value { result ≡ length (labels_form (take index self.now.labels)) }
+        ensures within { result ≤ length (labels_form self.now.labels) }
+    {
+        let wire = self.wire();
+        let mut offset = 0;
+        for passed in 0..index {
+            offset += wire[offset] as usize + 1;
+        }
+        offset
+    }
+
+    /// Returns the labels after the first `skipped`, each after its length.
+    pub(crate) fn wire_after(&self, skipped: usize) -> &[u8]
+        requires { skipped ≤ length self.now.labels }
+        ensures value { result.now ≡ labels_form (drop skipped self.now.labels) }
+        ensures labels { AreLabels self.now.labels }
+    {
+        &self.wire()[self.offset_of(skipped)..]
     }
 
     /// Returns the label at an index, from the left.
@@ -149,11 +175,8 @@ impl Name {
         ensures value { slice_get self.now.labels index ≡ Some result.now }
         ensures is_label { IsLabel result.now }
     {
-        label_at(
-            self.label_data.as_slice(),
-            self.label_ends.as_slice(),
-            index,
-        )
+        let rest = self.wire_after(index);
+        &rest[1..rest[0] as usize + 1]
     }
 
     /// Appends a label. It does not fail if the labels are still stored inline.
@@ -165,12 +188,26 @@ impl Name {
         ensures inline { IsInline (self.old.labels ++ label.now ∷ []) → IsOk result }
         ensures err { OnErr result (self.new ≡ self.old) }
     {
-        prove!(self.label_data.capacity() >= 32);
-        prove!(self.label_ends.capacity() >= 24);
-        self.label_data.reserve(label.len())?;
-        let end = self.label_data.len() + label.len();
-        self.label_ends.push(end as u8)?;
-        self.label_data.extend_from_slice(label)?;
+        prove!(self.wire.capacity() >= 56);
+        self.wire.reserve(label.len() + 1)?;
+        self.wire.push_reserved(label.len() as u8);
+        self.wire.extend_from_slice(label)?;
+        self.label_count += 1;
+        Ok(())
+    }
+
+    /// Appends so many labels, each after its length. It does not fail if the labels are still stored inline.
+    pub(crate) fn push_run(&mut self, run: &[u8], count: usize) -> Result<(), AllocError>
+        requires run { IsRun count run.now }
+        requires fits { name_len (self.old.labels ++ labels_in count run.now) ≤ max_name_len }
+        ensures ok { OnOk result (self.new
+            ≡ record self.old { labels = self.old.labels ++ labels_in count run.now }) }
+        ensures inline { IsInline (self.old.labels ++ labels_in count run.now) → IsOk result }
+        ensures err { OnErr result (self.new ≡ self.old) }
+    {
+        prove!(self.wire.capacity() >= 56);
+        self.wire.extend_from_slice(run)?;
+        self.label_count += count as u8;
         Ok(())
     }
 
@@ -185,7 +222,7 @@ impl Name {
     fn make_lowercase(&mut self)
         ensures { self.new ≡ record self.old { labels = lower self.old.labels } }
     {
-        self.label_data.as_mut_slice().make_ascii_lowercase();
+        self.wire.as_mut_slice().make_ascii_lowercase();
     }
 }
 
@@ -195,18 +232,4 @@ impl Clone for Name {
     fn clone(&self) -> Result<Self, AllocError> {
         Name::clone(self)
     }
-}
-
-/// Returns the label at an index, cut from the bytes.
-fn label_at<'a>(bytes: &'a [u8], ends: &[u8], index: usize) -> &'a [u8]
-    requires cuts { CutsFrom 0 bytes.now ends.now }
-    requires in_range { index < length ends.now }
-    ensures { result.now ≡ slice_index_or (labels_from 0 bytes.now ends.now) index [] }
-{
-    let start = if index == 0 {
-        0
-    } else {
-        ends[index - 1] as usize
-    };
-    &bytes[start..ends[index] as usize]
 }

@@ -1,17 +1,23 @@
--- How a `Name` stores its labels: their bytes one after another, and where each ends.
-use Rattle.std.specs.Prelude.{◌≡◌, ℕ, ◌+◌, ◌<◌, List, [], ◌∷◌, length, slice_range}
+-- How a `Name` stores its labels: as they are encoded, each after its length (RFC 1035 section 3.1).
+use Rattle.std.specs.Prelude.{◌≡◌, ℕ, zero, suc, List, [], ◌∷◌, length, take, drop}
+use Rattle.std.specs.List.{AllByRecursion}
+use Rattle.dns_wire.specs.Name.{IsLabel, AreLabels}
+use Rattle.dns_wire.specs.Writing.{labels_form}
 
--- the labels from a place of the bytes on
-abbrev pub labels_from : ℕ → List ℕ → List ℕ → List (List ℕ)
-labels_from start bytes [] = []
-labels_from start bytes (end ∷ ends) = slice_range bytes start end ∷ labels_from end bytes ends
+-- so many labels from the front of the bytes
+abbrev pub labels_in : ℕ → List ℕ → List (List ℕ)
+labels_in zero bytes = []
+labels_in (suc count) [] = []
+labels_in (suc count) (len ∷ bytes) = take len bytes ∷ labels_in count (drop len bytes)
 
--- the ends cut the bytes from a place on into labels of 1 to 63 bytes
-abbrev pub CutsFrom : ℕ → List ℕ → List ℕ → Type 0
-CutsFrom start bytes [] = start ≡ length bytes
-CutsFrom start bytes (end ∷ ends) = (start < end) × (end < start + 64) × CutsFrom end bytes ends
+-- the bytes encode so many labels
+pub record IsRun (count : ℕ) (bytes : List ℕ) : Type 0 where
+  pub form : bytes ≡ labels_form (labels_in count bytes)
+  pub many : length (labels_in count bytes) ≡ count
+  pub each : AllByRecursion IsLabel (labels_in count bytes)
 
--- and the encoded name has at most 255 bytes
-pub record IsCut (bytes ends : List ℕ) : Type 0 where
-  pub cuts : CutsFrom 0 bytes ends
-  pub fits : length bytes + length ends < 255
+-- the bytes encode so many labels of a name
+pub record IsWire (count : ℕ) (bytes : List ℕ) : Type 0 where
+  pub form : bytes ≡ labels_form (labels_in count bytes)
+  pub many : length (labels_in count bytes) ≡ count
+  pub are : AreLabels (labels_in count bytes)

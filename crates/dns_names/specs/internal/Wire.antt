@@ -28,14 +28,9 @@ part_len (Pointer target) = 2
 abbrev pub MatchesElement : Result Part DecodeError → Result wire.Element DecodeError → Type 0
 MatchesElement read element = MatchResult read (λ part. element ≡ Ok (element_of part)) (λ error. element ≡ Err error)
 
--- a label: its length, and its bytes
-abbrev pub label_pieces : List ℕ → List Piece
-label_pieces label = Plain (length label ∷ []) ∷ Plain label ∷ []
-
 -- labels, each preceded by its length (RFC 1035 section 3.1)
 abbrev pub labels_pieces : List (List ℕ) → List Piece
-labels_pieces [] = []
-labels_pieces (label ∷ labels) = label_pieces label ++ labels_pieces labels
+labels_pieces labels = Plain (labels_form labels) ∷ []
 
 -- the labels and the root's zero byte
 abbrev pub whole_pieces : List (List ℕ) → List Piece

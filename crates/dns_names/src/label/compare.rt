@@ -11,7 +11,8 @@ ghost use Rattle.std.specs.Str.{str_eq_ignore_ascii_case, str_to_ascii_lowercase
 ghost use Rattle.std.proofs.Common.{refl};
 ghost use Rattle.dns_names.specs.LabelCompare.{label_cmp, label_hash};
 ghost use Rattle.dns_names.specs.internal.LabelCompare.{same_label-partial, same_label-equivalence, label_cmp-total, label_cmp-partial, labels_agree, labels_hashed_alike};
-ghost use Rattle.std.specs.List.{fold};
+ghost use Rattle.std.specs.List.{fold, flat_map};
+ghost use Rattle.std.specs.Hash as fed;
 ghost use Rattle.dns_wire.specs.Name.{IsLabel};
 ghost use Rattle.dns_names.specs.LabelCompare.{label_writes};
 
@@ -135,7 +136,15 @@ pub(crate) fn hash_label<H: Hasher>(label: &[u8], state: &mut H)
     ensures { state.new ≡ fold H.write state.old (label_writes (str_to_ascii_lowercase label.now)) }
 {
     state.write_u8(label.len() as u8);
-    for byte in label {
+    hash_bytes(label, state);
+}
+
+/// Hashes bytes, with ASCII letters in lower case.
+pub(crate) fn hash_bytes<H: Hasher>(bytes: &[u8], state: &mut H)
+    ensures { state.new
+        ≡ fold H.write state.old (flat_map fed.u8 (str_to_ascii_lowercase bytes.now)) }
+{
+    for byte in bytes {
         state.write_u8(byte.to_ascii_lowercase());
     }
 }

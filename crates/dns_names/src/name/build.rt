@@ -192,15 +192,13 @@ impl Name {
 
     /// Appends the labels of another name, without the first `skipped` of them.
     pub(crate) fn push_labels(&mut self, other: &Name, skipped: usize) -> Result<(), AllocError>
-        requires { name_len (self.old.labels ++ drop skipped other.now.labels) ≤ max_name_len }
+        requires within { skipped ≤ length other.now.labels }
+        requires fits { name_len (self.old.labels ++ drop skipped other.now.labels) ≤ max_name_len }
         ensures ok { OnOk result (self.new
             ≡ record self.old { labels = self.old.labels ++ drop skipped other.now.labels }) }
         ensures inline { IsInline (self.old.labels ++ drop skipped other.now.labels)
             → IsOk result }
     {
-        for index in skipped..other.label_count() {
-            self.push(other.label(index))?;
-        }
-        Ok(())
+        self.push_run(other.wire_after(skipped), other.label_count() - skipped)
     }
 }

@@ -9,7 +9,7 @@ ghost use Rattle.std.proofs.Common.{refl};
 ghost use Rattle.dns_names.specs.Compare.{labels_order, name_order, name_cmp, name_writes};
 ghost use Rattle.dns_names.specs.internal.Compare.{name_cmp-total, name_cmp-partial, names_agree, hashed_alike};
 
-use crate::label::compare::{CaseInsensitive, CaseSensitive, LabelCmp, cmp_bytes, hash_label};
+use crate::label::compare::{CaseInsensitive, CaseSensitive, LabelCmp, cmp_bytes, hash_bytes};
 use crate::name::Name;
 use std::cmp::Ordering;
 use std::hash::{Hash, Hasher};
@@ -23,9 +23,7 @@ impl PartialEq for Name {
     ghost laws = { same_name-partial };
 
     fn eq(&self, other: &Name) -> bool {
-        self.is_fqdn() == other.is_fqdn()
-            && self.label_count() == other.label_count()
-            && other.ends_in(0, self)
+        self.is_fqdn() == other.is_fqdn() && self.eq_ignore_root(other)
     }
 }
 
@@ -66,9 +64,7 @@ impl Hash for Name {
 
     fn hash<H: Hasher>(&self, state: &mut H) {
         self.is_fqdn().hash(state);
-        for index in 0..self.label_count() {
-            hash_label(self.label(index), state);
-        }
+        hash_bytes(self.wire(), state);
     }
 }
 
@@ -104,7 +100,7 @@ impl Name {
     pub fn eq_ignore_root(&self, other: &Name) -> bool
         ensures { result ≡ same_labels self.now.labels other.now.labels }
     {
-        self.label_count() == other.label_count() && other.ends_in(0, self)
+        self.wire().eq_ignore_ascii_case(other.wire())
     }
 
     /// Returns `true` if the labels are equal, comparing case, whether or not the names are fully qualified.
@@ -161,15 +157,7 @@ impl Name {
         requires { length self.now.labels ≡ skipped + length other.now.labels }
         ensures { result ≡ same_labels other.now.labels (drop skipped self.now.labels) }
     {
-        for index in skipped..self.label_count() {
-            if !other
-                .label(index - skipped)
-                .eq_ignore_ascii_case(self.label(index))
-            {
-                return false;
-            }
-        }
-        true
+        other.wire().eq_ignore_ascii_case(self.wire_after(skipped))
     }
 
     /// Returns `true` if the labels after the first `skipped` are these, ignoring ASCII case.
@@ -191,11 +179,6 @@ impl Name {
         requires { length self.now.labels ≡ skipped + length other.now.labels }
         ensures { IsTrue result ↔ (drop skipped self.now.labels ≡ other.now.labels) }
     {
-        for index in skipped..self.label_count() {
-            if other.label(index - skipped) != self.label(index) {
-                return false;
-            }
-        }
-        true
+        self.wire_after(skipped) == other.wire()
     }
 }

@@ -5,11 +5,11 @@ use smallvec::SmallVec;
 use std::alloc::{AllocError, Global};
 use std::marker::Model;
 
-/// The complete labels of a name, and the octets of the current label behind them.
+/// The complete labels of a name, each after its length, and the octets of the current label after them.
 #[derive(Drop)]
 pub(crate) struct PartialName {
-    label_data: SmallVec<u8, 32>,
-    label_ends: SmallVec<u8, 24>,
+    wire: SmallVec<u8, 56>,
+    label_count: u8,
     label_start: usize,
 }
 
@@ -19,14 +19,15 @@ impl Model for PartialName {
 
     ghost Value = { PartialName };
 
-    ghost view = { λ n. partial_name n.label_data.items n.label_ends.items n.label_start };
+    ghost view = { λ n. partial_name n.label_count n.wire.items n.label_start };
 
-    ghost invariant = { λ n. IsPartial n.label_data.items n.label_ends.items n.label_start };
+    ghost invariant = { λ n. IsPartial n.label_count n.wire.items n.label_start };
 }
 
 impl PartialName {
     ghost use Rattle.std.specs.Prelude.{◌≡◌, ◌+◌, ◌<◌, ◌≤◌, [], ◌∷◌, ◌++◌, length, IsOk, OnOk, OnErr};
     ghost use Rattle.dns_wire.specs.Name.{name_len, max_name_len};
+    ghost use Rattle.dns_names.specs.Name.{IsInline};
     ghost use Rattle.dns_names.specs.Parse.{IsInlinePartial};
 
     /// Creates a partial name without labels and octets.
@@ -34,8 +35,8 @@ impl PartialName {
         ensures { result ≡ record { labels = []; label = [] } }
     {
         PartialName {
-            label_data: SmallVec::new(alloc),
-            label_ends: SmallVec::new(alloc),
+            wire: SmallVec::new(alloc),
+            label_count: 0,
             label_start: 0,
         }
     }
@@ -44,21 +45,21 @@ impl PartialName {
     pub(crate) fn label_count(&self) -> usize
         ensures { result ≡ length self.now.labels }
     {
-        self.label_ends.len()
+        self.label_count as usize
     }
 
     /// Returns the length of the current label.
     pub(crate) fn label_len(&self) -> usize
         ensures { result ≡ length self.now.label }
     {
-        self.label_data.len() - self.label_start
+        self.wire.len() - self.label_start
     }
 
     /// Returns the length of the encoded name if the current label is its last.
     pub(crate) fn encoded_len(&self) -> usize
         ensures { result ≡ name_len self.now.labels + (length self.now.label + 1) }
     {
-        self.label_data.len() + self.label_ends.len() + 2
+        self.wire.len() + 2
     }
 
     /// Appends an octet to the current label.
@@ -70,8 +71,8 @@ impl PartialName {
             → IsOk result }
         ensures err { OnErr result (self.new ≡ self.old) }
     {
-        prove!(self.label_data.capacity() >= 32);
-        self.label_data.push(octet)?;
+        prove!(self.wire.capacity() >= 56);
+        self.wire.push(octet)?;
         Ok(())
     }
 
@@ -81,13 +82,14 @@ impl PartialName {
         requires fits { name_len self.old.labels + (length self.old.label + 1) ≤ max_name_len }
         ensures ok { OnOk result (self.new
             ≡ record { labels = self.old.labels ++ self.old.label ∷ []; label = [] }) }
-        ensures inline { length self.old.labels < 24 → IsOk result }
+        ensures inline { IsInline (self.old.labels ++ self.old.label ∷ []) → IsOk result }
         ensures err { OnErr result (self.new ≡ self.old) }
     {
-        prove!(self.label_ends.capacity() >= 24);
-        let end = self.label_data.len();
-        self.label_ends.push(end as u8)?;
-        self.label_start = end;
+        prove!(self.wire.capacity() >= 56);
+        let len = self.label_len();
+        self.wire.insert(self.label_start, len as u8)?;
+        self.label_start = self.wire.len();
+        self.label_count += 1;
         Ok(())
     }
 
@@ -97,14 +99,14 @@ impl PartialName {
         ensures { result ≡ record { is_fqdn = is_fqdn; labels = self.labels } }
     {
         let PartialName {
-            label_data,
-            label_ends,
+            wire,
+            label_count,
             label_start: _,
         } = self;
         Name {
             is_fqdn,
-            label_data,
-            label_ends,
+            label_count,
+            wire,
         }
     }
 }

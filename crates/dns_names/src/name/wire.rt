@@ -6,10 +6,10 @@ ghost use Rattle.dns_wire.specs.Element.{element, element_at};
 ghost use Rattle.dns_wire.specs.Reading.{ReadsName, RefusesName};
 ghost use Rattle.dns_names.specs.internal.Wire.{MatchesElement, part_len};
 ghost use Rattle.dns_wire.specs.Encoder.{state_of, IsAtEnd, CanRollBack};
-ghost use Rattle.dns_wire.specs.Name.{IsLabel, AreLabels};
+ghost use Rattle.dns_wire.specs.Name.{AreLabels};
 ghost use Rattle.dns_names.specs.Name.{IsInline};
 ghost use Rattle.dns_wire.specs.Encodable.{Emits};
-ghost use Rattle.dns_names.specs.internal.Wire.{label_pieces, labels_pieces, whole_pieces, append_compressed, compressed_reach};
+ghost use Rattle.dns_names.specs.internal.Wire.{labels_pieces, whole_pieces, append_compressed, compressed_reach};
 
 use crate::name::Name;
 use dns_wire::{
@@ -204,10 +204,7 @@ impl Name {
             (state_of encoder.new) }
         ensures labels { AreLabels self.now.labels }
     {
-        for index in 0..self.label_count() {
-            emit_label(self.label(index), encoder)?;
-        }
-        Ok(())
+        encoder.emit_vec(self.wire())
     }
 
     /// Encodes the name, and replaces its longest remembered suffix by a compression pointer.
@@ -225,26 +222,19 @@ impl Name {
         ensures err { OnErr result (CanRollBack (state_of encoder.old) (state_of encoder.new)) }
         ensures labels { AreLabels self.now.labels }
     {
-        let mut place = encoder.offset();
+        let start = encoder.offset();
         self.emit_labels(encoder)?;
         let end = encoder.offset();
+        let wire = self.wire();
+        let mut place = start;
         for index in 0..self.label_count() {
             if let Some(target) = encoder.find_or_store_label_pointer(place, end)? {
                 encoder.set_offset(place);
                 encoder.trim();
                 return encoder.emit_u16(0xC000 | target);
             }
-            place += self.label(index).len() + 1;
+            place += wire[place - start] as usize + 1;
         }
         encoder.emit(0)
     }
-}
-
-/// Writes a label after its length byte.
-fn emit_label(label: &[u8], encoder: &mut BinEncoder<'_>) -> Result<(), EncodeError>
-    requires at_end { IsAtEnd (state_of encoder.old) }
-    requires is_label { IsLabel label.now }
-    ensures { Emits (state_of encoder.old) (label_pieces label.now) result (state_of encoder.new) }
-{
-    encoder.emit_character_data_unrestricted(label)
 }

@@ -8,8 +8,8 @@ returns-then-encoded_len-clause-outcome c =
     λ _. overflows (record c.args.self { is_fqdn = c.args.other.now.is_fqdn }) c.args.other.now.labels
     (omega (arith, name_len-append c.args.self.labels c.args.other.now.labels, c.encoded_len.ensures.value, c.encoded_len-2.ensures.value, c.if-encoded_len.true))
 
-pub push_labels-requires : goal.push_labels-requires
-push_labels-requires c = omega (arith, name_len-append c.args.self.labels c.args.other.now.labels, c.encoded_len.ensures.value, c.encoded_len-2.ensures.value, c.if-encoded_len.false)
+pub push_labels-requires-clause-fits : goal.push_labels-requires-clause-fits
+push_labels-requires-clause-fits c = omega (arith, name_len-append c.args.self.labels c.args.other.now.labels, c.encoded_len.ensures.value, c.encoded_len-2.ensures.value, c.if-encoded_len.false)
 
 pub returns-clause-outcome : goal.returns-clause-outcome
 returns-clause-outcome c =

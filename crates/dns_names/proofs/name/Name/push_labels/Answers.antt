@@ -1,31 +1,33 @@
-use Rattle.std.proofs.Common.{◌≡◌, true, false, [], ◌∷◌, ◌++◌, List, ℕ, drop, ap, sym, ◌∙◌, arith, ◌+◌}
-use Rattle.dns_wire.specs.Name.{name_len}
-use Rattle.dns_names.specs.Name.{DomainName}
-use Rattle.dns_names.proofs.BuildingLaws.{room, moved}
-use Rattle.dns_names.proofs.InlineLaws.{inline_prefix}
+use Rattle.std.proofs.Common.{◌≡◌, ◌-◌, length, drop, arith, length-drop}
+use Rattle.dns_names.specs.internal.Name.{labels_in}
+use Rattle.dns_names.proofs.CaseLaws.{each-drop}
+use Rattle.dns_names.proofs.WireLaws.{is_run, labels_are}
 use Rattle.dns_names.proofs.name.Name.push_labels.Goals as goal
+use Rattle.dns_names.proofs.name.Name.push_labels.Goals.{After-label_count}
 
-pub push-requires-clause-fits : goal.push-requires-clause-fits
-push-requires-clause-fits c =
-    let whole = ap name_len c.loop-index.invariant.whole in
-    let short = c.requires in
-    room c.loop-index.self.labels c.args.other.now.labels c.loop-index.index c.label.result.now c.label.ensures.value (omega arith)
+many : (c : After-label_count) → c.label_count.result - c.args.skipped ≡ length (drop c.args.skipped c.args.other.now.labels)
+many c = omega (arith, c.label_count.ensures.value, length-drop c.args.skipped c.args.other.now.labels)
 
-pub loop-index-preserved : goal.loop-index-preserved
-loop-index-preserved c =
-    let labels = ap (λ (n : DomainName). n.labels) c.in_ok-push.ensures.ok in
-    record {
-      whole = ap (λ (ls : List (List ℕ)). ls ++ drop (c.loop-index.index + 1) c.args.other.now.labels) labels
-          ∙ moved c.loop-index.self.labels c.args.other.now.labels c.loop-index.index c.label.result.now c.label.ensures.value ∙ c.loop-index.invariant.whole;
-      same_flag = ap (λ (n : DomainName). n.is_fqdn) c.in_ok-push.ensures.ok ∙ c.loop-index.invariant.same_flag;
-    }
+-- the run has the labels that are left
+run_is : (c : After-label_count) → labels_in (c.label_count.result - c.args.skipped) c.wire_after.result.now ≡ drop c.args.skipped c.args.other.now.labels
+run_is c = labels_are _ _ _ c.wire_after.ensures.value (many c)
 
-pub returns-in_err-push-clause-inline : goal.returns-in_err-push-clause-inline
-returns-in_err-push-clause-inline c =
-    let own = c.loop-index.self.labels in
-    let others = c.args.other.now.labels in
-    let whole = moved own others c.loop-index.index c.label.result.now c.label.ensures.value ∙ c.loop-index.invariant.whole in
-    λ is.
-    let clash : false ≡ true = c.in_err-push.ensures.inline
-    (inline_prefix _ (own ++ c.label.result.now ∷ []) (drop (c.loop-index.index + 1) others) (sym whole) is) in
-    absurd (cc)
+pub push_run-requires-clause-run : goal.push_run-requires-clause-run
+push_run-requires-clause-run c =
+    let at = (goal.at.push_run-requires-clause-run c).After-label_count in
+    is_run _ _ _ c.wire_after.ensures.value (many at) (each-drop c.args.skipped _ c.wire_after.ensures.labels.each)
+
+pub push_run-requires-clause-fits : goal.push_run-requires-clause-fits
+push_run-requires-clause-fits c =
+    let at = (goal.at.push_run-requires-clause-fits c).After-label_count in
+    rw (run_is at) c.requires.fits
+
+pub returns-clause-ok : goal.returns-clause-ok
+returns-clause-ok c =
+    let at = (goal.at.returns-clause-ok c).After-label_count in
+    rw (run_is at) at c.push_run.ensures.ok
+
+pub returns-clause-inline : goal.returns-clause-inline
+returns-clause-inline c =
+    let at = (goal.at.returns-clause-inline c).After-label_count in
+    rw (run_is at) at c.push_run.ensures.inline

@@ -1,12 +1,17 @@
-use Rattle.std.proofs.Common.{◌∙◌, ◌+◌, ap, sym, drop}
+use Rattle.std.proofs.Common.{◌≡◌, ◌∙◌, [], ◌∷◌, Bool, cond, ap, List, ℕ}
 use Rattle.std.specs.List.{fold, flat_map}
+use Rattle.std.specs.Str.{str_to_ascii_lowercase}
+use Rattle.std.specs.Hash as fed
 use Rattle.dns_names.specs.Compare.{lower}
 use Rattle.dns_names.specs.LabelCompare.{label_writes}
-use Rattle.dns_names.proofs.HashLaws.{label_more}
+use Rattle.dns_names.proofs.HashLaws.{name-writes}
 use Rattle.dns_names.proofs.name.compare.NameHash.hash.Goals as goal
 
-pub loop-index-preserved : goal.loop-index-preserved
-loop-index-preserved g c =
-    c.loop-index.invariant
-    ∙ label_more g.H.Hasher.write c.loop-index.state c.args.self.now.labels c.loop-index.index c.label.result.now c.label.ensures.value
-    ∙ ap (λ (s : _). fold g.H.Hasher.write s (flat_map label_writes (drop (c.loop-index.index + 1) (lower c.args.self.now.labels)))) (sym c.hash_label.ensures)
+pub returns : goal.returns
+returns g c =
+    let labels = c.args.self.now.labels in
+    let writes : flat_map fed.u8 (str_to_ascii_lowercase c.wire.result.now) ≡ flat_map label_writes (lower labels) =
+    ap (λ (xs : List ℕ). flat_map fed.u8 (str_to_ascii_lowercase xs)) c.wire.ensures.form ∙ name-writes labels c.wire.ensures.labels.each in
+    c.hash_bytes.ensures ∙ ap (λ (ws : fed.HashWrites). fold g.H.Hasher.write c.hash.new.state ws) writes
+    ∙ ap (λ (s : _). fold g.H.Hasher.write s (flat_map label_writes (lower labels))) c.hash.ensures
+    ∙ ap (λ (b : Bool). fold g.H.Hasher.write (g.H.Hasher.write c.args.state.now (cond b 1 0 ∷ [])) (flat_map label_writes (lower labels))) c.is_fqdn.ensures

@@ -1,7 +1,0 @@
-use Rattle.std.proofs.Common.{◌≡◌, ◌-◌, drop}
-use Rattle.dns_names.specs.Compare.{same_labels}
-use Rattle.dns_names.proofs.name.Name.ends_in.Given as goal
-
--- the labels before the index are the same
-abbrev pub invariant-loop-index : goal.invariant-loop-index
-invariant-loop-index l = same_labels l.other.labels (drop l.skipped l.self.labels) ≡ same_labels (drop (l.index - l.skipped) l.other.labels) (drop l.index l.self.labels)
