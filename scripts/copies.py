@@ -25,10 +25,21 @@ def copy_crates(root, names, to, parts=None):
 
 def copy_file(file, to, mode):
     """Copies a file in one step: nobody finds a part of it in its place."""
+    write_content(Path(file).read_bytes(), to, mode)
+
+
+def write_file(text, to, mode):
+    """Writes a text file in one step, and makes its folder."""
+    to.parent.mkdir(parents=True, exist_ok=True)
+    write_content(text.encode(), to, mode)
+
+
+def write_content(content, to, mode):
+    """Writes a file in one step: nobody finds a part of it in its place."""
     part = to.with_name(f"{to.name}.{os.getpid()}.new")
     try:
         with open(part, "wb") as copy:
-            copy.write(Path(file).read_bytes())
+            copy.write(content)
             copy.flush()
             os.fsync(copy.fileno())
         part.chmod(mode)

@@ -1,5 +1,7 @@
--- Record sets (RFC 2181 section 5), and how updates add to them and delete from them (RFC 2136 section 3.4.2). The items of a
--- list may be records, or the rows of a zone: `rdata` is the data of an item.
+-- Record sets (RFC 2181 section 5), and how records are added to them and deleted from them. These are the rules of a set by
+-- itself: serial numbers are compared as plain numbers, a record with equal data keeps its TTL, and the last NS record stays,
+-- whoever owns it. An update of a zone follows RFC 2136 section 3.4.2 instead (`dns_updates`, `Change`). The items of a list
+-- may be records, or the rows of a zone: `rdata` is the data of an item.
 use Rattle.std.specs.Prelude.{Bool, true, false, not, nat_lt, List, [], ◌∷◌, ◌++◌, ℕ, map, if◌then◌else◌}
 use Rattle.std.specs.List.{list_any, IsDistinct}
 use Rattle.dns_codes.specs.declared.record_type.RecordType.{RecordType}
@@ -19,7 +21,7 @@ has_data rdata present d = list_any (λ x. same_data (rdata x) d) present
 abbrev pub AreDistinct : {A : Type 0} → (A → RData) → List A → Type 0
 AreDistinct rdata present = IsDistinct (λ x y. same_data (rdata x) (rdata y)) present
 
--- ---- adding (RFC 2136 section 3.4.2.2)
+-- ---- adding
 
 -- whether new data supersedes present data: both are SOA data, and the serial of the new one is the greater number
 abbrev pub supersedes : RData → RData → Bool
@@ -58,7 +60,7 @@ abbrev pub put : {A : Type 0} → (A → RData) → List A → A → List A
 put rdata [] x = x ∷ []
 put rdata (old ∷ more) x = if same_data (rdata old) (rdata x) then x ∷ more else old ∷ put rdata more x
 
--- ---- deleting (RFC 2136 section 3.4.2.4)
+-- ---- deleting
 
 -- whether the items of a type all stay: an SOA, and the last NS
 abbrev pub is_protected : {A : Type 0} → RecordType → List A → Bool

@@ -21,8 +21,8 @@ use std::vec::IntoIter;
 
 /// The records of one owner and type, with the serial number of the zone at their last change.
 ///
-/// Updates add records to a set and delete records from it (RFC 2136 section 3.4.2), which never makes two of its data equal
-/// (RFC 2181 section 5).
+/// Adding a record and deleting one never makes two of its data equal (RFC 2181 section 5). Which records are taken are rules of
+/// the set by itself, and not those of an update of a zone (RFC 2136 section 3.4.2).
 pub struct RecordSet {
     name: Name,
     record_type: RecordType,
@@ -225,9 +225,8 @@ impl RecordSet {
         self.records = RecordList::new(records);
     }
 
-    /// Puts a record in place of the one with equal data, or adds it as the last (RFC 2136 section 3.4.2.2). It is not checked
-    /// against the set, which keeps its TTL and its serial number. An error leaves the set unchanged, and is possible only where
-    /// no record has equal data.
+    /// Puts a record in place of the one with equal data, or adds it as the last. It is not checked against the set, which keeps
+    /// its TTL and its serial number. An error leaves the set unchanged, and is possible only where no record has equal data.
     ///
     /// Among *n* records this takes a time proportional to log *n*.
     pub fn put_record(&mut self, resource_record: Record) -> Result<(), AllocError>
@@ -275,7 +274,7 @@ impl RecordSet {
     ghost use Rattle.dns_names.specs.Compare.{same_name};
     ghost use Rattle.dns_records.specs.RecordSet.{AreDistinct, loses_record, record_for, accepts_record, with_record, without_record};
 
-    /// Inserts a record of the set's owner and type, and returns whether it was inserted (RFC 2136 section 3.4.2.2).
+    /// Inserts a record of the set's owner and type, and returns whether it was inserted.
     ///
     /// A `CNAME` replaces the records, and an `SOA` only one with a lower serial number. Any other record is added as the last,
     /// unless a record has equal data, which keeps its TTL. If the record was inserted, the set has its TTL, and `serial`.
@@ -300,8 +299,8 @@ impl RecordSet {
         Ok(is_inserted)
     }
 
-    /// Removes the record whose data equals that of `resource_record`, and returns whether there was one (RFC 2136
-    /// section 3.4.2.4). If so, the set has `serial`. Owner, class and TTL are not compared.
+    /// Removes the record whose data equals that of `resource_record`, and returns whether there was one. If so, the set has
+    /// `serial`. Owner, class and TTL are not compared.
     ///
     /// No `SOA` is removed, and not the last `NS`.
     pub fn remove(&mut self, resource_record: &Record, serial: u32) -> bool

@@ -63,7 +63,7 @@ prerequisite_code origin rows r =
     first_fault (fault_if (not (r.ttl == 0)) FormErr)
     (first_fault (fault_if (not (is_in_zone origin r.name)) NotZone) (test_code rows r.dns_class r))
 
--- the data that prerequisites of class IN require of the owner and type of a record
+-- whether a prerequisite is of class IN, and of the owner and type of a record
 abbrev pub is_required_with : Record → Record → Bool
 is_required_with r p =
     is_in_class p.dns_class && (same_labels r.name.labels p.name.labels && is_type (type_of_record r) (type_of_record p))
@@ -84,15 +84,15 @@ sets_code rows prerequisites =
 
 -- ---- updates (RFC 2136 section 3.4.1)
 
--- an addition has data, and a type that rows can have
+-- whether an addition lacks data, or has a type that no row can have
 abbrev pub is_bad_addition : Record → Bool
 is_bad_addition r = is_meta_type (type_of_record r) || not (has_data r)
 
--- a deletion of sets has neither TTL nor data, and deletes rows of a type, or of any
+-- whether a deletion of sets has a TTL or data, or a type that only questions have other than ANY
 abbrev pub is_bad_set_deletion : Record → Bool
 is_bad_set_deletion r = not (r.ttl == 0) || (has_data r || is_transfer_type (type_of_record r))
 
--- a deletion of a row has no TTL, and is of its type
+-- whether a deletion of a row has a TTL, or a type that only questions have
 abbrev pub is_bad_row_deletion : Record → Bool
 is_bad_row_deletion r = not (r.ttl == 0) || (is_of_type types.ANY r || is_transfer_type (type_of_record r))
 

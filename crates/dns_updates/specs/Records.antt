@@ -41,7 +41,7 @@ is_in_zone origin owner = at_or_below origin.labels owner.labels
 abbrev pub is_origin : DomainName → DomainName → Bool
 is_origin origin owner = same_labels origin.labels owner.labels
 
--- types that no row has: 0, SIG, OPT, and 128 to 255 (RFC 6895 section 3.1)
+-- types that no row has: 0, OPT, and 128 to 255 (RFC 6895 section 3.1), and SIG, which only signs messages (RFC 2931)
 abbrev pub is_meta_number : ℕ → Bool
 is_meta_number number =
     (number == 0) || ((number == 24) || ((number == 41) || (nat_le 128 number && nat_le number 255)))

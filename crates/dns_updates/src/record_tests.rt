@@ -34,7 +34,7 @@ pub fn has_data(resource_record: &Record) -> bool
     }
 }
 
-/// Returns `true` for a type that no row has: 0, SIG, OPT, and 128 to 255 (RFC 6895 section 3.1).
+/// Returns `true` for a type that no row has: 0, OPT and 128 to 255 (RFC 6895 section 3.1), and SIG (RFC 2931).
 pub fn is_meta_type(record_type: RecordType) -> bool
     ensures { result ≡ is_meta_type record_type }
 {

@@ -22,7 +22,7 @@ use Rattle.dns_messages.specs.Header.{code_number, code_of}
 use Rattle.dns_messages.specs.Sound.{IsSoundIn}
 use Rattle.dns_zone.specs.Rows.{Rows, ZoneContent, rows_at, some_row_below}
 
--- types that no row can have: 0, SIG, OPT, and 128 to 255 (RFC 6895 section 3.1)
+-- types that no row can have: 0, OPT, and 128 to 255 (RFC 6895 section 3.1), and SIG, which only signs messages (RFC 2931)
 abbrev pub is_no_row_type : ℕ → Bool
 is_no_row_type number = (number == 0) || ((number == 24) || ((number == 41) || (nat_le 128 number && nat_le number 255)))
 

@@ -1,4 +1,4 @@
-//! Insertions in lists of records, and removals (RFC 2136 section 3.4.2).
+//! Insertions in lists of records, and removals.
 
 ghost use Rattle.std.specs.Prelude.{◌≡◌, ◌<◌, IfOk, OnOk, OnErr, length};
 ghost use Rattle.dns_data.specs.rdata.{data_type};

@@ -98,7 +98,7 @@ impl<'a> AnswerRef<'a> {
     }
 }
 
-/// Returns `true` if no row has this type: it is 0, SIG, OPT, or one of 128 to 255 (RFC 6895 section 3.1).
+/// Returns `true` if no row has this type: it is 0, OPT or one of 128 to 255 (RFC 6895 section 3.1), or SIG (RFC 2931).
 fn is_without_rows(record_type: RecordType) -> bool
     ensures { result ≡ is_no_row_type (type_number record_type) }
 {
