@@ -3,7 +3,8 @@ use Rattle.std.proofs.Common.{◌≡◌, ℕ, ◌+◌, ◌<◌, ◌≤◌, Bool,
 use Rattle.std.specs.Prelude.{◌==◌, not, if◌then◌else◌}
 use Rattle.std.proofs.lemmas.Bool.Decides.{nat_tests}
 use Rattle.dns_text.specs.declared.error.LexerError.{LexerError}
-use Rattle.dns_text.specs.Front.{Run, Bare, InQuotes, Front, TextEnd, LineEnd, Gap, Comment, Open, Close, Quoted, Word, Unclosed, Broken, line_end, is_blank, ends_run, run_from, quoted, word, front}
+use Rattle.dns_text.specs.declared.quotes.Quotes.{Quotes}
+use Rattle.dns_text.specs.Front.{Run, Bare, Front, TextEnd, LineEnd, Gap, Comment, Open, Close, Quoted, Word, Unclosed, Broken, line_end, is_blank, string_run, ends_run, run_from, quoted, word, front}
 use Rattle.dns_text.specs.Lexer.{LexerState, Lexeme, Step, Skips, Yields, step_past, step, NextToken, past_nothing, at_token, at_end, at_fault}
 
 -- ---- what stands in front has a character
@@ -58,14 +59,14 @@ none_stops : (line blank comment quote opening closing : Bool) → line ≡ fals
     → (line || (not false && (blank || comment || quote || opening || closing))) ≡ false
 none_stops line blank comment quote opening closing a b d e f g = rw (a, b, d, e, f, g) refl
 
-takes_front : (c : ℕ) (cs : List ℕ) → Takes (front (c ∷ cs))
-takes_front c cs =
+takes_front : (quotes : Quotes) (c : ℕ) (cs : List ℕ) → Takes (front quotes (c ∷ cs))
+takes_front quotes c cs =
     by_test (not (line_end (c ∷ cs) == 0)) _ _ (λ e. some_line (line_end (c ∷ cs)) e) (λ line.
     by_test (is_blank c) _ _ (λ e. tt) (λ blank.
     by_test (c == 59) _ _ (λ e. tt) (λ comment.
     by_test (c == 40) _ _ (λ e. tt) (λ opening.
     by_test (c == 41) _ _ (λ e. tt) (λ closing.
-    by_test (c == 34) _ _ (λ e. takes_quoted (run_from InQuotes false 0 cs) cs) (λ quote.
+    by_test (c == 34) _ _ (λ e. takes_quoted (run_from (string_run quotes) false 0 cs) cs) (λ quote.
     takes_word (run_from Bare false 0 (c ∷ cs)) (λ n. run_some Bare c cs n
     (none_stops (not (line_end (c ∷ cs) == 0)) (is_blank c) (c == 59) (c == 34) (c == 40) (c == 41) line blank comment opening closing quote))))))))
   where
@@ -105,9 +106,9 @@ past_front Broken p some has = tt
 forward : (p : LexerState) → Forward (length p.text) (step p)
 forward p = at p.text refl
   where
-    at : (text : List ℕ) → p.text ≡ text → Forward (length p.text) (step_past (front text) p)
+    at : (text : List ℕ) → p.text ≡ text → Forward (length p.text) (step_past (front p.quotes text) p)
     at [] e = by_flag p.is_open (length p.text) _ _ tt tt
-    at (c ∷ cs) e = past_front (front (c ∷ cs)) p (takes_front c cs) (omega (arith, ap (λ (l : List ℕ). length l) e))
+    at (c ∷ cs) e = past_front (front p.quotes (c ∷ cs)) p (takes_front p.quotes c cs) (omega (arith, ap (λ (l : List ℕ). length l) e))
 
 -- ---- the next token
 

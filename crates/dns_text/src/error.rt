@@ -5,7 +5,8 @@ use thiserror::Error;
 /// A lexical error of a zone file, with its line, from 1.
 #[derive(Clone, Copy, Debug, PartialEq, Eq, Error)]
 pub enum LexerError {
-    /// A quoted string does not end on its line, which RFC 1035 section 5.1 would allow.
+    /// A quoted string, which begins on this line, does not end on it, or does not end at all where it may go over several
+    /// lines.
     #[error("line {0}: quoted string does not end on its line")]
     UnclosedQuotedString(usize),
     /// The text ends while a parenthesis is open. The line is the first of the entry.

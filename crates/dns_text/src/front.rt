@@ -1,9 +1,11 @@
 //! What the text of a zone file begins with (RFC 1035 section 5.1).
 
 ghost use Rattle.std.specs.Prelude.{◌≡◌, ◌+◌, ◌≤◌, ◌==◌, ◌&&◌, not, length, false, IfSome};
-ghost use Rattle.dns_text.specs.Front.{front, line_end, line_from, stops, ends_run, run_from, quoted, word};
+ghost use Rattle.dns_text.specs.Front.{front, line_end, line_from, string_run, stops, is_on_line, ends_run, run_from, quoted, word};
 ghost use Rattle.dns_text.specs.internal.Front.{front_len, HasSome};
 ghost use Rattle.dns_text.specs.internal.Front.{front_of, run_of};
+
+use crate::quotes::Quotes;
 
 /// What a text begins with.
 #[derive(Clone, Copy)]
@@ -24,7 +26,7 @@ pub(crate) enum Front {
     Quoted(usize),
     /// A word, with its length.
     Word(usize),
-    /// A quoted string that does not end on its line.
+    /// A quoted string that is not closed, or not on its line where it must be.
     Unclosed,
     /// A run that ends in a backslash with nothing to escape.
     Broken,
@@ -35,13 +37,15 @@ pub(crate) enum Front {
 enum Run {
     /// A word outside quotes.
     Bare,
-    /// A string between quotes.
+    /// A string between quotes on one line.
     InQuotes,
+    /// A string between quotes that may go over several lines.
+    OverLines,
 }
 
 /// Returns what a text begins with.
-pub(crate) fn find_front(text: &[u8]) -> Front
-    ensures front { front_of result ≡ front text.now }
+pub(crate) fn find_front(quotes: Quotes, text: &[u8]) -> Front
+    ensures front { front_of result ≡ front quotes text.now }
     ensures within { front_len result ≤ length text.now }
     ensures some { HasSome result }
 {
@@ -57,19 +61,29 @@ pub(crate) fn find_front(text: &[u8]) -> Front
         b';' => Front::Comment(line_len(&text[1..]) + 1),
         b'(' => Front::Open,
         b')' => Front::Close,
-        b'"' => quoted_front(&text[1..]),
+        b'"' => quoted_front(run_of_string(quotes), &text[1..]),
         _ => word_front(text),
     }
 }
 
+/// Returns the run that a quoted string is.
+fn run_of_string(quotes: Quotes) -> Run
+    ensures { run_of result ≡ string_run quotes }
+{
+    match quotes {
+        Quotes::OneLine => Run::InQuotes,
+        Quotes::ManyLines => Run::OverLines,
+    }
+}
+
 /// Returns the item of a quoted string, from the text after its opening quote.
-fn quoted_front(text: &[u8]) -> Front
+fn quoted_front(run: Run, text: &[u8]) -> Front
     ensures front { front_of result
-        ≡ quoted (run_from (run_of Run.InQuotes) false 0 text.now) text.now }
+        ≡ quoted (run_from (run_of run) false 0 text.now) text.now }
     ensures some { HasSome result }
     ensures within { front_len result ≤ length text.now + 1 }
 {
-    match run_len(Run::InQuotes, text) {
+    match run_len(run, text) {
         Some(len) if text[len..].starts_with(b"\"") => Front::Quoted(len),
         Some(_) => Front::Unclosed,
         None => Front::Broken,
@@ -103,11 +117,14 @@ fn run_len(run: Run, text: &[u8]) -> Option<usize>
     if is_escaped { None } else { Some(text.len()) }
 }
 
-/// Returns `true` if a run ends at the start of a text: at the end of a line, or at an unescaped character that stops it.
+/// Returns `true` if a run ends at the start of a text: at its end, at the end of a line, or at an unescaped character that
+/// stops it.
 fn is_end_of_run(run: Run, is_escaped: bool, text: &[u8]) -> bool
     ensures { result ≡ ends_run (run_of run) is_escaped text.now }
 {
-    text.is_empty() || line_ending(text) > 0 || !is_escaped && is_stop(run, text[0])
+    text.is_empty()
+        || is_on_line(run) && line_ending(text) > 0
+        || !is_escaped && is_stop(run, text[0])
 }
 
 /// Returns `true` if a character is a backslash that escapes the next one, given whether it is escaped itself.
@@ -117,13 +134,23 @@ fn escapes_next(is_escaped: bool, character: u8) -> bool
     !is_escaped && character == b'\\'
 }
 
+/// Returns `true` if a run ends with its line at the latest.
+fn is_on_line(run: Run) -> bool
+    ensures { result ≡ is_on_line (run_of run) }
+{
+    match run {
+        Run::Bare | Run::InQuotes => true,
+        Run::OverLines => false,
+    }
+}
+
 /// Returns `true` if a character stops a run.
 fn is_stop(run: Run, character: u8) -> bool
     ensures { result ≡ stops (run_of run) character }
 {
     match run {
         Run::Bare => matches!(character, b' ' | b'\t' | b';' | b'"' | b'(' | b')'),
-        Run::InQuotes => character == b'"',
+        Run::InQuotes | Run::OverLines => character == b'"',
     }
 }
 

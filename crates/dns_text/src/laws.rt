@@ -7,6 +7,7 @@ ghost use Rattle.std.specs.Net.Grammar.{IsIpText};
 ghost use Rattle.std.specs.declared.net.ip_addr.IpAddr.{IpAddr};
 ghost use Rattle.dns_text.specs.Address.{IsTextOf, ip_text};
 ghost use Rattle.dns_text.specs.declared.error.LexerError.{LexerError};
+ghost use Rattle.dns_text.specs.declared.quotes.Quotes.{Quotes};
 ghost use Rattle.dns_names.specs.Name.{DomainName};
 ghost use Rattle.dns_names.specs.Print.{AreOctets, text_of_name};
 ghost use Rattle.dns_text.specs.CharacterString.{unescaped, escaped_text};
@@ -18,8 +19,10 @@ ghost use Rattle.dns_text.specs.Ttl.{time};
 
 /// By the grammar a text begins with exactly one item, and `front` finds it (RFC 1035 section 5.1).
 pub fn lexing_is_unambiguous()
-    ensures stands { (text : List ℕ) → IsInFront text (front_item (front text) text) }
-    ensures one { (text : List ℕ) (a b : FrontItem) → IsInFront text a → IsInFront text b → a ≡ b }
+    ensures stands { (quotes : Quotes) (text : List ℕ)
+        → IsInFront quotes text (front_item (front quotes text) text) }
+    ensures one { (quotes : Quotes) (text : List ℕ) (a b : FrontItem) → IsInFront quotes text a
+        → IsInFront quotes text b → a ≡ b }
 {}
 
 /// Each token consumes part of the text, so lexing ends.

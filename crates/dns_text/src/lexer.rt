@@ -1,13 +1,14 @@
 //! The lexer of zone files (RFC 1035 section 5.1).
 
 ghost use Rattle.std.specs.Prelude.{◌≡◌, ◌+◌, ◌<◌, ◌≤◌, Ok, drop, length};
-ghost use Rattle.dns_text.specs.Lexer.{NextToken, start, step, step_past, past};
+ghost use Rattle.dns_text.specs.Lexer.{NextToken, start, start_with, step, step_past, past};
 ghost use Rattle.dns_text.specs.Token.{answer};
 ghost use Rattle.dns_text.specs.internal.Front.{front_of};
 ghost use Rattle.dns_text.specs.internal.Lexer.{step_of, Stays};
 
 use crate::error::LexerError;
 use crate::front::{Front, find_front};
+use crate::quotes::Quotes;
 use crate::token::{Token, token_of_word};
 use std::marker::Model;
 
@@ -22,7 +23,7 @@ enum Scan<'a> {
 
 /// A lexer over the borrowed text of a zone file. An entry ends at the end of a line outside parentheses, `;` begins a
 /// comment, a backslash escapes the next character, and a quoted string may contain blanks and `;` (RFC 1035 section
-/// 5.1). A line ends at a line feed, or at a carriage return and a line feed.
+/// 5.1), and line ends if [`Quotes`] says so. A line ends at a line feed, or at a carriage return and a line feed.
 #[derive(Drop)]
 pub struct Lexer<'a> {
     text: &'a [u8],
@@ -30,6 +31,7 @@ pub struct Lexer<'a> {
     entry: usize,
     is_open: bool,
     is_front: bool,
+    quotes: Quotes,
 }
 
 impl<'a> Model for Lexer<'a> {
@@ -44,15 +46,23 @@ impl<'a> Model for Lexer<'a> {
       entry = l.entry;
       is_open = l.is_open;
       is_front = l.is_front;
+      quotes = l.quotes;
     } };
 
     ghost invariant = { λ l. l.line + length l.text.now < 2 ^ 64 };
 }
 
 impl<'a> Lexer<'a> {
-    /// Creates a lexer at the start of a text.
+    /// Creates a lexer at the start of a text whose quoted strings end on their lines.
     pub fn new(text: &'a str) -> Self
         ensures { result ≡ start text.now }
+    {
+        Lexer::with_quotes(text, Quotes::OneLine)
+    }
+
+    /// Creates a lexer at the start of a text whose quoted strings go as far as `quotes` says.
+    pub fn with_quotes(text: &'a str, quotes: Quotes) -> Self
+        ensures { result ≡ start_with quotes text.now }
     {
         Lexer {
             text: text.as_bytes(),
@@ -60,6 +70,7 @@ impl<'a> Lexer<'a> {
             entry: 1,
             is_open: false,
             is_front: true,
+            quotes,
         }
     }
 
@@ -97,7 +108,7 @@ impl<'a> Lexer<'a> {
         ensures stays { Stays result self.old self.new }
         ensures moves { result ≡ Ok Scan.Nothing → length self.new.text < length self.old.text }
     {
-        match find_front(self.text) {
+        match find_front(self.quotes, self.text) {
             Front::TextEnd => self.end_text(),
             Front::LineEnd(len) => Ok(self.end_line(len)),
             Front::Gap => Ok(self.take_gap()),
@@ -198,6 +209,7 @@ impl<'a> Lexer<'a> {
     {
         let string = &self.text[1..len + 1];
         self.advance(len + 2);
+        self.line += string.iter().filter(|byte| **byte == b'\n').count();
         Token::Quoted(string)
     }
 

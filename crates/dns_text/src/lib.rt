@@ -5,7 +5,8 @@
 //! parses to the sum of its runs, or fails at the first character that no time can have there. Addresses and character
 //! strings print as text that parses back to them.
 //!
-//! - `lexer`: the tokens of a zone file; `token`: their type; `front`: what a text begins with; `error`: lexical errors
+//! - `lexer`: the tokens of a zone file; `token`: their type; `front`: what a text begins with; `quotes`: how far quoted
+//!   strings may go; `error`: lexical errors
 //! - `character_string`: the octets of words and quoted strings; `address`: addresses; `ttl`: times to live
 //! - `into_name`: what converts into a name; `usage`: zones of special-use names
 //! - `laws`: theorems about these definitions
@@ -18,6 +19,7 @@ mod front;
 mod into_name;
 pub mod laws;
 mod lexer;
+mod quotes;
 mod token;
 mod ttl;
 pub mod usage;
@@ -27,6 +29,7 @@ pub use character_string::{QuotedString, unescape};
 pub use error::LexerError;
 pub use into_name::IntoName;
 pub use lexer::Lexer;
+pub use quotes::Quotes;
 pub use token::Token;
 pub use ttl::{parse_ttl, parse_ttl_bytes};
 pub use usage::{ResolverUsage, ZoneUsage};

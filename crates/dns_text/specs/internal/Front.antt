@@ -4,7 +4,7 @@ use Rattle.dns_text.specs.Front as text
 use Rattle.dns_text.specs.declared.front.Front.{Front}
 use Rattle.dns_text.specs.declared.front.Front.TheVariants.{TextEnd, LineEnd, Gap, Comment, Open, Close, Quoted, Word, Unclosed, Broken}
 use Rattle.dns_text.specs.declared.front.Run.{Run}
-use Rattle.dns_text.specs.declared.front.Run.TheVariants.{Bare, InQuotes}
+use Rattle.dns_text.specs.declared.front.Run.TheVariants.{Bare, InQuotes, OverLines}
 
 -- the code's `Front` as that of the definitions
 abbrev pub front_of : Front → text.Front
@@ -23,6 +23,7 @@ front_of Broken = text.Broken
 abbrev pub run_of : Run → text.Run
 run_of Bare = text.Bare
 run_of InQuotes = text.InQuotes
+run_of OverLines = text.OverLines
 
 -- how many characters the item takes
 abbrev pub front_len : Front → ℕ
