@@ -2,13 +2,11 @@
 use Rattle.std.proofs.Common.{◌≡◌, ℕ, true, List, map, take, drop, length, ◌-◌, Option, Some, None, Ok, Err, sym, ap, subst, ◌∙◌, arith}
 use Rattle.std.specs.Prelude.{unwrap_or}
 use Rattle.std.proofs.lemmas.List.{drop-map, take_all, length-drop}
-use Rattle.dns_codes.specs.declared.dns_class.DNSClass.TheVariants.{IN}
 use Rattle.dns_names.specs.Name.{DomainName}
 use Rattle.dns_text.specs.Lexer.{Lexeme}
 use Rattle.dns_text.specs.Token.{lexeme}
 use Rattle.dns_text.specs.declared.token.Token.{Token}
 use Rattle.dns_data.specs.declared.rdata.RData.{RData}
-use Rattle.dns_data.specs.rdata.{IsParsedData, RefusesText}
 use Rattle.dns_records.specs.Record.{Record}
 use Rattle.dns_zone_file.specs.declared.error.EntryError.{EntryError}
 use Rattle.dns_zone_file.specs.declared.error.EntryError.TheVariants as error
@@ -17,13 +15,14 @@ use Rattle.dns_zone_file.specs.declared.error.EntryFault.TheVariants as fault
 use Rattle.dns_zone_file.specs.declared.context.Context.{Context}
 use Rattle.dns_zone_file.specs.declared.context.ParsedData.{ParsedData}
 use Rattle.dns_zone_file.specs.declared.fields.Fields.{Fields}
-use Rattle.dns_zone_file.specs.Fields.{fields_of}
-use Rattle.dns_zone_file.specs.Context.{owner_of, ttl_for, ReadsRecord, RefusesRecord, bad_owner, bad_fields, bad_data, no_ttl, other_class}
+use Rattle.dns_zone_file.specs.Data.{ReadsIn, RefusesIn}
+use Rattle.dns_zone_file.specs.Fields.{fields_in}
+use Rattle.dns_zone_file.specs.Context.{owner_of, ttl_for, default_class, ReadsRecord, RefusesRecord, bad_owner, bad_fields, bad_data, no_ttl, other_class}
 use Rattle.dns_zone_file.specs.Entry.{origin_directive, include_directive, record_entry, entry_of, origin_of, inclusion_of}
 use Rattle.dns_zone_file.specs.Parsing.{RefusesEntry, bad_origin, bad_include, bad_record}
 use Rattle.dns_zone_file.specs.RecordSets.{has_other_class}
 use Rattle.dns_zone_file.specs.internal.Context as behind
-use Rattle.dns_zone_file.specs.internal.Context.{ReadsData, RefusesData, IsDataFault}
+use Rattle.dns_zone_file.specs.internal.Context.{ReadsData, RefusesData}
 use Rattle.dns_zone_file.specs.internal.Error.{IsFault}
 use Rattle.dns_zone_file.specs.internal.Fields.{fields_view}
 
@@ -39,36 +38,35 @@ slice_from_is k tokens =
 -- ---- behind the owner
 
 pub data_read : (c : Context) (tokens : List Token) (f : Fields) (d : ParsedData)
-    → fields_of (map lexeme tokens) ≡ Ok (fields_view f (map lexeme tokens))
-    → IsParsedData (Some c.origin) f.record_type (map lexeme (slice_from f.count tokens)) d.rdata
-    → f.ttl ≡ d.stated → ttl_for c f.ttl d.rdata ≡ Some d.ttl → unwrap_or f.dns_class IN ≡ d.dns_class
+    → fields_in c.types (map lexeme tokens) ≡ Ok (fields_view f (map lexeme tokens))
+    → ReadsIn c.types c.origin f.record_type (map lexeme (slice_from f.count tokens)) d.rdata
+    → f.ttl ≡ d.stated → ttl_for c f.ttl d.rdata ≡ Some d.ttl → unwrap_or f.dns_class (default_class c) ≡ d.dns_class
     → ReadsData c (map lexeme tokens) d
 data_read c tokens f d between rdata stated ttl class = record {
   fields = fields_view f (map lexeme tokens);
   between = between;
   stated_is = stated;
-  rdata = subst (λ (l : List Lexeme). IsParsedData (Some c.origin) f.record_type l d.rdata) (slice_from_is f.count tokens) rdata;
+  rdata = subst (λ (l : List Lexeme). ReadsIn c.types c.origin f.record_type l d.rdata) (slice_from_is f.count tokens) rdata;
   ttl = subst (λ (s : Option ℕ). ttl_for c s d.rdata ≡ Some d.ttl) stated ttl;
   dns_class = class;
 }
 
 pub data_fault : (c : Context) (tokens : List Token) (f : Fields) (e : EntryError)
-    → fields_of (map lexeme tokens) ≡ Ok (fields_view f (map lexeme tokens))
-    → IsFault (IsDataFault (RefusesText (Some c.origin) f.record_type (map lexeme (slice_from f.count tokens)))) e
+    → fields_in c.types (map lexeme tokens) ≡ Ok (fields_view f (map lexeme tokens))
+    → IsFault (RefusesIn c.types c.origin f.record_type (map lexeme (slice_from f.count tokens))) e
     → IsFault (RefusesData c (map lexeme tokens)) e
-data_fault c tokens f (error.Fault (fault.InvalidData e)) between refused =
+data_fault c tokens f (error.Fault refusal) between refused =
     behind.bad_data (fields_view f (map lexeme tokens)) between
-    (subst (λ (l : List Lexeme). RefusesText (Some c.origin) f.record_type l e) (slice_from_is f.count tokens) refused)
+    (subst (λ (l : List Lexeme). RefusesIn c.types c.origin f.record_type l refusal) (slice_from_is f.count tokens) refused)
 data_fault c tokens f error.Memory between refused = tt
-data_fault c tokens f (error.Fault other) between refused = absurd refused
 
 pub no_ttl_left : (c : Context) (tokens : List Token) (f : Fields) (d : RData)
-    → fields_of (map lexeme tokens) ≡ Ok (fields_view f (map lexeme tokens))
-    → IsParsedData (Some c.origin) f.record_type (map lexeme (slice_from f.count tokens)) d
+    → fields_in c.types (map lexeme tokens) ≡ Ok (fields_view f (map lexeme tokens))
+    → ReadsIn c.types c.origin f.record_type (map lexeme (slice_from f.count tokens)) d
     → ttl_for c f.ttl d ≡ None → RefusesData c (map lexeme tokens) fault.NoTtl
 no_ttl_left c tokens f d between rdata none =
     behind.no_ttl (fields_view f (map lexeme tokens)) d between
-    (subst (λ (l : List Lexeme). IsParsedData (Some c.origin) f.record_type l d) (slice_from_is f.count tokens) rdata) none
+    (subst (λ (l : List Lexeme). ReadsIn c.types c.origin f.record_type l d) (slice_from_is f.count tokens) rdata) none
 
 -- ---- with the owner
 
@@ -78,7 +76,7 @@ pub record_read : (c : Context) (tokens : List Token) (name : DomainName) (d : P
 record_read c tokens name d owner reads = record {
   fields = reads.fields;
   owner = owner;
-  between = subst (λ (l : List Lexeme). fields_of l ≡ Ok reads.fields) (slice_from_is 1 tokens) reads.between;
+  between = subst (λ (l : List Lexeme). fields_in c.types l ≡ Ok reads.fields) (slice_from_is 1 tokens) reads.between;
   stated_is = reads.stated_is;
   rdata = reads.rdata;
   ttl = reads.ttl;

@@ -72,7 +72,7 @@ no_more Broken p = tt
 
 at_the_end : {p end : LexerState} {found : Result (Option Lexeme) LexerError} → NextToken p found end → found ≡ Ok None → length end.text ≤ length p.text
 at_the_end {p} (past_nothing {next = next} e more) is =
-    let first : length next.text ≤ length p.text = subst (NoMore (length p.text)) e (no_more (front p.text) p) in
+    let first : length next.text ≤ length p.text = subst (NoMore (length p.text)) e (no_more (front p.quotes p.text) p) in
     omega (arith, at_the_end more is)
 at_the_end (at_token e) is = absurd (cc)
 at_the_end (at_end e) is = omega arith

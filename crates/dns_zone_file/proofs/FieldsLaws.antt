@@ -9,14 +9,15 @@ use Rattle.dns_text.specs.Token.{lexeme}
 use Rattle.dns_text.specs.declared.token.Token.{Token}
 use Rattle.dns_zone_file.specs.declared.error.EntryFault.{EntryFault}
 use Rattle.dns_zone_file.specs.declared.error.EntryFault.TheVariants.{InvalidTtl, RepeatedField, UnknownType}
-use Rattle.dns_zone_file.specs.Fields.{Field, ttl_field, bad_ttl, class_field, type_field, no_field, field_of, Fields, fields_after}
+use Rattle.dns_zone_file.specs.declared.types.Types.{Types}
+use Rattle.dns_zone_file.specs.Fields.{Field, ttl_field, bad_ttl, class_field, type_field, no_field, field_in, Fields, fields_from}
 
 -- the fields, where this one is the next
-abbrev pub with_field : Option ℕ → Option DNSClass → Field → List Lexeme → Result Fields EntryFault
-with_field ttl class field tokens = elim field [
-  | ttl_field seconds ↦ elim ttl [ Some other ↦ Err RepeatedField | None ↦ fields_after (Some seconds) class tokens ]
+abbrev pub with_field : Types → Option ℕ → Option DNSClass → Field → List Lexeme → Result Fields EntryFault
+with_field types ttl class field tokens = elim field [
+  | ttl_field seconds ↦ elim ttl [ Some other ↦ Err RepeatedField | None ↦ fields_from types (Some seconds) class tokens ]
   | bad_ttl ↦ Err InvalidTtl
-  | class_field found ↦ elim class [ Some other ↦ Err RepeatedField | None ↦ fields_after ttl (Some found) tokens ]
+  | class_field found ↦ elim class [ Some other ↦ Err RepeatedField | None ↦ fields_from types ttl (Some found) tokens ]
   | type_field found ↦ Ok (record { ttl = ttl; dns_class = class; record_type = found; rdata = tokens })
   | no_field ↦ Err UnknownType
 ]
@@ -28,23 +29,23 @@ next_token tokens i d h =
     ∙ ap (λ (t : Lexeme). t ∷ drop (suc i) (map lexeme tokens)) (get_or-map lexeme tokens i d)
     ∙ ap (λ (n : ℕ). lexeme (get_or tokens i d) ∷ drop n (map lexeme tokens)) (sym (add-one i))
 
-pub at_field : (ttl : Option ℕ) (class : Option DNSClass) (tokens : List Token) (i : ℕ) (d : Token) (field : Field) → i < length tokens → field ≡ field_of (lexeme (get_or tokens i d)) → fields_after ttl class (drop i (map lexeme tokens)) ≡ with_field ttl class field (drop (i + 1) (map lexeme tokens))
-at_field ttl class tokens i d field h e =
-    ap (λ (l : List Lexeme). fields_after ttl class l) (next_token tokens i d h)
-    ∙ ap (λ (f : Field). with_field ttl class f (drop (i + 1) (map lexeme tokens))) (sym e)
+pub at_field : (types : Types) (ttl : Option ℕ) (class : Option DNSClass) (tokens : List Token) (i : ℕ) (d : Token) (field : Field) → i < length tokens → field ≡ field_in types (lexeme (get_or tokens i d)) → fields_from types ttl class (drop i (map lexeme tokens)) ≡ with_field types ttl class field (drop (i + 1) (map lexeme tokens))
+at_field types ttl class tokens i d field h e =
+    ap (λ (l : List Lexeme). fields_from types ttl class l) (next_token tokens i d h)
+    ∙ ap (λ (f : Field). with_field types ttl class f (drop (i + 1) (map lexeme tokens))) (sym e)
 
-pub second_ttl : (ttl : Option ℕ) (class : Option DNSClass) (seconds : ℕ) (tokens : List Lexeme) → is_some ttl ≡ true → with_field ttl class (ttl_field seconds) tokens ≡ Err RepeatedField
-second_ttl (Some other) class seconds tokens e = refl
-second_ttl None class seconds tokens e = absurd cc
+pub second_ttl : (types : Types) (ttl : Option ℕ) (class : Option DNSClass) (seconds : ℕ) (tokens : List Lexeme) → is_some ttl ≡ true → with_field types ttl class (ttl_field seconds) tokens ≡ Err RepeatedField
+second_ttl types (Some other) class seconds tokens e = refl
+second_ttl types None class seconds tokens e = absurd cc
 
-pub first_ttl : (ttl : Option ℕ) (class : Option DNSClass) (seconds : ℕ) (tokens : List Lexeme) → is_some ttl ≡ false → with_field ttl class (ttl_field seconds) tokens ≡ fields_after (Some seconds) class tokens
-first_ttl (Some other) class seconds tokens e = absurd cc
-first_ttl None class seconds tokens e = refl
+pub first_ttl : (types : Types) (ttl : Option ℕ) (class : Option DNSClass) (seconds : ℕ) (tokens : List Lexeme) → is_some ttl ≡ false → with_field types ttl class (ttl_field seconds) tokens ≡ fields_from types (Some seconds) class tokens
+first_ttl types (Some other) class seconds tokens e = absurd cc
+first_ttl types None class seconds tokens e = refl
 
-pub second_class : (ttl : Option ℕ) (class : Option DNSClass) (found : DNSClass) (tokens : List Lexeme) → is_some class ≡ true → with_field ttl class (class_field found) tokens ≡ Err RepeatedField
-second_class ttl (Some other) found tokens e = refl
-second_class ttl None found tokens e = absurd cc
+pub second_class : (types : Types) (ttl : Option ℕ) (class : Option DNSClass) (found : DNSClass) (tokens : List Lexeme) → is_some class ≡ true → with_field types ttl class (class_field found) tokens ≡ Err RepeatedField
+second_class types ttl (Some other) found tokens e = refl
+second_class types ttl None found tokens e = absurd cc
 
-pub first_class : (ttl : Option ℕ) (class : Option DNSClass) (found : DNSClass) (tokens : List Lexeme) → is_some class ≡ false → with_field ttl class (class_field found) tokens ≡ fields_after ttl (Some found) tokens
-first_class ttl (Some other) found tokens e = absurd cc
-first_class ttl None found tokens e = refl
+pub first_class : (types : Types) (ttl : Option ℕ) (class : Option DNSClass) (found : DNSClass) (tokens : List Lexeme) → is_some class ≡ false → with_field types ttl class (class_field found) tokens ≡ fields_from types ttl (Some found) tokens
+first_class types ttl (Some other) found tokens e = absurd cc
+first_class types ttl None found tokens e = refl

@@ -1,10 +1,12 @@
 -- The first token of a text, or its fault.
 use Rattle.std.proofs.Common.{◌≡◌, List, ℕ, Option, Some, None, Result, Ok, Err, subst, true, false}
-use Rattle.dns_text.specs.Lexer.{Lexeme, LexerState, NextToken, start}
+use Rattle.dns_text.specs.Lexer.{Lexeme, LexerState, NextToken}
 use Rattle.dns_text.specs.Token.{lexeme, answer}
 use Rattle.dns_text.specs.declared.token.Token.{Token}
 use Rattle.dns_text.specs.declared.error.LexerError.{LexerError}
 use Rattle.dns_text.proofs.ReadingLaws.{same_outcome}
+use Rattle.dns_zone_file.specs.declared.types.Types.{Types}
+use Rattle.dns_zone_file.specs.Parsing.{start_in}
 use Rattle.dns_zone_file.specs.internal.Parsing.{HasNoToken}
 
 -- ---- what the code finds
@@ -42,5 +44,7 @@ module _ (p q r : LexerState) where
 
 -- ---- of equal texts
 
-pub of_text : {outcome : Result (Option Lexeme) LexerError} {end : LexerState} (text other : List ℕ) → text ≡ other → NextToken (start text) outcome end → NextToken (start other) outcome end
-of_text {outcome} {end} text other same next = subst (λ (t : List ℕ). NextToken (start t) outcome end) same next
+pub of_text : {outcome : Result (Option Lexeme) LexerError} {end : LexerState} (types others : Types) (text other : List ℕ) → types ≡ others → text ≡ other
+    → NextToken (start_in types text) outcome end → NextToken (start_in others other) outcome end
+of_text {outcome} {end} types others text other one same next =
+    subst (λ (t : Types). NextToken (start_in t other) outcome end) one (subst (λ (t : List ℕ). NextToken (start_in types t) outcome end) same next)

@@ -1,10 +1,12 @@
 pub mod AsciiLaws
 pub mod ContextLaws
+pub mod DataLaws
 pub mod DistinctLaws
 pub mod EntryLaws
 pub mod FieldsLaws
 pub mod FirstLaws
 pub mod LineLaws
+pub mod ListedLaws
 pub mod OctetLaws
 pub mod OutcomeLaws
 pub mod ParsedLaws

@@ -17,8 +17,10 @@ use Rattle.dns_names.specs.Build.{complete, append_domain}
 use Rattle.dns_names.specs.Print.{label_text, dotted_labels, text_of_labels, text_of_name, AreOctets}
 use Rattle.dns_names.specs.declared.error.ParseError.{ParseError}
 use Rattle.dns_names.proofs.RoundTrip.{printed_is_read}
+use Rattle.dns_text.specs.declared.quotes.Quotes.{Quotes}
+use Rattle.dns_text.specs.declared.quotes.Quotes.TheVariants.{OneLine}
 use Rattle.dns_text.specs.Front.{Bare, stops}
-use Rattle.dns_text.specs.FrontGrammar.{feed, by_line_end, by_line, by_stop}
+use Rattle.dns_text.specs.FrontGrammar.{feed, by_line_end, by_cut, by_stop}
 use Rattle.dns_text.specs.Lexer.{LexerState, Lexeme, CharData, QuotedString, EOL, word_token, NextToken, past_nothing, at_token}
 use Rattle.dns_text.specs.Tokens.{IsRun, no_character, one_character, IsDatum, datum_text, data_text}
 use Rattle.dns_text.specs.Ttl.{time}
@@ -37,7 +39,10 @@ use Rattle.dns_zone_file.specs.declared.context.Context.{Context}
 use Rattle.dns_zone_file.specs.declared.error.EntryFault.TheVariants.{InvalidOwner}
 use Rattle.dns_zone_file.specs.Context.{or_fault, ReadsRecord}
 use Rattle.dns_zone_file.specs.Entry.{LexesEntry, line_end, text_end, one_token, record_entry, entry_of}
-use Rattle.dns_zone_file.specs.Fields.{if_ok, name_of, Field, ttl_field, type_field, begins_with_digit, ttl_or_bad, field_of_word, fields_of}
+use Rattle.dns_zone_file.specs.Fields.{if_ok, name_of, Field, ttl_field, type_field, begins_with_digit, ttl_or_bad, field_of_word, Fields, fields_in, fields_of}
+use Rattle.dns_zone_file.specs.declared.types.Types.{Types}
+use Rattle.dns_zone_file.specs.declared.types.Types.TheVariants.{Nine}
+use Rattle.dns_zone_file.specs.Data.{ReadsIn}
 use Rattle.dns_zone_file.specs.Printed.{record_line, IsPrintableRecord}
 use Rattle.dns_zone_file.proofs.FieldsLaws.{with_field}
 use Rattle.dns_zone_file.proofs.RecordSetsLaws.{both}
@@ -49,7 +54,7 @@ at p text is_front = record p { text = text; is_front = is_front }
 
 -- the state at the start of a line, outside parentheses
 abbrev pub line_start : ℕ → List ℕ → LexerState
-line_start line text = record { text = text; line = line; entry = line; is_open = false; is_front = true }
+line_start line text = record { text = text; line = line; entry = line; is_open = false; is_front = true; quotes = OneLine }
 
 blank : {q end : LexerState} {found : Result (Option Lexeme) LexerError} → NextToken q found end → (p : LexerState) (rest : List ℕ) → q ≡ at p rest false → NextToken (at p (32 ∷ rest) false) found end
 blank {end = end} {found = found} next p rest e = past_nothing refl (subst (λ (s : LexerState). NextToken s found end) e next)
@@ -64,18 +69,18 @@ no_end (CharData word) is = λ e. absurd (cc)
 no_end (QuotedString string) is = λ e. absurd (cc)
 no_end _ is = absurd is
 
-ends : (p : LexerState) (rest : List ℕ) → p.is_open ≡ false → NextToken (at p (10 ∷ rest) false) (Ok (Some EOL)) (line_start (p.line + 1) rest)
-ends p rest closed = at_token (rw closed refl)
+ends : (p : LexerState) (rest : List ℕ) → p.is_open ≡ false → p.quotes ≡ OneLine → NextToken (at p (10 ∷ rest) false) (Ok (Some EOL)) (line_start (p.line + 1) rest)
+ends p rest closed one = subst (λ (q : Quotes). NextToken (at p (10 ∷ rest) false) (Ok (Some EOL)) (record (line_start (p.line + 1) rest) { quotes = q })) one (at_token (rw closed refl))
 
 -- data up to the end of a line
-pub data_lexes : (p : LexerState) (is_front : Bool) (datum : Lexeme) (more : List Lexeme) (rest : List ℕ) → AllByRecursion IsDatum (datum ∷ more) → p.is_open ≡ false
+pub data_lexes : (p : LexerState) (is_front : Bool) (datum : Lexeme) (more : List Lexeme) (rest : List ℕ) → AllByRecursion IsDatum (datum ∷ more) → p.is_open ≡ false → p.quotes ≡ OneLine
     → LexesEntry (at p (data_text (datum ∷ more) ++ 10 ∷ rest) is_front) (datum ∷ more) (line_start (p.line + 1) rest)
-data_lexes p is_front datum [] rest are closed =
-    one_token (datum_next p is_front datum (10 ∷ rest) are.0 (by_line (by_line_end feed))) (no_end datum are.0) (line_end (ends p rest closed))
-data_lexes p is_front datum (next ∷ more) rest are closed =
+data_lexes p is_front datum [] rest are closed one =
+    one_token (datum_next p is_front datum (10 ∷ rest) are.0 (by_cut (by_line_end feed))) (no_end datum are.0) (line_end (ends p rest closed one))
+data_lexes p is_front datum (next ∷ more) rest are closed one =
     let later : List ℕ = data_text (next ∷ more) ++ 10 ∷ rest in
     subst (λ (text : List ℕ). LexesEntry (at p text is_front) (datum ∷ next ∷ more) (line_start (p.line + 1) rest)) (sym (append_assoc (datum_text datum) (32 ∷ data_text (next ∷ more)) (10 ∷ rest)))
-    (one_token (datum_next p is_front datum (32 ∷ later) are.0 (by_stop refl)) (no_end datum are.0) (past_blank (data_lexes p false next more rest are.1 closed) p later refl))
+    (one_token (datum_next p is_front datum (32 ∷ later) are.0 (by_stop refl)) (no_end datum are.0) (past_blank (data_lexes p false next more rest are.1 closed one) p later refl))
 
 -- ---- words in capitals
 
@@ -181,8 +186,8 @@ fields_are : (n : ℕ) (t : RecordType) (tokens : List Lexeme) → n < 2 ^ 32 �
     → fields_of (CharData (decimal n) ∷ CharData (codes "IN") ∷ CharData (type_text t) ∷ tokens)
     ≡ Ok (record { ttl = Some n; dns_class = Some classes.IN; record_type = t; rdata = tokens })
 fields_are n t tokens small e =
-    ap (λ (f : Field). with_field None None f (CharData (codes "IN") ∷ CharData (type_text t) ∷ tokens)) (ttl_is n small)
-    ∙ ap (λ (f : Field). with_field (Some n) (Some classes.IN) f tokens) e
+    ap (λ (f : Field). with_field Nine None None f (CharData (codes "IN") ∷ CharData (type_text t) ∷ tokens)) (ttl_is n small)
+    ∙ ap (λ (f : Field). with_field Nine (Some n) (Some classes.IN) f tokens) e
 
 name_is : (origin name : DomainName) → name.is_fqdn ≡ true → AreLabels name.labels → AllByRecursion AreOctets name.labels → name_of origin (CharData (text_of_name name)) ≡ Some name
 name_is origin name is are octets =
@@ -217,7 +222,7 @@ pub record IsLine (line : ℕ) (r : Record) (rest : List ℕ) : Type 0 where
   pub tokens : List Lexeme
   pub lexed : LexesEntry (line_start line (record_line r.name r.ttl r.rdata ++ rest)) tokens (line_start (line + 1) rest)
   pub entry : entry_of tokens ≡ record_entry
-  pub reads : (c : Context) → ReadsRecord c tokens (Some r.ttl) r
+  pub reads : (c : Context) → c.types ≡ Nine → ReadsRecord c tokens (Some r.ttl) r
 
 pub line_of : (line : ℕ) (r : Record) (rest : List ℕ) → IsPrintableRecord r → IsLine line r rest
 line_of line r rest is =
@@ -230,14 +235,16 @@ line_of line r rest is =
       tokens = line_tokens r t.0 t.1;
       lexed = subst (λ (text : List ℕ). LexesEntry (line_start line text) (line_tokens r t.0 t.1) (line_start (line + 1) rest)) (line_is r t.0 t.1 rest t.2.text)
           (data_lexes (line_start line []) true (CharData (text_of_name r.name)) (CharData (decimal r.ttl) ∷ CharData (codes "IN") ∷ CharData (type_text (data_type r.rdata)) ∷ t.0 ∷ t.1) rest
-          (owner, (decimal_datum r.ttl small, (class_word, (type.word, t.2.each)))) refl);
+          (owner, (decimal_datum r.ttl small, (class_word, (type.word, t.2.each)))) refl refl);
       entry = refl;
-      reads = λ c. record {
+      reads = λ c nine. record {
         fields = record { ttl = Some r.ttl; dns_class = Some classes.IN; record_type = data_type r.rdata; rdata = t.0 ∷ t.1 };
         owner = ap (or_fault InvalidOwner) (name_is c.origin r.name is.fqdn is.labels is.octets);
-        between = fields_are r.ttl (data_type r.rdata) (t.0 ∷ t.1) is.ttl_fits type.field;
+        between = subst (λ (types : Types). fields_in types (CharData (decimal r.ttl) ∷ CharData (codes "IN") ∷ CharData (type_text (data_type r.rdata)) ∷ t.0 ∷ t.1)
+            ≡ Ok (record { ttl = Some r.ttl; dns_class = Some classes.IN; record_type = data_type r.rdata; rdata = t.0 ∷ t.1 }))
+            (sym nine) (fields_are r.ttl (data_type r.rdata) (t.0 ∷ t.1) is.ttl_fits type.field);
         stated_is = refl;
-        rdata = t.2.parsed (Some c.origin);
+        rdata = subst (λ (types : Types). ReadsIn types c.origin (data_type r.rdata) (t.0 ∷ t.1) r.rdata) (sym nine) (t.2.parsed (Some c.origin));
         ttl = refl;
         dns_class = sym is.dns_class;
       };

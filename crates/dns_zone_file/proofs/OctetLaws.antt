@@ -39,7 +39,7 @@ steps : (f : Front) (p : LexerState) → AreOctets p.text → StepsOverOctets (s
 steps TextEnd p are = if_either StepsOverOctets p.is_open (Refuses (fault.UnclosedList p.entry)) Ends tt tt
 steps (LineEnd n) p are =
     if_either StepsOverOctets p.is_open (Skips (record p { text = drop n p.text; line = p.line + 1 }))
-    (Yields EOL (record { text = drop n p.text; line = p.line + 1; entry = p.line + 1; is_open = false; is_front = true }))
+    (Yields EOL (record p { text = drop n p.text; line = p.line + 1; entry = p.line + 1; is_open = false; is_front = true }))
     (dropped n p.text are) (tt, dropped n p.text are)
 steps Gap p are = if_either StepsOverOctets p.is_front (Yields Blank (past 1 p)) (Skips (past 1 p)) (tt, dropped 1 p.text are) (dropped 1 p.text are)
 steps (Comment n) p are = dropped n p.text are
@@ -54,8 +54,8 @@ abbrev FindsOctets : Result (Option Lexeme) LexerError → Type 0
 FindsOctets found = IfOk found (λ token. IfSome token HasOctets)
 
 next_octets : {p next : LexerState} {found : Result (Option Lexeme) LexerError} → NextToken p found next → AreOctets p.text → FindsOctets found × AreOctets next.text
-next_octets (past_nothing {p = p} is more) are = next_octets more (subst StepsOverOctets is (steps (front p.text) p are))
-next_octets (at_token {p = p} is) are = subst StepsOverOctets is (steps (front p.text) p are)
+next_octets (past_nothing {p = p} is more) are = next_octets more (subst StepsOverOctets is (steps (front p.quotes p.text) p are))
+next_octets (at_token {p = p} is) are = subst StepsOverOctets is (steps (front p.quotes p.text) p are)
 next_octets (at_end is) are = (tt, are)
 next_octets (at_fault is) are = (tt, are)
 

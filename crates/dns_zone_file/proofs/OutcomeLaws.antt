@@ -2,26 +2,24 @@
 use Rattle.std.proofs.Common.{◌≡◌, ◌<◌, ◌≤◌, ◌+◌, ℕ, Bool, true, false, List, [], ◌∷◌, drop, Option, Some, None, Result, Ok, Err, ◌⊎◌, inl, inr, refl, sym, ap, ◌∙◌, subst, arith}
 use Rattle.std.specs.Prelude.{unwrap_or}
 use Rattle.dns_codes.specs.declared.dns_class.DNSClass.{DNSClass}
-use Rattle.dns_codes.specs.declared.dns_class.DNSClass.TheVariants.{IN}
 use Rattle.dns_names.specs.Name.{DomainName}
-use Rattle.dns_text.specs.Lexer.{Lexeme, LexerState, NextToken, start}
+use Rattle.dns_text.specs.Lexer.{Lexeme, LexerState, NextToken}
 use Rattle.dns_text.specs.declared.error.LexerError.{LexerError}
 use Rattle.dns_text.proofs.ReadingLaws.{same_outcome}
-use Rattle.dns_data.specs.declared.error.RDataParseError.{RDataParseError}
 use Rattle.dns_data.specs.declared.rdata.RData.{RData}
-use Rattle.dns_data.specs.rdata.{IsParsedData, RefusesText}
-use Rattle.dns_data.proofs.ParsedLaws.{data_same, data_not_refused, data_refused_same}
 use Rattle.dns_records.specs.Record.{Record}
 use Rattle.dns_zone_file.specs.declared.context.Context.{Context}
 use Rattle.dns_zone_file.specs.declared.error.EntryFault.{EntryFault}
 use Rattle.dns_zone_file.specs.declared.error.EntryFault.TheVariants as fault
 use Rattle.dns_zone_file.specs.declared.error.ZoneFileError.{ZoneFileError}
 use Rattle.dns_zone_file.specs.declared.error.ZoneFileError.TheVariants as error
-use Rattle.dns_zone_file.specs.Context.{owner_of, ttl_for, ReadsRecord, RefusesRecord, bad_owner, bad_fields, bad_data, no_ttl, other_class, after_record, AddsRecord, included, resumed}
+use Rattle.dns_zone_file.specs.Data.{ReadsIn, RefusesIn}
+use Rattle.dns_zone_file.specs.Context.{owner_of, ttl_for, default_class, ReadsRecord, RefusesRecord, bad_owner, bad_fields, bad_data, no_ttl, other_class, after_record, AddsRecord, included, resumed}
 use Rattle.dns_zone_file.specs.Entry.{LexesEntry, line_end, text_end, one_token, RefusesTokens, at_fault, past_token, Entry, nothing, origin_directive, ttl_directive, include_directive, record_entry, entry_of, Inclusion, origin_of, ttl_of, inclusion_of}
-use Rattle.dns_zone_file.specs.Fields.{Fields, fields_of}
-use Rattle.dns_zone_file.specs.Parsing.{Includes, text_of, max_includes, Applies, for_nothing, for_origin, for_ttl, for_record, IncludesText, RefusesEntry, bad_origin, bad_ttl, bad_include, bad_record, Parses, ended, bad_text, bad_entry, applied, too_deep, not_found, bad_included, past_included}
+use Rattle.dns_zone_file.specs.Fields.{Fields, fields_in}
+use Rattle.dns_zone_file.specs.Parsing.{Includes, text_of, max_includes, start_in, Applies, for_nothing, for_origin, for_ttl, for_record, IncludesText, RefusesEntry, bad_origin, bad_ttl, bad_include, bad_record, Parses, ended, bad_text, bad_entry, applied, too_deep, not_found, bad_included, past_included}
 use Rattle.dns_zone_file.specs.RecordSets.{has_other_class}
+use Rattle.dns_zone_file.proofs.DataLaws.{same_in, not_refused_in, refused_same_in}
 
 -- ---- tokens
 
@@ -136,24 +134,24 @@ by_class c stated r false = leads_to (after_record c stated r)
 abbrev adding : Context → Option ℕ → Record → Effect
 adding c stated r = by_class c stated r (has_other_class c.sets r)
 
-abbrev made : DomainName → Fields → RData → ℕ → Record
-made owner f d ttl = record { name = owner; dns_class = unwrap_or f.dns_class IN; ttl = ttl; rdata = d }
+abbrev made : Context → DomainName → Fields → RData → ℕ → Record
+made c owner f d ttl = record { name = owner; dns_class = unwrap_or f.dns_class (default_class c); ttl = ttl; rdata = d }
 
 abbrev by_ttl : Context → DomainName → Fields → RData → Option ℕ → Effect
 by_ttl c owner f d None = refuses fault.NoTtl
-by_ttl c owner f d (Some ttl) = adding c f.ttl (made owner f d ttl)
+by_ttl c owner f d (Some ttl) = adding c f.ttl (made c owner f d ttl)
 
 -- that of a record with an owner and fields: a fault of its data, or what its data leads to
 data DataEffect (c : Context) (owner : DomainName) (f : Fields) : Effect → Type 0 where
-  by_refusal : {e : RDataParseError} → RefusesText (Some c.origin) f.record_type f.rdata e → DataEffect c owner f (refuses (fault.InvalidData e))
-  by_data : {x : Effect} (d : RData) → IsParsedData (Some c.origin) f.record_type f.rdata d → x ≡ by_ttl c owner f d (ttl_for c f.ttl d) → DataEffect c owner f x
+  by_refusal : {refusal : EntryFault} → RefusesIn c.types c.origin f.record_type f.rdata refusal → DataEffect c owner f (refuses refusal)
+  by_data : {x : Effect} (d : RData) → ReadsIn c.types c.origin f.record_type f.rdata d → x ≡ by_ttl c owner f d (ttl_for c f.ttl d) → DataEffect c owner f x
 
 abbrev ByFields : Context → DomainName → Result Fields EntryFault → Effect → Type 0
 ByFields c owner (Ok f) x = DataEffect c owner f x
 ByFields c owner (Err refusal) x = x ≡ refuses refusal
 
 abbrev ByOwner : Context → List Lexeme → Result DomainName EntryFault → Effect → Type 0
-ByOwner c tokens (Ok owner) x = ByFields c owner (fields_of (drop 1 tokens)) x
+ByOwner c tokens (Ok owner) x = ByFields c owner (fields_in c.types (drop 1 tokens)) x
 ByOwner c tokens (Err refusal) x = x ≡ refuses refusal
 
 abbrev ByEntry : Context → List Lexeme → Entry → Effect → Type 0
@@ -166,19 +164,19 @@ ByEntry c tokens record_entry x = ByOwner c tokens (owner_of c tokens) x
 -- one effect
 
 same_data_effect : {c : Context} {owner : DomainName} {f : Fields} {x y : Effect} → DataEffect c owner f x → DataEffect c owner f y → x ≡ y
-same_data_effect {c} {owner} {f} (by_refusal {e = a} h) (by_refusal {e = b} k) =
-    ap (λ (e : RDataParseError). refuses (fault.InvalidData e)) (data_refused_same (Some c.origin) f.record_type f.rdata a b h k)
-same_data_effect {c} {owner} {f} (by_refusal {e = e} h) (by_data d parsed k) = absurd (data_not_refused (Some c.origin) f.record_type f.rdata d e parsed h)
-same_data_effect {c} {owner} {f} (by_data d parsed h) (by_refusal {e = e} k) = absurd (data_not_refused (Some c.origin) f.record_type f.rdata d e parsed k)
+same_data_effect {c} {owner} {f} (by_refusal {refusal = a} h) (by_refusal {refusal = b} k) =
+    ap refuses (refused_same_in c.types c.origin f.record_type f.rdata a b h k)
+same_data_effect {c} {owner} {f} (by_refusal {refusal = e} h) (by_data d parsed k) = absurd (not_refused_in c.types c.origin f.record_type f.rdata d e parsed h)
+same_data_effect {c} {owner} {f} (by_data d parsed h) (by_refusal {refusal = e} k) = absurd (not_refused_in c.types c.origin f.record_type f.rdata d e parsed k)
 same_data_effect {c} {owner} {f} (by_data a h is) (by_data b k so) =
-    is ∙ ap (λ (d : RData). by_ttl c owner f d (ttl_for c f.ttl d)) (data_same (Some c.origin) f.record_type f.rdata a b h k) ∙ sym so
+    is ∙ ap (λ (d : RData). by_ttl c owner f d (ttl_for c f.ttl d)) (same_in c.types c.origin f.record_type f.rdata a b h k) ∙ sym so
 
 same_by_fields : (c : Context) (owner : DomainName) (r : Result Fields EntryFault) (x y : Effect) → ByFields c owner r x → ByFields c owner r y → x ≡ y
 same_by_fields c owner (Ok f) x y h k = same_data_effect h k
 same_by_fields c owner (Err refusal) x y h k = h ∙ sym k
 
 same_by_owner : (c : Context) (tokens : List Lexeme) (r : Result DomainName EntryFault) (x y : Effect) → ByOwner c tokens r x → ByOwner c tokens r y → x ≡ y
-same_by_owner c tokens (Ok owner) x y h k = same_by_fields c owner (fields_of (drop 1 tokens)) x y h k
+same_by_owner c tokens (Ok owner) x y h k = same_by_fields c owner (fields_in c.types (drop 1 tokens)) x y h k
 same_by_owner c tokens (Err refusal) x y h k = h ∙ sym k
 
 same_by_entry : (c : Context) (tokens : List Lexeme) (e : Entry) (x y : Effect) → ByEntry c tokens e x → ByEntry c tokens e y → x ≡ y
@@ -190,10 +188,10 @@ same_by_entry c tokens (include_directive arguments) x y h k = h ∙ sym k
 
 -- of records
 
-with_owner : (c : Context) (tokens : List Lexeme) (owner : DomainName) (x : Effect) → owner_of c tokens ≡ Ok owner → ByFields c owner (fields_of (drop 1 tokens)) x → ByOwner c tokens (owner_of c tokens) x
+with_owner : (c : Context) (tokens : List Lexeme) (owner : DomainName) (x : Effect) → owner_of c tokens ≡ Ok owner → ByFields c owner (fields_in c.types (drop 1 tokens)) x → ByOwner c tokens (owner_of c tokens) x
 with_owner c tokens owner x e h = subst (λ (r : Result DomainName EntryFault). ByOwner c tokens r x) (sym e) h
 
-with_fields : (c : Context) (tokens : List Lexeme) (owner : DomainName) (f : Fields) (x : Effect) → owner_of c tokens ≡ Ok owner → fields_of (drop 1 tokens) ≡ Ok f → DataEffect c owner f x → ByOwner c tokens (owner_of c tokens) x
+with_fields : (c : Context) (tokens : List Lexeme) (owner : DomainName) (f : Fields) (x : Effect) → owner_of c tokens ≡ Ok owner → fields_in c.types (drop 1 tokens) ≡ Ok f → DataEffect c owner f x → ByOwner c tokens (owner_of c tokens) x
 with_fields c tokens owner f x e g h = with_owner c tokens owner x e (subst (λ (r : Result Fields EntryFault). ByFields c owner r x) (sym g) h)
 
 with_record : (c : Context) (tokens : List Lexeme) (stated : Option ℕ) (r : Record) (x : Effect) → ReadsRecord c tokens stated r → x ≡ adding c stated r → ByOwner c tokens (owner_of c tokens) x
@@ -210,7 +208,7 @@ by_refused_record : {c : Context} {tokens : List Lexeme} {refusal : EntryFault} 
 by_refused_record {c} {tokens} {refusal} (bad_owner e) = subst (λ (r : Result DomainName EntryFault). ByOwner c tokens r (refuses refusal)) (sym e) refl
 by_refused_record {c} {tokens} {refusal} (bad_fields owner e g) =
     with_owner c tokens owner (refuses refusal) e (subst (λ (r : Result Fields EntryFault). ByFields c owner r (refuses refusal)) (sym g) refl)
-by_refused_record {c} {tokens} (bad_data {error = a} owner f e g refused) = with_fields c tokens owner f (refuses (fault.InvalidData a)) e g (by_refusal refused)
+by_refused_record {c} {tokens} {refusal} (bad_data owner f e g refused) = with_fields c tokens owner f (refuses refusal) e g (by_refusal refused)
 by_refused_record {c} {tokens} (no_ttl owner f d e g parsed none) =
     with_fields c tokens owner f (refuses fault.NoTtl) e g (by_data d parsed (sym (ap (by_ttl c owner f d) none)))
 by_refused_record {c} {tokens} (other_class stated r reads other) =
@@ -263,7 +261,7 @@ module _ (includes : Includes) (depth : ℕ) (c : Context) (p : LexerState) wher
   abbrev ByText : LexerState → Inclusion → Option (List ℕ) → Result Context ZoneFileError → Type 0
   ByText next i None b = b ≡ Err (error.IncludeNotFound p.entry)
   ByText next i (Some text) b =
-      (inner : Result Context ZoneFileError) × Parses includes (depth + 1) (included c i.origin) (start text) inner × AfterInner next inner b
+      (inner : Result Context ZoneFileError) × Parses includes (depth + 1) (included c i.origin) (start_in c.types text) inner × AfterInner next inner b
 
   abbrev ByEffect : LexerState → Effect → Result Context ZoneFileError → Type 0
   ByEffect next (refuses refusal) b = b ≡ Err (error.Entry p.entry refusal)

@@ -14,18 +14,20 @@ use Rattle.dns_names.specs.internal.Compare.{same_name-equivalence}
 use Rattle.dns_text.specs.Lexer.{Lexeme, LexerState}
 use Rattle.dns_data.specs.declared.rdata.RData.{RData}
 use Rattle.dns_data.specs.declared.rdata.RData.TheVariants as of
-use Rattle.dns_data.specs.rdata.{data_type, IsParsedData}
-use Rattle.dns_data.proofs.ParsedSoundLaws.{parsed_type}
+use Rattle.dns_data.specs.rdata.{data_type}
 use Rattle.dns_records.specs.Record.{Record}
 use Rattle.dns_records.specs.RecordSet.{RecordSetValue, record_data, added, is_inserted, inserted, accepts_record, with_record}
 use Rattle.dns_zone_file.specs.declared.context.Context.{Context}
 use Rattle.dns_zone_file.specs.declared.context.StartOfAuthority.{StartOfAuthority}
 use Rattle.dns_zone_file.specs.declared.error.ZoneFileError.{ZoneFileError}
 use Rattle.dns_zone_file.specs.Context.{ReadsRecord, soa_of, minimum_of, ttl_for, after_record, included, resumed}
+use Rattle.dns_zone_file.specs.declared.types.Types.{Types}
+use Rattle.dns_zone_file.specs.Data.{ReadsIn}
 use Rattle.dns_zone_file.specs.Entry.{Inclusion}
 use Rattle.dns_zone_file.specs.Parsed.{IsParsedRecord, IsParsedSet, AreDistinctSets, is_singleton_type}
-use Rattle.dns_zone_file.specs.Parsing.{Includes, Applies, for_nothing, for_origin, for_ttl, for_record, IncludesText, Parses, ended, bad_text, bad_entry, applied, too_deep, not_found, bad_included, past_included, start_origin, ParsesFile}
+use Rattle.dns_zone_file.specs.Parsing.{Includes, Applies, for_nothing, for_origin, for_ttl, for_record, IncludesText, Parses, ended, bad_text, bad_entry, applied, too_deep, not_found, bad_included, past_included, start_origin, ParsesIn}
 use Rattle.dns_zone_file.specs.RecordSets.{is_set_of, is_set_for, set_of, single_set, inserted_in, has_other_class}
+use Rattle.dns_zone_file.proofs.DataLaws.{named_type}
 use Rattle.dns_zone_file.proofs.DistinctLaws.{inserted_distinct, last_too, none_distinct, one_distinct}
 use Rattle.dns_zone_file.proofs.RecordSetsLaws.{both, same_number, one_type}
 use Rattle.dns_zone_file.proofs.ValueLaws.{at_some, at_ok, some_of, mapped, either_of, IsQualified, owner_qualified, origin_qualified, inclusion_qualified, FitsTtl, default_fits, fields_fit, minimum_fits}
@@ -74,7 +76,7 @@ moved : (s : RecordSetValue) (ttl : ℕ) (records xs : List Record) → AllByRec
 moved s ttl records [] all = tt
 moved s ttl records (x ∷ xs) all =
     let p = all.0 in (
-      record { fqdn = p.fqdn; owner = p.owner; dns_class = p.dns_class; record_type = p.record_type; ttl_fits = p.ttl_fits; origin = p.origin; of_type = p.of_type; tokens = p.tokens; rdata = p.rdata },
+      record { fqdn = p.fqdn; owner = p.owner; dns_class = p.dns_class; record_type = p.record_type; ttl_fits = p.ttl_fits; types = p.types; origin = p.origin; of_type = p.of_type; tokens = p.tokens; rdata = p.rdata },
       moved s ttl records xs all.1,
     )
 
@@ -98,10 +100,11 @@ with_one_more s r p q =
 pub record IsParsed (r : Record) : Type 0 where
   pub fqdn : r.name.is_fqdn ≡ true
   pub ttl_fits : FitsTtl r.ttl
+  pub types : Types
   pub origin : DomainName
   pub of_type : RecordType
   pub tokens : List Lexeme
-  pub rdata : IsParsedData (Some origin) of_type tokens r.rdata
+  pub rdata : ReadsIn types origin of_type tokens r.rdata
 
 in_set : (s : RecordSetValue) (r : Record) → IsParsed r → same_name r.name s.name ≡ true → class_number r.dns_class ≡ class_number s.dns_class → data_type r.rdata ≡ s.record_type → IsParsedRecord s r
 in_set s r p owner class type = record {
@@ -110,6 +113,7 @@ in_set s r p owner class type = record {
   dns_class = class;
   record_type = type;
   ttl_fits = p.ttl_fits;
+  types = p.types;
   origin = p.origin;
   of_type = p.of_type;
   tokens = p.tokens;
@@ -119,7 +123,7 @@ in_set s r p owner class type = record {
 one_record_set : (r : Record) → IsParsed r → IsParsedSet (single_set r)
 one_record_set r p = record {
   fqdn = p.fqdn;
-  type_named = (parsed_type (Some p.origin) p.of_type p.tokens r.rdata p.rdata).named;
+  type_named = named_type p.types p.origin p.of_type p.tokens r.rdata p.rdata;
   filled = omega arith;
   records = (in_set (single_set r) r p (same_name-equivalence.refl r.name) refl refl, tt);
   distinct = one_distinct _ r;
@@ -143,7 +147,7 @@ inserted_sets (s ∷ more) r all p fits = at (is_set_for r s) refl fits (inserte
         → AllByRecursion IsParsedSet (if b then with_record s r 0 ∷ more else s ∷ inserted_in more r)
     at true is fits others =
         let found = both (same_name r.name s.name) (type_number (data_type r.rdata) == type_number s.record_type) is in
-        let named = (parsed_type (Some p.origin) p.of_type p.tokens r.rdata p.rdata).named in (
+        let named = named_type p.types p.origin p.of_type p.tokens r.rdata p.rdata in (
           with_one_more s r all.0 (in_set s r p found.0
               (same_class (class_number s.dns_class) (class_number r.dns_class) (first_false (not (class_number s.dns_class == class_number r.dns_class)) (has_other_class more r) fits))
               (one_type (data_type r.rdata) s.record_type named all.0.type_named (same_number (type_number (data_type r.rdata)) (type_number s.record_type) found.1))),
@@ -254,11 +258,11 @@ soa_stays sets r soa p = record { fqdn = p.fqdn; minimum_fits = p.minimum_fits; 
 new_soa : (sets : List RecordSetValue) (r : Record) → IsParsed r → IfSome (soa_of r) (IsParsedSoa (inserted_in sets r))
 new_soa sets r p = at r.rdata refl p.rdata
   where
-    at : (d : RData) → data_type r.rdata ≡ data_type d → IsParsedData (Some p.origin) p.of_type p.tokens d
+    at : (d : RData) → data_type r.rdata ≡ data_type d → ReadsIn p.types p.origin p.of_type p.tokens d
         → IfSome (elim d as (λ _. Option StartOfAuthority) [ of.SOA soa ↦ Some (record { owner = r.name; minimum = soa.minimum }) | other ↦ None ]) (IsParsedSoa (inserted_in sets r))
     at (of.SOA soa) e q = record {
       fqdn = p.fqdn;
-      minimum_fits = minimum_fits p.origin p.of_type p.tokens (of.SOA soa) q;
+      minimum_fits = minimum_fits p.types p.origin p.of_type p.tokens (of.SOA soa) q;
       has_set = subst (λ (t : RecordType). IsSome (set_of (inserted_in sets r) r.name t)) e (found_set sets r);
     }
     at other e q = tt
@@ -268,7 +272,7 @@ new_soa sets r p = at r.rdata refl p.rdata
 stated_fits : (c : Context) (tokens : List Lexeme) (stated : Option ℕ) (r : Record) → ReadsRecord c tokens stated r → IfSome stated FitsTtl
 stated_fits c tokens stated r reads =
     subst (λ (o : Option ℕ). IfSome o FitsTtl) reads.stated_is
-    (at_ok (λ f. IfSome f.ttl FitsTtl) reads.between (fields_fit None None (drop 1 tokens) tt))
+    (at_ok (λ f. IfSome f.ttl FitsTtl) reads.between (fields_fit c.types None None (drop 1 tokens) tt))
 
 ttl_fits : (c : Context) (stated : Option ℕ) (d : RData) → IsParsedContext c → IfSome stated FitsTtl → IfSome (minimum_of d) FitsTtl → IfSome (ttl_for c stated d) FitsTtl
 ttl_fits c stated d h s m =
@@ -284,7 +288,8 @@ ttl_fits c stated d h s m =
 parsed_record : (c : Context) (tokens : List Lexeme) (stated : Option ℕ) (r : Record) → IsParsedContext c → ReadsRecord c tokens stated r → IsParsed r
 parsed_record c tokens stated r h reads = record {
   fqdn = at_ok IsQualified reads.owner (owner_qualified c tokens h.origin h.owner);
-  ttl_fits = at_some FitsTtl reads.ttl (ttl_fits c stated r.rdata h (stated_fits c tokens stated r reads) (minimum_fits c.origin reads.fields.record_type reads.fields.rdata r.rdata reads.rdata));
+  ttl_fits = at_some FitsTtl reads.ttl (ttl_fits c stated r.rdata h (stated_fits c tokens stated r reads) (minimum_fits c.types c.origin reads.fields.record_type reads.fields.rdata r.rdata reads.rdata));
+  types = c.types;
   origin = c.origin;
   of_type = reads.fields.record_type;
   tokens = reads.fields.rdata;
@@ -338,8 +343,8 @@ start_qualified : (origin : Option DomainName) → IsQualified (start_origin ori
 start_qualified None = refl
 start_qualified (Some origin) = refl
 
-pub parsed_file : (includes : Includes) (origin : Option DomainName) (text : List ℕ) (c : Context) → ParsesFile includes origin text (Ok c) → IsParsedContext c
-parsed_file includes origin text c parses =
+pub parsed_file : (types : Types) (includes : Includes) (origin : Option DomainName) (text : List ℕ) (c : Context) → ParsesIn types includes origin text (Ok c) → IsParsedContext c
+parsed_file types includes origin text c parses =
     at_end parses (record { origin = start_qualified origin; owner = tt; default_ttl = tt; last_ttl = tt; sets = tt; distinct = none_distinct _; first_soa = tt })
 
 pub soa_qualified : (c : Context) → IsParsedContext c → IfSome c.first_soa (λ soa. soa.owner.is_fqdn ≡ true)

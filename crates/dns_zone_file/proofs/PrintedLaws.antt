@@ -11,6 +11,7 @@ use Rattle.dns_records.specs.Record.{Record}
 use Rattle.dns_records.specs.RecordSet.{RecordSetValue, record_data, inserted, accepts_record, with_record}
 use Rattle.dns_zone_file.specs.declared.context.Context.{Context}
 use Rattle.dns_zone_file.specs.declared.context.StartOfAuthority.{StartOfAuthority}
+use Rattle.dns_zone_file.specs.declared.types.Types.TheVariants.{Nine}
 use Rattle.dns_zone_file.specs.Context.{soa_of, after_record}
 use Rattle.dns_zone_file.specs.Parsing.{Includes, for_record, Parses, ended, applied, ParsesFile, HasRecords, start_context, start_origin, zone_records}
 use Rattle.dns_zone_file.specs.Printed.{lines_of, ArePrintableRecords, after_records, inserted_each, first_soa_owner, printed_records}
@@ -83,21 +84,21 @@ still_internet (s ∷ sets) r are is = at (is_set_for r s) (still_internet sets 
 
 -- ---- lines
 
-parses_from : (includes : Includes) (line : ℕ) (c : Context) (records : List Record) → ArePrintableRecords records → AllByRecursion IsInternet c.sets
+parses_from : (includes : Includes) (line : ℕ) (c : Context) (records : List Record) → ArePrintableRecords records → AllByRecursion IsInternet c.sets → c.types ≡ Nine
     → Parses includes 0 c (line_start line (lines_of records)) (Ok (after_records c records))
-parses_from includes line c [] are sets = ended (at_end refl)
-parses_from includes line c (r ∷ records) are sets =
+parses_from includes line c [] are sets nine = ended (at_end refl)
+parses_from includes line c (r ∷ records) are sets nine =
     let first = line_of line r (lines_of records) are.0 in
     applied first.lexed
-    (for_record first.entry (record { stated = Some r.ttl; added = r; reads = first.reads c; class_fits = no_other_class c.sets r sets are.0.dns_class; after = refl }))
-    (parses_from includes (line + 1) (after_record c (Some r.ttl) r) records are.1 (still_internet c.sets r sets are.0.dns_class))
+    (for_record first.entry (record { stated = Some r.ttl; added = r; reads = first.reads c nine; class_fits = no_other_class c.sets r sets are.0.dns_class; after = refl }))
+    (parses_from includes (line + 1) (after_record c (Some r.ttl) r) records are.1 (still_internet c.sets r sets are.0.dns_class) nine)
 
 pub lines_parse : (includes : Includes) (origin : Option DomainName) (records : List Record) → ArePrintableRecords records
     → ParsesFile includes origin (lines_of records) (Ok (after_records (start_context (start_origin origin)) records))
-lines_parse includes origin records are = parses_from includes 1 (start_context (start_origin origin)) records are tt
+lines_parse includes origin records are = parses_from includes 1 (start_context (start_origin origin)) records are tt refl
 
 pub lines_contain : (includes : Includes) (origin : Option DomainName) (records : List Record) → ArePrintableRecords records
-    → HasRecords (record { text = lines_of records; includes = includes; origin = origin }) (printed_records origin records)
+    → HasRecords (record { text = lines_of records; includes = includes; origin = origin; types = Nine }) (printed_records origin records)
 lines_contain includes origin records are = record {
   context = after_records (start_context (start_origin origin)) records;
   parses = lines_parse includes origin records are;

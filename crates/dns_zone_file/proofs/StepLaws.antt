@@ -1,6 +1,6 @@
 -- Texts of zone files, entry by entry.
 use Rattle.std.proofs.Common.{◌≡◌, ◌≢◌, ℕ, ◌+◌, ◌<◌, List, map, Some, None, Result, Ok, Err, refl, sym, ap, subst, ◌∙◌}
-use Rattle.dns_text.specs.Lexer.{LexerState, NextToken, start}
+use Rattle.dns_text.specs.Lexer.{LexerState, NextToken}
 use Rattle.dns_text.specs.Token.{lexeme}
 use Rattle.dns_text.specs.declared.token.Token.{Token}
 use Rattle.dns_zone_file.specs.declared.error.EntryError.{EntryError}
@@ -11,7 +11,7 @@ use Rattle.dns_zone_file.specs.declared.error.ZoneFileError.TheVariants as error
 use Rattle.dns_zone_file.specs.declared.context.Context.{Context}
 use Rattle.dns_zone_file.specs.Context.{included}
 use Rattle.dns_zone_file.specs.Entry.{LexesEntry, Inclusion}
-use Rattle.dns_zone_file.specs.Parsing.{Includes, Parses, ended, bad_text, bad_entry, applied, too_deep, not_found, bad_included, past_included, Applies, RefusesEntry, text_of, max_includes}
+use Rattle.dns_zone_file.specs.Parsing.{Includes, Parses, ended, bad_text, bad_entry, applied, too_deep, not_found, bad_included, past_included, start_in, Applies, RefusesEntry, text_of, max_includes}
 use Rattle.dns_zone_file.specs.internal.Context.{saved_of, restored}
 use Rattle.dns_zone_file.specs.internal.Entry.{IsTextFault}
 use Rattle.dns_zone_file.specs.internal.Error.{IsFault, at_line}
@@ -94,17 +94,17 @@ enters_text {i = i} same within text_is inner_is = record {
 
 pub included_refused : {includes : Includes} {depth : ℕ} {c then inner : Context} {p q next : LexerState} {i : Inclusion} {text : List ℕ} (e : ZoneFileError)
     → Continues includes depth c p then q → IncludesAt q then i next → Enters includes depth then i text inner
-    → Parses includes (depth + 1) inner (start text) (Err e) → Parses includes depth c p (Err e)
+    → Parses includes (depth + 1) inner (start_in inner.types text) (Err e) → Parses includes depth c p (Err e)
 included_refused {includes} {depth} {text = text} e so_far w enters refused =
     so_far.leads (Err e) (bad_included w.lexed w.included enters.within enters.text_is
-    (subst (λ (x : Context). Parses includes (depth + 1) x (start text) (Err e)) enters.inner_is refused))
+    (subst (λ (x : Context). Parses includes (depth + 1) x (start_in x.types text) (Err e)) enters.inner_is refused))
 
 pub after_included : {includes : Includes} {depth : ℕ} {c then inner after further : Context} {p q next : LexerState} {i : Inclusion} {text : List ℕ}
     → Continues includes depth c p then q → IncludesAt q then i next → Enters includes depth then i text inner
-    → Parses includes (depth + 1) inner (start text) (Ok after) → further ≡ restored (saved_of then) after
+    → Parses includes (depth + 1) inner (start_in inner.types text) (Ok after) → further ≡ restored (saved_of then) after
     → Continues includes depth c p further next
 after_included {includes} {depth} {c} {then} {inner} {after} {further} {p} {q} {next} {i} {text} so_far w enters parses further_is = record {
   leads = λ outcome rest. so_far.leads outcome (past_included w.lexed w.included enters.within enters.text_is
-      (subst (λ (x : Context). Parses includes (depth + 1) x (start text) (Ok after)) enters.inner_is parses)
+      (subst (λ (x : Context). Parses includes (depth + 1) x (start_in x.types text) (Ok after)) enters.inner_is parses)
       (subst (λ (x : Context). Parses includes depth x next outcome) further_is rest));
 }

@@ -24,8 +24,11 @@ use Rattle.dns_zone_file.specs.declared.error.EntryFault.TheVariants as fault
 use Rattle.dns_zone_file.specs.declared.error.ZoneFileError.{ZoneFileError}
 use Rattle.dns_zone_file.specs.Context.{owner_of, ReadsRecord, soa_of, after_record, included, resumed}
 use Rattle.dns_zone_file.specs.Entry.{Inclusion, text_name, origin_of, inclusion, inclusion_of, entry_of, Entry, origin_directive, include_directive}
-use Rattle.dns_zone_file.specs.Fields.{if_ok, name_of, Field, ttl_field, bad_ttl, class_field, type_field, no_field, field_of, Fields, fields_after}
-use Rattle.dns_zone_file.specs.Parsing.{Includes, text_of, Applies, for_nothing, for_origin, for_ttl, for_record, IncludesText, Parses, ended, bad_text, bad_entry, applied, too_deep, not_found, bad_included, past_included, start_origin, ZoneFile, ParsesFile}
+use Rattle.dns_zone_file.specs.Fields.{if_ok, name_of, Field, ttl_field, bad_ttl, class_field, type_field, no_field, field_in, Fields, fields_from}
+use Rattle.dns_zone_file.specs.Parsing.{Includes, text_of, Applies, for_nothing, for_origin, for_ttl, for_record, IncludesText, Parses, ended, bad_text, bad_entry, applied, too_deep, not_found, bad_included, past_included, start_origin, ZoneFile, ParsesIn}
+use Rattle.dns_zone_file.specs.declared.types.Types.{Types}
+use Rattle.dns_zone_file.specs.declared.types.Types.TheVariants.{Nine}
+use Rattle.dns_zone_file.specs.Data.{ReadsIn}
 use Rattle.dns_zone_file.specs.Printed.{IsValidName, HasText, IsTextSet, IsTextFile}
 use Rattle.dns_zone_file.specs.RecordSets.{is_set_for, inserted_in}
 use Rattle.dns_zone_file.proofs.FieldsLaws.{with_field}
@@ -95,20 +98,20 @@ has_arguments (EOL ∷ tokens) are = tt
 abbrev LeavesOctets : Fields → Type 0
 LeavesOctets f = HaveOctets f.rdata
 
-next_field : (field : Field) (ttl : Option ℕ) (class : Option DNSClass) (tokens : List Lexeme) → HaveOctets tokens
-    → ((later : Option ℕ) (found : Option DNSClass) → IfOk (fields_after later found tokens) LeavesOctets)
-    → IfOk (with_field ttl class field tokens) LeavesOctets
-next_field (ttl_field n) (Some other) class tokens are more = tt
-next_field (ttl_field n) None class tokens are more = more (Some n) class
-next_field bad_ttl ttl class tokens are more = tt
-next_field (class_field found) ttl (Some other) tokens are more = tt
-next_field (class_field found) ttl None tokens are more = more ttl (Some found)
-next_field (type_field found) ttl class tokens are more = are
-next_field no_field ttl class tokens are more = tt
+next_field : (types : Types) (field : Field) (ttl : Option ℕ) (class : Option DNSClass) (tokens : List Lexeme) → HaveOctets tokens
+    → ((later : Option ℕ) (found : Option DNSClass) → IfOk (fields_from types later found tokens) LeavesOctets)
+    → IfOk (with_field types ttl class field tokens) LeavesOctets
+next_field types (ttl_field n) (Some other) class tokens are more = tt
+next_field types (ttl_field n) None class tokens are more = more (Some n) class
+next_field types bad_ttl ttl class tokens are more = tt
+next_field types (class_field found) ttl (Some other) tokens are more = tt
+next_field types (class_field found) ttl None tokens are more = more ttl (Some found)
+next_field types (type_field found) ttl class tokens are more = are
+next_field types no_field ttl class tokens are more = tt
 
-fields_leave : (ttl : Option ℕ) (class : Option DNSClass) (tokens : List Lexeme) → HaveOctets tokens → IfOk (fields_after ttl class tokens) LeavesOctets
-fields_leave ttl class [] are = tt
-fields_leave ttl class (token ∷ tokens) are = next_field (field_of token) ttl class tokens are.1 (λ later found. fields_leave later found tokens are.1)
+fields_leave : (types : Types) (ttl : Option ℕ) (class : Option DNSClass) (tokens : List Lexeme) → HaveOctets tokens → IfOk (fields_from types ttl class tokens) LeavesOctets
+fields_leave types ttl class [] are = tt
+fields_leave types ttl class (token ∷ tokens) are = next_field types (field_in types token) ttl class tokens are.1 (λ later found. fields_leave types later found tokens are.1)
 
 behind_owner : (tokens : List Lexeme) → HaveOctets tokens → HaveOctets (drop 1 tokens)
 behind_owner [] are = tt
@@ -134,6 +137,7 @@ inserted_sets (s ∷ more) r all p =
 -- ---- contexts
 
 pub record IsTextContext (c : Context) : Type 0 where
+  pub types : c.types ≡ Nine
   pub origin : IsValidName c.origin
   pub owner : IfSome c.owner IsValidName
   pub sets : AllByRecursion IsTextSet c.sets
@@ -152,16 +156,18 @@ data_has_text origin t tokens d p = ap (λ (kinds : List Kind). has_text kinds) 
 text_record : (c : Context) (tokens : List Lexeme) (stated : Option ℕ) (r : Record) → IsTextContext c → HaveOctets tokens → ReadsRecord c tokens stated r → IsTextRecord r
 text_record c tokens stated r h are reads =
     let fields = reads.fields in
-    let left : HaveOctets fields.rdata = at_ok LeavesOctets reads.between (fields_leave None None (drop 1 tokens) (behind_owner tokens are)) in (
+    let left : HaveOctets fields.rdata = at_ok LeavesOctets reads.between (fields_leave c.types None None (drop 1 tokens) (behind_owner tokens are)) in
+    let parsed : IsParsedData (Some c.origin) fields.record_type fields.rdata r.rdata = subst (λ (types : Types). ReadsIn types c.origin fields.record_type fields.rdata r.rdata) h.types reads.rdata in (
       at_ok IsValidName reads.owner (owner_valid c tokens h.origin h.owner are),
       record {
-        valid = parsed_valid c.origin fields.record_type fields.rdata r.rdata h.origin left reads.rdata;
-        has_text = data_has_text (Some c.origin) fields.record_type fields.rdata r.rdata reads.rdata;
+        valid = parsed_valid c.origin fields.record_type fields.rdata r.rdata h.origin left parsed;
+        has_text = data_has_text (Some c.origin) fields.record_type fields.rdata r.rdata parsed;
       },
     )
 
 after_one : (c : Context) (stated : Option ℕ) (r : Record) → IsTextContext c → IsTextRecord r → IsTextContext (after_record c stated r)
 after_one c stated r h p = record {
+  types = h.types;
   origin = h.origin;
   owner = p.0;
   sets = inserted_sets c.sets r h.sets p;
@@ -169,13 +175,13 @@ after_one c stated r h p = record {
 }
 
 with_origin : (c : Context) (origin : DomainName) → IsTextContext c → IsValidName origin → IsTextContext (record c { origin = origin })
-with_origin c origin h is = record { origin = is; owner = h.owner; sets = h.sets; first_soa = h.first_soa }
+with_origin c origin h is = record { types = h.types; origin = is; owner = h.owner; sets = h.sets; first_soa = h.first_soa }
 
 after_entry : {c next : Context} {tokens : List Lexeme} → Applies c tokens next → IsTextContext c → HaveOctets tokens → IsTextContext next
 after_entry (for_nothing entry) h are = h
 after_entry {c} {tokens = tokens} (for_origin {arguments = arguments} {origin = origin} entry reads) h are =
     with_origin c origin h (at_ok IsValidName reads (origin_valid c.origin arguments h.origin (subst HasArguments entry (has_arguments tokens are))))
-after_entry {c} (for_ttl entry reads) h are = record { origin = h.origin; owner = h.owner; sets = h.sets; first_soa = h.first_soa }
+after_entry {c} (for_ttl entry reads) h are = record { types = h.types; origin = h.origin; owner = h.owner; sets = h.sets; first_soa = h.first_soa }
 after_entry {c} {tokens = tokens} (for_record entry adds) h are =
     subst IsTextContext (sym adds.after) (after_one c adds.stated adds.added h (text_record c tokens adds.stated adds.added h are adds.reads))
 
@@ -184,7 +190,7 @@ at_include {c} {tokens = tokens} {i = i} w h are =
     with_origin c i.origin h (at_ok (λ (x : Inclusion). IsValidName x.origin) w.read (inclusion_valid c.origin w.arguments h.origin (subst HasArguments w.entry (has_arguments tokens are))))
 
 after_text : (c after : Context) → IsTextContext c → IsTextContext after → IsTextContext (resumed c after)
-after_text c after h k = record { origin = h.origin; owner = h.owner; sets = k.sets; first_soa = k.first_soa }
+after_text c after h k = record { types = k.types; origin = h.origin; owner = h.owner; sets = k.sets; first_soa = k.first_soa }
 
 -- ---- texts
 
@@ -214,5 +220,5 @@ start_valid : (origin : Option DomainName) → IfSome origin IsValidName → IsV
 start_valid None h = (record { each = tt; fits = omega arith }, tt)
 start_valid (Some origin) h = h
 
-pub text_file : (file : ZoneFile) (c : Context) → IsTextFile file → ParsesFile file.includes file.origin file.text (Ok c) → IsTextContext c
-text_file file c is parses = at_end parses is.includes (record { origin = start_valid file.origin is.origin; owner = tt; sets = tt; first_soa = tt }) is.text
+pub text_file : (file : ZoneFile) (c : Context) → IsTextFile file → ParsesIn file.types file.includes file.origin file.text (Ok c) → IsTextContext c
+text_file file c is parses = at_end parses is.includes (record { types = is.types; origin = start_valid file.origin is.origin; owner = tt; sets = tt; first_soa = tt }) is.text

@@ -1,6 +1,6 @@
 -- Names that an origin completes are fully qualified, and TTLs have 32 bits.
 use Rattle.std.proofs.Common.{◌≡◌, ◌<◌, ◌^◌, ℕ, Bool, true, false, if◌then◌else◌, List, [], ◌∷◌, Option, Some, None, option_map, Result, Ok, Err, IfSome, IfOk, refl, subst, arith}
-use Rattle.dns_codes.specs.CodeText.{or_else, type_of_text}
+use Rattle.dns_codes.specs.CodeText.{or_else}
 use Rattle.dns_codes.specs.declared.dns_class.DNSClass.{DNSClass}
 use Rattle.dns_codes.specs.declared.record_type.RecordType.{RecordType}
 use Rattle.dns_names.specs.Name.{DomainName}
@@ -11,7 +11,7 @@ use Rattle.dns_text.specs.Lexer.{Lexeme, Blank, CharData, At}
 use Rattle.dns_text.specs.Ttl.{time}
 use Rattle.dns_data.specs.declared.rdata.RData.{RData}
 use Rattle.dns_data.specs.declared.rdata.RData.TheVariants as of
-use Rattle.dns_data.specs.rdata.{IsParsedData}
+use Rattle.dns_data.specs.rdata.{IsParsedData, IsSoundData}
 use Rattle.dns_data.specs.rdata.SOA.{soa_kinds, soa_values}
 use Rattle.dns_data.proofs.ParsedSoundLaws.{time_fits, completed-is_fqdn, values_sound}
 use Rattle.dns_zone_file.specs.declared.error.EntryFault.{EntryFault}
@@ -19,7 +19,11 @@ use Rattle.dns_zone_file.specs.declared.error.EntryFault.TheVariants as fault
 use Rattle.dns_zone_file.specs.declared.context.Context.{Context}
 use Rattle.dns_zone_file.specs.Context.{or_fault, owner_of, minimum_of}
 use Rattle.dns_zone_file.specs.Entry.{or_invalid, origin_of, ttl_of, text_name, inclusion, inclusion_of}
-use Rattle.dns_zone_file.specs.Fields.{if_ok, name_of, Field, ttl_field, bad_ttl, class_field, type_field, no_field, begins_with_digit, zone_class, ttl_or_bad, type_or_none, field_of, Fields, fields_after}
+use Rattle.dns_zone_file.specs.declared.types.Types.{Types}
+use Rattle.dns_zone_file.specs.declared.types.Types.TheVariants.{Nine, All}
+use Rattle.dns_zone_file.specs.Types.{type_in}
+use Rattle.dns_zone_file.specs.Data.{ReadsIn, IsAnyData, in_values, in_bytes}
+use Rattle.dns_zone_file.specs.Fields.{if_ok, name_of, Field, ttl_field, bad_ttl, class_field, type_field, no_field, begins_with_digit, zone_class, ttl_or_bad, type_or_none, field_in, Fields, fields_from}
 use Rattle.dns_zone_file.proofs.FieldsLaws.{with_field}
 
 -- ---- values that may be absent
@@ -126,30 +130,42 @@ word_fits true number class type h = ttl_field_fits number h
 word_fits false number (Some class) type h = tt
 word_fits false number None type h = type_field_fits type
 
-field_fits : (token : Lexeme) → FieldFits (field_of token)
-field_fits (CharData text) = word_fits (begins_with_digit text) (time text) (zone_class text) (type_of_text text) (time_has_32_bits text)
-field_fits token = tt
+field_fits : (types : Types) (token : Lexeme) → FieldFits (field_in types token)
+field_fits types (CharData text) = word_fits (begins_with_digit text) (time text) (zone_class text) (type_in types text) (time_has_32_bits text)
+field_fits types token = tt
 
 abbrev StatesTtl : Fields → Type 0
 StatesTtl f = IfSome f.ttl FitsTtl
 
-next_field : (field : Field) (ttl : Option ℕ) (class : Option DNSClass) (tokens : List Lexeme) → FieldFits field → IfSome ttl FitsTtl
-    → ((later : Option ℕ) (found : Option DNSClass) → IfSome later FitsTtl → IfOk (fields_after later found tokens) StatesTtl)
-    → IfOk (with_field ttl class field tokens) StatesTtl
-next_field (ttl_field n) (Some other) class tokens h k more = tt
-next_field (ttl_field n) None class tokens h k more = more (Some n) class h
-next_field bad_ttl ttl class tokens h k more = tt
-next_field (class_field found) ttl (Some other) tokens h k more = tt
-next_field (class_field found) ttl None tokens h k more = more ttl (Some found) k
-next_field (type_field found) ttl class tokens h k more = k
-next_field no_field ttl class tokens h k more = tt
+next_field : (types : Types) (field : Field) (ttl : Option ℕ) (class : Option DNSClass) (tokens : List Lexeme) → FieldFits field → IfSome ttl FitsTtl
+    → ((later : Option ℕ) (found : Option DNSClass) → IfSome later FitsTtl → IfOk (fields_from types later found tokens) StatesTtl)
+    → IfOk (with_field types ttl class field tokens) StatesTtl
+next_field types (ttl_field n) (Some other) class tokens h k more = tt
+next_field types (ttl_field n) None class tokens h k more = more (Some n) class h
+next_field types bad_ttl ttl class tokens h k more = tt
+next_field types (class_field found) ttl (Some other) tokens h k more = tt
+next_field types (class_field found) ttl None tokens h k more = more ttl (Some found) k
+next_field types (type_field found) ttl class tokens h k more = k
+next_field types no_field ttl class tokens h k more = tt
 
-pub fields_fit : (ttl : Option ℕ) (class : Option DNSClass) (tokens : List Lexeme) → IfSome ttl FitsTtl → IfOk (fields_after ttl class tokens) (λ f. IfSome f.ttl FitsTtl)
-fields_fit ttl class [] h = tt
-fields_fit ttl class (token ∷ tokens) h =
-    next_field (field_of token) ttl class tokens (field_fits token) h (λ later found k. fields_fit later found tokens k)
+pub fields_fit : (types : Types) (ttl : Option ℕ) (class : Option DNSClass) (tokens : List Lexeme) → IfSome ttl FitsTtl → IfOk (fields_from types ttl class tokens) (λ f. IfSome f.ttl FitsTtl)
+fields_fit types ttl class [] h = tt
+fields_fit types ttl class (token ∷ tokens) h =
+    next_field types (field_in types token) ttl class tokens (field_fits types token) h (λ later found k. fields_fit types later found tokens k)
 
 -- the minimum of an SOA record
-pub minimum_fits : (origin : DomainName) (type : RecordType) (tokens : List Lexeme) (d : RData) → IsParsedData (Some origin) type tokens d → IfSome (minimum_of d) FitsTtl
-minimum_fits origin type tokens (of.SOA soa) p = (values_sound origin soa_kinds tokens (soa_values soa) p.values).1.1.1.1.1.1.0
-minimum_fits origin type tokens d p = tt
+values_minimum : (origin : DomainName) (type : RecordType) (tokens : List Lexeme) (d : RData) → IsParsedData (Some origin) type tokens d → IfSome (minimum_of d) FitsTtl
+values_minimum origin type tokens (of.SOA soa) p = (values_sound origin soa_kinds tokens (soa_values soa) p.values).1.1.1.1.1.1.0
+values_minimum origin type tokens d p = tt
+
+sound_minimum : (d : RData) → IsSoundData d → IfSome (minimum_of d) FitsTtl
+sound_minimum (of.SOA soa) s = s.values.1.1.1.1.1.1.0
+sound_minimum d s = tt
+
+any_minimum : (origin : DomainName) (type : RecordType) (tokens : List Lexeme) (d : RData) → IsAnyData origin type tokens d → IfSome (minimum_of d) FitsTtl
+any_minimum origin type tokens d (in_values none p) = values_minimum origin type tokens d p
+any_minimum origin type tokens d (in_bytes bytes has is p) = sound_minimum d p.decoded.sound
+
+pub minimum_fits : (types : Types) (origin : DomainName) (type : RecordType) (tokens : List Lexeme) (d : RData) → ReadsIn types origin type tokens d → IfSome (minimum_of d) FitsTtl
+minimum_fits Nine origin type tokens d p = values_minimum origin type tokens d p
+minimum_fits All origin type tokens d p = any_minimum origin type tokens d p

@@ -1,7 +1,7 @@
 -- The fields of a record in a zone file: owner, TTL, class and type (RFC 1035 section 5.1).
 use Rattle.std.specs.Prelude.{ℕ, if◌then◌else◌, Bool, false, List, [], ◌∷◌, find, Option, Some, None, Result, Ok, Err}
 use Rattle.std.specs.Str.{str_eq_ignore_ascii_case}
-use Rattle.dns_codes.specs.CodeText.{type_of_text, class_name}
+use Rattle.dns_codes.specs.CodeText.{class_name}
 use Rattle.dns_codes.specs.Decimal.{is_digit}
 use Rattle.dns_codes.specs.declared.record_type.RecordType.{RecordType}
 use Rattle.dns_codes.specs.declared.dns_class.DNSClass.{DNSClass}
@@ -13,6 +13,9 @@ use Rattle.dns_text.specs.Lexer.{Lexeme, CharData, At}
 use Rattle.dns_text.specs.Ttl.{time}
 use Rattle.dns_zone_file.specs.declared.error.EntryFault.{EntryFault}
 use Rattle.dns_zone_file.specs.declared.error.EntryFault.TheVariants.{InvalidTtl, RepeatedField, MissingType, UnknownType}
+use Rattle.dns_zone_file.specs.declared.types.Types.{Types}
+use Rattle.dns_zone_file.specs.declared.types.Types.TheVariants.{Nine}
+use Rattle.dns_zone_file.specs.Types.{type_in}
 
 -- ---- names
 
@@ -58,15 +61,23 @@ type_or_none (Some record_type) = type_field record_type
 type_or_none None = no_field
 
 -- A word is a TTL if it begins with a digit, a class if it is IN, CH or HS, and otherwise a type.
-abbrev pub field_of_word : List ℕ → Field
-field_of_word text =
+abbrev pub word_field : Types → List ℕ → Field
+word_field types text =
     if begins_with_digit text then ttl_or_bad (time text)
-    else elim (zone_class text) [ Some class ↦ class_field class | None ↦ type_or_none (type_of_text text) ]
+    else elim (zone_class text) [ Some class ↦ class_field class | None ↦ type_or_none (type_in types text) ]
+
+-- among the types that have fields here
+abbrev pub field_of_word : List ℕ → Field
+field_of_word text = word_field Nine text
 
 -- What a token between owner and data is: a word that begins with a digit is a TTL, and any other a class or a type.
+abbrev pub field_in : Types → Lexeme → Field
+field_in types (CharData text) = word_field types text
+field_in types other = no_field
+
+-- among the types that have fields here
 abbrev pub field_of : Lexeme → Field
-field_of (CharData text) = field_of_word text
-field_of other = no_field
+field_of token = field_in Nine token
 
 -- the TTL and the class, if they are stated, the type, and the tokens of the data
 pub record Fields : Type 0 where
@@ -76,16 +87,24 @@ pub record Fields : Type 0 where
   pub rdata : List Lexeme
 
 -- a TTL and a class, each at most once and in either order, a type, and the data
-abbrev pub fields_after : Option ℕ → Option DNSClass → List Lexeme → Result Fields EntryFault
-fields_after ttl class [] = Err MissingType
-fields_after ttl class (token ∷ tokens) = elim (field_of token) [
-  | ttl_field seconds ↦ elim ttl [ Some other ↦ Err RepeatedField | None ↦ fields_after (Some seconds) class tokens ]
+abbrev pub fields_from : Types → Option ℕ → Option DNSClass → List Lexeme → Result Fields EntryFault
+fields_from types ttl class [] = Err MissingType
+fields_from types ttl class (token ∷ tokens) = elim (field_in types token) [
+  | ttl_field seconds ↦ elim ttl [ Some other ↦ Err RepeatedField | None ↦ fields_from types (Some seconds) class tokens ]
   | bad_ttl ↦ Err InvalidTtl
-  | class_field found ↦ elim class [ Some other ↦ Err RepeatedField | None ↦ fields_after ttl (Some found) tokens ]
+  | class_field found ↦ elim class [ Some other ↦ Err RepeatedField | None ↦ fields_from types ttl (Some found) tokens ]
   | type_field found ↦ Ok (record { ttl = ttl; dns_class = class; record_type = found; rdata = tokens })
   | no_field ↦ Err UnknownType
 ]
 
+-- among the types that have fields here
+abbrev pub fields_after : Option ℕ → Option DNSClass → List Lexeme → Result Fields EntryFault
+fields_after ttl class tokens = fields_from Nine ttl class tokens
+
 -- the fields between owner and data (RFC 1035 section 5.1), and the tokens of the data
+abbrev pub fields_in : Types → List Lexeme → Result Fields EntryFault
+fields_in types tokens = fields_from types None None tokens
+
+-- among the types that have fields here
 abbrev pub fields_of : List Lexeme → Result Fields EntryFault
-fields_of tokens = fields_after None None tokens
+fields_of tokens = fields_in Nine tokens

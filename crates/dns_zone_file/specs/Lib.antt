@@ -1,4 +1,7 @@
+pub mod Data
 pub mod Error
+pub mod Listed
+pub mod Types
 pub mod RecordSets
 pub mod Fields
 pub mod Entry

@@ -1,5 +1,5 @@
 -- What the records of a zone file are like, and the sets that they form (RFC 2181 section 5).
-use Rattle.std.specs.Prelude.{◌≡◌, ◌<◌, ◌^◌, Bool, true, false, List, length, Some}
+use Rattle.std.specs.Prelude.{◌≡◌, ◌<◌, ◌^◌, Bool, true, false, List, length}
 use Rattle.std.specs.List.{AllByRecursion, IsDistinct}
 use Rattle.dns_codes.specs.DNSClass.{class_number}
 use Rattle.dns_codes.specs.declared.record_type.RecordType.{RecordType}
@@ -7,9 +7,11 @@ use Rattle.dns_codes.specs.declared.record_type.RecordType.TheVariants as types
 use Rattle.dns_names.specs.Name.{DomainName}
 use Rattle.dns_names.specs.Compare.{same_name}
 use Rattle.dns_text.specs.Lexer.{Lexeme}
-use Rattle.dns_data.specs.rdata.{data_type, IsParsedData}
+use Rattle.dns_data.specs.rdata.{data_type}
 use Rattle.dns_records.specs.Record.{Record}
 use Rattle.dns_records.specs.RecordSet.{RecordSetValue, AreDistinct, record_data}
+use Rattle.dns_zone_file.specs.declared.types.Types.{Types}
+use Rattle.dns_zone_file.specs.Data.{ReadsIn}
 use Rattle.dns_zone_file.specs.RecordSets.{is_set_of, IsNamedType}
 
 -- A record of a set: fully qualified, with the owner of the set up to ASCII case, its class and its type, a TTL of 32 bits, and
@@ -20,10 +22,11 @@ pub record IsParsedRecord (s : RecordSetValue) (r : Record) : Type 0 where
   pub dns_class : class_number r.dns_class ≡ class_number s.dns_class
   pub record_type : data_type r.rdata ≡ s.record_type
   pub ttl_fits : r.ttl < 2 ^ 32
+  pub types : Types
   pub origin : DomainName
   pub of_type : RecordType
   pub tokens : List Lexeme
-  pub rdata : IsParsedData (Some origin) of_type tokens r.rdata
+  pub rdata : ReadsIn types origin of_type tokens r.rdata
 
 -- the types of which an owner has one record at most: CNAME and SOA (RFC 2136 section 1.1.5)
 abbrev pub is_singleton_type : RecordType → Bool

@@ -3,7 +3,8 @@ use Rattle.std.specs.Prelude.{◌≡◌, ◌+◌, ◌<◌, ◌≤◌, ℕ, true,
 use Rattle.std.specs.Str.{bytes_eq}
 use Rattle.dns_names.specs.Name.{DomainName}
 use Rattle.dns_names.specs.Build.{root_name}
-use Rattle.dns_text.specs.Lexer.{Lexeme, LexerState, NextToken, start}
+use Rattle.dns_codes.specs.declared.dns_class.DNSClass.TheVariants as classes
+use Rattle.dns_text.specs.Lexer.{Lexeme, LexerState, NextToken, start_with}
 use Rattle.dns_text.specs.declared.error.LexerError.{LexerError}
 use Rattle.dns_zone_file.specs.declared.error.EntryFault.{EntryFault}
 use Rattle.dns_zone_file.specs.declared.error.EntryFault.TheVariants.{TooManyIncludes}
@@ -11,6 +12,9 @@ use Rattle.dns_zone_file.specs.declared.error.ZoneFileError.{ZoneFileError}
 use Rattle.dns_zone_file.specs.declared.error.ZoneFileError.TheVariants.{Lexer, Entry, IncludeNotFound}
 use Rattle.dns_zone_file.specs.declared.context.Context.{Context}
 use Rattle.dns_zone_file.specs.declared.parser.ZoneRecords.{ZoneRecords}
+use Rattle.dns_zone_file.specs.declared.types.Types.{Types}
+use Rattle.dns_zone_file.specs.declared.types.Types.TheVariants.{Nine}
+use Rattle.dns_zone_file.specs.Types.{quotes_of}
 use Rattle.dns_zone_file.specs.Entry.{LexesEntry, RefusesTokens, nothing, origin_directive, ttl_directive, include_directive, record_entry, entry_of, Inclusion, origin_of, ttl_of, inclusion_of}
 use Rattle.dns_zone_file.specs.Context.{AddsRecord, RefusesRecord, included, resumed}
 
@@ -56,6 +60,10 @@ pub data RefusesEntry (c : Context) (tokens : List Lexeme) : EntryFault → Type
 
 -- ---- texts
 
+-- the start of a text, whose quoted strings go as far as those of the whole file
+abbrev pub start_in : Types → List ℕ → LexerState
+start_in types text = start_with (quotes_of types) text
+
 -- Parses includes depth c p outcome: the context at the end of a text, or the first fault, from a state of the lexer and a
 -- context on. The text is nested in `depth` others.
 pub data Parses (includes : Includes) : ℕ → Context → LexerState → Result Context ZoneFileError → Type 0 where
@@ -75,11 +83,11 @@ pub data Parses (includes : Includes) : ℕ → Context → LexerState → Resul
       → Parses includes depth c p (Err (IncludeNotFound p.entry))
   bad_included : {depth : ℕ} {c : Context} {p next : LexerState} {tokens : List Lexeme} {i : Inclusion} {text : List ℕ}
       {error : ZoneFileError} → LexesEntry p tokens next → IncludesText c tokens i → depth < max_includes
-      → text_of includes i.name ≡ Some text → Parses includes (depth + 1) (included c i.origin) (start text) (Err error)
+      → text_of includes i.name ≡ Some text → Parses includes (depth + 1) (included c i.origin) (start_in c.types text) (Err error)
       → Parses includes depth c p (Err error)
   past_included : {depth : ℕ} {c after : Context} {p next : LexerState} {tokens : List Lexeme} {i : Inclusion} {text : List ℕ}
       {outcome : Result Context ZoneFileError} → LexesEntry p tokens next → IncludesText c tokens i → depth < max_includes
-      → text_of includes i.name ≡ Some text → Parses includes (depth + 1) (included c i.origin) (start text) (Ok after)
+      → text_of includes i.name ≡ Some text → Parses includes (depth + 1) (included c i.origin) (start_in c.types text) (Ok after)
       → Parses includes depth (resumed c after) next outcome → Parses includes depth c p outcome
 
 -- ---- files
@@ -89,26 +97,38 @@ abbrev pub start_origin : Option DomainName → DomainName
 start_origin None = root_name
 start_origin (Some origin) = record origin { is_fqdn = true }
 
--- the context at the start of a file: no owner, no TTL and no record precedes it
-abbrev pub start_context : DomainName → Context
-start_context origin = record {
+-- the context at the start of a file: no owner, no TTL, no class and no record precedes it
+abbrev pub context_in : Types → DomainName → Context
+context_in types origin = record {
+  types = types;
   origin = origin;
   owner = None;
   default_ttl = None;
   last_ttl = None;
+  last_class = classes.IN;
   sets = [];
   first_soa = None;
 }
 
--- the outcome of a file, with texts to include and perhaps an origin
-abbrev pub ParsesFile : Includes → Option DomainName → List ℕ → Result Context ZoneFileError → Type 0
-ParsesFile includes origin text outcome = Parses includes 0 (start_context (start_origin origin)) (start text) outcome
+-- the context at the start of a file of the types that have fields here
+abbrev pub start_context : DomainName → Context
+start_context origin = context_in Nine origin
 
--- a file, with texts to include and perhaps an origin
+-- the outcome of a file, by the types that it may have, with texts to include and perhaps an origin
+abbrev pub ParsesIn : Types → Includes → Option DomainName → List ℕ → Result Context ZoneFileError → Type 0
+ParsesIn types includes origin text outcome =
+    Parses includes 0 (context_in types (start_origin origin)) (start_in types text) outcome
+
+-- the outcome of a file of the types that have fields here
+abbrev pub ParsesFile : Includes → Option DomainName → List ℕ → Result Context ZoneFileError → Type 0
+ParsesFile includes origin text outcome = ParsesIn Nine includes origin text outcome
+
+-- a file, with texts to include, perhaps an origin, and the types that it may have
 pub record ZoneFile : Type 0 where
   pub text : List ℕ
   pub includes : Includes
   pub origin : Option DomainName
+  pub types : Types
 
 -- what a file contains, by the context at its end
 abbrev pub zone_records : Context → ZoneRecords
@@ -121,5 +141,5 @@ zone_records c = record {
 -- a file that contains these records
 pub record HasRecords (file : ZoneFile) (records : ZoneRecords) : Type 0 where
   pub context : Context
-  pub parses : ParsesFile file.includes file.origin file.text (Ok context)
+  pub parses : ParsesIn file.types file.includes file.origin file.text (Ok context)
   pub records_are : records ≡ zone_records context

@@ -14,6 +14,7 @@ use Rattle.dns_records.specs.Record.{Record}
 use Rattle.dns_records.specs.RecordSet.{RecordSetValue}
 use Rattle.dns_zone_file.specs.declared.context.Context.{Context}
 use Rattle.dns_zone_file.specs.declared.parser.ZoneRecords.{ZoneRecords}
+use Rattle.dns_zone_file.specs.declared.types.Types.TheVariants.{Nine}
 use Rattle.dns_zone_file.specs.Context.{soa_of, after_record}
 use Rattle.dns_zone_file.specs.Parsing.{ZoneFile, start_origin}
 use Rattle.dns_zone_file.specs.RecordSets.{inserted_in}
@@ -67,8 +68,10 @@ pub record IsTextSet (s : RecordSetValue) : Type 0 where
   pub owner : IsValidName s.name
   pub rdata : AllByRecursion (λ r. HasText r.rdata) s.records
 
--- a text and the texts to include consist of octets, and the origin is valid, as the types of the parser's arguments ensure
+-- a text and the texts to include consist of octets, and the origin is valid, as the types of the parser's arguments ensure;
+-- the file has the types with fields alone
 pub record IsTextFile (file : ZoneFile) : Type 0 where
+  pub types : file.types ≡ Nine
   pub text : AreOctets file.text
   pub includes : AllByRecursion (λ i. AreOctets i.1) file.includes
   pub origin : IfSome file.origin IsValidName

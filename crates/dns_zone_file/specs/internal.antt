@@ -1,4 +1,5 @@
 -- How contracts view the types of the code.
+pub mod Data
 pub mod Error
 pub mod Fields
 pub mod Entry

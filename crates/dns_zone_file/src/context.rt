@@ -1,24 +1,24 @@
 //! What the entries of a zone file determine for those after them, and the records that they add (RFC 1035 section 5.1, RFC
 //! 2308 section 4).
 
-ghost use Rattle.std.specs.Prelude.{◌≡◌, map, drop, Ok, Err, Some, None, IfOk, IfSome, IfErr, OnOk, true, false};
+ghost use Rattle.std.specs.Prelude.{◌≡◌, map, drop, Ok, Err, None, IfOk, IfSome, IfErr, OnOk, true, false};
 ghost use Rattle.dns_text.specs.Token.{lexeme};
-ghost use Rattle.dns_data.specs.rdata.{data_type, IsParsedData, RefusesText};
+ghost use Rattle.dns_data.specs.rdata.{data_type};
 ghost use Rattle.dns_zone_file.specs.Context.{soa_of};
 ghost use Rattle.dns_zone_file.specs.RecordSets.{IsNamedType};
 ghost use Rattle.dns_zone_file.specs.internal.Error.{IsFault};
-ghost use Rattle.dns_zone_file.specs.internal.Context.{IsDataFault};
 
+use crate::data::parse_rdata;
 use crate::entry::{Entry, Inclusion, entry_of, parse_default_ttl, parse_inclusion, parse_origin};
 use crate::error::{EntryError, EntryFault};
 use crate::fields::{parse_fields, parse_name};
 use crate::record_sets::RecordSets;
-use dns_data::{RData, RDataParseError};
+use crate::types::Types;
+use dns_data::RData;
 use dns_names::Name;
 use dns_records::Record;
 use dns_text::Token;
-use dns_wire::laws::type_number_round_trips;
-use dns_wire::{DNSClass, RecordType};
+use dns_wire::DNSClass;
 use std::alloc::{AllocError, Global};
 use std::mem;
 
@@ -32,6 +32,8 @@ pub(crate) struct StartOfAuthority {
 /// What the entries so far determine for the next ones, and their records.
 #[derive(Drop)]
 pub(crate) struct Context {
+    /// Which types the file may have.
+    pub(crate) types: Types,
     /// Completes relative names.
     pub(crate) origin: Name,
     /// The owner of the last record.
@@ -40,6 +42,8 @@ pub(crate) struct Context {
     pub(crate) default_ttl: Option<u32>,
     /// The last TTL of a record that was stated, in seconds.
     pub(crate) last_ttl: Option<u32>,
+    /// The class of the last record, IN before any.
+    pub(crate) last_class: DNSClass,
     pub(crate) sets: RecordSets,
     /// That of the first SOA record.
     pub(crate) first_soa: Option<StartOfAuthority>,
@@ -52,6 +56,7 @@ pub(crate) struct SavedContext {
     owner: Option<Name>,
     default_ttl: Option<u32>,
     last_ttl: Option<u32>,
+    last_class: DNSClass,
 }
 
 /// A record without its owner, and its TTL if the entry states one.
@@ -74,17 +79,19 @@ impl Context {
     ghost use Rattle.dns_names.specs.Name.{DomainName};
     ghost use Rattle.dns_zone_file.specs.Context.{included, resumed};
     ghost use Rattle.dns_zone_file.specs.internal.Context.{saved_of, restored};
-    ghost use Rattle.dns_zone_file.specs.Parsing.{start_context};
+    ghost use Rattle.dns_zone_file.specs.Parsing.{context_in};
 
     /// Creates the context at the start of a file.
-    pub(crate) fn new(alloc: Global, origin: Name) -> Context
-        ensures { result ≡ start_context origin }
+    pub(crate) fn new(alloc: Global, types: Types, origin: Name) -> Context
+        ensures { result ≡ context_in types origin }
     {
         Context {
+            types,
             origin,
             owner: None,
             default_ttl: None,
             last_ttl: None,
+            last_class: DNSClass::IN,
             sets: RecordSets::new(alloc),
             first_soa: None,
         }
@@ -101,10 +108,11 @@ impl Context {
             owner,
             default_ttl: self.default_ttl,
             last_ttl: self.last_ttl,
+            last_class: self.last_class,
         })
     }
 
-    /// Restores origin, owner and TTLs after an included text.
+    /// Restores origin, owner, TTLs and class after an included text.
     pub(crate) fn resume(&mut self, saved: SavedContext)
         ensures { self.new ≡ restored saved self.old }
     {
@@ -112,11 +120,12 @@ impl Context {
         self.owner = saved.owner;
         self.default_ttl = saved.default_ttl;
         self.last_ttl = saved.last_ttl;
+        self.last_class = saved.last_class;
     }
 }
 
 impl Context {
-    ghost use Rattle.dns_zone_file.specs.Context.{owner_of, ttl_for, ReadsRecord, RefusesRecord};
+    ghost use Rattle.dns_zone_file.specs.Context.{owner_of, ttl_for, default_class, ReadsRecord, RefusesRecord};
     ghost use Rattle.dns_zone_file.specs.internal.Context.{ReadsData, RefusesData, minimum_for};
 
     /// Parses the owner of a record.
@@ -160,15 +169,26 @@ impl Context {
         stated.or(self.default_ttl).or(self.last_ttl).or(minimum)
     }
 
+    /// Returns the class of a record that states none.
+    fn default_class(&self) -> DNSClass
+        ensures { result ≡ default_class self.now }
+    {
+        match self.types {
+            Types::Nine => DNSClass::IN,
+            Types::All => self.last_class,
+        }
+    }
+
     /// Parses a record behind its owner.
     fn parse_data(&self, alloc: Global, tokens: &[Token<'_>]) -> Result<ParsedData, EntryError>
         ensures ok { IfOk result (ReadsData self.now (map lexeme tokens.now)) }
         ensures named { IfOk result (λ d. IsNamedType (data_type d.rdata)) }
         ensures refused { IfErr result (IsFault (RefusesData self.now (map lexeme tokens.now))) }
     {
-        let fields = parse_fields(tokens)?;
+        let fields = parse_fields(self.types, tokens)?;
         let rdata = parse_rdata(
             alloc,
+            self.types,
             fields.record_type,
             &tokens[fields.count..],
             &self.origin,
@@ -177,7 +197,7 @@ impl Context {
             Some(ttl) => Ok(ParsedData {
                 stated: fields.ttl,
                 ttl,
-                dns_class: fields.dns_class.unwrap_or(DNSClass::IN),
+                dns_class: fields.dns_class.unwrap_or(self.default_class()),
                 rdata,
             }),
             None => Err(EntryError::Fault(EntryFault::NoTtl)),
@@ -221,6 +241,7 @@ impl Context {
         }
         self.owner = Some(parsed.name.clone()?);
         self.last_ttl = stated.or(self.last_ttl);
+        self.last_class = parsed.dns_class;
         Ok(())
     }
 
@@ -292,28 +313,6 @@ fn clone_name(name: &Option<Name>) -> Result<Option<Name>, AllocError>
     match name {
         Some(name) => Ok(Some(name.clone()?)),
         None => Ok(None),
-    }
-}
-
-/// Parses the data of a record.
-fn parse_rdata(
-    alloc: Global,
-    record_type: RecordType,
-    tokens: &[Token<'_>],
-    origin: &Name,
-) -> Result<RData, EntryError>
-    ensures parsed { IfOk result (IsParsedData (Some origin.now) record_type
-        (map lexeme tokens.now)) }
-    ensures named { IfOk result (λ d. IsNamedType (data_type d)) }
-    ensures refused { IfErr result (IsFault
-        (IsDataFault (RefusesText (Some origin.now) record_type (map lexeme tokens.now)))) }
-{
-    type_number_round_trips();
-    match RData::parse(alloc, record_type, tokens, Some(origin)) {
-        Ok(rdata) => Ok(rdata),
-        // Memory for the data was refused.
-        Err(RDataParseError::Memory) => Err(EntryError::Memory),
-        Err(error) => Err(EntryError::Fault(EntryFault::InvalidData(error))),
     }
 }
 

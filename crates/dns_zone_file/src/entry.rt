@@ -113,7 +113,7 @@ fn ascii_text(text: &[u8]) -> Option<&[u8]>
 }
 
 /// Returns the name of a text to include, as it is written, if it is ASCII.
-fn text_name<'a>(token: Token<'a>) -> Option<&'a [u8]>
+pub(crate) fn text_name<'a>(token: Token<'a>) -> Option<&'a [u8]>
     ensures { option_map (λ name. name.now) result ≡ text_name (lexeme token.entry) }
 {
     match token {

@@ -4,6 +4,7 @@ ghost use Rattle.std.specs.Prelude.{◌≡◌};
 ghost use Rattle.dns_zone_file.specs.internal.Error.{at_line};
 
 use dns_data::RDataParseError;
+use dns_formats::FormatFault;
 use dns_text::LexerError;
 use std::alloc::{AllocError, AllocFailed};
 use thiserror::Error;
@@ -32,6 +33,12 @@ pub enum EntryFault {
     /// The data cannot be parsed. The error is not `Memory`.
     #[error("{0}")]
     InvalidData(RDataParseError),
+    /// The data is read as bytes, and cannot be read. The error is not `Memory`.
+    #[error("{0}")]
+    InvalidFormat(FormatFault),
+    /// The generic form has no bytes (RFC 3597 section 5). A record without data is one of an update (RFC 2136 section 2.4).
+    #[error("record data of no bytes")]
+    NoData,
     /// The TTL is omitted, and none was stated before.
     #[error("TTL is missing and no default applies")]
     NoTtl,

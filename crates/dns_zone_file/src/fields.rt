@@ -2,10 +2,11 @@
 
 ghost use Rattle.std.specs.Prelude.{◌≡◌, ◌≤◌, map, length, IfOk, IfErr, Ok, Err};
 ghost use Rattle.dns_text.specs.Token.{lexeme};
-ghost use Rattle.dns_zone_file.specs.Fields.{name_of, field_of, field_of_word, zone_class, fields_of};
+ghost use Rattle.dns_zone_file.specs.Fields.{name_of, field_in, word_field, zone_class, fields_in};
 ghost use Rattle.dns_zone_file.specs.internal.Fields.{field_view, fields_view};
 
 use crate::error::EntryFault;
+use crate::types::{Types, type_of_word};
 use dns_names::{Name, ParseError};
 use dns_text::{Token, parse_ttl_bytes};
 use dns_wire::{DNSClass, RecordType};
@@ -66,8 +67,8 @@ fn parse_class(text: &[u8]) -> Option<DNSClass>
 }
 
 /// Returns what a word between owner and data is.
-fn field_of_word(text: &[u8]) -> Field
-    ensures { field_view result ≡ field_of_word text.now }
+fn field_of_word(types: Types, text: &[u8]) -> Field
+    ensures { field_view result ≡ word_field types text.now }
 {
     if text.first().is_some_and(u8::is_ascii_digit) {
         return match parse_ttl_bytes(text) {
@@ -78,33 +79,33 @@ fn field_of_word(text: &[u8]) -> Field
     if let Some(class) = parse_class(text) {
         return Field::Class(class);
     }
-    match RecordType::from_ascii_bytes(text) {
+    match type_of_word(types, text) {
         Some(record_type) => Field::RecordType(record_type),
         None => Field::Unknown,
     }
 }
 
 /// Returns what a token between owner and data is.
-fn field_of(token: Token<'_>) -> Field
-    ensures { field_view result ≡ field_of (lexeme token.entry) }
+fn field_of(types: Types, token: Token<'_>) -> Field
+    ensures { field_view result ≡ field_in types (lexeme token.entry) }
 {
     match token {
-        Token::CharData(text) => field_of_word(text),
+        Token::CharData(text) => field_of_word(types, text),
         _ => Field::Unknown,
     }
 }
 
 /// Parses the fields between owner and data: a TTL and a class, each at most once and in either order, and a type.
-pub(crate) fn parse_fields(tokens: &[Token<'_>]) -> Result<Fields, EntryFault>
+pub(crate) fn parse_fields(types: Types, tokens: &[Token<'_>]) -> Result<Fields, EntryFault>
     ensures ok { IfOk result (λ f.
-        fields_of (map lexeme tokens.now) ≡ Ok (fields_view f (map lexeme tokens.now))) }
+        fields_in types (map lexeme tokens.now) ≡ Ok (fields_view f (map lexeme tokens.now))) }
     ensures within { IfOk result (λ f. f.count ≤ length tokens.now) }
-    ensures refused { IfErr result (λ fault. fields_of (map lexeme tokens.now) ≡ Err fault) }
+    ensures refused { IfErr result (λ fault. fields_in types (map lexeme tokens.now) ≡ Err fault) }
 {
     let mut ttl = None;
     let mut dns_class = None;
     for (i, token) in tokens.iter().enumerate() {
-        match field_of(*token) {
+        match field_of(types, *token) {
             Field::Ttl(_) if ttl.is_some() => return Err(EntryFault::RepeatedField),
             Field::Class(_) if dns_class.is_some() => return Err(EntryFault::RepeatedField),
             Field::Ttl(seconds) => ttl = Some(seconds),

@@ -1,14 +1,15 @@
 //! The parser of zone files (RFC 1035 section 5.1).
 
 ghost use Rattle.std.specs.Prelude.{◌≡◌, ◌≢◌, ◌<◌, option_map, Ok, Err, Some, None, IfOk, IfErr, IsOk, OnOk};
-ghost use Rattle.dns_text.specs.Lexer.{LexerState, NextToken, start};
-ghost use Rattle.dns_zone_file.specs.Parsing.{Parses, max_includes, start_origin, text_of, zone_records};
+ghost use Rattle.dns_text.specs.Lexer.{LexerState, NextToken};
+ghost use Rattle.dns_zone_file.specs.Parsing.{Parses, max_includes, start_in, start_origin, text_of, zone_records};
 ghost use Rattle.dns_zone_file.specs.internal.Parsing.{includes_view, TakesStep, Ends, RefusesInclude, HasNoToken};
 
 use crate::context::{Context, StartOfAuthority};
 use crate::entry::{Inclusion, next_entry};
 use crate::error::{EntryFault, ZoneFileError};
 use crate::record_sets::RecordSets;
+use crate::types::Types;
 use dns_names::Name;
 use dns_text::{Lexer, LexerError};
 use std::alloc::Global;
@@ -36,6 +37,7 @@ pub struct Parser<'a> {
     text: &'a str,
     includes: &'a [(String, String)],
     origin: Option<Name>,
+    types: Types,
 }
 
 impl<'a> Model for Parser<'a> {
@@ -48,6 +50,7 @@ impl<'a> Model for Parser<'a> {
       text = p.text.now;
       includes = includes_view p.includes.now;
       origin = p.origin;
+      types = p.types;
     } };
 }
 
@@ -64,21 +67,40 @@ enum Step<'a> {
 
 impl<'a> Parser<'a> {
     ghost use Rattle.dns_text.specs.declared.error.LexerError.{LexerError};
-    ghost use Rattle.dns_zone_file.specs.Parsing.{ParsesFile, HasRecords};
+    ghost use Rattle.dns_zone_file.specs.Parsing.{ParsesIn, HasRecords};
 
-    /// Creates a parser of a text. Each pair of `includes` is a name, as `$INCLUDE` states it, and the text that it stands
+    /// Creates a parser of a text of the types that have fields, [`Types::Nine`]. Each pair of `includes` is a name, as `$INCLUDE` states it, and the text that it stands
     /// for. The origin completes relative names; it is the root if there is none.
     pub fn new(text: &'a str, includes: &'a [(String, String)], origin: Option<Name>) -> Self
         ensures { result ≡ record {
           text = text.now;
           includes = includes_view includes.now;
           origin = origin;
+          types = Types.Nine;
+        } }
+    {
+        Parser::with_types(text, includes, origin, Types::Nine)
+    }
+
+    /// Creates a parser of a text, as [`new`](Parser::new) does, which may have the types that `types` says.
+    pub fn with_types(
+        text: &'a str,
+        includes: &'a [(String, String)],
+        origin: Option<Name>,
+        types: Types,
+    ) -> Self
+        ensures { result ≡ record {
+          text = text.now;
+          includes = includes_view includes.now;
+          origin = origin;
+          types = types;
         } }
     {
         Parser {
             text,
             includes,
             origin,
+            types,
         }
     }
 
@@ -87,15 +109,17 @@ impl<'a> Parser<'a> {
     pub fn parse(self, alloc: Global) -> Result<ZoneRecords, ZoneFileError>
         ensures ok { IfOk result (HasRecords self.entry) }
         ensures refused { IfErr result (λ error. error ≢ ZoneFileError.Memory
-            → ParsesFile self.entry.includes self.entry.origin self.entry.text (Err error)) }
-        ensures ended { (end : LexerState) → NextToken (start self.entry.text) (Ok None) end
-            → IsOk result }
+            → ParsesIn self.entry.types self.entry.includes self.entry.origin self.entry.text
+            (Err error)) }
+        ensures ended { (end : LexerState)
+            → NextToken (start_in self.entry.types self.entry.text) (Ok None) end → IsOk result }
         ensures fault { (error : LexerError) (end : LexerState)
-            → NextToken (start self.entry.text) (Err error) end
+            → NextToken (start_in self.entry.types self.entry.text) (Err error) end
             → result ≡ Err (ZoneFileError.Lexer error) }
     {
-        let is_empty = has_no_token(self.text)?;
-        let mut context = Context::new(alloc, start_origin(alloc, self.origin));
+        let is_empty = has_no_token(self.text, self.types)?;
+        let origin = start_origin(alloc, self.origin);
+        let mut context = Context::new(alloc, self.types, origin);
         if is_empty {
             return Ok(zone_records(context));
         }
@@ -105,10 +129,10 @@ impl<'a> Parser<'a> {
 }
 
 /// Returns `true` if a text has no token, or else the fault of its first one, if that is one.
-fn has_no_token(text: &str) -> Result<bool, LexerError>
-    ensures { HasNoToken (start text.now) result }
+fn has_no_token(text: &str, types: Types) -> Result<bool, LexerError>
+    ensures { HasNoToken (start_in types text.now) result }
 {
-    let mut lexer = Lexer::new(text);
+    let mut lexer = Lexer::with_quotes(text, types.quotes());
     match lexer.next_token()? {
         Some(_token) => Ok(false),
         None => Ok(true),
@@ -216,11 +240,13 @@ fn parse_text(
     context: &mut Context,
 ) -> Result<(), ZoneFileError>
     ensures ok { OnOk result
-        (Parses (includes_view includes.now) depth context.old (start text.now) (Ok context.new)) }
+        (Parses (includes_view includes.now) depth context.old (start_in context.old.types text.now)
+        (Ok context.new)) }
     ensures refused { IfErr result (λ error. error ≢ ZoneFileError.Memory
-        → Parses (includes_view includes.now) depth context.old (start text.now) (Err error)) }
+        → Parses (includes_view includes.now) depth context.old
+        (start_in context.old.types text.now) (Err error)) }
 {
-    let mut lexer = Lexer::new(text);
+    let mut lexer = Lexer::with_quotes(text, context.types.quotes());
     'entries: loop {
         match take_step(alloc, &mut lexer, context)? {
             Step::Ended => return Ok(()),

@@ -1,4 +1,5 @@
-use Rattle.std.proofs.Common.{refl, sym}
+use Rattle.std.proofs.Common.{refl, sym, ap, ◌∙◌}
+use Rattle.std.specs.Prelude.{unwrap_or}
 use Rattle.std.proofs.lemmas.Result.{err_from_is_err_and}
 use Rattle.dns_zone_file.specs.internal.Context.{bad_fields}
 use Rattle.dns_zone_file.proofs.ContextLaws.{data_read, data_fault, no_ttl_left}
@@ -17,7 +18,7 @@ returns-in_err-rdata-clause-refused c =
 pub returns-in-Some-clause-ok : goal.returns-in-Some-clause-ok
 returns-in-Some-clause-ok c =
     data_read c.args.self.now c.args.tokens.now c.in_ok-fields.fields _ c.in_ok-fields.ensures.ok c.in_ok-rdata.ensures.parsed refl
-    (sym c.in-Some.ensures) (sym c.unwrap_or.ensures)
+    (sym c.in-Some.ensures) (sym (c.unwrap_or.ensures ∙ ap (unwrap_or c.in_ok-fields.fields.dns_class) c.default_class.ensures))
 
 pub returns-in-None-clause-refused : goal.returns-in-None-clause-refused
 returns-in-None-clause-refused c =
