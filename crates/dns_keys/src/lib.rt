@@ -1,0 +1,24 @@
+//! The text of key files, in the syntax that BIND, `nsupdate` and `tsig-keygen` share:
+//!
+//! ```text
+//! key "name" { algorithm hmac-sha256; secret "base64"; };
+//! ```
+//!
+//! A file has any number of keys, and comments: `//` and `#` up to the end of the line, and `/* */`. The two statements of a key
+//! come in any order. Words need no quotation marks.
+//!
+//! - `blanks`: blanks and comments; `word`: words and symbols; `statement`: the statement of a key; `file`: the keys of a text;
+//! - `algorithm`: the names of algorithms; `error`: why a text is not a key file; `laws`: theorems about the definitions.
+#![tactic(auto)]
+
+mod algorithm;
+mod blanks;
+mod error;
+mod file;
+pub mod laws;
+mod statement;
+mod word;
+
+pub use algorithm::{algorithm_text, parse_algorithm};
+pub use error::{KeyFault, KeyFileError};
+pub use file::parse_keys;
