@@ -5,15 +5,12 @@
 //! - `bounds`: bounds of TTLs; `settings`: the settings of caches, clients and resolvers
 //! - `session`: the steps of a row, one after another; `cache`, `client`, `resolver`: what they are taken on
 //! - `negative`: negative answers as text
-//! - `model`: random steps of a cache beside those of a plain list, `listed_cache`
 //! - `recorder`: a handle that records its questions; `zone_handle`: a handle that answers from a zone
 #![tactic(auto)]
 
 mod bounds;
 mod cache;
 mod client;
-mod listed_cache;
-mod model;
 mod negative;
 mod operation;
 mod recorder;

@@ -3,7 +3,6 @@
 use crate::bounds::{bounds, equal, ranges};
 use crate::cache::cache;
 use crate::client::{over_list, over_zone};
-use crate::model::model;
 use crate::resolver::resolver;
 use rows::{Answer, RowFault};
 use std::alloc::Global;
@@ -15,7 +14,6 @@ pub(crate) fn answer(alloc: Global, word: &str, input: &str) -> Answer {
         "ranges" => ranges(alloc, input),
         "equal" => equal(alloc, input),
         "cache" => cache(alloc, input),
-        "model" => model(alloc, input),
         "list" => over_list(alloc, input),
         "zone" => over_zone(alloc, input),
         "resolver" => resolver(alloc, input),

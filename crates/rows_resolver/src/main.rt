@@ -5,7 +5,6 @@
 //! - `exchange`: a handle that returns the outcomes of a list and records what it is asked;
 //! - `attempted_names`, `special_names`, `request`: what a lookup asks; `outcome`: what a reply means;
 //! - `config`, `hosts`, `lookup`: what a resolver keeps;
-//! - `hosts_compare`: hosts beside a plain list of them, `listed_hosts`;
 //! - `names_lookup`, `addresses`, `resolver`: lookups over a handle;
 //! - `examples`: the example of the README.
 #![tactic(auto)]
@@ -17,8 +16,6 @@ mod config;
 mod examples;
 mod exchange;
 mod hosts;
-mod hosts_compare;
-mod listed_hosts;
 mod lookup;
 mod names_lookup;
 mod operation;

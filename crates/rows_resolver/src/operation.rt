@@ -5,7 +5,6 @@ use crate::attempted_names::names;
 use crate::config::{config, group};
 use crate::examples::example;
 use crate::hosts::{hosts, hosts_bytes, hosts_fault, inserted};
-use crate::hosts_compare::hosts_compare;
 use crate::lookup::{append, copy, extend, from_rdata, lookup_ip, message, with_answers};
 use crate::names_lookup::{by_names, by_names_with_hosts};
 use crate::outcome::{error_message, negative, outcome};
@@ -30,7 +29,6 @@ pub(crate) fn answer(alloc: Global, word: &str, input: &str) -> Answer {
         "hosts" => hosts(alloc, input),
         "hosts-bytes" => hosts_bytes(alloc, input),
         "hosts-fault" => hosts_fault(alloc, input),
-        "hosts-compare" => hosts_compare(alloc, input),
         "insert" => inserted(alloc, input),
         "from-rdata" => from_rdata(alloc, input),
         "with-max-ttl" | "with-deadline" => with_answers(alloc, word, input),

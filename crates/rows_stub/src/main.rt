@@ -5,15 +5,12 @@
 //! - `request`: requests, and whether messages are sound; `asking`, `resolving`: asking over `list_link`, a link that brings what
 //!   a row lists; `unruly`: asking over `unruly_link`, a link that brings garbage without end
 //! - `linking`, `following`: the scripted link, and asking over it; `link_script`: its scripts; `updating`: updates over any link
-//! - `compare`: runs over the scripted link, beside those of `listed_run`, plain lists; `turn`, `numbered_update`, `tried`: the
-//!   turns of a run, its updates, and the scripts that are tried
 //! - `framing`: a message over a stream, cut in every way
 //! - `event`, `hosts`, `ids`: the parts of a run; `running`, `playing`: whole runs
 //! - `script`, `words`, `fault`: scripts, the program's arguments, and the texts of faults
 #![tactic(auto)]
 
 mod asking;
-mod compare;
 mod event;
 mod fault;
 mod following;
@@ -23,16 +20,12 @@ mod ids;
 mod link_script;
 mod linking;
 mod list_link;
-mod listed_run;
-mod numbered_update;
 mod operation;
 mod playing;
 mod request;
 mod resolving;
 mod running;
 mod script;
-mod tried;
-mod turn;
 mod unruly;
 mod unruly_link;
 mod updating;

@@ -1,7 +1,6 @@
 //! The operations, by their words.
 
 use crate::asking::{ask, handle};
-use crate::compare::{every_script, random_scripts};
 use crate::fault::{ending, link_fault, play_fault, script_fault};
 use crate::following::followed;
 use crate::framing::frame_cuts;
@@ -28,8 +27,6 @@ pub(crate) fn answer(alloc: Global, word: &str, input: &str) -> Answer {
         "resolve" => resolve(alloc, input),
         "link" => linked(alloc, input),
         "follow" => followed(alloc, input),
-        "scripts" => every_script(alloc, input),
-        "random-scripts" => random_scripts(alloc, input),
         "unruly" => unruly(alloc, input),
         "frame-cuts" => frame_cuts(alloc, input),
         "run" => ran(alloc, input),

@@ -3,20 +3,14 @@
 //! - `operation`: the operations by their words;
 //! - `zone_file`, `includes`: zone files, and the texts that they include;
 //! - `zone`, `answer`, `serve`: zones, their answers and their replies;
-//! - `updating`, `building`: updates of zones, and those that the builders make; `framing`: frames of streams;
-//! - `compare`: a zone's answers beside those of a plain list; `listed_zone`, `listed_names`: that list; `random_zone`: random
-//!   zones and questions.
+//! - `updating`, `building`: updates of zones, and those that the builders make; `framing`: frames of streams.
 #![tactic(auto)]
 
 mod answer;
 mod building;
-mod compare;
 mod framing;
 mod includes;
-mod listed_names;
-mod listed_zone;
 mod operation;
-mod random_zone;
 mod serve;
 mod updating;
 mod zone;

@@ -2,7 +2,6 @@
 
 use crate::answer::{all_answered, answered};
 use crate::building::build;
-use crate::compare::compare;
 use crate::framing::{failing_frames, frames, write_frames};
 use crate::serve::{limit, serve, served_size};
 use crate::updating::{apply, update};
@@ -25,7 +24,6 @@ pub(crate) fn answer(alloc: Global, word: &str, input: &str) -> Answer {
         "zone-file-repeated" => zone_file_repeated(alloc, input),
         "answer" => answered(alloc, input),
         "answers" => all_answered(alloc, input),
-        "compare" => compare(alloc, input),
         "limit" => limit(alloc, input),
         "serve" => serve(alloc, input),
         "served-size" => served_size(alloc, input),
