@@ -4,30 +4,31 @@ use Rattle.std.specs.Prelude.{nat_lt, option_map, IfSome, IfOk, IfErr}
 use Rattle.std.specs.List.{list_any, AllByRecursion}
 use Rattle.std.proofs.lemmas.Bool.{ltb-false}
 use Rattle.dns_codes.specs.declared.record_type.RecordType.{RecordType}
-use Rattle.dns_codes.specs.declared.record_type.RecordType.TheVariants as types
+use Rattle.dns_codes.specs.declared.record_type.RecordType.TheVariants as kinds
 use Rattle.dns_names.specs.Name.{DomainName}
 use Rattle.dns_data.specs.rdata.{data_type, whole_len}
-use Rattle.dns_data.proofs.ParsedSoundLaws.{parsed_sound, parsed_type, parsed_has_data}
+use Rattle.dns_zone_file.proofs.DataLaws.{sound_in, not_opt_in, not_tsig_in, has_data_in}
 use Rattle.dns_messages.specs.Section.{is_opt_type, is_tsig_type}
 use Rattle.dns_records.specs.Record.{Record}
 use Rattle.dns_records.specs.RecordSet.{RecordSetValue}
 use Rattle.dns_zone_file.specs.declared.parser.ZoneRecords.{ZoneRecords}
 use Rattle.dns_zone_file.specs.Parsed.{IsParsedRecord, IsParsedSet}
 use Rattle.dns_zone_file.specs.declared.error.ZoneFileError.{ZoneFileError}
-use Rattle.dns_zone_file.specs.Parsing.{Includes, ParsesFile, ZoneFile, HasRecords}
+use Rattle.dns_zone_file.specs.declared.types.Types.{Types}
+use Rattle.dns_zone_file.specs.Parsing.{Includes, ParsesIn, ZoneFile, HasRecords}
 use Rattle.dns_zone.specs.declared.zone.ZoneFault.{ZoneFault}
 use Rattle.dns_zone.specs.declared.zone.ZoneFault.TheVariants as fault
-use Rattle.dns_zone.specs.Load.{ReadsZone, bad_text, bad_zone, good_zone, zone_origin, is_internet, is_inside, is_soa, is_apex, has_long_data, fault_of}
+use Rattle.dns_zone.specs.Load.{ReadsZoneIn, bad_text, bad_zone, good_zone, zone_origin, is_internet, is_inside, is_soa, is_apex, has_long_data, fault_of}
 use Rattle.dns_zone.specs.Rows.{ZoneContent, rows_of, rows_of_sets, IsSoundRow, AreSoundRows, AreSoundSets}
 
 -- ---- parsed sets are sound
 
-not_opt_type : (t : RecordType) → t ≢ types.OPT → is_opt_type t ≡ false
-not_opt_type types.OPT h = absurd (h refl)
+not_opt_type : (t : RecordType) → t ≢ kinds.OPT → is_opt_type t ≡ false
+not_opt_type kinds.OPT h = absurd (h refl)
 not_opt_type other h = refl
 
-not_tsig_type : (t : RecordType) → t ≢ types.TSIG → is_tsig_type t ≡ false
-not_tsig_type types.TSIG h = absurd (h refl)
+not_tsig_type : (t : RecordType) → t ≢ kinds.TSIG → is_tsig_type t ≡ false
+not_tsig_type kinds.TSIG h = absurd (h refl)
 not_tsig_type other h = refl
 
 or_false : (a b : Bool) → (a || b) ≡ false → (a ≡ false) × (b ≡ false)
@@ -40,14 +41,13 @@ is_long r = nat_lt 65535 (whole_len r.rdata)
 short_row : (s : RecordSetValue) (r : Record) → IsParsedRecord s r → is_long r ≡ false → IsSoundRow (record { ttl = r.ttl; rdata = r.rdata })
 short_row s r p e =
     let short = ltb-false 65535 (whole_len r.rdata) e in
-    let type = parsed_type (Some p.origin) p.of_type p.tokens r.rdata p.rdata in
     record {
       ttl_fits = p.ttl_fits;
       rdata = record {
-        sound = parsed_sound p.origin p.of_type p.tokens r.rdata p.rdata (omega (arith, short));
-        not_opt = not_opt_type (data_type r.rdata) type.not_opt;
-        not_tsig = not_tsig_type (data_type r.rdata) type.not_tsig;
-        has_data = parsed_has_data (Some p.origin) p.of_type p.tokens r.rdata p.rdata;
+        sound = sound_in p.types p.origin p.of_type p.tokens r.rdata p.rdata (omega (arith, short));
+        not_opt = not_opt_type (data_type r.rdata) (not_opt_in p.types p.origin p.of_type p.tokens r.rdata p.rdata);
+        not_tsig = not_tsig_type (data_type r.rdata) (not_tsig_in p.types p.origin p.of_type p.tokens r.rdata p.rdata);
+        has_data = has_data_in p.types p.origin p.of_type p.tokens r.rdata p.rdata;
       };
     }
 
@@ -134,36 +134,36 @@ origin_fqdn None soa_owner h = h
 
 -- ---- zones
 
-pub reads_error : (includes : Includes) (origin found : Option DomainName) (text : List ℕ) (file : ZoneFile) (error : ZoneFileError)
-    → file ≡ record { text = text; includes = includes; origin = found } → found ≡ origin
-    → ParsesFile file.includes file.origin file.text (Err error) → ReadsZone includes origin text (Err (fault.Parse error))
-reads_error includes origin found text file error e f parses =
-    let same : ◌≡◌ {A = ZoneFile} file (record { text = text; includes = includes; origin = origin }) =
-    e ∙ (λ i. record { text = text; includes = includes; origin = f i }) in
-    bad_text (subst (λ (g : ZoneFile). ParsesFile g.includes g.origin g.text (Err error)) same parses)
+pub reads_error : (types : Types) (includes : Includes) (origin found : Option DomainName) (text : List ℕ) (file : ZoneFile) (error : ZoneFileError)
+    → file ≡ record { text = text; includes = includes; origin = found; types = types } → found ≡ origin
+    → ParsesIn file.types file.includes file.origin file.text (Err error) → ReadsZoneIn types includes origin text (Err (fault.Parse error))
+reads_error types includes origin found text file error e f parses =
+    let same : ◌≡◌ {A = ZoneFile} file (record { text = text; includes = includes; origin = origin; types = types }) =
+    e ∙ (λ i. record { text = text; includes = includes; origin = f i; types = types }) in
+    bad_text (subst (λ (g : ZoneFile). ParsesIn g.types g.includes g.origin g.text (Err error)) same parses)
 
 pub sound_sets : (origin : Option DomainName) (apex : DomainName) (sets : List RecordSetValue) → AllByRecursion IsParsedSet sets
     → origin ≡ Some apex → fault_of origin sets ≡ None → AreSoundSets sets
 sound_sets origin apex sets all is e = short_sets sets all (none_is_long apex sets (ap (λ o. fault_of o sets) (sym is) ∙ e))
 
-module _ (includes : Includes) (origin : Option DomainName) (text : List ℕ) (records : ZoneRecords) (found : Option DomainName)
-    (has : HasRecords (record { text = text; includes = includes; origin = origin }) records)
+module _ (types : Types) (includes : Includes) (origin : Option DomainName) (text : List ℕ) (records : ZoneRecords) (found : Option DomainName)
+    (has : HasRecords (record { text = text; includes = includes; origin = origin; types = types }) records)
     (e : found ≡ zone_origin origin records.soa_owner) where
   reads_zone : (zone : ZoneContent) → found ≡ Some zone.origin → zone.rows ≡ rows_of_sets records.sets → fault_of found records.sets ≡ None
-      → ReadsZone includes origin text (Ok zone)
+      → ReadsZoneIn types includes origin text (Ok zone)
   reads_zone zone is rows f =
       let same : ◌≡◌ {A = ZoneContent} (record { origin = zone.origin; rows = rows_of_sets records.sets }) zone =
       λ i. record { origin = zone.origin; rows = sym rows i } in
-      subst (λ z. ReadsZone includes origin text (Ok z)) same
+      subst (λ z. ReadsZoneIn types includes origin text (Ok z)) same
       (good_zone has (sym e ∙ is) (ap (λ o. fault_of o records.sets) (sym is) ∙ f))
 
   -- the outcome of what is found is that of the text
   pub reads_ok : (r : Result ZoneContent ZoneFault) → IfOk r (λ zone. found ≡ Some zone.origin) → IfOk r (λ zone. zone.rows ≡ rows_of_sets records.sets)
-      → IfOk r (λ zone. fault_of found records.sets ≡ None) → IfOk r (λ zone. ReadsZone includes origin text (Ok zone))
+      → IfOk r (λ zone. fault_of found records.sets ≡ None) → IfOk r (λ zone. ReadsZoneIn types includes origin text (Ok zone))
   reads_ok (Ok zone) is rows f = reads_zone zone is rows f
   reads_ok (Err refusal) is rows f = tt
 
   pub reads_refusal : (r : Result ZoneContent ZoneFault) → IfErr r (λ refusal. refusal ≢ fault.Memory → fault_of found records.sets ≡ Some refusal)
-      → IfErr r (λ refusal. refusal ≢ fault.Memory → ReadsZone includes origin text (Err refusal))
+      → IfErr r (λ refusal. refusal ≢ fault.Memory → ReadsZoneIn types includes origin text (Err refusal))
   reads_refusal (Ok zone) f = tt
   reads_refusal (Err refusal) f = λ other. bad_zone has (ap (λ o. fault_of o records.sets) (sym e) ∙ f other)

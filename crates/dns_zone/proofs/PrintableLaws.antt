@@ -15,6 +15,8 @@ use Rattle.dns_records.specs.Record.{Record}
 use Rattle.dns_records.specs.declared.row.Row.{Row}
 use Rattle.dns_records.specs.RecordSet.{RecordSetValue}
 use Rattle.dns_zone_file.specs.declared.parser.ZoneRecords.{ZoneRecords}
+use Rattle.dns_zone_file.specs.declared.types.Types.{Types}
+use Rattle.dns_zone_file.specs.declared.types.Types.TheVariants.{Nine}
 use Rattle.dns_zone_file.specs.Parsing.{Includes, ZoneFile, HasRecords}
 use Rattle.dns_zone_file.specs.Printed.{IsValidName, HasText, IsTextSet}
 use Rattle.dns_zone_file.proofs.ValidLaws.{text_file}
@@ -88,12 +90,12 @@ octets_of [] fits = tt
 octets_of (c ∷ cs) fits = (fits 0, octets_of cs (λ k. fits (suc k)))
 
 -- the zone of a text of octets can be printed, if the included texts consist of octets and the origin is valid
-pub printable_zone : (includes : Includes) (origin : Option DomainName) (text : List ℕ) (records : ZoneRecords)
-    → HasRecords (record { text = text; includes = includes; origin = origin }) records → (r : Result ZoneContent ZoneFault)
+pub printable_zone : (types : Types) (includes : Includes) (origin : Option DomainName) (text : List ℕ) (records : ZoneRecords) → types ≡ Nine
+    → HasRecords (record { text = text; includes = includes; origin = origin; types = types }) records → (r : Result ZoneContent ZoneFault)
     → IfOk r (λ zone. zone.rows ≡ rows_of_sets records.sets) → ((k : ℕ) → get_or text k 0 < 256)
     → AllByRecursion (λ i. AreOctets i.1) includes → IfSome origin IsValidName → IfOk r IsPrintable
-printable_zone includes origin text records has (Err refusal) rows fits are is = tt
-printable_zone includes origin text records has (Ok zone) rows fits are is =
-    let file : ZoneFile = record { text = text; includes = includes; origin = origin } in
-    let found = text_file file has.context (record { text = octets_of text fits; includes = are; origin = is }) has.parses in
+printable_zone types includes origin text records nine has (Err refusal) rows fits are is = tt
+printable_zone types includes origin text records nine has (Ok zone) rows fits are is =
+    let file : ZoneFile = record { text = text; includes = includes; origin = origin; types = types } in
+    let found = text_file file has.context (record { types = nine; text = octets_of text fits; includes = are; origin = is }) has.parses in
     printable_sets zone records.sets (subst (λ (found : ZoneRecords). AllByRecursion IsTextSet found.sets) (sym has.records_are) found.sets) rows

@@ -30,6 +30,7 @@ use Rattle.dns_records.specs.RecordSet.{RecordSetValue}
 use Rattle.dns_zone_file.specs.Context.{soa_of}
 use Rattle.dns_zone_file.specs.RecordSets.{is_set_of}
 use Rattle.dns_zone_file.specs.Parsed.{AreDistinctSets}
+use Rattle.dns_zone_file.specs.declared.types.Types.TheVariants.{Nine}
 use Rattle.dns_zone_file.specs.Parsing.{HasRecords}
 use Rattle.dns_zone_file.specs.Printed.{record_line, lines_of, ArePrintableRecords, inserted_each, first_soa_owner, printed_records}
 use Rattle.dns_zone_file.proofs.PrintedLaws.{lines_contain}
@@ -295,7 +296,7 @@ reads_sets zone s sets e owner soa sound d f are =
     let faults : fault_of (Some zone.origin) (inserted_each [] records) ≡ None =
     ap (λ (l : List RecordSetValue). fault_of (Some zone.origin) l) again ∙ is_faultless zone.origin (map made (s ∷ sets)) (made_faultless zone.origin (s ∷ sets) sound f) in
     let rows : rows_of_sets (inserted_each [] records) ≡ zone.rows = ap rows_of_sets again ∙ rows_made (s ∷ sets) sound ∙ sym e in
-    let has : HasRecords (record { text = lines_of records; includes = []; origin = None }) (printed_records None records) =
+    let has : HasRecords (record { text = lines_of records; includes = []; origin = None; types = Nine }) (printed_records None records) =
     lines_contain [] None records (sets_printable (s ∷ sets) sound each) in
     let reads : ReadsZone [] None (lines_of records) (Ok (record { origin = zone.origin; rows = rows_of_sets (inserted_each [] records) })) =
     good_zone has first faults in

@@ -9,7 +9,9 @@ use Rattle.dns_data.specs.rdata.{whole_len}
 use Rattle.dns_records.specs.RecordSet.{RecordSetValue}
 use Rattle.dns_zone_file.specs.declared.parser.ZoneRecords.{ZoneRecords}
 use Rattle.dns_zone_file.specs.declared.error.ZoneFileError.{ZoneFileError}
-use Rattle.dns_zone_file.specs.Parsing.{Includes, ParsesFile, HasRecords}
+use Rattle.dns_zone_file.specs.declared.types.Types.{Types}
+use Rattle.dns_zone_file.specs.declared.types.Types.TheVariants.{Nine}
+use Rattle.dns_zone_file.specs.Parsing.{Includes, ParsesIn, HasRecords}
 use Rattle.dns_zone.specs.declared.zone.ZoneFault.{ZoneFault}
 use Rattle.dns_zone.specs.declared.zone.ZoneFault.TheVariants as fault
 use Rattle.dns_zone.specs.Rows.{ZoneContent, rows_of_sets}
@@ -54,16 +56,20 @@ fault_of origin sets =
     if list_any (λ s. not (is_internet s)) sets then Some fault.NotInternet
     else elim origin [ None ↦ Some fault.NoSoa | Some apex ↦ fault_at apex sets ]
 
--- The zone of a text, with texts to include and perhaps an origin, or its first fault by kind.
-pub data ReadsZone (includes : Includes) (origin : Option DomainName) (text : List ℕ)
+-- The zone of a text, by the types that it may have, with texts to include and perhaps an origin, or its first fault by kind.
+pub data ReadsZoneIn (types : Types) (includes : Includes) (origin : Option DomainName) (text : List ℕ)
     : Result ZoneContent ZoneFault → Type 0 where
-  bad_text : {error : ZoneFileError} → ParsesFile includes origin text (Err error)
-      → ReadsZone includes origin text (Err (fault.Parse error))
+  bad_text : {error : ZoneFileError} → ParsesIn types includes origin text (Err error)
+      → ReadsZoneIn types includes origin text (Err (fault.Parse error))
   bad_zone : {records : ZoneRecords} {refusal : ZoneFault}
-      → HasRecords (record { text = text; includes = includes; origin = origin }) records
+      → HasRecords (record { text = text; includes = includes; origin = origin; types = types }) records
       → fault_of (zone_origin origin records.soa_owner) records.sets ≡ Some refusal
-      → ReadsZone includes origin text (Err refusal)
+      → ReadsZoneIn types includes origin text (Err refusal)
   good_zone : {records : ZoneRecords} {apex : DomainName}
-      → HasRecords (record { text = text; includes = includes; origin = origin }) records
+      → HasRecords (record { text = text; includes = includes; origin = origin; types = types }) records
       → zone_origin origin records.soa_owner ≡ Some apex → fault_of (Some apex) records.sets ≡ None
-      → ReadsZone includes origin text (Ok (record { origin = apex; rows = rows_of_sets records.sets }))
+      → ReadsZoneIn types includes origin text (Ok (record { origin = apex; rows = rows_of_sets records.sets }))
+
+-- the zone of a text of the types with fields alone
+abbrev pub ReadsZone : Includes → Option DomainName → List ℕ → Result ZoneContent ZoneFault → Type 0
+ReadsZone includes origin text outcome = ReadsZoneIn Nine includes origin text outcome

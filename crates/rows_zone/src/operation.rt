@@ -6,7 +6,9 @@ use crate::framing::{failing_frames, frames, write_frames};
 use crate::serve::{limit, serve, served_size};
 use crate::updating::{apply, update};
 use crate::zone::{fault, zone, zone_at, zone_fault, zone_with};
-use crate::zone_file::{zone_file, zone_file_at, zone_file_repeated, zone_file_with};
+use crate::zone_file::{
+    included, zone_file, zone_file_all, zone_file_at, zone_file_repeated, zone_file_with,
+};
 use rows::{Answer, RowFault};
 use std::alloc::Global;
 
@@ -19,6 +21,8 @@ pub(crate) fn answer(alloc: Global, word: &str, input: &str) -> Answer {
         "zone-fault" => zone_fault(alloc, input),
         "fault" => fault(alloc, input),
         "zone-file" => zone_file(alloc, input),
+        "zone-file-all" => zone_file_all(alloc, input),
+        "included-names" => included(alloc, input),
         "zone-file-at" => zone_file_at(alloc, input),
         "zone-file-with" => zone_file_with(alloc, input),
         "zone-file-repeated" => zone_file_repeated(alloc, input),

@@ -2,14 +2,31 @@
 
 use crate::includes::split_includes;
 use dns_names::Name;
-use dns_zone_file::{Parser, ZoneRecords};
+use dns_zone_file::{Parser, Types, ZoneRecords, included_names};
 use rows::{Answer, RowFault, named, parsed, split};
 use rows_text::push_record;
 use std::alloc::{AllocError, Global};
 
 /// `zone-file TEXT`: what a zone file contains, or why it cannot be parsed.
 pub(crate) fn zone_file(alloc: Global, text: &str) -> Answer {
-    contents(alloc, text, &[], None)
+    contents(alloc, text, &[], None, Types::Nine)
+}
+
+/// `zone-file-all NAME || TEXT || .. || TEXT`: what a zone file of all types contains, with texts to include by name.
+pub(crate) fn zone_file_all(alloc: Global, input: &str) -> Answer {
+    let mut includes = Vec::new(alloc);
+    let text = split_includes(alloc, input, &mut includes)?;
+    contents(alloc, text, includes.as_slice(), None, Types::All)
+}
+
+/// `included-names TEXT`: the names of the texts that a text of all types includes, with a blank after each.
+pub(crate) fn included(alloc: Global, text: &str) -> Answer {
+    let mut names = String::new(alloc);
+    for name in included_names(alloc, text, Types::All)? {
+        names.push_str(str::from_utf8(name).unwrap_or("?"))?;
+        names.push(' ')?;
+    }
+    Ok(names)
 }
 
 /// `zone-file-at ORIGIN || NAME || TEXT || .. || TEXT`: the same, with an origin at the start, and with texts to include by name
@@ -19,7 +36,7 @@ pub(crate) fn zone_file_at(alloc: Global, input: &str) -> Answer {
     let mut includes = Vec::new(alloc);
     let text = split_includes(alloc, input, &mut includes)?;
     match Name::from_ascii(alloc, origin) {
-        Ok(origin) => contents(alloc, text, includes.as_slice(), Some(origin)),
+        Ok(origin) => contents(alloc, text, includes.as_slice(), Some(origin), Types::Nine),
         Err(_) => Err(RowFault::MalformedInput),
     }
 }
@@ -28,7 +45,7 @@ pub(crate) fn zone_file_at(alloc: Global, input: &str) -> Answer {
 pub(crate) fn zone_file_with(alloc: Global, input: &str) -> Answer {
     let mut includes = Vec::new(alloc);
     let text = split_includes(alloc, input, &mut includes)?;
-    contents(alloc, text, includes.as_slice(), None)
+    contents(alloc, text, includes.as_slice(), None, Types::Nine)
 }
 
 /// `zone-file-repeated FRONT || COUNT || PIECE || END`: the same of a long text: a front, a piece so many times, and an end.
@@ -56,8 +73,9 @@ fn contents(
     text: &str,
     includes: &[(String, String)],
     origin: Option<Name>,
+    types: Types,
 ) -> Answer {
-    match Parser::new(text, includes, origin).parse(alloc) {
+    match Parser::with_types(text, includes, origin, types).parse(alloc) {
         Ok(zone) => Ok(records_text(alloc, &zone)?),
         Err(error) => named(alloc, error),
     }

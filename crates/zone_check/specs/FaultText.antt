@@ -81,6 +81,14 @@ entry_sentences entry.UnknownType = record {
   hint = types_hint;
 }
 entry_sentences (entry.InvalidData error) = data_sentences error
+entry_sentences (entry.InvalidFormat error) = record {
+  reason = codes "data that does not have the fields of its type";
+  hint = codes "write the fields of the type, or \\# LENGTH HEX with the bytes of such data";
+}
+entry_sentences entry.NoData = record {
+  reason = codes "data of no bytes, which a record of a zone cannot have here";
+  hint = codes "remove the record";
+}
 entry_sentences entry.NoTtl = record {
   reason = codes "the TTL is missing, and no default applies";
   hint = codes "write $TTL 3600 at the top of the file";

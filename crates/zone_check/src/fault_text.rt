@@ -181,6 +181,14 @@ fn entry_text(fault: &EntryFault) -> Advice
             hint: TYPES,
         },
         EntryFault::InvalidData(error) => data_text(error),
+        EntryFault::InvalidFormat(_) => Advice {
+            reason: "data that does not have the fields of its type",
+            hint: "write the fields of the type, or \\# LENGTH HEX with the bytes of such data",
+        },
+        EntryFault::NoData => Advice {
+            reason: "data of no bytes, which a record of a zone cannot have here",
+            hint: "remove the record",
+        },
         EntryFault::NoTtl => Advice {
             reason: "the TTL is missing, and no default applies",
             hint: "write $TTL 3600 at the top of the file",

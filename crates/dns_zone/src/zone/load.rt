@@ -7,7 +7,7 @@ ghost use Rattle.dns_zone_file.specs.Parsed.{IsParsedSet, AreDistinctSets};
 ghost use Rattle.dns_zone_file.specs.Parsing.{HasRecords};
 ghost use Rattle.dns_zone_file.specs.Printed.{IsValidName};
 ghost use Rattle.dns_zone_file.specs.internal.Parsing.{includes_view};
-ghost use Rattle.dns_zone.specs.Load.{ReadsZone, zone_origin, is_internet, is_inside, is_soa, is_apex, has_long_data, fault_at, fault_of};
+ghost use Rattle.dns_zone.specs.Load.{ReadsZone, ReadsZoneIn, zone_origin, is_internet, is_inside, is_soa, is_apex, has_long_data, fault_at, fault_of};
 ghost use Rattle.dns_zone.specs.Printed.{is_start, IsPrintable};
 ghost use Rattle.dns_zone.specs.Rows.{HasNoEmptySet, IsZone, rows_of_sets};
 
@@ -17,14 +17,14 @@ use dns_names::Name;
 use dns_records::RecordSet;
 use dns_wire::{DNSClass, RecordType};
 use dns_zone_file::laws::parsed_sets_have_records;
-use dns_zone_file::{Parser, RecordSets, ZoneFileError, ZoneRecords};
+use dns_zone_file::{Parser, RecordSets, Types, ZoneFileError, ZoneRecords};
 use std::alloc::{AllocError, Global};
 
 /// The greatest length of data that can be encoded (RFC 1035 section 3.2.1).
 const MAX_DATA_LENGTH: u128 = 65_535;
 
 impl Zone {
-    /// Parses a zone file. Each pair of `includes` is a name, as `$INCLUDE` states it, and the text that it stands for. The
+    /// Parses a zone file of the types that have fields, [`Types::Nine`]. Each pair of `includes` is a name, as `$INCLUDE` states it, and the text that it stands for. The
     /// origin completes relative names and is the zone's. Without it relative names end at the root, and the zone's origin is
     /// the owner of the first SOA record.
     ///
@@ -43,10 +43,30 @@ impl Zone {
         ensures filled { IfOk result (λ zone. HasNoEmptySet zone.rows) }
         ensures printable { IfOk result IsPrintable }
     {
+        Zone::from_text_with(alloc, text, includes, origin, Types::Nine)
+    }
+
+    /// Parses a zone file, as [`from_text`](Zone::from_text) does, which may have the types that `types` says. Data of other
+    /// types than those with fields is kept as its bytes.
+    pub fn from_text_with(
+        alloc: Global,
+        text: &str,
+        includes: &[(String, String)],
+        origin: Option<&Name>,
+        types: Types,
+    ) -> Result<Zone, ZoneFault>
+        ensures ok { IfOk result (λ zone. ReadsZoneIn types
+            (includes_view includes.now) (option_copied origin.entry) text.now (Ok zone)) }
+        ensures refused { IfErr result (λ fault. fault ≢ ZoneFault.Memory → ReadsZoneIn types
+            (includes_view includes.now) (option_copied origin.entry) text.now (Err fault)) }
+        ensures well_formed { IfOk result IsZone }
+        ensures filled { IfOk result (λ zone. HasNoEmptySet zone.rows) }
+        ensures printable { types ≡ Types.Nine → IfOk result IsPrintable }
+    {
         parsed_sets_have_records();
         texts_are_octets(includes);
         origin_is_valid(origin);
-        let records = parse_records(alloc, text, includes, origin)?;
+        let records = parse_records(alloc, text, includes, origin, types)?;
         let origin = zone_origin(origin, records.soa_owner)?;
         zone_of(alloc, origin, records.sets)
     }
@@ -101,17 +121,19 @@ fn parse_records(
     text: &str,
     includes: &[(String, String)],
     origin: Option<&Name>,
+    types: Types,
 ) -> Result<ZoneRecords, ZoneFault>
     ensures ok { IfOk result (HasRecords (record {
       text = text.now;
       includes = includes_view includes.now;
       origin = option_copied origin.entry;
+      types = types;
     })) }
-    ensures refused { IfErr result (λ fault. fault ≢ ZoneFault.Memory → ReadsZone
+    ensures refused { IfErr result (λ fault. fault ≢ ZoneFault.Memory → ReadsZoneIn types
         (includes_view includes.now) (option_copied origin.entry) text.now (Err fault)) }
 {
     let origin = copy_of(origin)?;
-    match Parser::new(text, includes, origin).parse(alloc) {
+    match Parser::with_types(text, includes, origin, types).parse(alloc) {
         Ok(records) => Ok(records),
         // Memory was refused while the text was parsed.
         Err(ZoneFileError::Memory) => Err(ZoneFault::Memory),

@@ -53,6 +53,8 @@ fn entry_word(fault: &EntryFault) -> &'static str {
         EntryFault::MissingType => "MissingType",
         EntryFault::UnknownType => "UnknownType",
         EntryFault::InvalidData(error) => data_word(error),
+        EntryFault::InvalidFormat(_) => "InvalidFormat",
+        EntryFault::NoData => "NoData",
         EntryFault::NoTtl => "NoTtl",
         EntryFault::ClassMismatch => "ClassMismatch",
         EntryFault::InvalidDirective => "InvalidDirective",
