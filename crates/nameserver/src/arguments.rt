@@ -9,6 +9,7 @@ use dns_sockets::Until;
 use dns_zone::DatagramLimit;
 use std::alloc::{AllocError, Global};
 use std::net::{Ipv4Addr, SocketAddr, SocketAddrV4};
+use zone_includes::Reach;
 
 /// The port at which the server listens, unless another one is given.
 const DEFAULT_PORT: u16 = 5300;
@@ -23,6 +24,8 @@ pub(crate) struct Arguments {
     pub(crate) files: Vec<String>,
     /// The origin of the zone, if there is one zone file.
     pub(crate) origin: Option<Name>,
+    /// Which files the zone files may include.
+    pub(crate) reach: Reach,
     /// The addresses at which the server listens.
     pub(crate) addresses: Vec<SocketAddr>,
     /// The maximum size of datagrams.
@@ -51,6 +54,7 @@ pub(crate) fn read_arguments(alloc: Global, words: &[&str]) -> Result<Arguments,
     Ok(Arguments {
         origin: origin_in(alloc, &matches, files.len())?,
         files,
+        reach: reach_in(&matches),
         addresses: addresses_in(alloc, &matches)?,
         limit: limit_in(alloc, &matches)?,
         faults: text_in(alloc, &matches, "faults")?,
@@ -78,6 +82,7 @@ fn command<'a>(alloc: Global) -> Result<Command<'a>, AllocError> {
             "NAME",
             "The origin of the zone, if there is one zone file",
         ))?
+        .arg(flag(alloc, "include-anywhere", "Let zone files include any file"))?
         .arg(listen_option(alloc))?
         .arg(limit_option(alloc))?
         .arg(option(alloc, "faults", "FILE", "The fault table"))?
@@ -191,6 +196,15 @@ fn origin_in(
         // Memory for the name was refused.
         Err(ParseError::Memory) => Err(Ending::Memory),
         Err(_) => Err(Ending::invalid(alloc, "origin", text, "it is not a domain name")),
+    }
+}
+
+/// Returns which files the zone files may include.
+fn reach_in(matches: &ArgMatches<'_>) -> Reach {
+    if matches.get_str("include-anywhere") == Some("true") {
+        Reach::Anywhere
+    } else {
+        Reach::Folder
     }
 }
 

@@ -1,7 +1,7 @@
 //! `nameserver FILE.. [OPTIONS]`: serves the zones of zone files over UDP and TCP, takes dynamic updates, and makes faults on
 //! demand.
 //!
-//! - `arguments`: the arguments; `files`, `zones`: the files; `handler`: what is done with a request; `log_file`: the log;
+//! - `arguments`: the arguments; `files`, `zones`, `includes`: the files; `handler`: what is done with a request; `log_file`: the log;
 //! - `ending`: how the program ends.
 #![tactic(auto)]
 
@@ -9,6 +9,7 @@ mod arguments;
 mod ending;
 mod files;
 mod handler;
+mod includes;
 mod log_file;
 mod zones;
 

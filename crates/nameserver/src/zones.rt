@@ -3,10 +3,13 @@
 use crate::arguments::Arguments;
 use crate::ending::Ending;
 use crate::files::{read_file, text_of};
+use crate::includes::read_includes;
 use dns_names::Name;
 use dns_nameserver::FormerZones;
 use dns_server::{AddZoneError, Server};
 use dns_zone::{Zone, ZoneFault};
+use dns_zone_file::Types;
+use std::alloc::{AllocError, Global};
 use std::fmt::{self, Write};
 use std::io;
 use std::time::Instant;
@@ -18,7 +21,7 @@ pub(crate) fn read_zones(rt: &HostRuntime, arguments: &Arguments) -> Result<Serv
     for path in arguments.files.as_slice() {
         let path = path.as_str();
         let start = Instant::now(rt);
-        let zone = read_zone(rt, path, arguments.origin.as_ref())?;
+        let zone = read_zone(rt, path, arguments)?;
         tell(rt, path, &zone, milliseconds_since(rt, start));
         add_zone(rt, &mut server, path, zone)?;
     }
@@ -29,7 +32,7 @@ pub(crate) fn read_zones(rt: &HostRuntime, arguments: &Arguments) -> Result<Serv
 pub(crate) fn read_former(rt: &HostRuntime, arguments: &Arguments) -> Result<FormerZones, Ending> {
     let mut server = Server::new(rt.alloc());
     for path in arguments.files.as_slice() {
-        let zone = read_zone(rt, path.as_str(), arguments.origin.as_ref())?;
+        let zone = read_zone(rt, path.as_str(), arguments)?;
         add_zone(rt, &mut server, path.as_str(), zone)?;
     }
     Ok(FormerZones::new(server))
@@ -66,10 +69,17 @@ fn add_zone(rt: &HostRuntime, server: &mut Server, path: &str, zone: Zone) -> Re
     }
 }
 
-/// Reads a zone file.
-fn read_zone(rt: &HostRuntime, path: &str, origin: Option<&Name>) -> Result<Zone, Ending> {
+/// Reads a zone file, with the files that it includes.
+fn read_zone(rt: &HostRuntime, path: &str, arguments: &Arguments) -> Result<Zone, Ending> {
     let text = text_of(rt.alloc(), path, read_file(rt, path)?)?;
-    zone_of(rt, path, text.as_str(), origin)
+    let includes = read_includes(rt, path, text.as_str(), arguments.reach)?;
+    zone_of(
+        rt,
+        path,
+        text.as_str(),
+        includes.as_slice(),
+        arguments.origin.as_ref(),
+    )
 }
 
 /// Returns the zone of a zone file, or what is wrong in it.
@@ -77,18 +87,35 @@ fn zone_of(
     rt: &HostRuntime,
     path: &str,
     text: &str,
+    includes: &[(String, String)],
     origin: Option<&Name>,
 ) -> Result<Zone, Ending> {
-    match Zone::from_text(rt.alloc(), text, &[], origin) {
+    match Zone::from_text_with(rt.alloc(), text, includes, origin, Types::All) {
         Ok(zone) => Ok(zone),
         // Memory was refused while the zone was read.
         Err(ZoneFault::Memory) => Err(Ending::Memory),
-        Err(_) => {
-            let check = check_zone(rt.alloc(), text, origin)?;
-            let report = zone_report(rt.alloc(), path, text, origin, &check)?;
-            Err(Ending::Refused(report))
-        }
+        Err(fault) => Err(Ending::Refused(refusal(rt.alloc(), path, text, origin, &fault)?)),
     }
+}
+
+/// Returns what is said of a fault: as `zonecheck` explains it, if that finds the same one, or else the fault alone.
+fn refusal(
+    alloc: Global,
+    path: &str,
+    text: &str,
+    origin: Option<&Name>,
+    fault: &ZoneFault,
+) -> Result<String, AllocError> {
+    let said = format!(in alloc; "{fault}")?;
+    let check = check_zone(alloc, text, origin)?;
+    let found = match &check.outcome {
+        Ok(_) => String::new(alloc),
+        Err(other) => format!(in alloc; "{other}")?,
+    };
+    if said == found {
+        return zone_report(alloc, path, text, origin, &check);
+    }
+    Ok(format!(in alloc; "{path}: {said}\n")?)
 }
 
 /// Counts the lines that are written to it.
