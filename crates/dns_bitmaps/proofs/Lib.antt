@@ -1,0 +1,3 @@
+pub mod LoopLaws
+pub mod ReadBackLaws
+pub mod Base32Laws
