@@ -99,27 +99,65 @@ def time(chance: random.Random) -> bytes:
     return struct.pack(">I", chance.randint(631152000, 2524608000))
 
 
-def unnamed(least: int) -> Callable[[random.Random], bytes]:
-    """A number of 16 bits from some number on, below which there are mnemonics, which are refused here."""
-    return lambda chance: struct.pack(">H", chance.randint(least, 60000))
+# Types that all tools know by name.
+NAMED = [1, 2, 5, 6, 12, 13, 15, 16, 17, 18, 20, 24, 25, 28, 29, 33, 35, 36, 37, 39, 42, 43, 44, 45, 46, 47, 48, 49, 50, 51, 52, 53, 55, 59, 60, 61, 62, 63, 64, 65, 99, 104, 105, 106, 107, 108, 109, 256, 257, 258]
+
+
+def types(chance: random.Random, least: int = 0) -> bytes:
+    """The bitmap of some types (RFC 4034 section 4.1.2)."""
+    chosen = set(chance.sample(NAMED, chance.randint(least, 12)))
+    chosen |= {chance.randint(1000, 65279) for _ in range(chance.choice([0, 0, 1, 3]))}
+    out = b""
+    for window in sorted({number >> 8 for number in chosen}):
+        bits = [number & 255 for number in chosen if number >> 8 == window]
+        octets = bytearray(max(bits) // 8 + 1)
+        for bit in bits:
+            octets[bit // 8] |= 0x80 >> bit % 8
+        out += bytes([window, len(octets)]) + octets
+    return out
+
+
+def some_types(chance: random.Random) -> bytes:
+    """The bitmap of at least one type."""
+    return types(chance, 1)
+
+
+def next_hash(chance: random.Random) -> bytes:
+    """A hash of SHA-1 after its length."""
+    return b"\x14" + chance.randbytes(20)
+
+
+def algorithm(chance: random.Random) -> bytes:
+    """An algorithm that all tools know, by its mnemonic or its number."""
+    return bytes([chance.choice([1, 3, 5, 6, 7, 8, 10, 12, 13, 14, 15, 16, 253, 254])])
+
+
+def certificate_type(chance: random.Random) -> bytes:
+    """A type of certificates, with or without a mnemonic."""
+    return struct.pack(">H", chance.choice([1, 2, 3, 4, 5, 6, 7, 8, 253, 254, chance.randint(1000, 60000)]))
 
 
 TYPES = {
     "HINFO": Type(13, "HINFO", fields(string, string)),
     "RP": Type(17, "TYPE17", fields(name, name)),
     "NAPTR": Type(35, "NAPTR", fields(numbers("HH"), string, string, string, name)),
-    "CERT": Type(37, "CERT", fields(unnamed(1000), numbers("H"), constant(b"\xc8"), some(1, 60))),
+    "CERT": Type(37, "CERT", fields(certificate_type, numbers("H"), algorithm, some(1, 60))),
+    "KX": Type(36, "TYPE36", fields(numbers("H"), name)),
     "DNAME": Type(39, "DNAME", name),
-    "DS": Type(43, "DS", fields(numbers("H"), constant(b"\x08\x02"), sized(32))),
+    "DS": Type(43, "DS", fields(numbers("H"), algorithm, constant(b"\x02"), sized(32))),
     "SSHFP": Type(44, "SSHFP", fields(constant(b"\x01\x02"), sized(32))),
-    "RRSIG": Type(46, "RRSIG", fields(covered, constant(b"\x08\x03"), numbers("I"), time, time, numbers("H"), name, some(1, 80))),
-    "DNSKEY": Type(48, "DNSKEY", fields(numbers("H"), constant(b"\x03\x08"), some(4, 80))),
+    "RRSIG": Type(46, "RRSIG", fields(covered, algorithm, constant(b"\x03"), numbers("I"), time, time, numbers("H"), name, some(1, 80))),
+    "NSEC": Type(47, "NSEC", fields(name, some_types)),
+    "DNSKEY": Type(48, "DNSKEY", fields(numbers("H"), constant(b"\x03"), algorithm, some(4, 80))),
+    "DHCID": Type(49, "TYPE49", some(3, 60)),
+    "NSEC3": Type(50, "NSEC3", fields(constant(b"\x01\x00"), numbers("H"), salt, next_hash, types)),
     "NSEC3PARAM": Type(51, "NSEC3PARAM", fields(constant(b"\x01\x00"), numbers("H"), salt)),
     "TLSA": Type(52, "TLSA", fields(constant(b"\x03\x01\x01"), sized(32))),
     "SMIMEA": Type(53, "SMIMEA", fields(constant(b"\x03\x01\x01"), sized(32))),
-    "CDS": Type(59, "CDS", fields(numbers("H"), constant(b"\x08\x02"), sized(32))),
-    "CDNSKEY": Type(60, "CDNSKEY", fields(numbers("H"), constant(b"\x03\x08"), some(4, 80))),
+    "CDS": Type(59, "CDS", fields(numbers("H"), algorithm, constant(b"\x02"), sized(32))),
+    "CDNSKEY": Type(60, "CDNSKEY", fields(numbers("H"), constant(b"\x03"), algorithm, some(4, 80))),
     "OPENPGPKEY": Type(61, "OPENPGPKEY", some(1, 80)),
+    "CSYNC": Type(62, "CSYNC", fields(numbers("I"), constant(b"\x00\x03"), types)),
     "ZONEMD": Type(63, "TYPE63", fields(numbers("I"), constant(b"\x01\x01"), sized(48))),
     "URI": Type(256, "TYPE256", fields(numbers("HH"), text)),
     "CAA": Type(257, "CAA", fields(numbers("B"), tag, value)),

@@ -1,6 +1,7 @@
 -- The token of a value is read as the bytes of the value.
-use Rattle.std.proofs.Common.{◌≡◌, ℕ, zero, suc, ◌+◌, ◌<◌, ◌≤◌, ◌^◌, Bool, true, false, List, [], ◌∷◌, ◌++◌, length, take, get_or, Option, Some, None, Result, Ok, Err, refl, sym, ap, subst, ◌∙◌, append_assoc, arith, length-take, length-append}
-use Rattle.std.specs.Prelude.{◌==◌, ◌≢◌, nat_le, nat_lt, if◌then◌else◌, codes}
+use Rattle.std.proofs.Common.{◌≡◌, ℕ, zero, suc, ◌+◌, ◌%◌, ◌<◌, ◌≤◌, ◌^◌, Bool, true, false, ◌&&◌, List, [], ◌∷◌, ◌++◌, length, take, get_or, Option, Some, None, option_map, Result, Ok, Err, refl, sym, ap, subst, ◌∙◌, append_assoc, arith, length-take, length-append}
+use Rattle.std.specs.Prelude.{◌==◌, ◌≢◌, nat_le, nat_lt, if◌then◌else◌, codes, is_some}
+use Rattle.std.specs.List.{AllByRecursion}
 use Rattle.std.specs.Fmt.{decimal}
 use Rattle.std.specs.Int.{w16, w32, to_be_bytes, from_be_bytes}
 use Rattle.std.specs.Str.{bytes_eq}
@@ -13,7 +14,7 @@ use Rattle.base64.specs.GeneralPurpose.{encode_of}
 use Rattle.hex.specs.Hex.{encode_lower}
 use Rattle.hex.specs.Hex as hex
 use Rattle.hex.specs.declared.error.FromHexError.{FromHexError}
-use Rattle.dns_codes.specs.Decimal.{is_digit, at_most, decimal_up_to}
+use Rattle.dns_codes.specs.Decimal.{is_digit, decimal_up_to}
 use Rattle.dns_wire.specs.Name.{AreLabels}
 use Rattle.dns_names.specs.Name.{DomainName}
 use Rattle.dns_names.specs.Build.{complete}
@@ -26,11 +27,21 @@ use Rattle.dns_text.proofs.CharacterStringLaws as strings
 use Rattle.dns_text.proofs.PrintedData.{name_datum, decimal_datum, string_datum}
 use Rattle.dns_text.proofs.TokenGrammarLaws.{tested}
 use Rattle.dns_formats.specs.Value.{number_or_fault, bytes_of_number, bytes_of_name, octets_or_fault, counted, is_tag}
-use Rattle.dns_formats.specs.Rest.{words_bytes, hex_outcome, base64_outcome}
-use Rattle.dns_formats.specs.Read.{field_bytes}
+use Rattle.dns_formats.specs.Rest.{hex_words, base64_words, hex_outcome, base64_outcome}
+use Rattle.dns_codes.specs.CodeText.{or_else, type_text}
+use Rattle.dns_codes.specs.RecordType.{type_of}
+use Rattle.dns_codes.specs.declared.record_type.RecordType.{RecordType}
+use Rattle.dns_bitmaps.specs.Bitmap.{types_of, is_bitmap}
+use Rattle.dns_bitmaps.specs.Base32.{encoded, digit_value, are_digits}
+use Rattle.dns_bitmaps.proofs.ReadBackLaws.{bitmap_back, types_small}
+use Rattle.dns_bitmaps.proofs.Base32Laws.{base32_back, digits_are}
+use Rattle.dns_formats.specs.Field.{takes_rest, may_be_empty}
+use Rattle.dns_formats.specs.Mnemonic.{number_among, other_types, type_with, algorithms, certificate_types, mnemonic_or_fault}
+use Rattle.dns_formats.specs.Types.{number_of_type, then_numbers, before_numbers, type_numbers, bitmap_or_fault, hash_outcome, hash_bytes}
+use Rattle.dns_formats.specs.Read.{is_missing, field_bytes}
 use Rattle.dns_formats.specs.Wire.{at_least, name_end, short_name, counted_len, value_len}
 use Rattle.dns_formats.specs.Dnssec.{type_or_fault, date_seconds, time_or_fault, salt_bytes}
-use Rattle.dns_formats.specs.Print.{labels_at, salt_text, front_token}
+use Rattle.dns_formats.specs.Print.{labels_at, salt_text, front_token, type_tokens, front_tokens}
 use Rattle.dns_formats.specs.Data.{is_generic}
 use Rattle.dns_formats.specs.declared.fault.TokenFault.{TokenFault}
 use Rattle.dns_formats.specs.declared.fault.TokenFault.TheVariants.{StringTooLong, NotATag}
@@ -38,7 +49,7 @@ use Rattle.dns_formats.specs.declared.field.Field.{Field}
 use Rattle.dns_formats.specs.declared.field.Field.TheVariants as kind
 use Rattle.dns_formats.proofs.DecimalLaws.{Spelled, spelled, decimal_parses}
 use Rattle.dns_formats.proofs.NameLaws.{name_to}
-use Rattle.dns_formats.proofs.WordLaws.{IsPlainWord, tame_word, tag_word, unlike}
+use Rattle.dns_formats.proofs.WordLaws.{IsTame, IsPlainWord, tame_word, tag_word, unlike}
 use Rattle.dns_formats.proofs.EncodingLaws.{hex_word, hex_first, hex_back, base64_word, base64_back}
 use Rattle.dns_formats.proofs.TypeLaws.{type_word, type_parses, round_trips}
 
@@ -152,7 +163,7 @@ time_back origin (a ∷ b ∷ c ∷ d ∷ bs) n are e =
     let p3 = are.1.1.1.0 in
     let number : ℕ = from_be_bytes w32 (a ∷ b ∷ c ∷ d ∷ bs) in
     let small : number < 4294967296 = omega arith in
-    let other : Option ℕ = if length (decimal number) == 14 then at_most 4294967295 (date_seconds (decimal number)) else None in
+    let other : Option ℕ = if length (decimal number) == 14 then option_map (λ seconds. seconds % 4294967296) (date_seconds (decimal number)) else None in
     record {
       datum = decimal_datum number (omega arith);
       special = number_special number (omega arith);
@@ -174,7 +185,7 @@ type_back origin (a ∷ b ∷ bs) n are e =
     record {
       datum = word.datum;
       special = λ more. word.special;
-      read = ap type_or_fault (type_parses number small) ∙ ap (λ (k : ℕ). Ok (to_be_bytes w16 k)) (round_trips number)
+      read = ap (λ (o : Option RecordType). type_or_fault (or_else o (type_with (number_among other_types (type_text (type_of number)))))) (type_parses number small) ∙ ap (λ (k : ℕ). Ok (to_be_bytes w16 k)) (round_trips number)
           ∙ ap (λ (l : List ℕ). Ok l) (be_bytes_2 (a ∷ b ∷ []) number refl (two_octets a b high low) refl)
           ∙ ap (λ (k : ℕ). Ok (take k (a ∷ b ∷ bs))) (sym p.1);
     }
@@ -348,7 +359,7 @@ hex_field_back origin (b ∷ bs) n are e =
     record {
       datum = word.datum;
       special = λ more. word.special;
-      read = ap (λ (l : List ℕ). words_bytes kind.Hex (Some l)) (append-nil (encode_lower (b ∷ bs))) ∙ ap hex_outcome (hex_back (b ∷ bs) are)
+      read = ap (λ (l : List ℕ). hex_words (Some l)) (append-nil (encode_lower (b ∷ bs))) ∙ ap hex_outcome (hex_back (b ∷ bs) are)
           ∙ ap (λ (l : List ℕ). Ok l) (sym (take_all (b ∷ bs) n (sym (some_is (length (b ∷ bs)) n e))));
     }
 
@@ -360,22 +371,174 @@ base64_field_back origin (b ∷ bs) n are e =
     record {
       datum = word.datum;
       special = λ more. word.special;
-      read = ap (λ (l : List ℕ). words_bytes kind.Base64 (Some l)) (append-nil (encode_of standard (b ∷ bs))) ∙ ap base64_outcome (base64_back (b ∷ bs) are)
+      read = ap (λ (l : List ℕ). base64_words (Some l)) (append-nil (encode_of standard (b ∷ bs))) ∙ ap base64_outcome (base64_back (b ∷ bs) are)
           ∙ ap (λ (l : List ℕ). Ok l) (sym (take_all (b ∷ bs) n (sym (some_is (length (b ∷ bs)) n e))));
+    }
+
+-- ---- mnemonics
+
+algorithm_back : (origin : Option DomainName) (bytes : List ℕ) (n : ℕ) → AreOctets bytes → value_len kind.Algorithm bytes ≡ Some n
+    → IsBack origin kind.Algorithm (front_token kind.Algorithm bytes) (take n bytes)
+algorithm_back origin [] n are e = let p = at_least_is 1 n [] e in let some = p.0 in absurd (omega arith)
+algorithm_back origin (b ∷ bs) n are e =
+    let p = at_least_is 1 n (b ∷ bs) e in
+    let small = are.0 in
+    let whole : b % 256 ≡ b = omega arith in
+    record {
+      datum = decimal_datum b (omega arith);
+      special = number_special b (omega arith);
+      read = ap (λ (o : Option ℕ). bytes_of_number (λ k. (k % 256) ∷ []) (mnemonic_or_fault (or_else o (number_among algorithms (decimal b))))) (decimal_parses 255 b (omega arith) (omega arith))
+          ∙ ap (λ (k : ℕ). Ok (k ∷ [])) whole
+          ∙ ap (λ (k : ℕ). Ok (take k (b ∷ bs))) (sym p.1);
+    }
+
+certificate_back : (origin : Option DomainName) (bytes : List ℕ) (n : ℕ) → AreOctets bytes → value_len kind.CertificateType bytes ≡ Some n
+    → IsBack origin kind.CertificateType (front_token kind.CertificateType bytes) (take n bytes)
+certificate_back origin [] n are e = let p = at_least_is 2 n [] e in let some = p.0 in absurd (omega arith)
+certificate_back origin (a ∷ []) n are e = let p = at_least_is 2 n (a ∷ []) e in let some = p.0 in absurd (omega arith)
+certificate_back origin (a ∷ b ∷ bs) n are e =
+    let p = at_least_is 2 n (a ∷ b ∷ bs) e in
+    let high = are.0 in
+    let low = are.1.0 in
+    let number : ℕ = from_be_bytes w16 (a ∷ b ∷ bs) in
+    let small : number < 65536 = omega arith in
+    let whole : number % 65536 ≡ number = omega arith in
+    record {
+      datum = decimal_datum number (omega arith);
+      special = number_special number (omega arith);
+      read = ap (λ (o : Option ℕ). bytes_of_number (λ k. to_be_bytes w16 (k % 65536)) (mnemonic_or_fault (or_else o (number_among certificate_types (decimal number))))) (decimal_parses 65535 number (omega arith) (omega arith))
+          ∙ ap (λ (k : ℕ). Ok (to_be_bytes w16 k)) whole
+          ∙ ap (λ (l : List ℕ). Ok l) (be_bytes_2 (a ∷ b ∷ []) number refl (two_octets a b high low) refl)
+          ∙ ap (λ (k : ℕ). Ok (take k (a ∷ b ∷ bs))) (sym p.1);
+    }
+
+-- ---- hashes
+
+all_octets : (bytes : List ℕ) → AreOctets bytes → AllByRecursion (λ c. c < 256) bytes
+all_octets [] are = tt
+all_octets (c ∷ cs) are = (are.0, all_octets cs are.1)
+
+digit_tame : (c : ℕ) → is_some (digit_value c) ≡ true → IsTame c
+digit_tame c e = (low c e, other c e 59 refl, other c e 64 refl, other c e 92 refl)
+  where
+    low : (k : ℕ) → is_some (digit_value k) ≡ true → 41 < k
+    low k q = grind (arith, nat_tests)
+
+    other : (k : ℕ) → is_some (digit_value k) ≡ true → (m : ℕ) → is_some (digit_value m) ≡ false → k ≢ m
+    other k q m fails same = let passes : is_some (digit_value m) ≡ true = subst (λ (x : ℕ). is_some (digit_value x) ≡ true) same q in absurd (cc)
+
+both_of : (a b : Bool) → (a && b) ≡ true → (a ≡ true) × (b ≡ true)
+both_of true b e = (refl, e)
+both_of false b e = absurd (cc)
+
+digits_tame : (ds : List ℕ) → are_digits ds ≡ true → AllByRecursion IsTame ds
+digits_tame [] e = tt
+digits_tame (d ∷ ds) e = let p = both_of (is_some (digit_value d)) (are_digits ds) e in (digit_tame d p.0, digits_tame ds p.1)
+
+some_digits : (octets : List ℕ) → 0 < length octets → 0 < length (encoded octets)
+some_digits [] some = absurd (omega arith)
+some_digits (a ∷ []) some = omega arith
+some_digits (a ∷ b ∷ []) some = omega arith
+some_digits (a ∷ b ∷ c ∷ []) some = omega arith
+some_digits (a ∷ b ∷ c ∷ d ∷ []) some = omega arith
+some_digits (a ∷ b ∷ c ∷ d ∷ e ∷ rest) some = omega arith
+
+hash_read : (octets : List ℕ) → AreOctets octets → 0 < length octets → length octets < 256 → hash_bytes (CharData (encoded octets)) ≡ Ok (length octets ∷ octets)
+hash_read [] are some most = absurd (omega arith)
+hash_read (o ∷ os) are some most = ap hash_outcome (base32_back (o ∷ os) (all_octets (o ∷ os) are)) ∙ short_string (o ∷ os) most
+
+some_len : (len : ℕ) (o : Option ℕ) (n : ℕ) → (if len == 0 then None else o) ≡ Some n → (0 < len) × (o ≡ Some n)
+some_len len o n e = by (len == 0) refl e
+  where
+    positive : (k : ℕ) → (k == 0) ≡ false → 0 < k
+    positive k q = grind (arith, nat_tests)
+
+    by : (b : Bool) → (len == 0) ≡ b → (if b then None else o) ≡ Some n → (0 < len) × (o ≡ Some n)
+    by true q r = absurd (cc)
+    by false q r = (positive len q, r)
+
+hash_back : (origin : Option DomainName) (bytes : List ℕ) (n : ℕ) → AreOctets bytes → value_len kind.Hash bytes ≡ Some n → IsBack origin kind.Hash (front_token kind.Hash bytes) (take n bytes)
+hash_back origin [] n are e = absurd (cc)
+hash_back origin (c ∷ cs) n are e =
+    let p = some_len (length (take c cs)) (counted_len (c ∷ cs)) n e in
+    let some = p.0 in
+    let octets = front_octets c cs are.1 in
+    let small = are.0 in
+    let most : length (take c cs) < 256 = omega (arith, length-take c cs) in
+    let word = tame_word (encoded (take c cs)) (some_digits (take c cs) some) (digits_tame (encoded (take c cs)) (digits_are (take c cs) (all_octets (take c cs) octets))) in
+    record {
+      datum = word.datum;
+      special = λ more. word.special;
+      read = hash_read (take c cs) octets some most ∙ ap (λ (l : List ℕ). Ok l) (counted_form c n cs p.1);
     }
 
 -- ---- any value
 
-pub value_back : (origin : Option DomainName) (field : Field) (bytes : List ℕ) (n : ℕ) → AreOctets bytes → value_len field bytes ≡ Some n → IsBack origin field (front_token field bytes) (take n bytes)
-value_back origin kind.Number8 bytes n are e = number8_back origin bytes n are e
-value_back origin kind.Number16 bytes n are e = number16_back origin bytes n are e
-value_back origin kind.Number32 bytes n are e = number32_back origin bytes n are e
-value_back origin kind.Name bytes n are e = name_back origin bytes n are e
-value_back origin kind.CharacterString bytes n are e = string_back origin bytes n are e
-value_back origin kind.Tag bytes n are e = tag_back origin bytes n e
-value_back origin kind.RecordType bytes n are e = type_back origin bytes n are e
-value_back origin kind.Time bytes n are e = time_back origin bytes n are e
-value_back origin kind.Salt bytes n are e = salt_back origin bytes n are e
-value_back origin kind.Text bytes n are e = text_back origin bytes n are e
-value_back origin kind.Hex bytes n are e = hex_field_back origin bytes n are e
-value_back origin kind.Base64 bytes n are e = base64_field_back origin bytes n are e
+-- tokens of an entry's data that are read as the bytes, and of which the first does not begin the generic form
+pub record AreBack (origin : Option DomainName) (field : Field) (tokens : List Lexeme) (bytes : List ℕ) : Type 0 where
+  pub each : AllByRecursion IsDatum tokens
+  pub special : may_be_empty field ≡ false → (more : List Lexeme) → is_generic (tokens ++ more) ≡ false
+  pub present : is_missing field tokens ≡ false
+  pub few : takes_rest field ≡ false → length tokens ≡ 1
+  pub read : field_bytes origin field tokens ≡ Ok bytes
+
+one : (origin : Option DomainName) (field : Field) (token : Lexeme) (bytes : List ℕ) → IsBack origin field token bytes → AreBack origin field (token ∷ []) bytes
+one origin field token bytes back = record {
+  each = (back.datum, tt);
+  special = λ _ more. back.special more;
+  present = refl;
+  few = λ _. refl;
+  read = back.read;
+}
+
+types_data : (types : List ℕ) → AllByRecursion IsDatum (type_tokens types)
+types_data [] = tt
+types_data (t ∷ ts) = ((type_word (t % 65536) (omega arith)).datum, types_data ts)
+
+types_read : (types : List ℕ) → AllByRecursion (λ t. t < 65536) types → type_numbers (type_tokens types) ≡ Ok types
+types_read [] are = refl
+types_read (t ∷ ts) are =
+    let small = are.0 in
+    let whole : t % 65536 ≡ t = omega arith in
+    ap (λ (o : Option RecordType). then_numbers (number_of_type (or_else o (type_with (number_among other_types (type_text (type_of (t % 65536))))))) (type_numbers (type_tokens ts))) (type_parses (t % 65536) (omega arith))
+    ∙ ap (λ (k : ℕ). before_numbers k (type_numbers (type_tokens ts))) (round_trips (t % 65536) ∙ whole)
+    ∙ ap (before_numbers t) (types_read ts are.1)
+
+no_types_missing : (tokens : List Lexeme) → is_missing kind.Types tokens ≡ false
+no_types_missing [] = refl
+no_types_missing (t ∷ ts) = refl
+
+if_bitmap : (b : Bool) (len n : ℕ) → (if b then Some len else None) ≡ Some n → (b ≡ true) × (n ≡ len)
+if_bitmap true len n e = (refl, sym (some_is len n e))
+if_bitmap false len n e = absurd (cc)
+
+types_back : (origin : Option DomainName) (bytes : List ℕ) (n : ℕ) → AreOctets bytes → value_len kind.Types bytes ≡ Some n → AreBack origin kind.Types (front_tokens kind.Types bytes) (take n bytes)
+types_back origin bytes n are e =
+    let p = if_bitmap (is_bitmap 0 0 bytes) (length bytes) n e in
+    let octets = all_octets bytes are in
+    record {
+      each = types_data (types_of 0 0 bytes);
+      special = λ no. absurd (cc);
+      present = no_types_missing (type_tokens (types_of 0 0 bytes));
+      few = λ no. absurd (cc);
+      read = ap bitmap_or_fault (types_read (types_of 0 0 bytes) (types_small 0 0 0 bytes p.0 octets (omega arith)))
+          ∙ ap (λ (l : List ℕ). Ok l) (bitmap_back bytes octets p.0 ∙ sym (take_all bytes n p.1));
+    }
+
+pub value_back : (origin : Option DomainName) (field : Field) (bytes : List ℕ) (n : ℕ) → AreOctets bytes → value_len field bytes ≡ Some n → AreBack origin field (front_tokens field bytes) (take n bytes)
+value_back origin kind.Number8 bytes n are e = one origin kind.Number8 _ _ (number8_back origin bytes n are e)
+value_back origin kind.Number16 bytes n are e = one origin kind.Number16 _ _ (number16_back origin bytes n are e)
+value_back origin kind.Number32 bytes n are e = one origin kind.Number32 _ _ (number32_back origin bytes n are e)
+value_back origin kind.Name bytes n are e = one origin kind.Name _ _ (name_back origin bytes n are e)
+value_back origin kind.CharacterString bytes n are e = one origin kind.CharacterString _ _ (string_back origin bytes n are e)
+value_back origin kind.Tag bytes n are e = one origin kind.Tag _ _ (tag_back origin bytes n e)
+value_back origin kind.RecordType bytes n are e = one origin kind.RecordType _ _ (type_back origin bytes n are e)
+value_back origin kind.Time bytes n are e = one origin kind.Time _ _ (time_back origin bytes n are e)
+value_back origin kind.Salt bytes n are e = one origin kind.Salt _ _ (salt_back origin bytes n are e)
+value_back origin kind.Algorithm bytes n are e = one origin kind.Algorithm _ _ (algorithm_back origin bytes n are e)
+value_back origin kind.CertificateType bytes n are e = one origin kind.CertificateType _ _ (certificate_back origin bytes n are e)
+value_back origin kind.Hash bytes n are e = one origin kind.Hash _ _ (hash_back origin bytes n are e)
+value_back origin kind.Text bytes n are e = one origin kind.Text _ _ (text_back origin bytes n are e)
+value_back origin kind.Hex bytes n are e = one origin kind.Hex _ _ (hex_field_back origin bytes n are e)
+value_back origin kind.Base64 bytes n are e = one origin kind.Base64 _ _ (base64_field_back origin bytes n are e)
+value_back origin kind.Types bytes n are e = types_back origin bytes n are e

@@ -9,3 +9,5 @@ pub mod PrintLaws
 pub mod BackLaws
 pub mod DataLaws
 pub mod TypeLaws
+pub mod FormatLaws
+pub mod MnemonicLaws

@@ -1,6 +1,6 @@
 -- What is written, value by value.
 use Rattle.std.proofs.Common.{◌≡◌, ℕ, zero, suc, ◌+◌, ◌/◌, ◌%◌, ◌<◌, ◌≤◌, Bool, true, false, List, [], ◌∷◌, ◌++◌, length, take, drop, get_or, Option, Some, None, refl, sym, ap, subst, ◌∙◌, append_assoc, arith}
-use Rattle.std.specs.Prelude.{◌==◌, ◌≢◌, slice_index, flat_map, is_some, unwrap_or, if◌then◌else◌}
+use Rattle.std.specs.Prelude.{◌==◌, ◌≢◌, not, slice_index, flat_map, is_some, unwrap_or, if◌then◌else◌}
 use Rattle.std.specs.Fmt.{decimal}
 use Rattle.std.proofs.lemmas.Bool.Decides.{nat_tests}
 use Rattle.std.proofs.lemmas.List.{append-nil}
@@ -9,21 +9,20 @@ use Rattle.dns_names.specs.Print.{label_text, dotted_labels, text_of_labels}
 use Rattle.dns_text.specs.Lexer.{Lexeme}
 use Rattle.dns_text.specs.Tokens.{datum_text, data_text}
 use Rattle.dns_formats.specs.Wire.{counted_octets, value_len, value_size, fits}
-use Rattle.dns_formats.specs.Print.{labels_at, front_token, data_tokens, lead, generic_text}
+use Rattle.dns_codes.specs.CodeText.{type_text}
+use Rattle.dns_codes.specs.RecordType.{type_of}
+use Rattle.dns_bitmaps.specs.Bitmap.{types_of, spaced_types}
+use Rattle.dns_formats.specs.Field.{may_be_empty, begins}
+use Rattle.dns_formats.specs.Print.{labels_at, front_token, type_tokens, list_tokens, front_tokens, data_tokens, lead, spaced, generic_text}
 use Rattle.dns_formats.specs.Value.{is_tag}
 use Rattle.dns_formats.specs.declared.field.Field.{Field}
-use Rattle.dns_formats.specs.declared.field.Field.TheVariants.{Tag}
+use Rattle.dns_formats.specs.declared.field.Field.TheVariants.{Tag, Types}
 use Rattle.dns_formats.proofs.ValueLaws.{at_place}
 use Rattle.dns_formats.proofs.ReadLaws.{none_left}
 use Rattle.dns_formats.proofs.NameLaws.{labels_skip}
 use Rattle.dns_formats.proofs.WordLaws.{tag_label}
 
 -- ---- fields
-
--- tokens, with a blank before each but the first
-abbrev pub spaced : Bool → List Lexeme → List ℕ
-spaced is_first [] = []
-spaced is_first (token ∷ tokens) = (lead is_first ++ datum_text token) ++ spaced false tokens
 
 pub spaced_is : (tokens : List Lexeme) → spaced true tokens ≡ data_text tokens
 spaced_is [] = refl
@@ -42,6 +41,51 @@ front_fits field fields bytes e = by (value_len field bytes) refl e
     by None q r = absurd (cc)
     by (Some n) q r = record { some = ap (λ (o : Option ℕ). is_some o) q; rest = ap (λ (o : Option ℕ). fits fields (drop (unwrap_or o 0) bytes)) q ∙ r }
 
+-- tokens after at least one, if that is the first
+spaced_append : (is_first : Bool) (front more : List Lexeme) → (is_first ≡ true → 0 < length front) → spaced is_first (front ++ more) ≡ spaced is_first front ++ spaced false more
+spaced_append true [] more some = let no = some refl in absurd (omega arith)
+spaced_append false [] more some = refl
+spaced_append is_first (t ∷ ts) more some =
+    ap (λ (l : List ℕ). (lead is_first ++ datum_text t) ++ l) (spaced_append false ts more (λ q. absurd (cc)))
+    ∙ sym (append_assoc (lead is_first ++ datum_text t) (spaced false ts) (spaced false more))
+
+some_front : (field : Field) (bytes : List ℕ) → may_be_empty field ≡ false → 0 < length (front_tokens field bytes)
+some_front field bytes needs =
+    let one : front_tokens field bytes ≡ front_token field bytes ∷ [] = ap (λ (b : Bool). if b then list_tokens field bytes else front_token field bytes ∷ []) needs in
+    let len : length (front_tokens field bytes) ≡ 1 = ap (λ (l : List Lexeme). length l) one in
+    omega (arith, len)
+
+needs_one : (field : Field) (fields : List Field) → begins (field ∷ fields) ≡ true → may_be_empty field ≡ false
+needs_one field fields e = by (may_be_empty field) refl e
+  where
+    by : (b : Bool) → may_be_empty field ≡ b → not b ≡ true → may_be_empty field ≡ false
+    by true q r = absurd (cc)
+    by false q r = q
+
+pub first_needed : (fields : List Field) (i : ℕ) (d : Field) → i < length fields → begins (drop i fields) ≡ true → may_be_empty (get_or fields i d) ≡ false
+first_needed fields i d here e = needs_one (get_or fields i d) (drop (i + 1) fields) (ap begins (sym (at_place fields i d here)) ∙ e)
+
+-- the text of a value of one token
+pub one_written : (is_first : Bool) (field : Field) (bytes : List ℕ) → may_be_empty field ≡ false → lead is_first ++ datum_text (front_token field bytes) ≡ spaced is_first (front_tokens field bytes)
+one_written is_first field bytes needs =
+    sym (append-nil (lead is_first ++ datum_text (front_token field bytes)))
+    ∙ ap (λ (b : Bool). spaced is_first (if b then list_tokens field bytes else front_token field bytes ∷ [])) (sym needs)
+
+pub list_written : (is_first : Bool) (field : Field) (bytes : List ℕ) → may_be_empty field ≡ true → is_first ≡ false → spaced false (list_tokens field bytes) ≡ spaced is_first (front_tokens field bytes)
+list_written is_first field bytes empty later =
+    ap (λ (b : Bool). spaced b (list_tokens field bytes)) (sym later) ∙ ap (λ (b : Bool). spaced is_first (if b then list_tokens field bytes else front_token field bytes ∷ [])) (sym empty)
+
+pub types_written : (types : List ℕ) → spaced_types types ≡ spaced false (type_tokens types)
+types_written [] = refl
+types_written (t ∷ ts) = ap (λ (l : List ℕ). (32 ∷ type_text (type_of (t % 65536))) ++ l) (types_written ts)
+
+pub types_list : (field : Field) (bytes : List ℕ) → field ≡ Types → spaced_types (types_of 0 0 bytes) ≡ spaced false (list_tokens field bytes)
+types_list field bytes is = types_written (types_of 0 0 bytes) ∙ ap (λ (k : Field). spaced false (list_tokens k bytes)) (sym is)
+
+pub not_first : (is_first : Bool) (field : Field) → (is_first ≡ true → may_be_empty field ≡ false) → may_be_empty field ≡ true → is_first ≡ false
+not_first true field needs empty = let no = needs refl in absurd (cc)
+not_first false field needs empty = refl
+
 module _ (fields : List Field) (i : ℕ) (d : Field) (left : List ℕ) (here : i < length fields) where
   pub front_there : fits (drop i fields) left ≡ true → IsFront (get_or fields i d) (drop (i + 1) fields) left
   front_there e = front_fits (get_or fields i d) (drop (i + 1) fields) left (ap (λ (fs : List Field). fits fs left) (sym (at_place fields i d here)) ∙ e)
@@ -49,11 +93,14 @@ module _ (fields : List Field) (i : ℕ) (d : Field) (left : List ℕ) (here : i
   pub rest_fits : (len : ℕ) → len ≡ value_size (get_or fields i d) left → fits (drop i fields) left ≡ true → fits (drop (i + 1) fields) (drop len left) ≡ true
   rest_fits len is e = ap (λ (n : ℕ). fits (drop (i + 1) fields) (drop n left)) is ∙ (front_there e).rest
 
-  pub more_further : (is_first : Bool) (done whole : List ℕ) (len : ℕ) → len ≡ value_size (get_or fields i d) left → done ++ spaced is_first (data_tokens (drop i fields) left) ≡ whole
-      → (done ++ (lead is_first ++ datum_text (front_token (get_or fields i d) left))) ++ spaced false (data_tokens (drop (i + 1) fields) (drop len left)) ≡ whole
-  more_further is_first done whole len is e =
-      append_assoc done (lead is_first ++ datum_text (front_token (get_or fields i d) left)) (spaced false (data_tokens (drop (i + 1) fields) (drop len left)))
-      ∙ ap (λ (n : ℕ). done ++ ((lead is_first ++ datum_text (front_token (get_or fields i d) left)) ++ spaced false (data_tokens (drop (i + 1) fields) (drop n left)))) is
+  pub more_further : (is_first : Bool) (done whole : List ℕ) (len : ℕ) → (is_first ≡ true → begins (drop i fields) ≡ true) → len ≡ value_size (get_or fields i d) left
+      → done ++ spaced is_first (data_tokens (drop i fields) left) ≡ whole
+      → (done ++ spaced is_first (front_tokens (get_or fields i d) left)) ++ spaced false (data_tokens (drop (i + 1) fields) (drop len left)) ≡ whole
+  more_further is_first done whole len begun is e =
+      let field : Field = get_or fields i d in
+      append_assoc done (spaced is_first (front_tokens field left)) (spaced false (data_tokens (drop (i + 1) fields) (drop len left)))
+      ∙ ap (λ (n : ℕ). done ++ (spaced is_first (front_tokens field left) ++ spaced false (data_tokens (drop (i + 1) fields) (drop n left)))) is
+      ∙ ap (λ (l : List ℕ). done ++ l) (sym (spaced_append is_first (front_tokens field left) (data_tokens (drop (i + 1) fields) (drop (value_size field left) left)) (λ q. some_front field left (first_needed fields i d here (begun q)))))
       ∙ ap (λ (fs : List Field). done ++ spaced is_first (data_tokens fs left)) (sym (at_place fields i d here)) ∙ e
 
 pub some_of : (n : ℕ) → false ≡ (n == 0) → 0 < n

@@ -1,14 +1,14 @@
 -- The fields of DNSSEC: types by their names, times, and salts.
-use Rattle.std.specs.Prelude.{ℕ, ◌+◌, ◌-◌, ◌*◌, ◌/◌, ◌%◌, ◌==◌, ◌&&◌, ◌||◌, not, nat_le, nat_lt, if◌then◌else◌, Bool, List, [], ◌∷◌, length, take, drop, Option, Some, None, Result, Ok, Err, codes}
+use Rattle.std.specs.Prelude.{ℕ, ◌+◌, ◌-◌, ◌*◌, ◌/◌, ◌%◌, ◌==◌, ◌&&◌, ◌||◌, not, nat_le, nat_lt, if◌then◌else◌, Bool, List, [], ◌∷◌, length, take, drop, Option, Some, None, option_map, Result, Ok, Err, codes}
 use Rattle.std.specs.Int.{w16, w32, to_be_bytes}
 use Rattle.std.specs.Str.{bytes_eq}
 use Rattle.hex.specs.Hex.{decode_of}
-use Rattle.dns_codes.specs.CodeText.{type_of_text}
-use Rattle.dns_codes.specs.Decimal.{at_most, decimal_up_to}
+use Rattle.dns_codes.specs.Decimal.{decimal_up_to}
 use Rattle.dns_codes.specs.RecordType.{type_number}
 use Rattle.dns_codes.specs.declared.record_type.RecordType.{RecordType}
 use Rattle.dns_text.specs.Lexer.{Lexeme, CharData}
 use Rattle.dns_formats.specs.Counted.{counted}
+use Rattle.dns_formats.specs.Mnemonic.{type_of_word}
 use Rattle.dns_formats.specs.Rest.{hex_outcome}
 use Rattle.dns_formats.specs.declared.fault.TokenFault.{TokenFault}
 use Rattle.dns_formats.specs.declared.fault.TokenFault.TheVariants.{NotAWord, NotAType, NotATime}
@@ -22,7 +22,7 @@ type_or_fault (Some record_type) = Ok (to_be_bytes w16 (type_number record_type)
 
 -- a record type by its name, or `TYPE` and its number (RFC 3597 section 5)
 abbrev pub type_bytes : Lexeme → Result (List ℕ) TokenFault
-type_bytes (CharData text) = type_or_fault (type_of_text text)
+type_bytes (CharData text) = type_or_fault (type_of_word text)
 type_bytes token = Err NotAWord
 
 -- ---- times (RFC 4034 section 3.2)
@@ -79,11 +79,12 @@ abbrev pub date_seconds : List ℕ → Option ℕ
 date_seconds text =
     moment (date_days (part 0 4 9999 text) (part 4 2 12 text) (part 6 2 31 text)) (part 8 2 23 text) (part 10 2 59 text) (part 12 2 59 text)
 
--- seconds of 32 bits: a number, or a date and a time in fourteen digits
+-- seconds of 32 bits: a number, or a date and a time in fourteen digits, in serial number arithmetic (RFC 4034 section
+-- 3.1.5)
 abbrev pub time_seconds : List ℕ → Option ℕ
 time_seconds text = elim (decimal_up_to 4294967295 text) [
   | Some seconds ↦ Some seconds
-  | None ↦ if length text == 14 then at_most 4294967295 (date_seconds text) else None
+  | None ↦ if length text == 14 then option_map (λ seconds. seconds % 4294967296) (date_seconds text) else None
 ]
 
 -- the bytes of a time, if there is one

@@ -9,3 +9,5 @@ pub mod Data
 pub mod ReadBack
 pub mod Dnssec
 pub mod Counted
+pub mod Mnemonic
+pub mod Types

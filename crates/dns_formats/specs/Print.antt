@@ -1,5 +1,5 @@
 -- Record data as text (RFC 1035 section 5.1, RFC 3597 section 5).
-use Rattle.std.specs.Prelude.{ℕ, zero, suc, ◌==◌, if◌then◌else◌, Bool, true, false, List, [], ◌∷◌, ◌++◌, length, take, drop, slice_index, Option, Some, None, codes}
+use Rattle.std.specs.Prelude.{ℕ, zero, suc, ◌%◌, ◌==◌, if◌then◌else◌, Bool, true, false, List, [], ◌∷◌, ◌++◌, length, take, drop, slice_index, Option, Some, None, codes}
 use Rattle.std.specs.Fmt.{decimal}
 use Rattle.std.specs.Int.{w16, w32, from_be_bytes}
 use Rattle.base64.specs.Engines.{standard}
@@ -10,7 +10,10 @@ use Rattle.dns_codes.specs.RecordType.{type_of}
 use Rattle.dns_names.specs.Print.{text_of_labels}
 use Rattle.dns_text.specs.CharacterString.{escaped_text}
 use Rattle.dns_text.specs.Lexer.{Lexeme, CharData, QuotedString}
-use Rattle.dns_text.specs.Tokens.{data_text}
+use Rattle.dns_text.specs.Tokens.{datum_text, data_text}
+use Rattle.dns_bitmaps.specs.Bitmap.{types_of}
+use Rattle.dns_bitmaps.specs.Base32.{encoded}
+use Rattle.dns_formats.specs.Field.{may_be_empty}
 use Rattle.dns_formats.specs.Wire.{counted_octets, value_size, fits}
 use Rattle.dns_formats.specs.declared.field.Field.{Field}
 use Rattle.dns_formats.specs.declared.field.Field.TheVariants as kind
@@ -42,16 +45,40 @@ front_token kind.Salt bytes = CharData (salt_text (counted_octets bytes))
 front_token Text bytes = QuotedString (escaped_text bytes)
 front_token Hex bytes = CharData (encode_lower bytes)
 front_token Base64 bytes = CharData (encode_of standard bytes)
+front_token kind.Algorithm bytes = CharData (decimal (slice_index bytes 0))
+front_token kind.CertificateType bytes = CharData (decimal (from_be_bytes w16 bytes))
+front_token kind.Hash bytes = CharData (encoded (counted_octets bytes))
+-- A list has no such token.
+front_token kind.Types bytes = CharData []
+
+-- types by their names
+abbrev pub type_tokens : List ℕ → List Lexeme
+type_tokens [] = []
+type_tokens (number ∷ numbers) = CharData (type_text (type_of (number % 65536))) ∷ type_tokens numbers
+
+-- the tokens of the value of a field that may be empty
+abbrev pub list_tokens : Field → List ℕ → List Lexeme
+list_tokens kind.Types bytes = type_tokens (types_of 0 0 bytes)
+list_tokens field bytes = []
+
+-- the tokens of the value of a field at the front of bytes
+abbrev pub front_tokens : Field → List ℕ → List Lexeme
+front_tokens field bytes = if may_be_empty field then list_tokens field bytes else front_token field bytes ∷ []
 
 -- the tokens of fields whose values follow one another in bytes
 abbrev pub data_tokens : List Field → List ℕ → List Lexeme
 data_tokens [] bytes = []
-data_tokens (field ∷ fields) bytes = front_token field bytes ∷ data_tokens fields (drop (value_size field bytes) bytes)
+data_tokens (field ∷ fields) bytes = front_tokens field bytes ++ data_tokens fields (drop (value_size field bytes) bytes)
 
 -- what precedes a token: nothing before the first, and a blank before any other
 abbrev pub lead : Bool → List ℕ
 lead true = []
 lead false = 32 ∷ []
+
+-- the texts of tokens, with a blank before each but the first
+abbrev pub spaced : Bool → List Lexeme → List ℕ
+spaced is_first [] = []
+spaced is_first (token ∷ tokens) = (lead is_first ++ datum_text token) ++ spaced false tokens
 
 -- data of any type: `\#`, its length, and its bytes in hexadecimal digits (RFC 3597 section 5)
 abbrev pub generic_text : List ℕ → List ℕ

@@ -6,6 +6,7 @@ use Rattle.base64.specs.declared.decode.DecodeError.{DecodeError}
 use Rattle.hex.specs.Hex as hex
 use Rattle.hex.specs.declared.error.FromHexError.{FromHexError}
 use Rattle.dns_text.specs.Lexer.{Lexeme, CharData}
+use Rattle.dns_formats.specs.Types.{types_bytes}
 use Rattle.dns_formats.specs.declared.fault.TokenFault.{TokenFault}
 use Rattle.dns_formats.specs.declared.fault.TokenFault.TheVariants.{NotAWord, NotHex, NotBase64}
 use Rattle.dns_formats.specs.declared.field.Field.{Field}
@@ -29,13 +30,19 @@ base64_outcome (Ok []) = Err NotBase64
 base64_outcome (Ok (byte ∷ bytes)) = Ok (byte ∷ bytes)
 base64_outcome (Err error) = Err NotBase64
 
--- the bytes that the words denote
-abbrev pub words_bytes : Field → Option (List ℕ) → Result (List ℕ) TokenFault
-words_bytes field None = Err NotAWord
-words_bytes kind.Hex (Some words) = hex_outcome (hex.decode_of words)
-words_bytes kind.Base64 (Some words) = base64_outcome (decode_of standard words)
-words_bytes field (Some words) = Err NotAWord
+-- the bytes of hexadecimal digits in any number of words
+abbrev pub hex_words : Option (List ℕ) → Result (List ℕ) TokenFault
+hex_words None = Err NotAWord
+hex_words (Some words) = hex_outcome (hex.decode_of words)
+
+-- the bytes of base64 in any number of words
+abbrev pub base64_words : Option (List ℕ) → Result (List ℕ) TokenFault
+base64_words None = Err NotAWord
+base64_words (Some words) = base64_outcome (decode_of standard words)
 
 -- the bytes of a field that takes all tokens that are left
 abbrev pub rest_bytes : Field → List Lexeme → Result (List ℕ) TokenFault
-rest_bytes field tokens = words_bytes field (joined tokens)
+rest_bytes kind.Hex tokens = hex_words (joined tokens)
+rest_bytes kind.Base64 tokens = base64_words (joined tokens)
+rest_bytes kind.Types tokens = types_bytes tokens
+rest_bytes field tokens = Err NotAWord

@@ -1,5 +1,5 @@
 -- A token as the bytes of one field (RFC 1035 section 5.1).
-use Rattle.std.specs.Prelude.{◌≡◌, ◌≢◌, ◌||◌, ◌&&◌, nat_le, nat_lt, if◌then◌else◌, Bool, true, false, ℕ, List, [], ◌∷◌, ◌++◌, length, Option, Some, None, Result, Ok, Err, MatchResult}
+use Rattle.std.specs.Prelude.{◌≡◌, ◌≢◌, ◌%◌, ◌||◌, ◌&&◌, nat_le, nat_lt, if◌then◌else◌, Bool, true, false, ℕ, List, [], ◌∷◌, ◌++◌, length, Option, Some, None, Result, Ok, Err, MatchResult}
 use Rattle.std.specs.Int.{w16, w32, to_be_bytes}
 use Rattle.dns_codes.specs.Decimal.{decimal_up_to}
 use Rattle.dns_wire.specs.Writing.{whole_form}
@@ -10,6 +10,8 @@ use Rattle.dns_text.specs.CharacterString.{unescaped}
 use Rattle.dns_text.specs.Lexer.{Lexeme, CharData, QuotedString, At}
 use Rattle.dns_formats.specs.Fault.{name_fault}
 pub use Rattle.dns_formats.specs.Counted.{counted}
+use Rattle.dns_formats.specs.Mnemonic.{algorithms, certificate_types, word_number}
+use Rattle.dns_formats.specs.Types.{hash_bytes}
 use Rattle.dns_formats.specs.Dnssec.{type_bytes, time_bytes, salt_bytes}
 use Rattle.dns_formats.specs.declared.fault.TokenFault.{TokenFault}
 use Rattle.dns_formats.specs.declared.fault.TokenFault.TheVariants.{NotAWord, NotANumber, InvalidEscape, NotATag, RelativeName}
@@ -107,4 +109,8 @@ value_bytes origin kind.Text token = text_bytes token
 value_bytes origin kind.RecordType token = type_bytes token
 value_bytes origin kind.Time token = time_bytes token
 value_bytes origin kind.Salt token = salt_bytes token
+value_bytes origin kind.Algorithm token = bytes_of_number (λ number. (number % 256) ∷ []) (word_number algorithms 255 token)
+value_bytes origin kind.CertificateType token =
+    bytes_of_number (λ number. to_be_bytes w16 (number % 65536)) (word_number certificate_types 65535 token)
+value_bytes origin kind.Hash token = hash_bytes token
 value_bytes origin field token = Err NotAWord

@@ -1,5 +1,6 @@
 -- The value of a field at the front of bytes.
 use Rattle.std.specs.Prelude.{ℕ, zero, suc, ◌+◌, ◌==◌, nat_le, nat_lt, if◌then◌else◌, Bool, true, false, List, [], ◌∷◌, length, take, drop, Option, Some, None, option_map, unwrap_or}
+use Rattle.dns_bitmaps.specs.Bitmap.{is_bitmap}
 use Rattle.dns_formats.specs.Value.{is_tag}
 use Rattle.dns_formats.specs.declared.field.Field.{Field}
 use Rattle.dns_formats.specs.declared.field.Field.TheVariants as kind
@@ -32,6 +33,14 @@ abbrev pub counted_octets : List ℕ → List ℕ
 counted_octets [] = []
 counted_octets (n ∷ bytes) = take n bytes
 
+-- the length of a string that is not empty, with the byte that counts it
+abbrev pub some_counted_len : List ℕ → Option ℕ
+some_counted_len bytes = if length (counted_octets bytes) == 0 then None else counted_len bytes
+
+-- all bytes, if they are a bitmap of types
+abbrev pub bitmap_len : List ℕ → Option ℕ
+bitmap_len bytes = if is_bitmap 0 0 bytes then Some (length bytes) else None
+
 -- all bytes, of which there is at least one
 abbrev pub all_of : List ℕ → Option ℕ
 all_of [] = None
@@ -48,6 +57,10 @@ value_len Tag bytes = if is_tag (counted_octets bytes) then counted_len bytes el
 value_len kind.RecordType bytes = at_least 2 bytes
 value_len kind.Time bytes = at_least 4 bytes
 value_len kind.Salt bytes = counted_len bytes
+value_len kind.Algorithm bytes = at_least 1 bytes
+value_len kind.CertificateType bytes = at_least 2 bytes
+value_len kind.Hash bytes = some_counted_len bytes
+value_len kind.Types bytes = bitmap_len bytes
 value_len Text bytes = Some (length bytes)
 value_len Hex bytes = all_of bytes
 value_len Base64 bytes = all_of bytes

@@ -9,9 +9,10 @@ ghost use Rattle.dns_formats.specs.Rest.{hex_outcome};
 ghost use Rattle.dns_formats.specs.Dnssec.{type_bytes, is_leap, leaps_before, days_in, days_before, is_date, days_to, date_days, part, date_seconds, time_seconds, time_bytes, salt_bytes};
 
 use crate::fault::TokenFault;
+use crate::mnemonic::type_of_word;
 use crate::rest::push_hex;
 use crate::value::push_counted;
-use dns_codes::{RecordType, parse_decimal};
+use dns_codes::parse_decimal;
 use dns_text::Token;
 use std::alloc::Global;
 
@@ -23,7 +24,7 @@ pub(crate) fn push_type(token: Token<'_>, out: &mut Vec<u8>) -> Result<(), Token
     let Token::CharData(text) = token else {
         return Err(TokenFault::NotAWord);
     };
-    let Some(record_type) = RecordType::from_ascii_bytes(text) else {
+    let Some(record_type) = type_of_word(text) else {
         return Err(TokenFault::NotAType);
     };
     out.extend_from_slice(&u16::from(record_type).to_be_bytes())?;
@@ -47,7 +48,8 @@ pub(crate) fn push_time(token: Token<'_>, out: &mut Vec<u8>) -> Result<(), Token
     Ok(())
 }
 
-/// Returns the seconds from 1970 of a time: a number, or a date and a time of the form `YYYYMMDDHHmmSS`.
+/// Returns the seconds from 1970 of a time: a number, or a date and a time of the form `YYYYMMDDHHmmSS`, modulo 2^32
+/// (RFC 4034 section 3.1.5).
 fn time_seconds(text: &[u8]) -> Option<u64>
     ensures value { result ≡ time_seconds text.now }
     ensures bound { IfSome result (λ seconds. seconds ≤ 4294967295) }
@@ -58,11 +60,7 @@ fn time_seconds(text: &[u8]) -> Option<u64>
     if text.len() != 14 {
         return None;
     }
-    let seconds = date_seconds(text)?;
-    if seconds > 4_294_967_295 {
-        return None;
-    }
-    Some(seconds)
+    Some(date_seconds(text)? % 4_294_967_296)
 }
 
 /// Returns the seconds from 1970 to a date and a time.

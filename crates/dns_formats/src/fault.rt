@@ -49,6 +49,12 @@ pub enum TokenFault {
     /// The words are not base64 with its padding (RFC 4648 section 4), or there is none.
     #[error("not base64")]
     NotBase64,
+    /// The word is not base32hex without padding (RFC 5155 section 3.3).
+    #[error("not base32hex")]
+    NotBase32,
+    /// The word is neither a decimal number that the field has bits for, nor one of its mnemonics.
+    #[error("neither a number of this field nor a mnemonic")]
+    NotAMnemonic,
     /// Memory could not be allocated.
     #[error("out of memory")]
     Memory,

@@ -4,7 +4,8 @@
 //! denotes, follows from their kinds. The generic form of RFC 3597 section 5 has data of any type.
 //!
 //! - `field`: the kinds of fields, and the fields of each type; `fault`: why tokens or bytes are refused
-//! - `dnssec`: the fields of DNSSEC: types by their names, times, and salts
+//! - `dnssec`: the fields of DNSSEC: types by their names, times, salts and hashes; `types`: sets of types
+//! - `mnemonic`: types, algorithms and types of certificates by their names
 //! - `value`: a token as the bytes of one field; `rest`: all tokens that are left, as one field
 //! - `read`: the tokens of record data, read as its bytes
 #![tactic(auto)]
@@ -14,15 +15,18 @@ mod fault;
 mod field;
 mod generic;
 pub mod laws;
+mod mnemonic;
 mod print;
 mod read;
 mod rest;
+mod types;
 mod value;
 mod wire;
 
 pub use fault::{FormatFault, TokenFault};
 pub use field::{Field, format_of};
 pub use generic::is_generic;
+pub use mnemonic::type_of_word;
 pub use print::DataText;
 pub use read::read_data;
 pub use wire::fits;

@@ -1,6 +1,6 @@
 //! Record data as text (RFC 1035 section 5.1, RFC 3597 section 5).
 
-ghost use Rattle.std.specs.Prelude.{◌≡◌, ◌≤◌, ◌<◌, ◌∷◌, ◌++◌, [], true, length, drop, slice_index, Some, flat_map, is_some, ◌/◌, ◌%◌};
+ghost use Rattle.std.specs.Prelude.{◌≡◌, ◌≤◌, ◌<◌, ◌∷◌, ◌++◌, [], true, false, length, drop, slice_index, Some, flat_map, is_some, ◌/◌, ◌%◌};
 ghost use Rattle.std.specs.Fmt.{WritesOnOk, decimal};
 ghost use Rattle.std.specs.Int.{w16, w32, from_be_bytes};
 ghost use Rattle.base64.specs.Engines.{standard};
@@ -12,14 +12,17 @@ ghost use Rattle.dns_text.specs.CharacterString.{quoted_text};
 ghost use Rattle.dns_text.specs.Tokens.{datum_text, data_text};
 ghost use Rattle.dns_codes.specs.CodeText.{type_text};
 ghost use Rattle.dns_codes.specs.RecordType.{type_number, type_of};
-ghost use Rattle.dns_formats.specs.Field.{fields_of};
+ghost use Rattle.dns_bitmaps.specs.Bitmap.{types_of, spaced_types};
+ghost use Rattle.dns_bitmaps.specs.Base32.{encoded};
+ghost use Rattle.dns_formats.specs.Field.{may_be_empty, begins, fields_of};
 ghost use Rattle.dns_formats.specs.Wire.{value_len, fits};
-ghost use Rattle.dns_formats.specs.Print.{labels_at, front_token, data_tokens, lead, salt_text, generic_text, format_text};
+ghost use Rattle.dns_formats.specs.Print.{labels_at, front_token, list_tokens, front_tokens, data_tokens, lead, spaced, salt_text, generic_text, format_text};
 
 use crate::field::{Field, format_of};
 use crate::wire::{counted_octets, fits, value_size};
 use base64::display::Base64Display;
 use base64::engine::general_purpose::STANDARD;
+use dns_bitmaps::{Base32Text, BitmapText};
 use dns_codes::RecordType;
 use dns_text::QuotedString;
 use std::fmt;
@@ -51,7 +54,8 @@ fn write_fields<W: fmt::Write>(
     bytes: &[u8],
     f: &mut fmt::Formatter<W>,
 ) -> fmt::Result
-    requires { fits fields.now bytes.now ≡ true }
+    requires fitting { fits fields.now bytes.now ≡ true }
+    requires begun { begins fields.now ≡ true }
     ensures { WritesOnOk W.write_str_gives f.old result
         (data_text (data_tokens fields.now bytes.now)) f.new }
 {
@@ -72,6 +76,24 @@ fn write_spaced<W: fmt::Write>(
     bytes: &[u8],
     f: &mut fmt::Formatter<W>,
 ) -> fmt::Result
+    requires there { is_some (value_len field bytes.now) ≡ true }
+    requires front { is_first ≡ true → may_be_empty field ≡ false }
+    ensures { WritesOnOk W.write_str_gives f.old result
+        (spaced is_first (front_tokens field bytes.now)) f.new }
+{
+    if field.may_be_empty() {
+        return write_list(field, bytes, f);
+    }
+    write_one(is_first, field, bytes, f)
+}
+
+/// Writes the value of a field of one token, after a blank unless it is the first.
+fn write_one<W: fmt::Write>(
+    is_first: bool,
+    field: Field,
+    bytes: &[u8],
+    f: &mut fmt::Formatter<W>,
+) -> fmt::Result
     requires { is_some (value_len field bytes.now) ≡ true }
     ensures { WritesOnOk W.write_str_gives f.old result
         (lead is_first ++ datum_text (front_token field bytes.now)) f.new }
@@ -80,6 +102,17 @@ fn write_spaced<W: fmt::Write>(
         f.write_char(' ')?;
     }
     write_value(field, bytes, f)
+}
+
+/// Writes the values of a field that may be empty, a blank before each.
+fn write_list<W: fmt::Write>(field: Field, bytes: &[u8], f: &mut fmt::Formatter<W>) -> fmt::Result
+    ensures { WritesOnOk W.write_str_gives f.old result
+        (spaced false (list_tokens field bytes.now)) f.new }
+{
+    match field {
+        Field::Types => write_types(bytes, f),
+        _ => Ok(()),
+    }
 }
 
 /// Writes the value of a field at the front of bytes.
@@ -98,9 +131,14 @@ fn write_value<W: fmt::Write>(field: Field, bytes: &[u8], f: &mut fmt::Formatter
         Field::RecordType => write_type(bytes, f),
         Field::Time => write_number32(bytes, f),
         Field::Salt => write_salt(counted_octets(bytes), f),
+        Field::Algorithm => write_number8(bytes, f),
+        Field::CertificateType => write_number16(bytes, f),
+        Field::Hash => write_base32(counted_octets(bytes), f),
         Field::Text => write_quoted(bytes, f),
         Field::Hex => write_hex(bytes, f),
         Field::Base64 => write_base64(bytes, f),
+        // It is a list, and `write_list` writes it.
+        Field::Types => Ok(()),
     }
 }
 
@@ -228,6 +266,23 @@ fn write_salt<W: fmt::Write>(salt: &[u8], f: &mut fmt::Formatter<W>) -> fmt::Res
         return f.write_char('-');
     }
     write_hex(salt, f)
+}
+
+/// Writes bytes in base32hex.
+fn write_base32<W: fmt::Write>(bytes: &[u8], f: &mut fmt::Formatter<W>) -> fmt::Result
+    ensures { WritesOnOk W.write_str_gives f.old result (encoded bytes.now) f.new }
+{
+    let text = Base32Text { bytes };
+    write!(f, "{text}")
+}
+
+/// Writes the types of a bitmap, a blank before each.
+fn write_types<W: fmt::Write>(bytes: &[u8], f: &mut fmt::Formatter<W>) -> fmt::Result
+    ensures { WritesOnOk W.write_str_gives f.old result
+        (spaced_types (types_of 0 0 bytes.now)) f.new }
+{
+    let text = BitmapText { bytes };
+    write!(f, "{text}")
 }
 
 // ---- strings, hexadecimal digits and base64

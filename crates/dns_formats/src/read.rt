@@ -6,7 +6,7 @@ ghost use Rattle.dns_codes.specs.RecordType.{type_number};
 ghost use Rattle.dns_formats.specs.Data.{is_generic, generic_bytes, of_type, short_data, data_bytes};
 ghost use Rattle.dns_formats.specs.Field.{fields_of};
 ghost use Rattle.dns_formats.specs.Value.{Appends};
-ghost use Rattle.dns_formats.specs.Read.{fields_bytes, located, field_bytes, taken};
+ghost use Rattle.dns_formats.specs.Read.{is_missing, fields_bytes, located, field_bytes, taken};
 
 use crate::fault::FormatFault;
 use crate::field::{Field, format_of};
@@ -103,7 +103,7 @@ fn push_fields(
 {
     let mut place = 0;
     for field in fields {
-        if place == tokens.len() {
+        if is_missing(*field, place, tokens) {
             return Err(FormatFault::MissingToken(place));
         }
         place = push_field(alloc, *field, place, tokens, origin, out)?;
@@ -112,6 +112,17 @@ fn push_fields(
         return Err(FormatFault::UnexpectedToken(place));
     }
     Ok(())
+}
+
+/// Returns `true` if there is no token from a place on for a field that needs one.
+fn is_missing(field: Field, place: usize, tokens: &[Token<'_>]) -> bool
+    requires { place ≤ length tokens.now }
+    ensures { result ≡ is_missing field (map lexeme (drop place tokens.now)) }
+{
+    if place < tokens.len() {
+        return false;
+    }
+    !field.may_be_empty()
 }
 
 /// Appends the bytes of the field whose first token is at a place, and returns the place of the next token.
@@ -123,7 +134,8 @@ fn push_field(
     origin: Option<&Name>,
     out: &mut Vec<u8>,
 ) -> Result<usize, FormatFault>
-    requires { place < length tokens.now }
+    requires within { place ≤ length tokens.now }
+    requires present { is_missing field (map lexeme (drop place tokens.now)) ≡ false }
     ensures bytes { Appends FormatFault.Memory
         (located place (field_bytes (option_map (λ o. o.now) origin.entry) field
         (map lexeme (drop place tokens.now))))

@@ -6,10 +6,11 @@ ghost use Rattle.base64.specs.GeneralPurpose.{decode_of};
 ghost use Rattle.hex.specs.Hex as hex_text;
 ghost use Rattle.dns_text.specs.Token.{lexeme};
 ghost use Rattle.dns_formats.specs.Value.{Appends};
-ghost use Rattle.dns_formats.specs.Rest.{joined, hex_outcome, base64_outcome, words_bytes, rest_bytes};
+ghost use Rattle.dns_formats.specs.Rest.{joined, hex_outcome, base64_outcome, hex_words, base64_words, rest_bytes};
 
 use crate::fault::TokenFault;
 use crate::field::Field;
+use crate::types::push_types;
 use base64::DecodeAllocError;
 use base64::engine::general_purpose::STANDARD;
 use dns_text::Token;
@@ -26,12 +27,34 @@ pub(crate) fn push_rest(
     ensures { Appends TokenFault.Memory (rest_bytes field (map lexeme tokens.now))
         out.old.items result out.new.items }
 {
-    let words = join_words(alloc, tokens)?;
     match field {
-        Field::Hex => push_hex(alloc, words.as_slice(), out),
-        Field::Base64 => push_base64(alloc, words.as_slice(), out),
+        Field::Hex => push_hex_words(alloc, tokens, out),
+        Field::Base64 => push_base64_words(alloc, tokens, out),
+        Field::Types => push_types(alloc, tokens, out),
         _ => Err(TokenFault::NotAWord),
     }
+}
+
+/// Appends bytes from hexadecimal digits in any number of words.
+fn push_hex_words(alloc: Global, tokens: &[Token<'_>], out: &mut Vec<u8>) -> Result<(), TokenFault>
+    ensures { Appends TokenFault.Memory (hex_words (joined (map lexeme tokens.now)))
+        out.old.items result out.new.items }
+{
+    let words = join_words(alloc, tokens)?;
+    push_hex(alloc, words.as_slice(), out)
+}
+
+/// Appends bytes from base64 in any number of words.
+fn push_base64_words(
+    alloc: Global,
+    tokens: &[Token<'_>],
+    out: &mut Vec<u8>,
+) -> Result<(), TokenFault>
+    ensures { Appends TokenFault.Memory (base64_words (joined (map lexeme tokens.now)))
+        out.old.items result out.new.items }
+{
+    let words = join_words(alloc, tokens)?;
+    push_base64(alloc, words.as_slice(), out)
 }
 
 /// Joins words.

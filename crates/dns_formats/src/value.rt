@@ -12,6 +12,8 @@ ghost use Rattle.dns_formats.specs.Value.{Appends, number_of, bytes_of_number, b
 use crate::dnssec::{push_salt, push_time, push_type};
 use crate::fault::TokenFault;
 use crate::field::Field;
+use crate::mnemonic::{push_algorithm, push_certificate_type};
+use crate::types::push_hash;
 use dns_codes::parse_decimal;
 use dns_names::Name;
 use dns_text::{Token, unescape};
@@ -40,7 +42,10 @@ pub(crate) fn push_value(
         Field::RecordType => push_type(token, out),
         Field::Time => push_time(token, out),
         Field::Salt => push_salt(alloc, token, out),
-        Field::Hex | Field::Base64 => Err(TokenFault::NotAWord),
+        Field::Algorithm => push_algorithm(token, out),
+        Field::CertificateType => push_certificate_type(token, out),
+        Field::Hash => push_hash(alloc, token, out),
+        Field::Hex | Field::Base64 | Field::Types => Err(TokenFault::NotAWord),
     }
 }
 

@@ -1,10 +1,11 @@
 //! The value of a field at the front of bytes.
 
 ghost use Rattle.std.specs.Prelude.{◌≡◌, ◌≤◌, length, drop, IfSome, Option, unwrap_or};
-ghost use Rattle.dns_formats.specs.Wire.{at_least, name_end, short_name, counted_len, counted_octets, all_of, value_len, value_size, fits};
+ghost use Rattle.dns_formats.specs.Wire.{at_least, name_end, short_name, counted_len, some_counted_len, bitmap_len, counted_octets, all_of, value_len, value_size, fits};
 
 use crate::field::Field;
 use crate::value::is_tag;
+use dns_bitmaps::is_bitmap;
 
 /// The greatest length of a name, in bytes (RFC 1035 section 2.3.4).
 const MAX_NAME_LENGTH: usize = 255;
@@ -46,6 +47,10 @@ pub(crate) fn value_len(field: Field, bytes: &[u8]) -> Option<usize>
                 None
             }
         }
+        Field::Algorithm => at_least(1, bytes),
+        Field::CertificateType => at_least(2, bytes),
+        Field::Hash => some_counted_len(bytes),
+        Field::Types => bitmap_len(bytes),
         Field::Text => Some(bytes.len()),
         Field::Hex | Field::Base64 => all_of(bytes),
     }
@@ -101,6 +106,29 @@ fn counted_len(bytes: &[u8]) -> Option<usize>
     let len = usize::from(bytes[0]);
     if len < bytes.len() {
         Some(1 + len)
+    } else {
+        None
+    }
+}
+
+/// Returns the length of the string at the front of bytes, which must not be empty, with the byte that counts it.
+fn some_counted_len(bytes: &[u8]) -> Option<usize>
+    ensures value { result ≡ some_counted_len bytes.now }
+    ensures within { IfSome result (λ len. len ≤ length bytes.now) }
+{
+    if counted_octets(bytes).is_empty() {
+        return None;
+    }
+    counted_len(bytes)
+}
+
+/// Returns the number of all bytes, if they are a bitmap of types.
+fn bitmap_len(bytes: &[u8]) -> Option<usize>
+    ensures value { result ≡ bitmap_len bytes.now }
+    ensures within { IfSome result (λ len. len ≤ length bytes.now) }
+{
+    if is_bitmap(bytes) {
+        Some(bytes.len())
     } else {
         None
     }
