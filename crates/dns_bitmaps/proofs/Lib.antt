@@ -1,3 +1,4 @@
 pub mod LoopLaws
 pub mod ReadBackLaws
 pub mod Base32Laws
+pub mod WordLaws

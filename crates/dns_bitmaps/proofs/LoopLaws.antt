@@ -4,8 +4,7 @@ use Rattle.std.specs.Prelude.{◌==◌, not, nat_le, nat_lt, if◌then◌else◌
 use Rattle.std.proofs.Math.Seq.{drop-cons}
 use Rattle.std.proofs.lemmas.Bool.Decides.{nat_tests}
 use Rattle.std.proofs.lemmas.List.{append-nil}
-use Rattle.dns_codes.specs.CodeText.{type_text}
-use Rattle.dns_codes.specs.RecordType.{type_of}
+use Rattle.dns_bitmaps.specs.TypeWord.{word_of_type}
 use Rattle.dns_bitmaps.specs.Bitmap.{weights, has_type, weight_if, octet_of, octets_from, block, blocks, types_of_octet, types_of_octets, types_of, is_bitmap, has_block, block_len, spaced_types, bit_types, without}
 
 pub at_place : (xs : List ℕ) (i : ℕ) → i < length xs → drop i xs ≡ get_or xs i 0 ∷ drop (i + 1) xs
@@ -154,7 +153,7 @@ some_of (suc n) e = omega arith
 pub spaced_append : (a b : List ℕ) → spaced_types (a ++ b) ≡ spaced_types a ++ spaced_types b
 spaced_append [] b = refl
 spaced_append (t ∷ ts) b =
-    ap (λ (l : List ℕ). (32 ∷ type_text (type_of (t % 65536))) ++ l) (spaced_append ts b) ∙ sym (append_assoc (32 ∷ type_text (type_of (t % 65536))) (spaced_types ts) (spaced_types b))
+    ap (λ (l : List ℕ). (32 ∷ word_of_type (t % 65536)) ++ l) (spaced_append ts b) ∙ sym (append_assoc (32 ∷ word_of_type (t % 65536)) (spaced_types ts) (spaced_types b))
 
 spaced_further : (types more : List ℕ) (done whole : List ℕ) → done ++ spaced_types (types ++ more) ≡ whole → (done ++ spaced_types types) ++ spaced_types more ≡ whole
 spaced_further types more done whole e =

@@ -1,7 +1,6 @@
 -- Sets of record types as bitmaps (RFC 4034 section 4.1.2).
 use Rattle.std.specs.Prelude.{ℕ, zero, suc, ◌+◌, ◌-◌, ◌*◌, ◌/◌, ◌%◌, max, ◌==◌, ◌&&◌, ◌||◌, not, nat_le, nat_lt, if◌then◌else◌, Bool, true, false, List, [], ◌∷◌, ◌++◌, length, get_or, flat_map, Option, Some, None}
-use Rattle.dns_codes.specs.CodeText.{type_text}
-use Rattle.dns_codes.specs.RecordType.{type_of}
+use Rattle.dns_bitmaps.specs.TypeWord.{word_of_type}
 
 -- the weights of the bits of an octet: the first bit is the most significant (RFC 1035 section 2.3.2)
 abbrev pub weights : List ℕ
@@ -107,4 +106,4 @@ block_len least bytes =
 
 -- types by their names, a blank before each; types are numbers of 16 bits
 abbrev pub spaced_types : List ℕ → List ℕ
-spaced_types types = flat_map (λ number. 32 ∷ type_text (type_of (number % 65536))) types
+spaced_types types = flat_map (λ number. 32 ∷ word_of_type (number % 65536)) types

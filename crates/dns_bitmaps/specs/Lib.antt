@@ -1,2 +1,3 @@
 pub mod Bitmap
 pub mod Base32
+pub mod TypeWord

@@ -5,7 +5,7 @@ ghost use Rattle.std.specs.Fmt.{WritesOnOk};
 ghost use Rattle.dns_bitmaps.specs.Bitmap.{weights, bit_types, without, types_of_octet, types_of_octets, types_of, spaced_types};
 
 use crate::bitmap::WEIGHTS;
-use dns_codes::RecordType;
+use crate::type_word::TypeWord;
 use std::fmt;
 
 /// A bitmap, which `Display` writes as its types in ascending order, a blank before each (RFC 4034 section 4.2).
@@ -99,6 +99,8 @@ fn write_bit<W: fmt::Write>(
 fn write_type<W: fmt::Write>(number: u32, f: &mut fmt::Formatter<W>) -> fmt::Result
     ensures { WritesOnOk W.write_str_gives f.old result (spaced_types (number ∷ [])) f.new }
 {
-    let kind = RecordType::from((number % 65_536) as u16);
-    write!(f, " {kind}")
+    let word = TypeWord {
+        number: (number % 65_536) as u16,
+    };
+    write!(f, " {word}")
 }

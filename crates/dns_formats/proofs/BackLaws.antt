@@ -28,15 +28,15 @@ use Rattle.dns_text.proofs.PrintedData.{name_datum, decimal_datum, string_datum}
 use Rattle.dns_text.proofs.TokenGrammarLaws.{tested}
 use Rattle.dns_formats.specs.Value.{number_or_fault, bytes_of_number, bytes_of_name, octets_or_fault, counted, is_tag}
 use Rattle.dns_formats.specs.Rest.{hex_words, base64_words, hex_outcome, base64_outcome}
-use Rattle.dns_codes.specs.CodeText.{or_else, type_text}
-use Rattle.dns_codes.specs.RecordType.{type_of}
+use Rattle.dns_codes.specs.CodeText.{or_else}
 use Rattle.dns_codes.specs.declared.record_type.RecordType.{RecordType}
 use Rattle.dns_bitmaps.specs.Bitmap.{types_of, is_bitmap}
 use Rattle.dns_bitmaps.specs.Base32.{encoded, digit_value, are_digits}
 use Rattle.dns_bitmaps.proofs.ReadBackLaws.{bitmap_back, types_small}
 use Rattle.dns_bitmaps.proofs.Base32Laws.{base32_back, digits_are}
 use Rattle.dns_formats.specs.Field.{takes_rest, may_be_empty}
-use Rattle.dns_formats.specs.Mnemonic.{number_among, other_types, type_with, algorithms, certificate_types, mnemonic_or_fault}
+use Rattle.dns_bitmaps.specs.TypeWord.{number_among}
+use Rattle.dns_formats.specs.Mnemonic.{algorithms, certificate_types, mnemonic_or_fault}
 use Rattle.dns_formats.specs.Types.{number_of_type, then_numbers, before_numbers, type_numbers, bitmap_or_fault, hash_outcome, hash_bytes}
 use Rattle.dns_formats.specs.Read.{is_missing, field_bytes}
 use Rattle.dns_formats.specs.Wire.{at_least, name_end, short_name, counted_len, value_len}
@@ -51,7 +51,7 @@ use Rattle.dns_formats.proofs.DecimalLaws.{Spelled, spelled, decimal_parses}
 use Rattle.dns_formats.proofs.NameLaws.{name_to}
 use Rattle.dns_formats.proofs.WordLaws.{IsTame, IsPlainWord, tame_word, tag_word, unlike}
 use Rattle.dns_formats.proofs.EncodingLaws.{hex_word, hex_first, hex_back, base64_word, base64_back}
-use Rattle.dns_formats.proofs.TypeLaws.{type_word, type_parses, round_trips}
+use Rattle.dns_formats.proofs.TypeLaws.{word_plain, word_parses, round_trips}
 
 some_is : (a b : ℕ) → ◌≡◌ {A = Option ℕ} (Some a) (Some b) → a ≡ b
 some_is a b e = cc
@@ -181,11 +181,11 @@ type_back origin (a ∷ b ∷ bs) n are e =
     let low = are.1.0 in
     let number : ℕ = from_be_bytes w16 (a ∷ b ∷ bs) in
     let small : number < 65536 = omega arith in
-    let word = type_word number small in
+    let word = word_plain number small in
     record {
       datum = word.datum;
       special = λ more. word.special;
-      read = ap (λ (o : Option RecordType). type_or_fault (or_else o (type_with (number_among other_types (type_text (type_of number)))))) (type_parses number small) ∙ ap (λ (k : ℕ). Ok (to_be_bytes w16 k)) (round_trips number)
+      read = ap type_or_fault (word_parses number small) ∙ ap (λ (k : ℕ). Ok (to_be_bytes w16 k)) (round_trips number)
           ∙ ap (λ (l : List ℕ). Ok l) (be_bytes_2 (a ∷ b ∷ []) number refl (two_octets a b high low) refl)
           ∙ ap (λ (k : ℕ). Ok (take k (a ∷ b ∷ bs))) (sym p.1);
     }
@@ -493,14 +493,14 @@ one origin field token bytes back = record {
 
 types_data : (types : List ℕ) → AllByRecursion IsDatum (type_tokens types)
 types_data [] = tt
-types_data (t ∷ ts) = ((type_word (t % 65536) (omega arith)).datum, types_data ts)
+types_data (t ∷ ts) = ((word_plain (t % 65536) (omega arith)).datum, types_data ts)
 
 types_read : (types : List ℕ) → AllByRecursion (λ t. t < 65536) types → type_numbers (type_tokens types) ≡ Ok types
 types_read [] are = refl
 types_read (t ∷ ts) are =
     let small = are.0 in
     let whole : t % 65536 ≡ t = omega arith in
-    ap (λ (o : Option RecordType). then_numbers (number_of_type (or_else o (type_with (number_among other_types (type_text (type_of (t % 65536))))))) (type_numbers (type_tokens ts))) (type_parses (t % 65536) (omega arith))
+    ap (λ (o : Option RecordType). then_numbers (number_of_type o) (type_numbers (type_tokens ts))) (word_parses (t % 65536) (omega arith))
     ∙ ap (λ (k : ℕ). before_numbers k (type_numbers (type_tokens ts))) (round_trips (t % 65536) ∙ whole)
     ∙ ap (before_numbers t) (types_read ts are.1)
 

@@ -10,4 +10,4 @@ pub mod BackLaws
 pub mod DataLaws
 pub mod TypeLaws
 pub mod FormatLaws
-pub mod MnemonicLaws
+pub mod SetLaws

@@ -9,8 +9,7 @@ use Rattle.dns_names.specs.Print.{label_text, dotted_labels, text_of_labels}
 use Rattle.dns_text.specs.Lexer.{Lexeme}
 use Rattle.dns_text.specs.Tokens.{datum_text, data_text}
 use Rattle.dns_formats.specs.Wire.{counted_octets, value_len, value_size, fits}
-use Rattle.dns_codes.specs.CodeText.{type_text}
-use Rattle.dns_codes.specs.RecordType.{type_of}
+use Rattle.dns_bitmaps.specs.TypeWord.{word_of_type}
 use Rattle.dns_bitmaps.specs.Bitmap.{types_of, spaced_types}
 use Rattle.dns_formats.specs.Field.{may_be_empty, begins}
 use Rattle.dns_formats.specs.Print.{labels_at, front_token, type_tokens, list_tokens, front_tokens, data_tokens, lead, spaced, generic_text}
@@ -77,7 +76,7 @@ list_written is_first field bytes empty later =
 
 pub types_written : (types : List ℕ) → spaced_types types ≡ spaced false (type_tokens types)
 types_written [] = refl
-types_written (t ∷ ts) = ap (λ (l : List ℕ). (32 ∷ type_text (type_of (t % 65536))) ++ l) (types_written ts)
+types_written (t ∷ ts) = ap (λ (l : List ℕ). (32 ∷ word_of_type (t % 65536)) ++ l) (types_written ts)
 
 pub types_list : (field : Field) (bytes : List ℕ) → field ≡ Types → spaced_types (types_of 0 0 bytes) ≡ spaced false (list_tokens field bytes)
 types_list field bytes is = types_written (types_of 0 0 bytes) ∙ ap (λ (k : Field). spaced false (list_tokens k bytes)) (sym is)

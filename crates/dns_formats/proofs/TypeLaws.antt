@@ -1,6 +1,6 @@
 -- The text of a record type is a word, and is read as the type.
-use Rattle.std.proofs.Common.{◌≡◌, ℕ, ◌<◌, ◌^◌, Bool, true, false, ◌||◌, ◌&&◌, List, [], ◌∷◌, ◌++◌, length, Option, Some, None, find, refl, ap, ◌∙◌, arith}
-use Rattle.std.specs.Prelude.{nat_le, nat_lt, if◌then◌else◌, codes}
+use Rattle.std.proofs.Common.{◌≡◌, ℕ, ◌<◌, ◌^◌, Bool, true, false, ◌||◌, ◌&&◌, List, [], ◌∷◌, ◌++◌, length, Option, Some, None, find, refl, sym, ap, ◌∙◌, arith}
+use Rattle.std.specs.Prelude.{◌==◌, nat_le, nat_lt, if◌then◌else◌, codes}
 use Rattle.std.specs.Fmt.{decimal}
 use Rattle.std.specs.List.{AllByRecursion}
 use Rattle.std.specs.Str.{str_eq_ignore_ascii_case}
@@ -10,6 +10,9 @@ use Rattle.dns_codes.specs.Decimal.{is_digit, decimal_up_to}
 use Rattle.dns_codes.specs.RecordType.{type_number, type_of}
 use Rattle.dns_codes.specs.declared.record_type.RecordType.{RecordType}
 use Rattle.dns_codes.specs.declared.record_type.RecordType.TheVariants as of
+use Rattle.dns_bitmaps.specs.TypeWord.{name_among, other_types, type_of_word, name_or_text, word_of_type}
+use Rattle.dns_bitmaps.proofs.WordLaws.{word_back}
+use Rattle.dns_formats.specs.Value.{is_tag}
 use Rattle.dns_formats.proofs.DecimalLaws.{spelled, decimal_parses}
 use Rattle.dns_formats.proofs.WordLaws.{IsTame, tag_tame, IsPlainWord, tame_word, tag_word}
 
@@ -130,3 +133,43 @@ parses (of.Unknown m) small own = unknown_parses m small ∙ ap (λ (k : RecordT
 
 pub type_parses : (n : ℕ) → n < 65536 → type_of_text (type_text (type_of n)) ≡ Some (type_of n)
 type_parses n small = let same = round_trips n in parses (type_of n) (omega (arith, same)) (ap type_of same)
+
+-- ---- words
+
+first_of : (a b : Bool) → (a && b) ≡ true → a ≡ true
+first_of true b e = refl
+first_of false b e = e
+
+second_of : (a b : Bool) → (a && b) ≡ true → b ≡ true
+second_of true b e = e
+second_of false b e = absurd (cc)
+
+abbrev are_tags : List (List ℕ × ℕ) → Bool
+are_tags [] = true
+are_tags (line ∷ lines) = is_tag line.0 && are_tags lines
+
+tags : are_tags other_types ≡ true
+tags = refl
+
+name_tag : (lines : List (List ℕ × ℕ)) (number : ℕ) (name : List ℕ) → are_tags lines ≡ true → name_among lines number ≡ Some name → is_tag name ≡ true
+name_tag [] number name e q = absurd (cc)
+name_tag (line ∷ lines) number name e q = by (line.1 == number) q (λ r. name_tag lines number name (second_of (is_tag line.0) (are_tags lines) e) r)
+  where
+    same : ◌≡◌ {A = Option (List ℕ)} (Some line.0) (Some name) → line.0 ≡ name
+    same r = cc
+
+    by : (b : Bool) → (if b then Some line.0 else name_among lines number) ≡ Some name → (name_among lines number ≡ Some name → is_tag name ≡ true) → is_tag name ≡ true
+    by true q rest = ap is_tag (sym (same q)) ∙ first_of (is_tag line.0) (are_tags lines) e
+    by false q rest = rest q
+
+-- the word for a type is a plain word
+pub word_plain : (n : ℕ) → n < 65536 → IsPlainWord (word_of_type n)
+word_plain n small = by (name_among other_types n) refl
+  where
+    by : (o : Option (List ℕ)) → name_among other_types n ≡ o → IsPlainWord (name_or_text o n)
+    by None q = type_word n small
+    by (Some name) q = tag_word name (name_tag other_types n name tags q)
+
+-- and is read as the type
+pub word_parses : (n : ℕ) → n < 65536 → type_of_word (word_of_type n) ≡ Some (type_of n)
+word_parses n small = word_back n (type_parses n small)

@@ -8,7 +8,7 @@ use Rattle.dns_codes.specs.RecordType.{type_number}
 use Rattle.dns_codes.specs.declared.record_type.RecordType.{RecordType}
 use Rattle.dns_text.specs.Lexer.{Lexeme, CharData}
 use Rattle.dns_formats.specs.Counted.{counted}
-use Rattle.dns_formats.specs.Mnemonic.{type_of_word}
+use Rattle.dns_bitmaps.specs.TypeWord.{type_of_word}
 use Rattle.dns_formats.specs.Rest.{hex_outcome}
 use Rattle.dns_formats.specs.declared.fault.TokenFault.{TokenFault}
 use Rattle.dns_formats.specs.declared.fault.TokenFault.TheVariants.{NotAWord, NotAType, NotATime}

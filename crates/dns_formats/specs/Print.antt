@@ -5,8 +5,7 @@ use Rattle.std.specs.Int.{w16, w32, from_be_bytes}
 use Rattle.base64.specs.Engines.{standard}
 use Rattle.base64.specs.GeneralPurpose.{encode_of}
 use Rattle.hex.specs.Hex.{encode_lower}
-use Rattle.dns_codes.specs.CodeText.{type_text}
-use Rattle.dns_codes.specs.RecordType.{type_of}
+use Rattle.dns_bitmaps.specs.TypeWord.{word_of_type}
 use Rattle.dns_names.specs.Print.{text_of_labels}
 use Rattle.dns_text.specs.CharacterString.{escaped_text}
 use Rattle.dns_text.specs.Lexer.{Lexeme, CharData, QuotedString}
@@ -39,7 +38,7 @@ front_token Number32 bytes = CharData (decimal (from_be_bytes w32 bytes))
 front_token Name bytes = CharData (text_of_labels true (labels_at 0 bytes))
 front_token CharacterString bytes = QuotedString (escaped_text (counted_octets bytes))
 front_token Tag bytes = CharData (counted_octets bytes)
-front_token kind.RecordType bytes = CharData (type_text (type_of (from_be_bytes w16 bytes)))
+front_token kind.RecordType bytes = CharData (word_of_type (from_be_bytes w16 bytes))
 front_token kind.Time bytes = CharData (decimal (from_be_bytes w32 bytes))
 front_token kind.Salt bytes = CharData (salt_text (counted_octets bytes))
 front_token Text bytes = QuotedString (escaped_text bytes)
@@ -54,7 +53,7 @@ front_token kind.Types bytes = CharData []
 -- types by their names
 abbrev pub type_tokens : List ℕ → List Lexeme
 type_tokens [] = []
-type_tokens (number ∷ numbers) = CharData (type_text (type_of (number % 65536))) ∷ type_tokens numbers
+type_tokens (number ∷ numbers) = CharData (word_of_type (number % 65536)) ∷ type_tokens numbers
 
 -- the tokens of the value of a field that may be empty
 abbrev pub list_tokens : Field → List ℕ → List Lexeme

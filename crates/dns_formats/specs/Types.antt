@@ -6,7 +6,7 @@ use Rattle.dns_text.specs.Lexer.{Lexeme, CharData}
 use Rattle.dns_bitmaps.specs.Bitmap.{bitmap_of}
 use Rattle.dns_bitmaps.specs.Base32.{decoded}
 use Rattle.dns_formats.specs.Counted.{counted}
-use Rattle.dns_formats.specs.Mnemonic.{type_of_word}
+use Rattle.dns_bitmaps.specs.TypeWord.{type_of_word}
 use Rattle.dns_formats.specs.declared.fault.TokenFault.{TokenFault}
 use Rattle.dns_formats.specs.declared.fault.TokenFault.TheVariants.{NotAWord, NotAType, NotBase32}
 

@@ -9,9 +9,9 @@ ghost use Rattle.dns_formats.specs.Rest.{hex_outcome};
 ghost use Rattle.dns_formats.specs.Dnssec.{type_bytes, is_leap, leaps_before, days_in, days_before, is_date, days_to, date_days, part, date_seconds, time_seconds, time_bytes, salt_bytes};
 
 use crate::fault::TokenFault;
-use crate::mnemonic::type_of_word;
 use crate::rest::push_hex;
 use crate::value::push_counted;
+use dns_bitmaps::type_of_word;
 use dns_codes::parse_decimal;
 use dns_text::Token;
 use std::alloc::Global;

@@ -5,7 +5,7 @@
 //!
 //! - `field`: the kinds of fields, and the fields of each type; `fault`: why tokens or bytes are refused
 //! - `dnssec`: the fields of DNSSEC: types by their names, times, salts and hashes; `types`: sets of types
-//! - `mnemonic`: types, algorithms and types of certificates by their names
+//! - `mnemonic`: algorithms and types of certificates by their mnemonics
 //! - `value`: a token as the bytes of one field; `rest`: all tokens that are left, as one field
 //! - `read`: the tokens of record data, read as its bytes
 #![tactic(auto)]
@@ -23,10 +23,10 @@ mod types;
 mod value;
 mod wire;
 
+pub use dns_bitmaps::{TypeWord, type_of_word};
 pub use fault::{FormatFault, TokenFault};
 pub use field::{Field, format_of};
 pub use generic::is_generic;
-pub use mnemonic::type_of_word;
 pub use print::DataText;
 pub use read::read_data;
 pub use wire::fits;

@@ -10,8 +10,8 @@ ghost use Rattle.dns_names.specs.Print.{text_of_labels, label_text, octet_text};
 ghost use Rattle.dns_names.specs.Parse.{is_plain_octet};
 ghost use Rattle.dns_text.specs.CharacterString.{quoted_text};
 ghost use Rattle.dns_text.specs.Tokens.{datum_text, data_text};
-ghost use Rattle.dns_codes.specs.CodeText.{type_text};
-ghost use Rattle.dns_codes.specs.RecordType.{type_number, type_of};
+ghost use Rattle.dns_bitmaps.specs.TypeWord.{word_of_type};
+ghost use Rattle.dns_codes.specs.RecordType.{type_number};
 ghost use Rattle.dns_bitmaps.specs.Bitmap.{types_of, spaced_types};
 ghost use Rattle.dns_bitmaps.specs.Base32.{encoded};
 ghost use Rattle.dns_formats.specs.Field.{may_be_empty, begins, fields_of};
@@ -22,7 +22,7 @@ use crate::field::{Field, format_of};
 use crate::wire::{counted_octets, fits, value_size};
 use base64::display::Base64Display;
 use base64::engine::general_purpose::STANDARD;
-use dns_bitmaps::{Base32Text, BitmapText};
+use dns_bitmaps::{Base32Text, BitmapText, TypeWord};
 use dns_codes::RecordType;
 use dns_text::QuotedString;
 use std::fmt;
@@ -252,10 +252,12 @@ fn is_plain_octet(is_first: bool, octet: u8) -> bool
 fn write_type<W: fmt::Write>(bytes: &[u8], f: &mut fmt::Formatter<W>) -> fmt::Result
     requires { 2 ≤ length bytes.now }
     ensures { WritesOnOk W.write_str_gives f.old result
-        (type_text (type_of (from_be_bytes w16 bytes.now))) f.new }
+        (word_of_type (from_be_bytes w16 bytes.now)) f.new }
 {
-    let record_type = RecordType::from(u16::from_be_bytes([bytes[0], bytes[1]]));
-    write!(f, "{record_type}")
+    let word = TypeWord {
+        number: u16::from_be_bytes([bytes[0], bytes[1]]),
+    };
+    write!(f, "{word}")
 }
 
 /// Writes a salt.

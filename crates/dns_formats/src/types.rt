@@ -6,9 +6,8 @@ ghost use Rattle.dns_formats.specs.Value.{Appends};
 ghost use Rattle.dns_formats.specs.Types.{type_number_of, type_numbers, types_bytes, hash_bytes};
 
 use crate::fault::TokenFault;
-use crate::mnemonic::type_of_word;
 use crate::value::push_counted;
-use dns_bitmaps::{decode_base32, push_bitmap};
+use dns_bitmaps::{decode_base32, push_bitmap, type_of_word};
 use dns_text::Token;
 use std::alloc::Global;
 

@@ -1,6 +1,6 @@
 use Rattle.std.proofs.Common.{sym}
 use Rattle.std.proofs.lemmas.Result.{err_from_is_err_and}
-use Rattle.dns_formats.proofs.MnemonicLaws.{type_further, type_stops}
+use Rattle.dns_formats.proofs.SetLaws.{type_further, type_stops}
 use Rattle.dns_formats.proofs.types.type_numbers.Goals as goal
 
 pub loop-token-preserved : goal.loop-token-preserved

@@ -1,7 +1,7 @@
 use Rattle.std.proofs.Common.{◌≡◌, drop, map}
 use Rattle.dns_text.specs.Token.{lexeme}
 use Rattle.dns_formats.specs.Types.{type_numbers}
-use Rattle.dns_formats.proofs.MnemonicLaws.{numbers_before}
+use Rattle.dns_formats.proofs.SetLaws.{numbers_before}
 use Rattle.dns_formats.proofs.types.type_numbers.Given as goal
 
 -- the tokens that are left complete the numbers

@@ -1,6 +1,6 @@
 use Rattle.std.proofs.Common.{◌≡◌, drop, map}
-use Rattle.dns_formats.specs.Mnemonic.{number_among}
-use Rattle.dns_formats.proofs.mnemonic.number_among.Given as goal
+use Rattle.dns_bitmaps.specs.TypeWord.{number_among}
+use Rattle.dns_bitmaps.proofs.type_word.number_among.Given as goal
 
 -- the words up to here are others
 abbrev pub invariant-loop-word : goal.invariant-loop-word

@@ -1,6 +1,6 @@
 use Rattle.std.proofs.Common.{sym, ◌∙◌}
-use Rattle.dns_formats.proofs.MnemonicLaws.{word_further, word_found}
-use Rattle.dns_formats.proofs.mnemonic.number_among.Goals as goal
+use Rattle.dns_bitmaps.proofs.WordLaws.{word_further, word_found}
+use Rattle.dns_bitmaps.proofs.type_word.number_among.Goals as goal
 
 pub returns-then-is_same_word : goal.returns-then-is_same_word
 returns-then-is_same_word c =
