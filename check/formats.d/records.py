@@ -88,19 +88,18 @@ def salt(chance: random.Random) -> bytes:
     return bytes([len(data)]) + data
 
 
-def covered(chance: random.Random) -> bytes:
-    """A type that all tools and `RecordType` give the same name, or a number without a name."""
-    named = [1, 2, 5, 6, 12, 13, 15, 16, 28, 33, 35, 39, 43, 44, 46, 47, 48, 50, 51, 52, 257]
-    return struct.pack(">H", chance.choice(named) if chance.random() < 0.5 else chance.randint(1000, 30000))
-
-
 def time(chance: random.Random) -> bytes:
     """A time between 1990 and 2050: ldns and BIND write others as dates before 1970 or after 2106 (RFC 4034 section 3.1.5)."""
     return struct.pack(">I", chance.randint(631152000, 2524608000))
 
 
-# Types that all tools know by name.
-NAMED = [1, 2, 5, 6, 12, 13, 15, 16, 17, 18, 20, 24, 25, 28, 29, 33, 35, 36, 37, 39, 42, 43, 44, 45, 46, 47, 48, 49, 50, 51, 52, 53, 55, 59, 60, 61, 62, 63, 64, 65, 99, 104, 105, 106, 107, 108, 109, 256, 257, 258]
+# Types that all tools know by name. ldns reads AVC as type 0.
+NAMED = [1, 2, 5, 6, 12, 13, 15, 16, 17, 18, 20, 24, 25, 28, 29, 33, 35, 36, 37, 39, 42, 43, 44, 45, 46, 47, 48, 49, 50, 51, 52, 53, 55, 59, 60, 61, 62, 63, 64, 65, 99, 104, 105, 106, 107, 108, 109, 256, 257]
+
+
+def covered(chance: random.Random) -> bytes:
+    """A type that all tools know by name, or a number without a name."""
+    return struct.pack(">H", chance.choice(NAMED) if chance.random() < 0.7 else chance.randint(1000, 30000))
 
 
 def types(chance: random.Random, least: int = 0) -> bytes:
