@@ -108,7 +108,8 @@ fn digit(value: u8) -> u8
 /// Returns the bytes of digits in any case, or `None` if there is another character or padding, a digit is missing, or
 /// the bits after the last byte are not zero.
 pub fn decode_base32(alloc: Global, digits: &[u8]) -> Result<Option<Vec<u8>>, AllocError>
-    ensures value { IfOk result (λ bytes. option_map (λ bytes. bytes.items) bytes ≡ decoded digits.now) }
+    ensures value { IfOk result
+        (λ bytes. option_map (λ bytes. bytes.items) bytes ≡ decoded digits.now) }
     ensures decided { are_digits digits.now ≡ false → result ≡ Ok None }
 {
     if !are_digits(digits) {

@@ -27,7 +27,8 @@ impl<'a> fmt::Display for BitmapText<'a> {
 
 /// Writes the types of a bitmap, a blank before each.
 fn write_blocks<W: fmt::Write>(bytes: &[u8], f: &mut fmt::Formatter<W>) -> fmt::Result
-    ensures { WritesOnOk W.write_str_gives f.old result (spaced_types (types_of 0 0 bytes.now)) f.new }
+    ensures { WritesOnOk W.write_str_gives f.old result
+        (spaced_types (types_of 0 0 bytes.now)) f.new }
 {
     let mut left = bytes;
     while left.len() >= 2 {

@@ -22,11 +22,12 @@ abbrev pub type_number_of : Lexeme → Result ℕ TokenFault
 type_number_of (CharData text) = number_of_type (type_of_word text)
 type_number_of token = Err NotAWord
 
+-- a number before those after it, unless there is a fault
 abbrev pub before_numbers : ℕ → Result (List ℕ) TokenFault → Result (List ℕ) TokenFault
 before_numbers number (Ok numbers) = Ok (number ∷ numbers)
 before_numbers number (Err fault) = Err fault
 
--- a number before those after it, or the first fault
+-- the number of a token before those of the tokens after it, or the first fault
 abbrev pub then_numbers : Result ℕ TokenFault → Result (List ℕ) TokenFault → Result (List ℕ) TokenFault
 then_numbers (Ok number) more = before_numbers number more
 then_numbers (Err fault) more = Err fault
@@ -36,6 +37,7 @@ abbrev pub type_numbers : List Lexeme → Result (List ℕ) TokenFault
 type_numbers [] = Ok []
 type_numbers (token ∷ tokens) = then_numbers (type_number_of token) (type_numbers tokens)
 
+-- the bitmap of the numbers of types, unless there is a fault
 abbrev pub bitmap_or_fault : Result (List ℕ) TokenFault → Result (List ℕ) TokenFault
 bitmap_or_fault (Ok numbers) = Ok (bitmap_of numbers)
 bitmap_or_fault (Err fault) = Err fault
