@@ -4,7 +4,8 @@
 //! encodes the answer without copying a record.
 //!
 //! - `zone`: zones; `zone::load`: the zone of a zone file; `zone::display`: the zone file of a zone; `zone::answer`: its
-//!   answers; `zone::chain`: those along alias chains; `zone::serve`: its replies;
+//!   answers; `zone::chain`: those along alias chains; `zone::lookup`: its records, by owner and type; `zone::serve`: its
+//!   replies;
 //! - `sets`: record sets; `rows`: their records; `road`: the transports of a message;
 //! - `laws`: theorems about the definitions of this crate.
 #![tactic(auto)]

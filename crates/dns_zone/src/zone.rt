@@ -7,6 +7,7 @@ mod answer;
 mod chain;
 mod display;
 mod load;
+mod lookup;
 mod reply;
 mod row_refs;
 mod section;

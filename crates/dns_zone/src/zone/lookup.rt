@@ -1,0 +1,28 @@
+//! The records of a zone by owner and type, for the answers of the crates above.
+
+ghost use Rattle.std.specs.Prelude.{◌≡◌};
+ghost use Rattle.dns_zone.specs.Rows.{rows_at, rows_of, some_row_below, AreSoundRows};
+
+use crate::rows::{has_row_below, records_at};
+use crate::zone::Zone;
+use dns_names::Name;
+use dns_records::Record;
+use dns_wire::RecordType;
+
+impl Zone {
+    /// Returns the records of a type at a name, in their order. Without such records it returns an empty slice.
+    pub fn records_at(&self, owner: &Name, record_type: RecordType) -> &[Record]
+        ensures rows { rows_of result.now
+            ≡ rows_at self.now.rows owner.now.labels record_type }
+        ensures sound { AreSoundRows (rows_of result.now) }
+    {
+        records_at(&self.sets, owner, record_type)
+    }
+
+    /// Returns `true` if the owner of some record is at or below the name: if the name exists (RFC 4592 section 2.2.2).
+    pub fn has_row_below(&self, name: &Name) -> bool
+        ensures { result ≡ some_row_below self.now.rows name.now.labels }
+    {
+        has_row_below(&self.sets, name)
+    }
+}
