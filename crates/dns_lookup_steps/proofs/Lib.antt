@@ -1,0 +1,3 @@
+pub mod BarrierLaws
+pub mod RedirectionLaws
+pub mod WildcardLaws

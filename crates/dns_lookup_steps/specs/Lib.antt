@@ -1,0 +1,3 @@
+pub mod Barrier
+pub mod Wildcard
+pub mod Redirection
