@@ -5,7 +5,7 @@ use crate::building::build;
 use crate::framing::{failing_frames, frames, write_frames};
 use crate::serve::{limit, serve, served_size};
 use crate::updating::{apply, update};
-use crate::zone::{fault, zone, zone_at, zone_fault, zone_with};
+use crate::zone::{fault, zone, zone_all, zone_at, zone_fault, zone_with};
 use crate::zone_file::{
     included, zone_file, zone_file_all, zone_file_at, zone_file_repeated, zone_file_with,
 };
@@ -16,6 +16,7 @@ use std::alloc::Global;
 pub(crate) fn answer(alloc: Global, word: &str, input: &str) -> Answer {
     match word {
         "zone" => zone(alloc, input),
+        "zone-all" => zone_all(alloc, input),
         "zone-at" => zone_at(alloc, input),
         "zone-with" => zone_with(alloc, input),
         "zone-fault" => zone_fault(alloc, input),

@@ -3,6 +3,7 @@
 use crate::includes::split_includes;
 use dns_names::Name;
 use dns_zone::{LimitTooSmall, Zone, ZoneFault};
+use dns_zone_file::Types;
 use rows::{Answer, RowFault, named, shown, split, text as text_of};
 use std::alloc::Global;
 
@@ -32,6 +33,14 @@ pub(crate) fn zone_with(alloc: Global, input: &str) -> Answer {
     let text = split_includes(alloc, input, &mut includes)?;
     let zone = Zone::from_text(alloc, text, includes.as_slice(), None);
     origin_of(alloc, zone)
+}
+
+/// `zone-all TEXT`: the zone of a zone file of all types as a text, or its fault.
+pub(crate) fn zone_all(alloc: Global, text: &str) -> Answer {
+    match Zone::from_text_with(alloc, text, &[], None, Types::All) {
+        Ok(zone) => Ok(zone.to_text()?),
+        Err(fault) => named(alloc, fault),
+    }
 }
 
 /// The origin of a zone, or its fault.

@@ -14,8 +14,8 @@ use std::fmt;
 
 impl Zone {
     /// Returns the zone as a zone file: one record a line, with its owner, TTL, class and type. The SOA record comes first, and
-    /// every name is fully qualified. `from_text` parses it back, unless an update added data of a type that has no text form
-    /// here, which is printed as bytes (RFC 3597 section 5) and not parsed.
+    /// every name is fully qualified. `from_text` parses it back, unless the zone has data of a type without fields, from an
+    /// update or by `from_text_with`. Such data is printed as bytes (RFC 3597 section 5), which `from_text` does not parse.
     pub fn to_text(&self) -> Result<String, AllocError>
         ensures { IfOk result (λ text. IsZoneText self.now (string_bytes text)) }
     {
