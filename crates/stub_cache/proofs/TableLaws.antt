@@ -1,21 +1,20 @@
 -- The indexes of a table, while entries are appended and removed.
 use Rattle.std.proofs.Common.{◌≡◌, ◌≢◌, ℕ, ◌+◌, ◌≤◌, Bool, true, false, List, ap, sym, ◌∙◌, subst, arith, ◌⊎◌, inl, inr}
 use Rattle.std.specs.Prelude.{Option, Some, None, option_map, ◌==◌}
-use Rattle.std.specs.Ordering.{is_eq, nat_cmp, eq_by_cmp}
-use Rattle.std.specs.Cmp.{eq_by_cmp_equiv}
-use Rattle.std.specs.Cmp.Lexicographic.{slice_cmp, nat_list_cmp_total}
+use Rattle.std.specs.Ordering.{is_eq, nat_cmp}
+use Rattle.std.specs.Cmp.Lexicographic.{nat_list_eq_equiv}
 use Rattle.std.specs.Str.{bytes_eq}
 use Rattle.std.specs.BTreeMap as tree
 use Rattle.std.specs.BTreeSet as sorted
+use Rattle.std.specs.HashMap as hash
 use Rattle.std.specs.List.Sorted.{IsStrictlySortedBy}
 use Rattle.std.specs.Map.{keys_of, lookup, IsKeyTest, AreApart, KeepsOthers}
 use Rattle.std.specs.declared.vec.Vec.{Vec}
 use Rattle.std.proofs.lemmas.Bool.{cases_eq, cases_Bool, eq-eqb, ne_eqb, false_from_ne_true}
 use Rattle.std.proofs.lemmas.Bool.Decides.{nat_tests}
-use Rattle.std.proofs.lemmas.Map.Text.{is_eq-slice_cmp}
 use Rattle.std.proofs.lemmas.Slice.Eq.{bytes_eq-Decides}
 use Rattle.stub_cache.specs.internal.Key.{key_of}
-use Rattle.stub_cache.specs.internal.Table.{IsIndexed, due_cmp, entry_at, has_deadline, is_due, stamp_at}
+use Rattle.stub_cache.specs.internal.Table.{IsIndexed, due_cmp, entry_at, has_deadline, is_due, stamp_at, stamp_in}
 use Rattle.stub_cache.specs.declared.cache.entry.Entry.{Entry}
 use Rattle.stub_cache.specs.declared.cache.table.EntryTable.{EntryTable}
 
@@ -28,8 +27,8 @@ cases_key key other = split (cases_Bool (bytes_eq key other))
     split (inl is) = inl ((bytes_eq-Decides key other).0 is)
     split (inr differs) = inr (λ same. let is : bytes_eq key other ≡ true = (bytes_eq-Decides key other).1 same in cc)
 
-differ : (key other : List ℕ) → (key ≡ other → ⊥) → is_eq (slice_cmp nat_cmp other key) ≡ false
-differ key other differs = is_eq-slice_cmp other key ∙ false_from_ne_true (bytes_eq other key) (λ is. differs (sym ((bytes_eq-Decides other key).0 is)))
+differ : (key other : List ℕ) → (key ≡ other → ⊥) → bytes_eq other key ≡ false
+differ key other differs = false_from_ne_true (bytes_eq other key) (λ is. differs (sym ((bytes_eq-Decides other key).0 is)))
 
 -- ---- a table with an entry more
 
@@ -190,38 +189,37 @@ keeps : {K X : Type 0} (eq : K → K → Bool) (test : K → Bool) (old new : Li
 unfolding KeepsOthers
 keeps eq test old new h other one apart = h other one apart
 
-module _ {Y : Type 0} (old new : tree.BTreeMap (Vec ℕ Y) ℕ) (key : List ℕ) (w : Option ℕ)
-    (updates : tree.UpdatesBy (λ x y. slice_cmp nat_cmp x.items y.items) (λ k. slice_cmp nat_cmp key k.items) old new w) where
-  pub stamp_updated : tree.get_by (λ k. slice_cmp nat_cmp key k.items) new ≡ w
+module _ {Y S : Type 0} (old new : hash.HashMap (Vec ℕ Y) ℕ S) (key : List ℕ) (w : Option ℕ)
+    (updates : hash.UpdatesBy (λ x y. bytes_eq x.items y.items) (λ k. bytes_eq key k.items) old new w) where
+  pub stamp_updated : stamp_in new key ≡ w
   stamp_updated = updates.1
 
-  pub stamp_kept : (other : List ℕ) → (key ≡ other → ⊥) → tree.get_by (λ k. slice_cmp nat_cmp other k.items) new ≡ tree.get_by (λ k. slice_cmp nat_cmp other k.items) old
+  pub stamp_kept : (other : List ℕ) → (key ≡ other → ⊥) → stamp_in new other ≡ stamp_in old other
   stamp_kept other differs =
-      keeps (eq_by_cmp (λ (x y : Vec ℕ Y). slice_cmp nat_cmp x.items y.items)) (tree.is_at (λ (k : Vec ℕ Y). slice_cmp nat_cmp key k.items)) old.entries new.entries updates.3
-      (tree.is_at (λ (k : Vec ℕ Y). slice_cmp nat_cmp other k.items))
-      (λ x y h. (eq_by_cmp_equiv nat_list_cmp_total).congr other x.items y.items h)
+      keeps (λ (x y : Vec ℕ Y). bytes_eq x.items y.items) (λ (k : Vec ℕ Y). bytes_eq key k.items) old.entries new.entries updates.3
+      (λ (k : Vec ℕ Y). bytes_eq other k.items)
+      (λ x y h. nat_list_eq_equiv.congr other x.items y.items h)
       (λ k h.
-      let key_is : key ≡ k.items = (bytes_eq-Decides key k.items).0 (sym (is_eq-slice_cmp key k.items) ∙ h) in
-      subst (λ ks. is_eq (slice_cmp nat_cmp other ks) ≡ false) key_is (differ key other differs))
+      let key_is : key ≡ k.items = (bytes_eq-Decides key k.items).0 h in
+      subst (λ ks. bytes_eq other ks ≡ false) key_is (differ key other differs))
 
   -- a key that led to a stamp leads nowhere, and other keys where they did
-  pub key_gone_others : (gone : ℕ) → w ≡ None → tree.get_by (λ k. slice_cmp nat_cmp key k.items) old ≡ Some gone → (other : List ℕ) (stamp : ℕ) → (stamp ≡ gone → ⊥)
-      → tree.get_by (λ k. slice_cmp nat_cmp other k.items) old ≡ Some stamp → tree.get_by (λ k. slice_cmp nat_cmp other k.items) new ≡ Some stamp
+  pub key_gone_others : (gone : ℕ) → w ≡ None → stamp_in old key ≡ Some gone → (other : List ℕ) (stamp : ℕ) → (stamp ≡ gone → ⊥)
+      → stamp_in old other ≡ Some stamp → stamp_in new other ≡ Some stamp
   key_gone_others gone none led other stamp apart found = split (cases_key key other)
     where
-      split : (key ≡ other) ⊎ (key ≡ other → ⊥) → tree.get_by (λ k. slice_cmp nat_cmp other k.items) new ≡ Some stamp
+      split : (key ≡ other) ⊎ (key ≡ other → ⊥) → stamp_in new other ≡ Some stamp
       split (inl same) =
-          let here : tree.get_by (λ k. slice_cmp nat_cmp other k.items) old ≡ Some gone = subst (λ ks. tree.get_by (λ k. slice_cmp nat_cmp ks k.items) old ≡ Some gone) same led in
+          let here : stamp_in old other ≡ Some gone = subst (λ ks. stamp_in old ks ≡ Some gone) same led in
           absurd (apart (cc))
       split (inr differs) = stamp_kept other differs ∙ found
 
-  pub key_gone_only : w ≡ None → (other : List ℕ) (stamp : ℕ)
-      → tree.get_by (λ k. slice_cmp nat_cmp other k.items) new ≡ Some stamp → tree.get_by (λ k. slice_cmp nat_cmp other k.items) old ≡ Some stamp
+  pub key_gone_only : w ≡ None → (other : List ℕ) (stamp : ℕ) → stamp_in new other ≡ Some stamp → stamp_in old other ≡ Some stamp
   key_gone_only none other stamp found = split (cases_key key other)
     where
-      split : (key ≡ other) ⊎ (key ≡ other → ⊥) → tree.get_by (λ k. slice_cmp nat_cmp other k.items) old ≡ Some stamp
+      split : (key ≡ other) ⊎ (key ≡ other → ⊥) → stamp_in old other ≡ Some stamp
       split (inl same) =
-          let here : tree.get_by (λ k. slice_cmp nat_cmp other k.items) new ≡ w = subst (λ ks. tree.get_by (λ k. slice_cmp nat_cmp ks k.items) new ≡ w) same stamp_updated in
+          let here : stamp_in new other ≡ w = subst (λ ks. stamp_in new ks ≡ w) same stamp_updated in
           absurd (cc)
       split (inr differs) = sym (stamp_kept other differs) ∙ found
 
@@ -240,7 +238,7 @@ due_apart p q differs = grind (arith, nat_tests)
 
 pub is_appended : (old new : EntryTable) (e : Entry) (key : List ℕ) → key ≡ key_of e.question
     → tree.Updates nat_cmp old.entries new.entries old.next_stamp (Some e)
-    → tree.UpdatesBy (λ x y. slice_cmp nat_cmp x.items y.items) (λ k. slice_cmp nat_cmp key k.items) old.stamps new.stamps (Some old.next_stamp)
+    → hash.UpdatesBy (λ x y. bytes_eq x.items y.items) (λ k. bytes_eq key k.items) old.stamps new.stamps (Some old.next_stamp)
     → sorted.Updates due_cmp old.timeline new.timeline (e.deadline, old.next_stamp) true
     → new.next_stamp ≡ old.next_stamp + 1 → tree.IsOrdered nat_cmp new.entries → IsAppended old new e
 is_appended old new e key key_is entries stamps due next ordered = record {
@@ -269,7 +267,7 @@ undone old new before entries stamps due next = record {
     entry_is stamp = ap (lookup (tree.is_at (nat_cmp stamp))) entries
 
     stamp_is : (key : List ℕ) → stamp_at new key ≡ stamp_at old key
-    stamp_is key = ap (lookup (tree.is_at (λ k. slice_cmp nat_cmp key k.items))) stamps
+    stamp_is key = ap (lookup (λ k. bytes_eq key k.items)) stamps
 
 -- a deadline that is taken back
 pub due_undone : (old : EntryTable) (mid new : sorted.BTreeSet (ℕ × ℕ)) (due : ℕ) → IsIndexed None old

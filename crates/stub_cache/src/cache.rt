@@ -155,7 +155,7 @@ impl ResponseCache {
         ensures decided { current self.now.entries query.now now ≡ None → result ≡ Ok None }
     {
         match self.table.find_current(query, now) {
-            Some(entry) => Ok(Some(entry.reply_at(now)?)),
+            Some(entry) => entry.reply_at(now),
             None => Ok(None),
         }
     }

@@ -1,10 +1,11 @@
 -- A table of entries by stamp, with an index of questions and one of deadlines.
 use Rattle.std.specs.Prelude.{◌≡◌, ◌≢◌, ◌≤◌, ℕ, Bool, false, ◌==◌, List, Option, Some, None, option_map}
 use Rattle.std.specs.Ordering.{nat_cmp, ordering_then}
-use Rattle.std.specs.Cmp.Lexicographic.{slice_cmp}
 use Rattle.std.specs.BTreeMap as tree
 use Rattle.std.specs.Map.{values_of, remove_entry}
 use Rattle.std.specs.BTreeSet as sorted
+use Rattle.std.specs.HashMap as hash
+use Rattle.std.specs.Str.{bytes_eq}
 use Rattle.std.specs.declared.cmp.Ordering.{Ordering}
 use Rattle.std.specs.declared.vec.Vec.{Vec}
 use Rattle.stub_cache.specs.internal.Key.{key_of}
@@ -29,8 +30,8 @@ abbrev pub entry_at : EntryTable → ℕ → Option Entry
 entry_at t stamp = tree.get nat_cmp t.entries stamp
 
 -- the stamp that an index of questions has for a key
-abbrev pub stamp_in : {Y : Type 0} → tree.BTreeMap (Vec ℕ Y) ℕ → List ℕ → Option ℕ
-stamp_in stamps key = tree.get_by (λ k. slice_cmp nat_cmp key k.items) stamps
+abbrev pub stamp_in : {Y S : Type 0} → hash.HashMap (Vec ℕ Y) ℕ S → List ℕ → Option ℕ
+stamp_in stamps key = hash.get_by (λ k. bytes_eq key k.items) stamps
 
 -- the stamp to which a key leads
 abbrev pub stamp_at : EntryTable → List ℕ → Option ℕ

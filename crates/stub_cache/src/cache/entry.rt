@@ -1,8 +1,7 @@
 //! Entries of a cache.
 
-ghost use Rattle.std.specs.Prelude.{◌≡◌, ◌≤◌, ◌-◌, ◌^◌, IfOk, Ok, Err};
+ghost use Rattle.std.specs.Prelude.{◌≡◌, ◌≤◌, ◌-◌, ◌^◌, IfOk, Ok, Err, Some};
 ghost use Rattle.stub_cache.specs.Cache.{aged, entry_of};
-ghost use Rattle.stub_cache.specs.Ttl.{aged_answer, aged_message};
 
 use super::ageing::{age_answer, age_message};
 use super::clamping::{clamp_message, negative_lifetime, positive_lifetime};
@@ -84,31 +83,25 @@ impl Entry {
     }
 
     /// Returns a copy of the response or the negative answer, with the TTLs that are left at a moment.
-    pub fn reply_at(&self, now: Moment) -> Result<Result<Message, NoRecords>, AllocError>
-        ensures { IfOk result (λ reply. reply ≡ aged (now - self.now.moment) self.now.kept) }
+    pub fn reply_at(
+        &self,
+        now: Moment,
+    ) -> Result<Option<Result<Message, NoRecords>>, AllocError>
+        ensures { IfOk result (λ reply. reply
+            ≡ Some (aged (now - self.now.moment) self.now.kept)) }
     {
         let seconds = now.saturating_sub(self.moment);
         match &self.kept {
-            Ok(message) => Ok(Ok(copy_aged_message(message, seconds)?)),
-            Err(answer) => Ok(Err(copy_aged_answer(answer, seconds)?)),
+            Ok(message) => {
+                let mut copy = message.clone()?;
+                age_message(&mut copy, seconds);
+                Ok(Some(Ok(copy)))
+            }
+            Err(answer) => {
+                let mut copy = answer.clone()?;
+                age_answer(&mut copy, seconds);
+                Ok(Some(Err(copy)))
+            }
         }
     }
-}
-
-/// Copies a message, and reduces its TTLs by `seconds`, to 0 at the least.
-fn copy_aged_message(message: &Message, seconds: u64) -> Result<Message, AllocError>
-    ensures { IfOk result (λ copy. copy ≡ aged_message seconds message.now) }
-{
-    let mut copy = message.clone()?;
-    age_message(&mut copy, seconds);
-    Ok(copy)
-}
-
-/// Copies a negative answer, and reduces its TTLs by `seconds`, to 0 at the least.
-fn copy_aged_answer(answer: &NoRecords, seconds: u64) -> Result<NoRecords, AllocError>
-    ensures { IfOk result (λ copy. copy ≡ aged_answer seconds answer.now) }
-{
-    let mut copy = answer.clone()?;
-    age_answer(&mut copy, seconds);
-    Ok(copy)
 }

@@ -1,6 +1,6 @@
 //! Keys of questions.
 
-ghost use Rattle.std.specs.Prelude.{◌≡◌, ◌+◌, ◌≤◌, ◌++◌, length};
+ghost use Rattle.std.specs.Prelude.{◌≡◌, ◌+◌, ◌≤◌, ◌++◌, [], length};
 ghost use Rattle.stub_cache.specs.internal.Key.{key_of, label_key};
 
 use arrayvec::ArrayVec;
@@ -12,20 +12,19 @@ const MAX_KEY_LEN: usize = 258;
 /// Numbers that are equal for two questions exactly if these have the same entry.
 pub type QuestionKey = ArrayVec<u16, MAX_KEY_LEN>;
 
-/// Returns the key of a question: the numbers of its type and its class, whether its name is fully qualified, and the
-/// labels in lower case, each after its length.
-pub fn question_key(query: &Query) -> QuestionKey
-    ensures { result.items ≡ key_of query.now }
+/// Appends the key of a question to an empty one: the numbers of its type and its class, whether its name is fully
+/// qualified, and the labels in lower case, each after its length.
+pub fn push_question(key: &mut QuestionKey, query: &Query)
+    requires { key.old.items ≡ [] }
+    ensures { key.new.items ≡ key_of query.now }
 {
     let _ = query.name.encoded_len();
-    let mut key = QuestionKey::new();
     key.push(u16::from(query.query_type));
     key.push(u16::from(query.query_class));
     key.push(if query.name.is_fqdn() { 1 } else { 0 });
     for label in query.name.iter() {
-        push_label(&mut key, label);
+        push_label(key, label);
     }
-    key
 }
 
 /// Appends the length of a label, and its bytes in lower case.

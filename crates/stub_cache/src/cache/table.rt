@@ -7,10 +7,10 @@ ghost use Rattle.stub_cache.specs.internal.Key.{key_of};
 ghost use Rattle.stub_cache.specs.internal.Table.{IsIndexed, entries_of, entry_at, entries_without, stamp_at, stamp_in};
 
 use super::entry::Entry;
-use super::key::question_key;
+use super::key::{QuestionKey, push_question};
 use dns_messages::Query;
 use std::alloc::{AllocError, Global};
-use std::collections::{BTreeMap, BTreeSet};
+use std::collections::{BTreeMap, BTreeSet, HashMap};
 use stub_lookup::Moment;
 
 /// Entries by their stamps, with two indexes. A new entry has a greater stamp than all others.
@@ -19,7 +19,7 @@ pub struct EntryTable {
     /// The entries, by stamp.
     entries: BTreeMap<u64, Entry>,
     /// The stamp of the entry for a question, by the question's key.
-    stamps: BTreeMap<Vec<u16>, u64>,
+    stamps: HashMap<Vec<u16>, u64>,
     /// The deadline of each entry, with its stamp.
     timeline: BTreeSet<(Moment, u64)>,
     /// The stamp of the next entry.
@@ -38,7 +38,7 @@ impl EntryTable {
     {
         EntryTable {
             entries: BTreeMap::new(alloc),
-            stamps: BTreeMap::new(alloc),
+            stamps: HashMap::new(alloc),
             timeline: BTreeSet::new(alloc),
             next_stamp: 0,
             stamp_limit,
@@ -104,7 +104,8 @@ impl EntryTable {
     fn find_stamp(&self, query: &Query) -> Option<u64>
         ensures { result ≡ stamp_at self.now (key_of query.now) }
     {
-        let key = question_key(query);
+        let mut key = QuestionKey::new();
+        push_question(&mut key, query);
         self.stamps.get(key.as_slice()).copied()
     }
 
@@ -141,7 +142,9 @@ impl EntryTable {
     {
         let stamp = self.next_stamp;
         let deadline = entry.deadline;
-        let key = Vec::from_slice(self.alloc, question_key(&entry.question).as_slice())?;
+        let mut question = QuestionKey::new();
+        push_question(&mut question, &entry.question);
+        let key = Vec::from_slice(self.alloc, question.as_slice())?;
         self.timeline.insert((deadline, stamp))?;
         let Ok(_) = self.entries.insert(stamp, entry) else {
             self.timeline.remove(&(deadline, stamp));
@@ -168,7 +171,8 @@ impl EntryTable {
             return;
         };
         self.timeline.remove(&(entry.deadline, stamp));
-        let key = question_key(&entry.question);
+        let mut key = QuestionKey::new();
+        push_question(&mut key, &entry.question);
         remove_key(&mut self.stamps, key.as_slice(), stamp);
     }
 
@@ -203,7 +207,7 @@ impl EntryTable {
 }
 
 /// Removes a key from the index of questions, if it leads to a stamp.
-fn remove_key(stamps: &mut BTreeMap<Vec<u16>, u64>, key: &[u16], stamp: u64)
+fn remove_key(stamps: &mut HashMap<Vec<u16>, u64>, key: &[u16], stamp: u64)
     ensures key { stamp_in stamps.new key.now ≢ Some stamp }
     ensures others { (other : List ℕ) (found : ℕ) → found ≢ stamp
         → stamp_in stamps.old other ≡ Some found → stamp_in stamps.new other ≡ Some found }

@@ -32,6 +32,6 @@ returns-clause-entries c =
 
 pub returns-clause-indexed : goal.returns-clause-indexed
 returns-clause-indexed c =
-    let key_is = c.in_ok-key.ensures.items ∙ (c.as_slice.ensures.value ∙ c.question_key.ensures) in
+    let key_is = c.in_ok-key.ensures.items ∙ (c.as_slice.ensures.value ∙ c.push_question.ensures) in
     appended c.args.self.now _ c.args.entry c.requires.indexed
     (is_appended c.args.self.now _ c.args.entry c.in_ok-key.key.items key_is c.in-Ok.ensures.updates c.in-Ok-insert.ensures.updates c.in_ok-insert.ensures.updates refl c.insert-2.ensures.ordered)

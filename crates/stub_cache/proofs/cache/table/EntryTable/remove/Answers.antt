@@ -8,7 +8,7 @@ use Rattle.stub_cache.proofs.cache.table.EntryTable.remove.Goals as goal
 pub returns-clause-indexed : goal.returns-clause-indexed
 returns-clause-indexed c =
     let found : entry_at c.args.self.now c.args.stamp ≡ Some c.in-Some.entry = search rules in
-    let key_is : c.as_slice.result.now ≡ key_of c.in-Some.entry.question = c.as_slice.ensures.value ∙ c.question_key-key.ensures in
+    let key_is : c.as_slice.result.now ≡ key_of c.in-Some.entry.question = c.as_slice.ensures.value ∙ c.push_question.ensures in
     removed c.args.self.now _ c.args.stamp c.in-Some.entry c.requires
     (is_removed c.args.self.now _ c.args.stamp c.in-Some.entry c.as_slice.result.now key_is found c.remove.ensures.updates
     c.remove_key.ensures.key c.remove_key.ensures.others c.remove_key.ensures.only c.remove-2.ensures.updates refl c.remove.ensures.ordered)

@@ -1,6 +1,6 @@
 use Rattle.std.proofs.Common.{◌≡◌, ◌++◌}
 use Rattle.stub_cache.specs.internal.Key.{key_of, labels_key}
-use Rattle.stub_cache.proofs.cache.key.question_key.Given as goal
+use Rattle.stub_cache.proofs.cache.key.push_question.Given as goal
 
 -- the labels that are left complete the key
 abbrev pub invariant-loop-label : goal.invariant-loop-label

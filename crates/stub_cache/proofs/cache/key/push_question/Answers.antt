@@ -1,7 +1,7 @@
 use Rattle.std.proofs.Common.{◌≡◌, ◌++◌, ◌∷◌, rules, subst}
 use Rattle.stub_cache.specs.internal.Key.{key_of, labels_key}
 use Rattle.stub_cache.proofs.KeyLaws.{next_label_fits}
-use Rattle.stub_cache.proofs.cache.key.question_key.Goals as goal
+use Rattle.stub_cache.proofs.cache.key.push_question.Goals as goal
 
 pub push_label-requires : goal.push_label-requires
 push_label-requires c =
