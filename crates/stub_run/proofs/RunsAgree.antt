@@ -41,7 +41,15 @@ agree-on zone settings size (event.LookupIp at host script) (replies.LookupIp on
     looks-up-host-agree zone at at settings tt tt one two tt tt h.0 (name_of_text (string_bytes host)) h.2
     (subst (λ (a : Option IpAddr). LooksUpHost settings at (ByWalk zone) a (name_of_text (string_bytes host)) tt two tt)
     (sym (one-address (string_bytes host) h.0 k.0 h.1 k.1)) k.2)
-agree-on zone settings size e one other h k = tt
+agree-on zone settings size (event.Clear at name kind script) (replies.Cleared one) (replies.Cleared two) h k = tt
+agree-on zone settings size (event.ClearAll at script) (replies.Cleared one) (replies.Cleared two) h k = tt
+agree-on zone settings size (event.Update at update script) (replies.Update one) (replies.Update two) h k = tt
+agree-on zone settings size (event.Lookup at name kind script) (replies.Lookup one) other h k = absurd k
+agree-on zone settings size (event.LookupIp at host script) (replies.LookupIp one) other h k = absurd k
+agree-on zone settings size (event.Clear at name kind script) (replies.Cleared one) other h k = absurd k
+agree-on zone settings size (event.ClearAll at script) (replies.Cleared one) other h k = absurd k
+agree-on zone settings size (event.Update at update script) (replies.Update one) other h k = absurd k
+agree-on zone settings size e one other h k = absurd h
 
 events-agree : (settings : Settings) (size : ℕ) (first past : Past) (events : List Event) (ones others : List EventReport)
     (occasions : List Occasion) → AreWalkedEvents settings first past events ones occasions

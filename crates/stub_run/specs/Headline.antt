@@ -77,14 +77,18 @@ abbrev pub HasChainBy : TtlConfigContent → HistoryClaim
 HasChainBy ttls history q now r = HasChainFor history (greatest_ttl ttls q.query_type) now q.name r
 
 -- A claim holds of the reply to an event: of each answer of the asked type, if this is plain, and of each address of a host.
--- Excepted are records of the hosts for the names and types at which they are asked, and literal addresses.
+-- Excepted are records of the hosts for the names and types at which they are asked, and literal addresses. It holds of no reply to
+-- another kind of event.
 abbrev pub HoldsOfEvent : RecordClaim → Settings → Event → EventReply → Type 0
 HoldsOfEvent Claim settings (event.Lookup at name kind script) (replies.Lookup found) =
     is_plain (known_type kind) ≡ true → NameIsFrom Claim settings at (Ok name) kind found
 HoldsOfEvent Claim settings (event.LookupIp at host script) (replies.LookupIp found) =
     (address : Option IpAddr) × IsTextOf (string_bytes host) address
     × HostIsFrom Claim settings at address (name_of_text (string_bytes host)) found
-HoldsOfEvent Claim settings e reply = Unit {0}
+HoldsOfEvent Claim settings (event.Clear at name kind script) (replies.Cleared done) = Unit {0}
+HoldsOfEvent Claim settings (event.ClearAll at script) (replies.Cleared done) = Unit {0}
+HoldsOfEvent Claim settings (event.Update at update script) (replies.Update reply) = Unit {0}
+HoldsOfEvent Claim settings e reply = ⊥
 
 -- A claim holds of each reply, by the versions of the zone's rows up to the end of its event.
 abbrev pub HoldsOfEvents : HistoryClaim → Settings → Past → List Event → List EventReport → List Occasion → Type 0

@@ -37,14 +37,17 @@ IsUnchanged first history =
 -- ---- replies
 
 -- A lookup of a plain type, or of a host, is one in which each question is walked over the zone. A walk has neither a cache nor a
--- link.
+-- link. No reply to another kind of event is walked.
 abbrev pub IsWalkedReply : ZoneContent → Settings → Event → EventReply → Type 0
 IsWalkedReply zone settings (event.Lookup at name kind script) (replies.Lookup found) =
     is_plain (known_type kind) ≡ true → LooksUp settings at (ByWalk zone) (Ok name) kind tt found tt
 IsWalkedReply zone settings (event.LookupIp at host script) (replies.LookupIp found) =
     (address : Option IpAddr) × IsTextOf (string_bytes host) address
     × LooksUpHost settings at (ByWalk zone) address (name_of_text (string_bytes host)) tt found tt
-IsWalkedReply zone settings e reply = Unit {0}
+IsWalkedReply zone settings (event.Clear at name kind script) (replies.Cleared done) = Unit {0}
+IsWalkedReply zone settings (event.ClearAll at script) (replies.Cleared done) = Unit {0}
+IsWalkedReply zone settings (event.Update at update script) (replies.Update reply) = Unit {0}
+IsWalkedReply zone settings e reply = ⊥
 
 -- If no delivery changed the rows since the last full clear, or the start, up to the end of the event, no chain of aliases in the
 -- zone passes seven links, and the link met no fault in this event, its reply is walked.
@@ -83,12 +86,16 @@ with_sizes size limit ids content =
 
 -- ---- two runs of the same events
 
--- two replies to a lookup of a plain type, or of a host, agree, TTLs aside
+-- Two replies to a lookup of a plain type, or of a host, agree, TTLs aside. No replies to other kinds of events
+-- do.
 abbrev pub AgreeOn : Event → EventReply → EventReply → Type 0
 AgreeOn (event.Lookup at name kind script) (replies.Lookup one) (replies.Lookup other) =
     is_plain (known_type kind) ≡ true → Agree one other
 AgreeOn (event.LookupIp at host script) (replies.LookupIp one) (replies.LookupIp other) = Agree one other
-AgreeOn e one other = Unit {0}
+AgreeOn (event.Clear at name kind script) (replies.Cleared one) (replies.Cleared other) = Unit {0}
+AgreeOn (event.ClearAll at script) (replies.Cleared one) (replies.Cleared other) = Unit {0}
+AgreeOn (event.Update at update script) (replies.Update one) (replies.Update other) = Unit {0}
+AgreeOn e one other = ⊥
 
 -- no memory was lacking for the datagram of an update
 abbrev pub HasSentUpdate : EventReport → Type 0
