@@ -18,12 +18,14 @@ use Rattle.dns_data.specs.rdata.{data_type}
 use Rattle.dns_records.specs.Record.{Record}
 use Rattle.dns_records.specs.Rows.{Rows, key, row_of, rows_at, type_of_record}
 use Rattle.dns_records.specs.declared.row.Row.{Row}
+use Rattle.dns_messages.specs.Sound.{IsSoundIn}
 use Rattle.dns_messages.specs.declared.query.Query.{Query}
 use Rattle.dns_messages.specs.declared.response_code.ResponseCode.TheVariants.{NoError, NotImp, Refused}
 use Rattle.dns_zone.specs.Answer.{IsChain, after_records, answer, answer_at, answer_by, authority_row, bare, is_no_row_type, max_aliases, next_owner, record_of, rest_at}
 use Rattle.dns_zone.specs.Answer.IsChain.{found, stops, last, leads}
-use Rattle.dns_zone.specs.Rows.{AreRowsAt, IsSoundRow, IsZone, ZoneContent}
+use Rattle.dns_zone.specs.Rows.{AreRowsAt, AreSoundRows, IsSoundRow, IsZone, ZoneContent}
 use Rattle.dns_zone.specs.declared.zone.answer.Answer.{Answer}
+use Rattle.dns_zone.proofs.AnswerLaws.{HasSoundRows, sound_answer}
 use Rattle.stub_client.specs.Step.{chain_over, extended, next_name}
 use Rattle.stub_client.specs.declared.caching_client.chain.Chain.{Chain}
 use Rattle.stub_link.specs.LinkState.{Version}
@@ -197,6 +199,21 @@ module _ (zone : ZoneContent) (good : IsZone zone) where
       soa-by owner (rows_at zone.rows owner.labels t) (rows_at zone.rows owner.labels types.CNAME)
       (λ alias. after_records (record_of owner alias ∷ []) (rest_at (answer_at links zone t) (next_owner zone.origin alias.rdata)))
       (λ alias. rest-of-soa (answer_at links zone t) (soa-at t links) (next_owner zone.origin alias.rdata))
+
+  -- each owner in the answer for a fully qualified name is fully qualified
+  sound-rows : HasSoundRows zone.rows
+  sound-rows labels t = by (rows_map.get zone.rows (key labels t)) (good.rows (key labels t))
+    where
+      by : (o : Option (List Row)) → IfSome o (AreRowsAt zone.origin (key labels t)) → AreSoundRows (unwrap_or o [])
+      by None h = tt
+      by (Some rows) h = h.sound
+
+  pub owner-full : (q : Query) → q.name.is_fqdn ≡ true → (r : Record) → Contains (answer zone q).answers r → r.name.is_fqdn ≡ true
+  owner-full q full r c =
+      let records : List Record = (answer zone q).answers in
+      let sound : All (IsSoundIn false) records =
+      All-from_recursion (IsSoundIn false) records (sound_answer zone good.origin_fqdn sound-rows q full).answers in
+      (All-contains (IsSoundIn false) records r sound c).sound.fqdn
 
   pub only-soa : (q : Query) → All IsSoaRecord (answer zone q).authorities
   only-soa q = by (is_no_row_type (type_number q.query_type)) (not (class_number q.query_class == 1) || not (at_or_below zone.origin.labels q.name.labels))

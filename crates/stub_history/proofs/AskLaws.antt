@@ -31,7 +31,7 @@ use Rattle.stub_link.specs.Link.{messages}
 use Rattle.stub_link.specs.LinkState.{Course, Honest, Listed, LinkState, ServerReply, Version, is_applied, link_calls, message_of, serve, Streams as StreamsMessage}
 use Rattle.stub_link.specs.Reply.{is_reply_code, is_reply_header, is_response, matches, repeats}
 use Rattle.stub_link.specs.Request.{IsSoundUpdate}
-use Rattle.stub_history.specs.Answered.{HoldsAnswer, HoldsAnswerAt, HoldsAnswerSince, zone_with}
+use Rattle.stub_history.specs.Answered.{HoldsAnswer, HoldsAnswerSince, zone_with}
 use Rattle.stub_history.specs.Faithful.{EachSent, EachUnderWay, HasHistory, HasNoReuse, IsCurrent, IsFaithful, IsMadeBy, IsSentDatagram, StaysFaithful, is_reuse}
 use Rattle.stub_history.specs.Stands.{Extends, HoldSince, StandAt}
 use Rattle.stub_history.proofs.EventLaws.{IsSentReply, SentReplies, sent-sound}
@@ -187,12 +187,14 @@ since-wider first earlier history final rows before after s =
 
 -- an answer of rows that stand at a moment, and hold since earlier versions
 pub record HoldsAnswerThen (origin : DomainName) (earlier history : List Version) (moment : ℕ) (q : Query) (m : Message) : Type 0 where
-  pub held : HoldsAnswerAt origin history moment q m
-  pub since : HoldSince earlier history held.rows
+  pub rows : Rows
+  pub stand : StandAt history moment rows
+  pub holds : HoldsAnswer (zone_with origin rows) q m
+  pub since : HoldSince earlier history rows
 
 abbrev pub answer-since : (origin : DomainName) (earlier history : List Version) (moment : ℕ) (q : Query) (m : Message)
     → HoldsAnswerThen origin earlier history moment q m → HoldsAnswerSince origin earlier history q m
-answer-since origin earlier history moment q m a = record { rows = a.held.rows; since = a.since; holds = a.held.holds }
+answer-since origin earlier history moment q m a = record { rows = a.rows; since = a.since; holds = a.holds }
 
 module _ (keep : UpdatesKeepZones) (origin : DomainName) (sent : List (ℕ × Query)) (earlier : List Version) (now : ℕ) (m : Message) (q : Query)
     (code : m.metadata.op_code ≡ ops.Query) (only : m.queries ≡ q ∷ []) where
@@ -398,26 +400,22 @@ module _ (keep : UpdatesKeepZones) (origin : DomainName) (sent : List (ℕ × Qu
         by-reply r limit (inr both) made is matched whole =
             let sent-is : response.message ≡ sent_reply r.zone (Datagram limit) m = is ∙ ap (sent_reply r.zone (Datagram limit)) both.0 in
             record {
-              held = record {
-                rows = r.zone.rows;
-                stand = subst (λ (t : ℕ). StandAt new.link.history t r.zone.rows) both.1 made.stand;
-                holds = subst (λ (y : Message). HoldsAnswer (zone_with origin r.zone.rows) q y) (sym sent-is)
-                    (at-origin r.zone (sent_reply r.zone (Datagram limit) m) made.origin_is
-                    (holds-answer r.zone (Datagram limit) m q code only (ap (λ (y : Message). y.metadata.truncation) (sym sent-is) ∙ whole)));
-              };
+              rows = r.zone.rows;
+              stand = subst (λ (t : ℕ). StandAt new.link.history t r.zone.rows) both.1 made.stand;
+              holds = subst (λ (y : Message). HoldsAnswer (zone_with origin r.zone.rows) q y) (sym sent-is)
+                  (at-origin r.zone (sent_reply r.zone (Datagram limit) m) made.origin_is
+                  (holds-answer r.zone (Datagram limit) m q code only (ap (λ (y : Message). y.metadata.truncation) (sym sent-is) ∙ whole)));
               since = both.2;
             }
 
         by-got : IsGot response → response.message.metadata.truncation ≡ false → HoldsAnswerThen origin earlier new.link.history now q response.message
         by-got (inl g) whole = by-reply g.0.0 g.0.1 g.0.2 g.0.3 g.0.4 g.1 whole
         by-got (inr g) whole = record {
-          held = record {
-            rows = g.0.rows;
-            stand = g.1;
-            holds = subst (λ (y : Message). HoldsAnswer (zone_with origin g.0.rows) q y) (sym g.4)
-                (at-origin g.0 (sent_reply g.0 Stream m) g.3
-                (holds-answer g.0 Stream m q code only (ap (λ (y : Message). y.metadata.truncation) (sym g.4) ∙ whole)));
-          };
+          rows = g.0.rows;
+          stand = g.1;
+          holds = subst (λ (y : Message). HoldsAnswer (zone_with origin g.0.rows) q y) (sym g.4)
+              (at-origin g.0 (sent_reply g.0 Stream m) g.3
+              (holds-answer g.0 Stream m q code only (ap (λ (y : Message). y.metadata.truncation) (sym g.4) ∙ whole)));
           since = g.2;
         }
 

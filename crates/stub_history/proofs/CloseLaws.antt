@@ -32,7 +32,7 @@ use Rattle.stub_history.specs.Answered.{AreOrdinary, AreZones, HoldsAnswer, Hold
 use Rattle.stub_history.specs.Stands.{HasChain, HasChainFor, HasShortChains, HasShortLinks, IsAliasChain, IsLoopback}
 use Rattle.stub_history.specs.Stands.IsAliasChain.{no_alias}
 use Rattle.stub_history.specs.Stands.IsReached.{here}
-use Rattle.stub_history.proofs.AnswerRowLaws.{IsAnswerRow, answer-rows, equal-numbers, not-plain, number_of, zone-of-rows}
+use Rattle.stub_history.proofs.AnswerRowLaws.{IsAnswerRow, answer-rows, equal-numbers, not-plain, number_of, owner-full, zone-of-rows}
 use Rattle.stub_history.proofs.ChainLaws.{EndsAlong, along, no-alias-same}
 use Rattle.stub_history.proofs.EndLaws.{End, accepted, answer-ends, finds, followed-same, is_followed, lacks, leaves, not-ordinary, passes, refused-empty}
 use Rattle.stub_history.proofs.FreshLaws.{answer-held, clamped-least, end-reached, in-answers, range_at, same-names, same-numbers}
@@ -180,6 +180,7 @@ module _ (chains : (zone : ZoneContent) (q : Query) → IsChain zone.rows q.quer
         let ends = along-answer chains zone good q m held.holds (plain-of q typed) greatest in
         let least-is : min (chain_of q m).ttl greatest ≤ ends.least = ends.low in
         record {
+          full = owner-full zone good q held.full r c;
           moment = now;
           rows = held.rows;
           row = row_of r;
@@ -198,6 +199,7 @@ module _ (chains : (zone : ZoneContent) (q : Query) → IsChain zone.rows q.quer
     direct-chain : (r : Record) (ttl : ℕ) → Contains (answer zone q).answers r → number_of r ≡ type_number q.query_type
         → (chain_of q m).is_alias ≡ false → ttl ≤ min r.ttl greatest → HasChain history greatest now q.name (record r { ttl = ttl })
     direct-chain r ttl c is no-alias low = record {
+      full = owner-full zone good q held.full r c;
       moment = now;
       rows = held.rows;
       row = row_of r;

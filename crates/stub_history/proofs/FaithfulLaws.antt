@@ -4,6 +4,8 @@ use Rattle.std.specs.Prelude.{◌⊎◌, slice_get}
 use Rattle.std.proofs.lemmas.List.{append-nil, append_assoc}
 use Rattle.dns_names.specs.Name.{DomainName}
 use Rattle.dns_records.specs.Rows.{Rows}
+use Rattle.dns_wire.specs.Decodable.{Follow}
+use Rattle.dns_messages.specs.Grammar.{ReadsQuestion}
 use Rattle.dns_messages.specs.declared.message.Message.{Message}
 use Rattle.dns_messages.specs.declared.op_code.OpCode.TheVariants as ops
 use Rattle.dns_messages.specs.declared.query.Query.{Query}
@@ -17,18 +19,31 @@ use Rattle.stub_link.specs.declared.link.LinkError.{LinkError}
 use Rattle.stub_link.specs.declared.link.LinkError.TheVariants.{Failed, Memory}
 use Rattle.stub_link.specs.Ask.{AfterReply, AfterSending, AfterWaiting, Ask, AskUnder, IsAsked, IsSent, IsSupported, draw}
 use Rattle.stub_link.specs.AskState.{AskState, UpdateZone}
-use Rattle.stub_link.specs.Link.{messages}
+use Rattle.stub_link.specs.Link.{IsResponse, messages}
 use Rattle.stub_link.specs.LinkState.{LinkState, link_calls}
 use Rattle.stub_link.specs.Request.{IsUpdate, with_id}
 use Rattle.stub_link.specs.Update.{IsUpdateSent}
 use Rattle.stub_history.specs.Answered.{IsAnsweredBy, IsAnsweredSince}
 use Rattle.stub_history.specs.Faithful.{HasNoReuse, IsFaithful, IsSentDatagram, StaysFaithful, StaysFaithfulUnlessOut}
 use Rattle.stub_history.specs.Stands.{StandAt}
+use Rattle.stub_link.proofs.OutcomeLaws.{IsDecoded, responses-decode}
 use Rattle.stub_history.proofs.AskLaws.{D, HoldsAnswerThen, R, answer-since, asked-answer, asked-still, drawn-holds, known-holds, more-faithful}
 use Rattle.stub_history.proofs.EventLaws.{SentReplies, faithful-of, holds-of, sent-sound}
 use Rattle.stub_history.proofs.ReceiveLaws.{Still}
 use Rattle.stub_history.proofs.ServeLaws.{UpdatesKeepZones}
 use Rattle.stub_history.proofs.WaitLaws.{StillUnlessOut, sent-still}
+
+-- ---- names of questions
+
+-- the only question of a message that was decoded names a fully qualified name
+asked-full : (response : DnsResponse) (q : Query) → IsDecoded messages (Ok response) → response.message.queries ≡ q ∷ []
+    → q.name.is_fqdn ≡ true
+asked-full response q decoded only =
+    let is : IsResponse decoded.0 response = decoded.1 in
+    let bytes : List ℕ = response.buffer.items in
+    let follow : Follow (ReadsQuestion bytes) 12 (q ∷ []) is.reads.queries_end =
+    subst (λ (qs : List Query). Follow (ReadsQuestion bytes) 12 qs is.reads.queries_end) only is.reads.queries.queries in
+    follow.1.sound.fqdn
 
 -- ---- what is drawn
 
@@ -163,7 +178,15 @@ module _ (keep : UpdatesKeepZones) (origin : DomainName) (old : AskState) (f : I
 
     pub ask-answers : (q : Query) (later : List (ℕ × Query)) → m.queries ≡ q ∷ [] → HasNoReuse (new.sent ++ later)
         → IsAnsweredBy origin new.link.history (record { moment = old.link.moment; ask = record { question = q; outcome = outcome } })
-    ask-answers q later only once response ok = (answers-then q later only once response ok).held
+    ask-answers q later only once response ok =
+        let a = answers-then q later only once response ok in
+        let decoded : IsDecoded messages outcome = responses-decode messages link_calls m old outcome new x in
+        record {
+          full = asked-full response q (subst (λ (o : Outcome). IsDecoded messages o) ok decoded) a.holds.queries;
+          rows = a.rows;
+          stand = a.stand;
+          holds = a.holds;
+        }
 
     pub ask-answers-since : (q : Query) (later : List (ℕ × Query)) → m.queries ≡ q ∷ [] → HasNoReuse (new.sent ++ later)
         → IsAnsweredSince origin old.link.history new.link.history (record { question = q; outcome = outcome })

@@ -29,7 +29,7 @@ use Rattle.stub_link.specs.LinkState.{Version}
 use Rattle.stub_history.specs.Answered.{AreZones, HoldsAnswer, HoldsAnswerAt, IsAnsweredBy, is_plain_number, zone_with}
 use Rattle.stub_history.specs.Stands.{AreSame, IsFreshFor, IsReached}
 use Rattle.stub_history.specs.Stands.IsReached.{here}
-use Rattle.stub_history.proofs.AnswerRowLaws.{IsAnswerRow, IsSoaRecord, answer-rows, chain-reaches, equal-numbers, not-plain, number_of, only-soa, owners-reached, zone-of-rows}
+use Rattle.stub_history.proofs.AnswerRowLaws.{IsAnswerRow, IsSoaRecord, answer-rows, chain-reaches, equal-numbers, not-plain, number_of, only-soa, owner-full, owners-reached, zone-of-rows}
 use Rattle.stub_history.proofs.StandLaws.{both-true, contains-none, fresh-left, fresh-through, names-lower}
 
 -- ---- bounds of TTLs, by the number of a type
@@ -97,6 +97,7 @@ module _ (chains : (zone : ZoneContent) (q : Query) → IsChain zone.rows q.quer
       let low : (clamped_record config r).ttl ≤ min r.ttl (range_at config n).greatest = clamped-least config n r none number in
       inl (
         record {
+          full = owner-full zone good q held.full r there;
           moment = now;
           rows = held.rows;
           row = row_of r;

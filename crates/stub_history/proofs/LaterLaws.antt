@@ -10,4 +10,4 @@ pub answered-still : (origin : DomainName) (old new : LinkState) (asked : Asked)
     → IsAnsweredBy origin old.history asked → IsAnsweredBy origin new.history asked
 answered-still origin old new asked past stands answered = λ response ok.
     let held = answered response ok in
-    record { rows = held.rows; stand = stands asked.moment held.rows past held.stand; holds = held.holds }
+    record { full = held.full; rows = held.rows; stand = stands asked.moment held.rows past held.stand; holds = held.holds }

@@ -98,6 +98,7 @@ reached-later later less (by_alias owner to moment rows row alias rest stand pas
 fresh-aged : (history : List Version) (greatest since now ttl : ℕ) (first : Record) → IsFresh history greatest since first → since ≤ now
     → now + ttl ≤ since + first.ttl → IsFresh history greatest now (record first { ttl = ttl })
 fresh-aged history greatest since now ttl first f past lasts = record {
+  full = f.full;
   moment = f.moment;
   rows = f.rows;
   row = f.row;
@@ -117,6 +118,7 @@ chain-from other e (one_alias owner to least row alias rest there is s) =
 chain-aged : (history : List Version) (greatest since now ttl : ℕ) (p q : DomainName) (first : Record) → HasChain history greatest since p first
     → AreSame p q → since ≤ now → now + ttl ≤ since + first.ttl → HasChain history greatest now q (record first { ttl = ttl })
 chain-aged history greatest since now ttl p q first f same past lasts = record {
+  full = f.full;
   moment = f.moment;
   rows = f.rows;
   row = f.row;

@@ -1,5 +1,5 @@
 -- Outcomes of questions that hold what a zone answers by rows that stood.
-use Rattle.std.specs.Prelude.{◌≡◌, ◌==◌, ◌&&◌, ◌||◌, nat_le, nat_lt, not, Bool, All, List, [], ◌∷◌, ℕ, Ok}
+use Rattle.std.specs.Prelude.{◌≡◌, ◌==◌, ◌&&◌, ◌||◌, nat_le, nat_lt, not, Bool, true, All, List, [], ◌∷◌, ℕ, Ok}
 use Rattle.dns_codes.specs.RecordType.{type_number}
 use Rattle.dns_codes.specs.declared.record_type.RecordType.{RecordType}
 use Rattle.dns_names.specs.Name.{DomainName}
@@ -55,8 +55,9 @@ pub record HoldsAnswer (zone : ZoneContent) (q : Query) (m : Message) : Type 0 w
   pub authorities : m.authorities ≡ (answer zone q).authorities
   pub additionals : m.additionals ≡ []
 
--- a message holds the answer of a zone with this origin, by rows that stand at a moment
+-- a message holds the answer of a zone with this origin to a question for a fully qualified name, by rows that stand at a moment
 pub record HoldsAnswerAt (origin : DomainName) (history : List Version) (moment : ℕ) (q : Query) (m : Message) : Type 0 where
+  pub full : q.name.is_fqdn ≡ true
   pub rows : Rows
   pub stand : StandAt history moment rows
   pub holds : HoldsAnswer (zone_with origin rows) q m

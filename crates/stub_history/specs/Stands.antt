@@ -1,5 +1,5 @@
 -- What stood in a zone, by the versions of its rows, and what of it may be returned for a name: bounded staleness.
-use Rattle.std.specs.Prelude.{◌≡◌, ◌≤◌, ◌+◌, ◌++◌, ◌⊎◌, suc, min, length, All, Contains, List, [], ◌∷◌, ℕ}
+use Rattle.std.specs.Prelude.{◌≡◌, ◌≤◌, ◌+◌, ◌++◌, ◌⊎◌, true, suc, min, length, All, Contains, List, [], ◌∷◌, ℕ}
 use Rattle.dns_codes.specs.declared.record_type.RecordType.TheVariants as types
 use Rattle.dns_names.specs.Compare.{lower}
 use Rattle.dns_names.specs.Name.{DomainName}
@@ -47,9 +47,10 @@ pub record HoldSince (earlier history : List Version) (rows : Rows) : Type 0 whe
 abbrev pub AreSame : DomainName → DomainName → Type 0
 AreSame a b = lower a.labels ≡ lower b.labels
 
--- A record is fresh: rows that stood have its data at its owner, and its TTL, at most the greatest that is kept, counts from a
--- moment at which they stood.
+-- A record is fresh: its owner is fully qualified, rows that stood have its data there, and its TTL, at most the greatest that is
+-- kept, counts from a moment at which they stood.
 pub record IsFresh (history : List Version) (greatest now : ℕ) (r : Record) : Type 0 where
+  pub full : r.name.is_fqdn ≡ true
   pub moment : ℕ
   pub rows : Rows
   pub row : Row
@@ -76,9 +77,10 @@ pub data IsAliasChain (rows : Rows) (bound : ℕ) (from : DomainName) : ℕ → 
       → Contains (rows_at rows owner.labels types.CNAME) row → row.rdata ≡ of.CNAME alias → AreSame alias.0 name
       → IsAliasChain rows bound from (min least row.ttl) name
 
--- The chain bound: a record and the aliases that lead to it stood in the same rows, and its TTL, at most that of each alias and
--- the greatest that is kept, counts from one moment at which they stood.
+-- The chain bound: a record and the aliases that lead to its fully qualified owner stood in the same rows, and its TTL, at most that
+-- of each alias and the greatest that is kept, counts from one moment at which they stood.
 pub record HasChain (history : List Version) (greatest now : ℕ) (from : DomainName) (r : Record) : Type 0 where
+  pub full : r.name.is_fqdn ≡ true
   pub moment : ℕ
   pub rows : Rows
   pub row : Row
