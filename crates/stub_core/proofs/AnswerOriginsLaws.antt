@@ -24,10 +24,18 @@ use Rattle.stub_client.specs.Laws.{RecordClaim}
 use Rattle.stub_client.specs.Looks.{Reply, out_of_memory}
 use Rattle.stub_client.specs.Origins.{Asked}
 use Rattle.stub_core.specs.Attempts.{Attempts, AttemptsWithHosts, Continues, Lookups, Unless, WithHosts, is_final, no_names}
-use Rattle.stub_core.specs.Origins.{AreTyped, ByOrigins, EachAnswer, HostIsFrom, IsAnswer, NameIsFrom, first_of, from_hosts, from_literal, from_question, is_address_record, names_of}
+use Rattle.stub_core.specs.Origins.{AreTyped, ByOrigins, EachAnswer, HostIsFrom, IsAnswer, NameIsFrom, first_of, from_hosts, from_literal, from_question, is_address_record, literal_records, names_of}
 use Rattle.stub_core.specs.Resolver.{AnswersHost, AnswersName, LooksUp, LooksUpHost, LooksUpName, UnlessMemory, is_tried_as_name, known_type, names_for, owner_of}
-use Rattle.stub_core.specs.Strategies.{Both, ByStrategy, EndsWith, Joins, LooksUpAddresses, LooksUpIp, OrAddress, Then, fallback_record, is_out_of_memory, no_addresses}
+use Rattle.stub_core.specs.Strategies.{Both, ByStrategy, EndsWith, Joins, LooksUpAddresses, LooksUpIp, OrAddress, Then, fallback_record, is_out_of_memory, kinds_of, no_addresses}
 use Rattle.stub_core.specs.declared.resolver.settings.Settings.{Settings}
+
+-- ---- items of lists
+
+among-first : {X : Type 0} (x : X) (xs : List X) → Contains (x ∷ xs) x
+among-first x xs = (0, omega arith, refl)
+
+among-second : {X : Type 0} (x y : X) (xs : List X) → Contains (x ∷ y ∷ xs) y
+among-second x y xs = (1, omega arith, refl)
 
 -- ---- what holds of each answer
 
@@ -112,14 +120,20 @@ module _ (P : Record → Type 0) where
         continues-each (is_final h.0) (λ reply new. tries h.1 second reply new) h.0 h.1 reply new (f old h.1 h.0 h.2)
         (λ k. g h.1 new reply k) h.3
 
-    by_strategy-each : (strategy : LookupIpStrategy) → OfType types.A → OfType types.AAAA → (old new : U) (reply : Reply)
+    -- one of the types that a strategy asks for
+    by_strategy-each : (strategy : LookupIpStrategy) → (Contains (kinds_of strategy) types.A → OfType types.A)
+        → (Contains (kinds_of strategy) types.AAAA → OfType types.AAAA) → (old new : U) (reply : Reply)
         → ByStrategy strategy tries old reply new → Each reply
-    by_strategy-each Ipv4Only f g old new reply h = f old new reply h
-    by_strategy-each Ipv6Only f g old new reply h = g old new reply h
-    by_strategy-each Ipv4AndIpv6 f g old new reply h = both-each types.A types.AAAA f g old new reply h
-    by_strategy-each Ipv6AndIpv4 f g old new reply h = both-each types.AAAA types.A g f old new reply h
-    by_strategy-each Ipv6thenIpv4 f g old new reply h = then-each types.AAAA types.A g f old new reply h
-    by_strategy-each Ipv4thenIpv6 f g old new reply h = then-each types.A types.AAAA f g old new reply h
+    by_strategy-each Ipv4Only f g old new reply h = f (among-first types.A []) old new reply h
+    by_strategy-each Ipv6Only f g old new reply h = g (among-first types.AAAA []) old new reply h
+    by_strategy-each Ipv4AndIpv6 f g old new reply h =
+        both-each types.A types.AAAA (f (among-first types.A (types.AAAA ∷ []))) (g (among-second types.A types.AAAA [])) old new reply h
+    by_strategy-each Ipv6AndIpv4 f g old new reply h =
+        both-each types.AAAA types.A (g (among-second types.A types.AAAA [])) (f (among-first types.A (types.AAAA ∷ []))) old new reply h
+    by_strategy-each Ipv6thenIpv4 f g old new reply h =
+        then-each types.AAAA types.A (g (among-second types.A types.AAAA [])) (f (among-first types.A (types.AAAA ∷ []))) old new reply h
+    by_strategy-each Ipv4thenIpv6 f g old new reply h =
+        then-each types.A types.AAAA (f (among-first types.A (types.AAAA ∷ []))) (g (among-second types.A types.AAAA [])) old new reply h
 
   -- ---- what is returned at last
 
@@ -149,7 +163,7 @@ module _ (Brought : List Asked → RecordClaim) (history : List Asked) (now : �
 
   module _ (kind : RecordType) (names : List DomainName) where
     abbrev Of : Record → Type 0
-    Of r = IsAnswer (Brought history) settings.hosts now (kind ∷ []) names (first_of names) None r
+    Of r = IsAnswer (Brought history) settings.hosts now (kind ∷ []) names (first_of names) [] r
 
     abbrev OfName : Record → Type 0
     OfName r = has_type kind r ≡ true → Of r
@@ -208,16 +222,16 @@ six : (n : ℕ) → ((((28 == 255) || (n == 28)) || (n == 5)) ≡ true) → ((n 
 six n h k = grind (arith, nat_tests)
 
 module _ (Brought : List Asked → RecordClaim) (history : List Asked) (are-typed : AreTyped history) (now : ℕ) (settings : Settings)
-    (address : Option IpAddr) where
+    (literals : List Record) where
   abbrev asks_of_host : Lookups (Unit {0}) Query
   asks_of_host = ByOrigins Brought now history
 
   abbrev kinds : List RecordType
-  kinds = types.A ∷ types.AAAA ∷ []
+  kinds = kinds_of settings.options.ip_strategy
 
   module _ (names : List DomainName) where
     abbrev OfHost : Record → Type 0
-    OfHost r = is_address_record r ≡ true → IsAnswer (Brought history) settings.hosts now kinds names names address r
+    OfHost r = is_address_record r ≡ true → IsAnswer (Brought history) settings.hosts now kinds names names literals r
 
     -- a type of addresses: records of addresses that it has asked for are of this type
     abbrev IsFamily : RecordType → Type 0
@@ -226,17 +240,11 @@ module _ (Brought : List Asked → RecordClaim) (history : List Asked) (are-type
         × ((name : DomainName) (r : Record) → is_asked_or_alias (question name kind) r ≡ true → is_address_record r ≡ true
         → has_type kind r ≡ true)
 
-    family-a : IsFamily types.A
-    family-a = (
-      All-head (Contains kinds) types.A (types.AAAA ∷ []) (All-contains_itself kinds),
-      λ name r asked is. four (type_number (data_type r.rdata)) asked is,
-    )
+    family-a : Contains kinds types.A → IsFamily types.A
+    family-a among = (among, λ name r asked is. four (type_number (data_type r.rdata)) asked is)
 
-    family-aaaa : IsFamily types.AAAA
-    family-aaaa = (
-      All-head (Contains kinds) types.AAAA [] (All-tail (Contains kinds) types.A (types.AAAA ∷ []) (All-contains_itself kinds)),
-      λ name r asked is. six (type_number (data_type r.rdata)) asked is,
-    )
+    family-aaaa : Contains kinds types.AAAA → IsFamily types.AAAA
+    family-aaaa among = (among, λ name r asked is. six (type_number (data_type r.rdata)) asked is)
 
     asked-host : (kind : RecordType) → IsFamily kind → (name : DomainName) (old new : Unit {0}) (reply : Reply) → Contains names name
         → asks_of_host old (question name kind) reply new → EachAnswer OfHost reply
@@ -265,8 +273,8 @@ module _ (Brought : List Asked → RecordClaim) (history : List Asked) (are-type
     addresses-each name old new reply there h =
         by_strategy-each OfHost (λ old kind reply new. WithHosts settings.hosts now asks_of_host old (question name kind) reply new)
         settings.options.ip_strategy
-        (λ old new reply k. family-each types.A family-a name there old new reply k)
-        (λ old new reply k. family-each types.AAAA family-aaaa name there old new reply k) old new reply h
+        (λ among old new reply k. family-each types.A (family-a among) name there old new reply k)
+        (λ among old new reply k. family-each types.AAAA (family-aaaa among) name there old new reply k) old new reply h
 
     host-names : (finally : Option RData) → ((rdata : RData) → finally ≡ Some rdata → OfHost (fallback_record rdata))
         → (old new : Unit {0}) (reply : Reply)
@@ -294,22 +302,26 @@ module _ (Brought : List Asked → RecordClaim) (history : List Asked) (are-type
   some-inside x y h = cc
 
   answered-host : (tried : Bool) (address : Option IpAddr) (name : Result DomainName ParseError) (old new : Unit {0}) (reply : Reply)
-      → AnswersHost settings now asks_at tried address name old reply new → HostIsFrom (Brought history) settings now address name reply
+      → AnswersHost settings now asks_at tried address name old reply new
+      → EachAnswer (OfHost Brought history are-typed now settings (literal_records tried address name now) (names_of settings name)) reply
   answered-host tried None name old new reply h =
-      looked-up-name Brought history are-typed now settings None None name (λ rdata none. absurd (cc)) old new reply h
-  answered-host false (Some literal) name old new reply h =
-      let P = OfHost Brought history are-typed now settings (Some literal) (names_of settings name) in
-      let r = record_for (question (owner_of name) (address_type literal)) (address_data literal) in
-      is-each P _ reply h.0 (All-cons P r [] (λ is. from_literal literal r refl refl) (All-nil P))
-  answered-host true (Some literal) name old new reply h =
-      looked-up-name Brought history are-typed now settings (Some literal) (Some (address_data literal)) name
-      (λ rdata some is. from_literal literal (fallback_record rdata) refl (sym (some-inside (address_data literal) rdata some)))
+      looked-up-name Brought history are-typed now settings [] None name (λ rdata none. absurd (cc)) old new reply h
+  answered-host false (Some address) name old new reply h =
+      let P = OfHost Brought history are-typed now settings (literal_records false (Some address) name now) (names_of settings name) in
+      let r = record_for (question (owner_of name) (address_type address)) (address_data address) in
+      is-each P _ reply h.0 (All-cons P r [] (λ is. from_literal r (among-first r [])) (All-nil P))
+  answered-host true (Some address) name old new reply h =
+      let r : Record = fallback_record (address_data address) in
+      looked-up-name Brought history are-typed now settings (r ∷ []) (Some (address_data address)) name
+      (λ rdata some is. from_literal (fallback_record rdata)
+      (subst (λ (d : RData). Contains (r ∷ []) (fallback_record d)) (some-inside (address_data address) rdata some) (among-first r [])))
       old new reply h
 
   -- Each answer with an address of a lookup of a host has an origin.
   pub host-is-from : (address : Option IpAddr) (name : Result DomainName ParseError) (old new : Unit {0}) (reply : Reply)
       → LooksUpHost settings now asks_at address name old reply new → HostIsFrom (Brought history) settings now address name reply
   host-is-from address name old new reply h =
-      unless_memory-each (OfHost Brought history are-typed now settings address (names_of settings name))
+      unless_memory-each
+      (OfHost Brought history are-typed now settings (literal_records (is_tried_as_name settings name) address name now) (names_of settings name))
       (AnswersHost settings now asks_at (is_tried_as_name settings name) address name old reply new) old reply new
       (λ answers. answered-host (is_tried_as_name settings name) address name old new reply answers) h

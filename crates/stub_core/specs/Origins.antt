@@ -1,5 +1,5 @@
 -- Where the records that a resolver returns come from.
-use Rattle.std.specs.Prelude.{◌≡◌, ◌||◌, Bool, true, All, Contains, List, [], ◌∷◌, ℕ, Option, Some, None, Result, Ok, Err}
+use Rattle.std.specs.Prelude.{◌≡◌, ◌||◌, Bool, true, false, All, Contains, List, [], ◌∷◌, ℕ, Option, Some, None, Result, Ok, Err}
 use Rattle.std.specs.declared.net.ip_addr.IpAddr.{IpAddr}
 use Rattle.dns_codes.specs.declared.record_type.RecordType.{RecordType}
 use Rattle.dns_codes.specs.declared.record_type.RecordType.TheVariants as types
@@ -22,7 +22,8 @@ use Rattle.stub_client.specs.SpecialNames.{special_answer}
 use Rattle.stub_client.specs.Step.{meaning}
 use Rattle.stub_client.specs.declared.special_names.SpecialAnswer.TheVariants.{Ordinary}
 use Rattle.stub_core.specs.Attempts.{Lookups}
-use Rattle.stub_core.specs.Resolver.{known_type, names_for, request_options}
+use Rattle.stub_core.specs.Resolver.{is_tried_as_name, known_type, literal, names_for, owner_of, request_options}
+use Rattle.stub_core.specs.Strategies.{fallback_record, kinds_of}
 use Rattle.stub_core.specs.declared.resolver.Resolver.{Resolver}
 use Rattle.stub_core.specs.declared.resolver.settings.Settings.{Settings}
 
@@ -59,16 +60,15 @@ ByOrigins Brought now history old q reply new = ReplyIsFrom Brought history now 
 -- ---- answers
 
 -- An answer of a lookup for some names and types has one of the types and an origin for its question; or it is a record of the
--- hosts for one of their names; or it has the literal address that was looked up.
+-- hosts for one of their names and one of the types; or it is a record of the literal address that was looked up.
 pub data IsAnswer (Claim : RecordClaim) (hosts : HostsContent) (now : ℕ) (kinds : List RecordType)
-    (names hosted : List DomainName) (address : Option IpAddr) : Record → Type 0 where
+    (names hosted : List DomainName) (literals : List Record) : Record → Type 0 where
   from_question : (name : DomainName) (kind : RecordType) (r : Record) → Contains names name → Contains kinds kind
-      → has_type kind r ≡ true → Claim (question name kind) now r → IsAnswer Claim hosts now kinds names hosted address r
+      → has_type kind r ≡ true → Claim (question name kind) now r → IsAnswer Claim hosts now kinds names hosted literals r
   from_hosts : (name : DomainName) (kind : RecordType) (lookup : LookupContent) (r : Record) → Contains hosted name
       → Contains kinds kind → static_lookup hosts (question name kind) now ≡ Some lookup → Contains lookup.message.answers r
-      → IsAnswer Claim hosts now kinds names hosted address r
-  from_literal : (literal : IpAddr) (r : Record) → address ≡ Some literal → r.rdata ≡ address_data literal
-      → IsAnswer Claim hosts now kinds names hosted address r
+      → IsAnswer Claim hosts now kinds names hosted literals r
+  from_literal : (r : Record) → Contains literals r → IsAnswer Claim hosts now kinds names hosted literals r
 
 -- a fact of each answer of a reply
 abbrev pub EachAnswer : (Record → Type 0) → Reply → Type 0
@@ -85,6 +85,13 @@ abbrev pub first_of : List DomainName → List DomainName
 first_of [] = []
 first_of (name ∷ names) = name ∷ []
 
+-- The record that is returned for a literal address: the answer to its own lookup, or, if the text is also looked up as a name, the
+-- record that is returned where no name has an address.
+abbrev pub literal_records : Bool → Option IpAddr → Result DomainName ParseError → ℕ → List Record
+literal_records tried None name now = []
+literal_records false (Some address) name now = (literal (owner_of name) address now).message.answers
+literal_records true (Some address) name now = fallback_record (address_data address) ∷ []
+
 -- whether a record has an address
 abbrev pub is_address_record : Record → Bool
 is_address_record r = has_type types.A r || has_type types.AAAA r
@@ -94,14 +101,15 @@ abbrev pub NameIsFrom : RecordClaim → Settings → ℕ → Result DomainName P
 NameIsFrom Claim settings now name kind reply =
     EachAnswer (λ r. has_type (known_type kind) r ≡ true
     → IsAnswer Claim settings.hosts now (known_type kind ∷ []) (names_of settings name) (first_of (names_of settings name))
-    None r) reply
+    [] r) reply
 
--- each answer with an address comes from a question for an attempted name, or from the hosts, or is a literal address
+-- Each answer with an address comes from a question for an attempted name, or from the hosts, by a type that the strategy asks for,
+-- or is the record of a literal address.
 abbrev pub HostIsFrom : RecordClaim → Settings → ℕ → Option IpAddr → Result DomainName ParseError → Reply → Type 0
 HostIsFrom Claim settings now address name reply =
     EachAnswer (λ r. is_address_record r ≡ true
-    → IsAnswer Claim settings.hosts now (types.A ∷ types.AAAA ∷ []) (names_of settings name) (names_of settings name) address r)
-    reply
+    → IsAnswer Claim settings.hosts now (kinds_of settings.options.ip_strategy) (names_of settings name) (names_of settings name)
+    (literal_records (is_tried_as_name settings name) address name now) r) reply
 
 -- ---- lookups of a resolver
 

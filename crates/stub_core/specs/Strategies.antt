@@ -53,6 +53,12 @@ ByStrategy Ipv6AndIpv4 tries old reply new = Both tries types.AAAA types.A old r
 ByStrategy Ipv6thenIpv4 tries old reply new = Then tries types.AAAA types.A old reply new
 ByStrategy Ipv4thenIpv6 tries old reply new = Then tries types.A types.AAAA old reply new
 
+-- the types of addresses that a strategy asks for
+abbrev pub kinds_of : LookupIpStrategy → List RecordType
+kinds_of Ipv4Only = types.A ∷ []
+kinds_of Ipv6Only = types.AAAA ∷ []
+kinds_of both = types.A ∷ types.AAAA ∷ []
+
 -- the addresses of a name; the hosts are asked for each type
 abbrev pub LooksUpAddresses : {S : Type 0} → LookupIpStrategy → HostsContent → ℕ → Lookups S Query → S → DomainName → Reply → S
     → Type 0

@@ -20,6 +20,8 @@ use Rattle.dns_messages.specs.declared.query.Query.{Query}
 use Rattle.dns_messages.specs.declared.response_code.ResponseCode.{ResponseCode}
 use Rattle.dns_zone.specs.Answer.{IsChain, answer}
 use Rattle.dns_zone.specs.Rows.{ZoneContent}
+use Rattle.stub_config.specs.declared.strategy.LookupIpStrategy.{LookupIpStrategy}
+use Rattle.stub_config.specs.declared.strategy.LookupIpStrategy.TheVariants.{Ipv4Only, Ipv6Only}
 use Rattle.stub_lookup.specs.declared.error.NetError.{NetError}
 use Rattle.stub_lookup.specs.declared.error.NetError.TheVariants as net
 use Rattle.stub_hosts.specs.Hosts.{HostsContent, question}
@@ -32,8 +34,9 @@ use Rattle.stub_client.specs.Origins.{Asked, Comes, IsPartOf, asked_at}
 use Rattle.stub_client.specs.SpecialNames.{special_answer}
 use Rattle.stub_client.specs.declared.request.DnsRequest.{DnsRequest}
 use Rattle.stub_client.specs.declared.special_names.SpecialAnswer.TheVariants.{Ordinary}
-use Rattle.stub_core.specs.Origins.{AreTyped, CacheIsFrom, ComesFrom, EachAnswer, HostIsFrom, IsAnswer, NameIsFrom, first_of, from_hosts, from_literal, from_question, is_address_record, names_of}
-use Rattle.stub_core.specs.Resolver.{ResolvesHost, ResolvesName, known_type, request_options, with_handle}
+use Rattle.stub_core.specs.Origins.{AreTyped, CacheIsFrom, ComesFrom, EachAnswer, HostIsFrom, IsAnswer, NameIsFrom, first_of, from_hosts, from_literal, from_question, is_address_record, literal_records, names_of}
+use Rattle.stub_core.specs.Strategies.{kinds_of}
+use Rattle.stub_core.specs.Resolver.{ResolvesHost, ResolvesName, is_tried_as_name, known_type, request_options, with_handle}
 use Rattle.stub_core.specs.declared.resolver.settings.Settings.{Settings}
 use Rattle.stub_core.proofs.OriginsLaws.{Brings, from-cleared, from-empty, from-still, host-comes, name-comes}
 use Rattle.stub_link.specs.AskState.{AskState, AskZone, UpdateZone, begin, begin_with_update, end}
@@ -64,14 +67,14 @@ use Rattle.stub_run.proofs.RunLaws.{decides-step, mid-memory}
 -- ---- a claim that another one bears out
 
 module _ {C D : RecordClaim} {hosts : HostsContent} {now : ℕ} {kinds : List RecordType} {names hosted : List DomainName}
-    {address : Option IpAddr}
+    {literals : List Record}
     (bears : (name : DomainName) (kind : RecordType) (r : Record) → Contains kinds kind → C (question name kind) now r
     → D (question name kind) now r) where
-  pub answer-bears : {r : Record} → IsAnswer C hosts now kinds names hosted address r → IsAnswer D hosts now kinds names hosted address r
+  pub answer-bears : {r : Record} → IsAnswer C hosts now kinds names hosted literals r → IsAnswer D hosts now kinds names hosted literals r
   answer-bears (from_question name kind r there among has claim) =
       from_question name kind r there among has (bears name kind r among claim)
   answer-bears (from_hosts name kind lookup r there among is has) = from_hosts name kind lookup r there among is has
-  answer-bears (from_literal literal r is same) = from_literal literal r is same
+  answer-bears (from_literal r there) = from_literal r there
 
 each-answer : (P Q : Record → Type 0) → ((r : Record) → P r → Q r) → (reply : Reply) → EachAnswer P reply → EachAnswer Q reply
 each-answer P Q f (Ok lookup) h = All-weaker P Q f lookup.message.answers h
@@ -85,7 +88,7 @@ only-one {X} x y c =
 abbrev OfName : RecordClaim → Settings → ℕ → Result DomainName ParseError → RecordType → Record → Type 0
 OfName Claim settings now name kind r =
     has_type (known_type kind) r ≡ true
-    → IsAnswer Claim settings.hosts now (known_type kind ∷ []) (names_of settings name) (first_of (names_of settings name)) None r
+    → IsAnswer Claim settings.hosts now (known_type kind ∷ []) (names_of settings name) (first_of (names_of settings name)) [] r
 
 name-bears : (C D : RecordClaim) (settings : Settings) (now : ℕ) (name : Result DomainName ParseError) (kind : RecordType) (reply : Reply)
     → ((owner : DomainName) (r : Record) → C (question owner (known_type kind)) now r → D (question owner (known_type kind)) now r)
@@ -103,18 +106,25 @@ name-bears C D settings now name kind reply f h =
     each : (r : Record) → OfName C settings now name kind r → OfName D settings now name kind r
     each r from has = answer-bears bears (from has)
 
--- one of the types of addresses
-is-family : (kind : RecordType) → Contains (types.A ∷ types.AAAA ∷ []) kind → is_plain kind ≡ true
-is-family kind c =
-    All-contains (λ (k : RecordType). is_plain k ≡ true) (types.A ∷ types.AAAA ∷ []) kind
-    (All-cons (λ (k : RecordType). is_plain k ≡ true) types.A (types.AAAA ∷ []) refl
-    (All-cons (λ (k : RecordType). is_plain k ≡ true) types.AAAA [] refl (All-nil (λ (k : RecordType). is_plain k ≡ true)))) c
+-- the types of addresses are plain
+abbrev IsPlain : RecordType → Type 0
+IsPlain kind = is_plain kind ≡ true
+
+all-plain : (strategy : LookupIpStrategy) → All IsPlain (kinds_of strategy)
+all-plain Ipv4Only = All-cons IsPlain types.A [] refl (All-nil IsPlain)
+all-plain Ipv6Only = All-cons IsPlain types.AAAA [] refl (All-nil IsPlain)
+all-plain both = All-cons IsPlain types.A (types.AAAA ∷ []) refl (All-cons IsPlain types.AAAA [] refl (All-nil IsPlain))
+
+-- one of the types of addresses that a strategy asks for
+is-family : (strategy : LookupIpStrategy) (kind : RecordType) → Contains (kinds_of strategy) kind → is_plain kind ≡ true
+is-family strategy kind c = All-contains IsPlain (kinds_of strategy) kind (all-plain strategy) c
 
 -- each address is one
 abbrev OfHost : RecordClaim → Settings → ℕ → Option IpAddr → Result DomainName ParseError → Record → Type 0
 OfHost Claim settings now address name r =
     is_address_record r ≡ true
-    → IsAnswer Claim settings.hosts now (types.A ∷ types.AAAA ∷ []) (names_of settings name) (names_of settings name) address r
+    → IsAnswer Claim settings.hosts now (kinds_of settings.options.ip_strategy) (names_of settings name) (names_of settings name)
+    (literal_records (is_tried_as_name settings name) address name now) r
 
 host-bears : (C D : RecordClaim) (settings : Settings) (now : ℕ) (address : Option IpAddr) (name : Result DomainName ParseError)
     (reply : Reply)
@@ -124,9 +134,9 @@ host-bears : (C D : RecordClaim) (settings : Settings) (now : ℕ) (address : Op
 host-bears C D settings now address name reply f h =
     each-answer (OfHost C settings now address name) (OfHost D settings now address name) each reply h
   where
-    bears : (owner : DomainName) (k : RecordType) (r : Record) → Contains (types.A ∷ types.AAAA ∷ []) k → C (question owner k) now r
-        → D (question owner k) now r
-    bears owner k r among claim = f owner k r (is-family k among) claim
+    bears : (owner : DomainName) (k : RecordType) (r : Record) → Contains (kinds_of settings.options.ip_strategy) k
+        → C (question owner k) now r → D (question owner k) now r
+    bears owner k r among claim = f owner k r (is-family settings.options.ip_strategy k among) claim
 
     each : (r : Record) → OfHost C settings now address name r → OfHost D settings now address name r
     each r from has = answer-bears bears (from has)
