@@ -22,11 +22,12 @@ use Rattle.stub_run.specs.declared.event.Event.{Event}
 use Rattle.stub_run.specs.declared.world.World.{World}
 use Rattle.stub_run.specs.World.{BeginsWith, IsFirst, IsFirstOver}
 use Rattle.stub_run.specs.Counts.{HasDrawn}
-use Rattle.stub_run.specs.Headline.{AreFresh, HasNoLeastTtl, WorldContent}
+use Rattle.stub_run.specs.Headline.{WorldContent}
+use Rattle.stub_run.specs.OneHistory.{HasOneHistory}
 use Rattle.stub_run.specs.Questions.{AreAskable}
 use Rattle.stub_run.specs.RunOver.{IsReportBeforeOver, IsReportOver, RunsOver, StopsAtOver, with_sent}
 use Rattle.stub_run.specs.Ids.{AreDistinct}
-use Rattle.stub_run.proofs.Reporting.{Bounds, Law, WalkedLaw, front-askable, front-in-order}
+use Rattle.stub_run.proofs.Reporting.{HistoryLaw, front-askable, front-in-order}
 use Rattle.stub_history.specs.Faithful.{HasNoReuse}
 use Rattle.stub_run.specs.declared.report.EventReport.{EventReport}
 use Rattle.stub_run.specs.declared.report.Report.{Report}
@@ -270,9 +271,7 @@ stopped_is P error report is h = rw is at h
 
 -- what holds of every run
 pub record RunsHold : Type 0 where
-  pub fresh : Law HasNoLeastTtl AreFresh
-  pub chain_bound : Law HasNoLeastTtl Bounds
-  pub walked : WalkedLaw
+  pub history : HistoryLaw
   pub drawn : (ids : List ℕ) (first last : RunState) (events : List Event) (reports : List EventReport) (states : List RunState)
       → HasDrawn ids (asks_of first) → Runs first events reports states last → HasDrawn ids (asks_of last)
   pub distinct : (ids : List ℕ) (sent : List (ℕ × Query)) → AreDistinct ids
@@ -357,22 +356,23 @@ module _ (input : PlayInput) (loaded : Loaded) (is : IsLoaded input loaded) wher
 
     tells : (told : List Event) → InOrder 0 told → AreAskable told → IsReportOf state told report
         → Tells input loaded.zone told (report_text told report.events.items)
-    tells told in-order asked reported = record {
-      hosts = loaded.hosts;
-      state = state;
-      report = report;
-      is_zone = is.zone;
-      are_hosts = is.hosts;
-      start = start;
-      reported = reported;
-      is_text = refl;
-      fresh = laws.fresh content state reported.last told report.events.items reported.states zone start.first in-order reported.runs
-          (no-reuse told reported) (λ kind. refl);
-      chain_bound = laws.chain_bound content state reported.last told report.events.items reported.states zone start.first in-order
-          reported.runs (no-reuse told reported) (λ kind. refl) refl;
-      walked = laws.walked content state reported.last told report.events.items reported.states zone start.first in-order reported.runs
-          (no-reuse told reported) refl limit asked;
-    }
+    tells told in-order asked reported =
+        let history : HasOneHistory content state told report =
+        laws.history content state told report zone start.first limit in-order asked reported in
+        let once : HasNoReuse report.sent.items = subst HasNoReuse (sym reported.sent) (no-reuse told reported) in
+        record {
+          hosts = loaded.hosts;
+          state = state;
+          report = report;
+          is_zone = is.zone;
+          are_hosts = is.hosts;
+          start = start;
+          is_text = refl;
+          history = history;
+          fresh = history.fresh once (λ kind. refl);
+          chain_bound = history.chain_bound once (λ kind. refl) refl;
+          walked = history.walked once refl;
+        }
 
     pub tells_all : IsReportOf state loaded.script.events.items report
         → TellsAll input (report_text loaded.script.events.items report.events.items)

@@ -18,7 +18,8 @@ use Rattle.stub_link.specs.declared.wire_handle.WireHandle.{WireHandle}
 use Rattle.stub_run.specs.Event.{AreHonest}
 use Rattle.stub_run.specs.declared.event.Event.{Event}
 use Rattle.stub_run.specs.declared.report.Report.{Report}
-use Rattle.stub_run.specs.Run.{InOrder, IsReportOf, RunState}
+use Rattle.stub_run.specs.OneHistory.{HasOneHistory}
+use Rattle.stub_run.specs.Run.{InOrder, RunState}
 use Rattle.stub_run.specs.Headline.{AreFresh, HaveChainBounds, WorldContent}
 use Rattle.stub_run.specs.RunOver.{IsReportOver}
 use Rattle.stub_run.specs.Walked.{AreWalked}
@@ -188,8 +189,8 @@ content_of input zone ids hosts = record {
   hosts = hosts;
 }
 
--- The text of the report of a run of these events. What it says of plain types is fresh, has the chain bound if no chain of aliases passes
--- seven links, and is what walks over the zone come to where nothing was updated and the link met no fault.
+-- The text of the report of a run of these events, with its one history. What it says of plain types is fresh, has the chain bound where
+-- no chain of aliases has passed seven links, and is what walks over the zone come to where nothing was updated and the link met no fault.
 pub record Tells (input : PlayInput) (zone : ZoneContent) (events : List Event) (text : List ℕ) : Type 0 where
   pub hosts : HostsContent
   pub state : RunState
@@ -197,11 +198,11 @@ pub record Tells (input : PlayInput) (zone : ZoneContent) (events : List Event) 
   pub is_zone : ZoneIs input (Ok zone)
   pub are_hosts : HostsAre input.hosts.items (Ok hosts)
   pub start : IsStart input zone hosts state
-  pub reported : IsReportOf state events report
   pub is_text : text ≡ report_text events report.events.items
-  pub fresh : AreFresh (content_of input zone start.ids hosts) events report.events.items
-  pub chain_bound : HaveChainBounds (content_of input zone start.ids hosts) events report.events.items
-  pub walked : AreWalked (content_of input zone start.ids hosts) events report.events.items
+  pub history : HasOneHistory (content_of input zone start.ids hosts) state events report
+  pub fresh : AreFresh (content_of input zone start.ids hosts) events report.events.items history.occasions
+  pub chain_bound : HaveChainBounds (content_of input zone start.ids hosts) events report.events.items history.occasions
+  pub walked : AreWalked (content_of input zone start.ids hosts) events report.events.items history.occasions
 
 -- of all events of the script
 abbrev pub TellsAllBy : (ZoneContent → List Event → List ℕ → Type 0) → PlayInput → List ℕ → Type 0

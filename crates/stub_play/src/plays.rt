@@ -25,8 +25,7 @@ use std::net::{Net, TcpListener, TcpStream};
 use stub_config::{ResolverConfig, ResolverOpts};
 use stub_hosts::{Hosts, HostsFault};
 use stub_run::laws::{
-    distinct_ids_are_not_reused, every_record_stood, ids_are_drawn_in_order,
-    unchanged_zones_are_walked,
+    distinct_ids_are_not_reused, ids_are_drawn_in_order, runs_have_one_history,
 };
 use stub_run::{Event, Report, Script, Stopped, World, know_names, run};
 
@@ -189,8 +188,7 @@ fn play_loaded<W: io::Write>(
     } = loaded;
     // Tells the prover that the zone is well formed, and what holds of every run.
     let _origin = zone.origin();
-    every_record_stood();
-    unchanged_zones_are_walked();
+    runs_have_one_history();
     ids_are_drawn_in_order();
     distinct_ids_are_not_reused();
     know_names(script.events.as_slice());

@@ -1,7 +1,6 @@
 -- Every record that a run returns is fresh, and has the chain bound.
 use Rattle.std.proofs.Common.{◌≡◌, ℕ, ◌≤◌, ◌++◌, List, [], ◌∷◌, Bool, false, All, refl, sym, ap, subst, ◌∙◌}
-use Rattle.std.proofs.lemmas.List.Elements.{All-nil, All-take}
-use Rattle.std.proofs.Math.Seq.{take-append_seam}
+use Rattle.std.proofs.lemmas.List.Elements.{All-nil}
 use Rattle.dns_codes.specs.RecordType.{type_number, type_of}
 use Rattle.dns_names.specs.Name.{DomainName}
 use Rattle.dns_records.specs.Record.{Record}
@@ -19,26 +18,21 @@ use Rattle.stub_core.specs.ResolverBuilder.{empty_cache}
 use Rattle.stub_core.specs.declared.resolver.settings.Settings.{Settings}
 use Rattle.stub_core.proofs.OriginsLaws.{Brings, brings-all, brings-closely, from-empty}
 use Rattle.stub_link.specs.AskState.{AskState, first_asks}
-use Rattle.stub_link.specs.History.{AreQuestions, Past, first_past, past_of}
+use Rattle.stub_link.specs.History.{Occasion, first_past}
 use Rattle.stub_link.specs.LinkState.{Version}
 use Rattle.stub_history.specs.Answered.{AreOrdinary, AreZones, IsAnsweredBy, is_plain}
 use Rattle.stub_history.specs.Faithful.{HasNoReuse, IsFaithful}
-use Rattle.stub_history.specs.Stands.{HasShortChains, HasShortLinks}
 use Rattle.stub_history.proofs.CloseLaws.{closely}
 use Rattle.stub_history.proofs.EventLaws.{first-faithful}
 use Rattle.stub_history.proofs.FreshLaws.{fresh}
 use Rattle.stub_history.proofs.ServeLaws.{UpdatesKeepZones}
 use Rattle.stub_run.specs.Headline.{AreFresh, HasChainBy, HasNoLeastTtl, HaveChainBounds, IsFreshBy, WorldContent, settings_of, ttls_of}
+use Rattle.stub_run.specs.History.{MakePasts}
 use Rattle.stub_run.specs.Run.{InOrder, RunState, Runs, asks_of}
 use Rattle.stub_run.specs.World.{IsFirst}
 use Rattle.stub_run.specs.declared.event.Event.{Event}
 use Rattle.stub_run.specs.declared.report.EventReport.{EventReport}
-use Rattle.stub_run.proofs.HeadlineLaws.{Has, HoldsOfRun, runs-hold}
-
--- a front of versions has short chains if all have
-short-front : (history more : List Version) → HasShortChains (history ++ more) → HasShortChains history
-short-front history more h =
-    subst (All HasShortLinks) (take-append_seam history more) (All-take HasShortLinks _ (history ++ more) h)
+use Rattle.stub_run.proofs.HeadlineLaws.{Has, runs-hold}
 
 module _ (keep : UpdatesKeepZones) (chains : (zone : ZoneContent) (q : Query) → IsChain zone.rows q.query_type q.name (answer zone q).answers)
     (round : (number : ℕ) → type_number (type_of number) ≡ number) (content : WorldContent) (first last : RunState) (events : List Event)
@@ -54,12 +48,6 @@ module _ (keep : UpdatesKeepZones) (chains : (zone : ZoneContent) (q : Query) �
 
   in-order : InOrder (asks_of first).link.moment events
   in-order = subst (λ (a : AskState). InOrder a.link.moment events) (sym begins.asks) order
-
-  no-questions : AreQuestions (asks_of first).link.datagrams
-  no-questions = subst (λ (a : AskState). AreQuestions a.link.datagrams) (sym begins.asks) tt
-
-  first-past : past_of (asks_of first).link ≡ first_past content.zone
-  first-past = ap (λ (a : AskState). past_of a.link) begins.asks
 
   module _ (aliases : Bool) (same : content.options.preserve_intermediates ≡ aliases) (Carries : Query → Message → Record → Type 0)
       (Leads : Query → Message → Type 0) (brings : Brings ttls aliases (λ (asked : List Asked). Comes Carries Leads asked)) where
@@ -80,28 +68,25 @@ module _ (keep : UpdatesKeepZones) (chains : (zone : ZoneContent) (q : Query) �
       aliases_is = begins.aliases ∙ same;
     }
 
-  abbrev Always : List Version → Type 0
-  Always history = Unit {0}
-
-  pub fresh-run : AreFresh content events reports
-  fresh-run =
+  pub fresh-run : (occasions : List Occasion) → MakePasts (first_past content.zone) states occasions
+      → AreFresh content events reports occasions
+  fresh-run occasions pasts =
       let aliases : Bool = content.options.preserve_intermediates in
       let brings = brings-all ttls aliases none in
-      let run = runs-hold keep chains round origin ttls aliases (settings_of content) (BringsRecord ttls) LeadsOn brings
-      (IsFreshBy ttls) Always (λ history more good. tt)
-      (λ history asked zones answered ordinary good q now r plain brought.
+      runs-hold keep chains round origin ttls aliases (settings_of content) (BringsRecord ttls) LeadsOn brings
+      (IsFreshBy ttls)
+      (λ history asked zones answered ordinary q now r plain brought.
       fresh chains origin history zones ttls (type_number q.query_type) plain (none q.query_type) asked answered brought refl)
-      [] (first_past content.zone) first last events reports states (has-first aliases refl (BringsRecord ttls) LeadsOn brings)
-      no-questions first-past in-order runs once in
-      record { occasions = run.occasions; are_events = run.are; holds = run.holds tt }
+      [] (first_past content.zone) first last events reports states occasions (has-first aliases refl (BringsRecord ttls) LeadsOn brings)
+      in-order runs once pasts
 
-  pub chain-run : content.options.preserve_intermediates ≡ false → HaveChainBounds content events reports
-  chain-run off =
+  pub chain-run : content.options.preserve_intermediates ≡ false → (occasions : List Occasion)
+      → MakePasts (first_past content.zone) states occasions → HaveChainBounds content events reports occasions
+  chain-run off occasions pasts =
       let brings = brings-closely ttls false refl none in
-      let run = runs-hold keep chains round origin ttls false (settings_of content) (BringsClosely ttls) LeadsOnClosely brings
-      (HasChainBy ttls) HasShortChains short-front
-      (λ history asked zones answered ordinary short q now r plain brought.
+      runs-hold keep chains round origin ttls false (settings_of content) (BringsClosely ttls) LeadsOnClosely brings
+      (HasChainBy ttls)
+      (λ history asked zones answered ordinary q now r plain brought short.
       closely chains origin history zones ttls (type_number q.query_type) plain (none q.query_type) asked answered ordinary short brought refl)
-      [] (first_past content.zone) first last events reports states (has-first false off (BringsClosely ttls) LeadsOnClosely brings)
-      no-questions first-past in-order runs once in
-      record { occasions = run.occasions; are_events = run.are; holds = run.holds }
+      [] (first_past content.zone) first last events reports states occasions
+      (has-first false off (BringsClosely ttls) LeadsOnClosely brings) in-order runs once pasts

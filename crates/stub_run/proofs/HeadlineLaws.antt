@@ -1,7 +1,6 @@
 -- Event by event, what lookups return has an origin among answers that stood; so a claim that such origins bear out holds of it.
 use Rattle.std.proofs.Common.{◌≡◌, ℕ, ◌≤◌, ◌<◌, ◌++◌, List, [], ◌∷◌, Option, Some, None, Result, Ok, Err, true, false, All, Contains, length, refl, sym, ap, subst, ◌∙◌, inl, inr, arith}
 use Rattle.std.specs.Prelude.{◌⊎◌, string_bytes}
-use Rattle.std.specs.List.{fold}
 use Rattle.std.specs.declared.net.ip_addr.IpAddr.{IpAddr}
 use Rattle.std.proofs.lemmas.Bool.{true≢false}
 use Rattle.std.proofs.lemmas.List.{append_assoc, append-nil}
@@ -40,7 +39,7 @@ use Rattle.stub_core.specs.Resolver.{ResolvesHost, ResolvesName, is_tried_as_nam
 use Rattle.stub_core.specs.declared.resolver.settings.Settings.{Settings}
 use Rattle.stub_core.proofs.OriginsLaws.{Brings, from-cleared, from-empty, from-still, host-comes, name-comes}
 use Rattle.stub_link.specs.AskState.{AskState, AskZone, UpdateZone, begin, begin_with_update, end}
-use Rattle.stub_link.specs.History.{AreQuestions, Occasion, Past, past_after_occasion, past_of}
+use Rattle.stub_link.specs.History.{Occasion, Past, past_after_occasion, past_of}
 use Rattle.stub_link.specs.LinkState.{LinkState, Version}
 use Rattle.stub_link.specs.Request.{IsUpdate}
 use Rattle.stub_history.specs.Answered.{AreOrdinary, AreZones, IsAnsweredBy, is_plain}
@@ -53,16 +52,16 @@ use Rattle.stub_history.proofs.LedLaws.{led-holds}
 use Rattle.stub_history.proofs.ServeLaws.{UpdatesKeepZones}
 use Rattle.stub_run.specs.Event.{moment_of}
 use Rattle.stub_run.specs.Headline.{HistoryClaim, HoldsOfEvent, HoldsOfEvents}
-use Rattle.stub_run.specs.History.{AreOccasions, IsOccasion}
+use Rattle.stub_run.specs.History.{MakePasts}
 use Rattle.stub_run.specs.Run.{Clears, InOrder, RepliesByZone, RunState, Runs, Step, Updates, asks_of, begin_asks, begin_event, end_event}
 use Rattle.stub_run.specs.declared.event.Event.{Event}
 use Rattle.stub_run.specs.declared.event.Event.TheVariants as event
 use Rattle.stub_run.specs.declared.report.EventReply.{EventReply}
 use Rattle.stub_run.specs.declared.report.EventReply.TheVariants as replies
 use Rattle.stub_run.specs.declared.report.EventReport.{EventReport}
-use Rattle.stub_run.proofs.Growing.{occasions-grow, runs-extend}
+use Rattle.stub_run.proofs.Growing.{runs-extend}
 use Rattle.stub_run.proofs.Happening.{AsksServer}
-use Rattle.stub_run.proofs.RunLaws.{decides-step, mid-memory}
+use Rattle.stub_run.proofs.RunLaws.{mid-memory}
 
 -- ---- a claim that another one bears out
 
@@ -418,16 +417,11 @@ module _ (keep : UpdatesKeepZones) (chains : (zone : ZoneContent) (q : Query) �
 
   -- ---- one event
 
-  -- what an event makes of a state: what holds of it, the past, and what holds of the reply
-  pub record HasStepped (Claim : HistoryClaim) (asked : List Asked) (past : Past) (e : Event) (reply : EventReply) (new : RunState)
-      : Type 0 where
+  -- what an event makes of a state: what holds of it, and of the reply
+  pub record HasStepped (Claim : HistoryClaim) (asked : List Asked) (e : Event) (reply : EventReply) (new : RunState) : Type 0 where
     pub asks : List Asked
     pub has : Has (asked ++ asks) new
     pub moment_is : (asks_of new).link.moment ≡ moment_of e
-    pub questions : AreQuestions (asks_of new).link.datagrams
-    pub occasion : Occasion
-    pub is : IsOccasion e reply occasion
-    pub past_is : past_of (asks_of new).link ≡ past_after_occasion past occasion
     pub bears : BearsOut Claim (asked ++ asks) e reply
 
   ended : (asked : List Asked) (e : Event) (mid new : RunState) → Has asked mid → (asks_of mid).link.moment ≡ moment_of e
@@ -438,77 +432,52 @@ module _ (keep : UpdatesKeepZones) (chains : (zone : ZoneContent) (q : Query) �
         ap (λ (s : RunState). (asks_of s).link.moment) ends ∙ stays.moment_is ∙ at,
       )
 
-  stepped : (Claim : HistoryClaim) (asked : List Asked) (past : Past) (e : Event) (report : EventReport) (old new : RunState)
-      (later : List (ℕ × Query)) → Has asked old → AreQuestions (asks_of old).link.datagrams → past_of (asks_of old).link ≡ past
-      → (asks_of old).link.moment ≤ moment_of e → Step old e report new → HasNoReuse ((asks_of new).sent ++ later)
-      → HasStepped Claim asked past e report.reply new
-  stepped Claim asked past e report old new later h questions past_is less step once =
+  stepped : (Claim : HistoryClaim) (asked : List Asked) (e : Event) (report : EventReport) (old new : RunState)
+      (later : List (ℕ × Query)) → Has asked old → (asks_of old).link.moment ≤ moment_of e → Step old e report new
+      → HasNoReuse ((asks_of new).sent ++ later) → HasStepped Claim asked e report.reply new
+  stepped Claim asked e report old new later h less step once =
       let b = begun asked e old h less in
       let sent : (asks_of new).sent ≡ (asks_of step.mid).sent = ap (λ (s : RunState). (asks_of s).sent) step.ends in
       let r = replied Claim asked e report.reply (begin_event e old) step.mid later b.0 b.1 step.replies
       (mid-memory old e report new step) (subst (λ (s : List (ℕ × Query)). HasNoReuse (s ++ later)) sent once) in
       let f = ended (asked ++ r.asks) e step.mid new r.has (r.moment_is ∙ b.1) step.ends in
-      let d = decides-step old e report new questions step in
-      record {
-        asks = r.asks;
-        has = f.0;
-        moment_is = f.1;
-        questions = d.questions;
-        occasion = d.occasion;
-        is = d.is;
-        past_is = d.past_is ∙ ap (λ (p : Past). past_after_occasion p d.occasion) past_is;
-        bears = r.bears;
-      }
+      record { asks = r.asks; has = f.0; moment_is = f.1; bears = r.bears }
 
   -- ---- all events
 
-  module _ (Claim : HistoryClaim) (Good : List Version → Type 0)
-      (front : (history more : List Version) → Good (history ++ more) → Good history)
+  module _ (Claim : HistoryClaim)
       (claims : (history : List Version) (asked : List Asked) → AreZones origin history → All (IsAnsweredBy origin history) asked
-      → AreOrdinary asked → Good history → (q : Query) (now : ℕ) (r : Record) → is_plain q.query_type ≡ true → Brought asked q now r
+      → AreOrdinary asked → (q : Query) (now : ℕ) (r : Record) → is_plain q.query_type ≡ true → Brought asked q now r
       → Claim history q now r) where
-    -- a claim holds of every reply if the history is good
-    pub record HoldsOfRun (past : Past) (events : List Event) (reports : List EventReport) : Type 0 where
-      pub occasions : List Occasion
-      pub are : AreOccasions events reports occasions
-      pub holds : Good (fold past_after_occasion past occasions).history → HoldsOfEvents Claim settings past events reports occasions
-
-    holds-first : (asked : List Asked) (past : Past) (e : Event) (reply : EventReply) (new : RunState)
-        (s : HasStepped Claim asked past e reply new) → Good (past_after_occasion past s.occasion).history
-        → HoldsOfEvent (Claim (past_after_occasion past s.occasion).history) settings e reply
-    holds-first asked past e reply new s good =
-        let history : List Version = (past_after_occasion past s.occasion).history in
-        let same : (asks_of new).link.history ≡ history = ap (λ (p : Past). p.history) s.past_is in
+    holds-first : (asked : List Asked) (past : Past) (o : Occasion) (e : Event) (reply : EventReply) (new : RunState)
+        (s : HasStepped Claim asked e reply new) → past_of (asks_of new).link ≡ past_after_occasion past o
+        → HoldsOfEvent (Claim (past_after_occasion past o).history) settings e reply
+    holds-first asked past o e reply new s past_is =
+        let history : List Version = (past_after_occasion past o).history in
+        let same : (asks_of new).link.history ≡ history = ap (λ (p : Past). p.history) past_is in
         let all : List Asked = asked ++ s.asks in
         let zones : AreZones origin history =
         subst (λ (vs : List Version). AreZones origin vs) same s.has.faithful.history.versions in
         let answered : All (IsAnsweredBy origin history) all =
         subst (λ (vs : List Version). All (IsAnsweredBy origin vs) all) same s.has.answered in
-        s.bears history zones answered (claims history all zones answered s.has.ordinary good)
+        s.bears history zones answered (claims history all zones answered s.has.ordinary)
 
+    -- a claim holds of every reply, over the versions that the occasions of the events make
     pub runs-hold : (asked : List Asked) (past : Past) (first last : RunState) (events : List Event) (reports : List EventReport)
-        (states : List RunState) → Has asked first → AreQuestions (asks_of first).link.datagrams → past_of (asks_of first).link ≡ past
-        → InOrder (asks_of first).link.moment events → Runs first events reports states last → HasNoReuse (asks_of last).sent
-        → HoldsOfRun past events reports
-    runs-hold asked past first last [] [] [] h questions past_is order runs once =
-        record { occasions = []; are = tt; holds = λ good. tt }
-    runs-hold asked past first last (e ∷ events) (report ∷ reports) (state ∷ states) h questions past_is order runs once =
+        (states : List RunState) (occasions : List Occasion) → Has asked first → InOrder (asks_of first).link.moment events
+        → Runs first events reports states last → HasNoReuse (asks_of last).sent → MakePasts past states occasions
+        → HoldsOfEvents Claim settings past events reports occasions
+    runs-hold asked past first last [] [] [] [] h order runs once pasts = tt
+    runs-hold asked past first last (e ∷ events) (report ∷ reports) (state ∷ states) (o ∷ occasions) h order runs once pasts =
         let more = runs-extend state last events reports states runs.1 in
-        let s = stepped Claim asked past e report first state more.0 h questions past_is order.0 runs.0
-        (subst HasNoReuse more.1 once) in
-        let rest = runs-hold (asked ++ s.asks) (past_after_occasion past s.occasion) state last events reports states s.has s.questions
-        s.past_is (subst (λ (t : ℕ). InOrder t events) (sym s.moment_is) order.2) runs.1 once in
-        let grown = occasions-grow rest.occasions (past_after_occasion past s.occasion) in
-        record {
-          occasions = s.occasion ∷ rest.occasions;
-          are = (s.is, rest.are);
-          holds = λ good. (
-            holds-first asked past e report.reply state s
-                (front (past_after_occasion past s.occasion).history grown.0 (subst Good grown.1 good)),
-            rest.holds good,
-          );
-        }
-    runs-hold asked past first last [] [] (state ∷ states) h questions past_is order runs once = absurd runs
-    runs-hold asked past first last [] (report ∷ reports) states h questions past_is order runs once = absurd runs
-    runs-hold asked past first last (e ∷ events) [] states h questions past_is order runs once = absurd runs
-    runs-hold asked past first last (e ∷ events) (report ∷ reports) [] h questions past_is order runs once = absurd runs
+        let s = stepped Claim asked e report first state more.0 h order.0 runs.0 (subst HasNoReuse more.1 once) in (
+          holds-first asked past o e report.reply state s pasts.0,
+          runs-hold (asked ++ s.asks) (past_after_occasion past o) state last events reports states occasions s.has
+              (subst (λ (t : ℕ). InOrder t events) (sym s.moment_is) order.2) runs.1 once pasts.1,
+        )
+    runs-hold asked past first last [] [] [] (o ∷ occasions) h order runs once pasts = absurd pasts
+    runs-hold asked past first last [] [] (state ∷ states) occasions h order runs once pasts = absurd runs
+    runs-hold asked past first last [] (report ∷ reports) states occasions h order runs once pasts = absurd runs
+    runs-hold asked past first last (e ∷ events) [] states occasions h order runs once pasts = absurd runs
+    runs-hold asked past first last (e ∷ events) (report ∷ reports) [] occasions h order runs once pasts = absurd runs
+    runs-hold asked past first last (e ∷ events) (report ∷ reports) (state ∷ states) [] h order runs once pasts = absurd pasts

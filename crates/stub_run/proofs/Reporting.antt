@@ -1,11 +1,15 @@
--- What holds of every run holds of its report, up to the event that the report has reached.
+-- Every run has one history, and so has its report, up to the event that the report has reached.
 use Rattle.std.proofs.Common.{◌≡◌, ◌≤◌, ◌<◌, ◌^◌, ◌+◌, false, ℕ, zero, suc, List, [], ◌∷◌, Option, Some, None, Result, Ok, Err, length, take, refl, sym, ap, subst, ◌∙◌}
 use Rattle.std.specs.Prelude.{IfOk, IfSome}
 use Rattle.dns_messages.specs.declared.query.Query.{Query}
-use Rattle.dns_zone.specs.Rows.{IsZone}
+use Rattle.dns_zone.specs.Rows.{IsZone, ZoneContent}
+use Rattle.stub_link.specs.AskState.{first_asks}
+use Rattle.stub_link.specs.History.{Occasion, first_past, history_of}
 use Rattle.stub_history.specs.Faithful.{HasNoReuse}
 use Rattle.stub_run.specs.Event.{moment_of}
 use Rattle.stub_run.specs.Headline.{AreFresh, HasNoLeastTtl, HaveChainBounds, IsMadeOf, WorldContent, report_in, reported}
+use Rattle.stub_run.specs.History.{AreOccasions, MakePasts}
+use Rattle.stub_run.specs.OneHistory.{HasOneHistory}
 use Rattle.stub_run.specs.Questions.{AreAskable}
 use Rattle.stub_run.specs.Run.{InOrder, IsReportBefore, IsReportOf, RunState, Runs, asks_of, memory_report}
 use Rattle.stub_run.specs.Walked.{AreWalked}
@@ -45,142 +49,109 @@ front-in-order last zero (e ∷ events) h = tt
 front-in-order last (suc count) [] h = tt
 front-in-order last (suc count) (e ∷ events) h = (h.0, h.1, front-in-order (moment_of e) count events h.2)
 
--- ---- what holds of every run
-
-module _ (Needs : WorldContent → Type 0) (Claim : WorldContent → List Event → List EventReport → Type 0)
-    (law : (content : WorldContent) (first last : RunState) (events : List Event) (reports : List EventReport) (states : List RunState)
-    → IsZone content.zone → IsFirst content.zone content.limit content.ids content.config content.options content.hosts first
-    → InOrder 0 events → Runs first events reports states last → HasNoReuse (asks_of last).sent → Needs content
-    → Claim content events reports)
-    (content : WorldContent) (world : World) (made : IsMadeOf world content) (none : Needs content) where
-  -- a report of these events
-  claim-of : (events : List Event) (report : Report) → InOrder 0 events → IsReportOf made.state events report
-      → HasNoReuse report.sent.items → Claim content events report.events.items
-  claim-of events report order r once =
-      law content made.state r.last events report.events.items r.states made.zone made.first order r.runs
-      (subst HasNoReuse r.sent once) none
-
-  whole : (events : List Event) (report : Report) → InOrder 0 events → IsReportOf made.state events report
-      → HasNoReuse report.sent.items → Claim content (reported events report) report.events.items
-  whole events report order r once =
-      let same : reported events report ≡ events =
-      ap (λ (n : ℕ). take n events) (runs-length made.state r.last events report.events.items r.states r.runs) ∙ take-whole events in
-      subst (λ (es : List Event). Claim content es report.events.items) (sym same) (claim-of events report order r once)
-
-  front : (events : List Event) (report : Report) → InOrder 0 events → IsReportBefore made.state events report
-      → HasNoReuse report.sent.items → Claim content (reported events report) report.events.items
-  front events report order b once =
-      let es : List Event = take b.count events in
-      let r = b.reported in
-      let same : reported events report ≡ es =
-      ap (λ (n : ℕ). take n events) (runs-length made.state r.last es report.events.items r.states r.runs) ∙ take-front b.count events in
-      subst (λ (events : List Event). Claim content events report.events.items) (sym same)
-      (claim-of es report (front-in-order 0 b.count events order) r once)
-
-  pub claim-in : (events : List Event) (result : Result Report Stopped) (report : Report) → report_in result ≡ Some report
-      → IfOk result (λ report. (state : RunState) → BeginsWith world state → IsReportOf state events report)
-      → IfSome (memory_report result) (λ report. (state : RunState) → BeginsWith world state → IsReportBefore state events report)
-      → InOrder 0 events → HasNoReuse report.sent.items → Claim content (reported events report) report.events.items
-  claim-in events (Ok found) report is run stopped order once =
-      let same : found ≡ report = cc in
-      subst (λ (r : Report). HasNoReuse r.sent.items → Claim content (reported events r) r.events.items) same
-      (λ once. whole events found order (run made.state made.begins) once) once
-  claim-in events (Err (stops.Memory found)) report is run stopped order once =
-      let same : found ≡ report = cc in
-      subst (λ (r : Report). HasNoReuse r.sent.items → Claim content (reported events r) r.events.items) same
-      (λ once. front events found order (stopped made.state made.begins) once) once
-  claim-in events (Err stops.Moments) report is run stopped order once = absurd (cc)
-
--- ---- the clauses of a run
-
--- what a law says of every run
-abbrev pub Law : (WorldContent → Type 0) → (WorldContent → List Event → List EventReport → Type 0) → Type 0
-Law Needs Claim =
-    (content : WorldContent) (first last : RunState) (events : List Event) (reports : List EventReport) (states : List RunState)
-    → IsZone content.zone → IsFirst content.zone content.limit content.ids content.config content.options content.hosts first
-    → InOrder 0 events → Runs first events reports states last → HasNoReuse (asks_of last).sent → Needs content
-    → Claim content events reports
-
--- what it then says of a result
-abbrev pub HoldsOfResult : (WorldContent → Type 0) → (WorldContent → List Event → List EventReport → Type 0) → World → List Event
-    → Result Report Stopped → Type 0
-HoldsOfResult Needs Claim world events result =
-    IfSome (report_in result) (λ report. (content : WorldContent) → IsMadeOf world content → HasNoReuse report.sent.items
-    → Needs content → Claim content (reported events report) report.events.items)
-
-of-result : (Needs : WorldContent → Type 0) (Claim : WorldContent → List Event → List EventReport → Type 0) → Law Needs Claim → (world : World) (events : List Event)
-    (result : Result Report Stopped)
-    → IfOk result (λ report. (state : RunState) → BeginsWith world state → IsReportOf state events report)
-    → IfSome (memory_report result) (λ report. (state : RunState) → BeginsWith world state → IsReportBefore state events report)
-    → IfSome (report_in result) (λ report. InOrder 0 events) → HoldsOfResult Needs Claim world events result
-of-result Needs Claim law world events (Ok report) run stopped order =
-    λ content made once none. claim-in Needs Claim law content world made none events (Ok report) report refl run stopped order once
-of-result Needs Claim law world events (Err (stops.Memory report)) run stopped order =
-    λ content made once none.
-    claim-in Needs Claim law content world made none events (Err (stops.Memory report)) report refl run stopped order once
-of-result Needs Claim law world events (Err stops.Moments) run stopped order = tt
-
-pub report-fresh : Law HasNoLeastTtl AreFresh → (world : World) (events : List Event) (result : Result Report Stopped)
-    → IfOk result (λ report. (state : RunState) → BeginsWith world state → IsReportOf state events report)
-    → IfSome (memory_report result) (λ report. (state : RunState) → BeginsWith world state → IsReportBefore state events report)
-    → IfSome (report_in result) (λ report. InOrder 0 events) → HoldsOfResult HasNoLeastTtl AreFresh world events result
-report-fresh law world events result run stopped order = of-result HasNoLeastTtl AreFresh law world events result run stopped order
-
--- the chain bound where aliases are left out
-abbrev pub Bounds : WorldContent → List Event → List EventReport → Type 0
-Bounds content events reports = content.options.preserve_intermediates ≡ false → HaveChainBounds content events reports
-
-pub report-chain_bound : Law HasNoLeastTtl Bounds → (world : World) (events : List Event) (result : Result Report Stopped)
-    → IfOk result (λ report. (state : RunState) → BeginsWith world state → IsReportOf state events report)
-    → IfSome (memory_report result) (λ report. (state : RunState) → BeginsWith world state → IsReportBefore state events report)
-    → IfSome (report_in result) (λ report. InOrder 0 events) → HoldsOfResult HasNoLeastTtl Bounds world events result
-report-chain_bound law world events result run stopped order = of-result HasNoLeastTtl Bounds law world events result run stopped order
-
--- ---- equality of roads
-
--- aliases are left out, and the payload size has 16 bits
-record LeavesAliases (content : WorldContent) : Type 0 where
-  off : content.options.preserve_intermediates ≡ false
-  payload : content.options.edns_payload_len < 2 ^ 16
-
-abbrev Walks : WorldContent → List Event → List EventReport → Type 0
-Walks content events reports = AreAskable events → AreWalked content events reports
-
--- what the law says of every run
-abbrev pub WalkedLaw : Type 0
-WalkedLaw =
-    (content : WorldContent) (first last : RunState) (events : List Event) (reports : List EventReport) (states : List RunState)
-    → IsZone content.zone → IsFirst content.zone content.limit content.ids content.config content.options content.hosts first
-    → InOrder 0 events → Runs first events reports states last → HasNoReuse (asks_of last).sent
-    → content.options.preserve_intermediates ≡ false → content.options.edns_payload_len < 2 ^ 16 → AreAskable events
-    → AreWalked content events reports
-
--- what it then says of a result
-abbrev pub WalkedResult : World → List Event → Result Report Stopped → Type 0
-WalkedResult world events result =
-    IfSome (report_in result) (λ report. (content : WorldContent) → IsMadeOf world content → HasNoReuse report.sent.items
-    → content.options.preserve_intermediates ≡ false → AreWalked content (reported events report) report.events.items)
-
 pub front-askable : (count : ℕ) (events : List Event) → AreAskable events → AreAskable (take count events)
 front-askable zero [] h = tt
 front-askable zero (e ∷ events) h = tt
 front-askable (suc count) [] h = tt
 front-askable (suc count) (e ∷ events) h = (h.0, front-askable count events h.1)
 
-law-of : WalkedLaw → Law LeavesAliases Walks
-law-of law content first last events reports states zone begins order runs once leaves askable =
-    law content first last events reports states zone begins order runs once leaves.off leaves.payload askable
+-- ---- one history
 
-pub report-walked : WalkedLaw → (world : World) (events : List Event) (result : Result Report Stopped) → AreAskable events
+-- what the laws say of every run with occasions that make its versions
+abbrev pub FreshLaw : Type 0
+FreshLaw =
+    (content : WorldContent) (first last : RunState) (events : List Event) (reports : List EventReport) (states : List RunState)
+    (occasions : List Occasion) → IsZone content.zone
+    → IsFirst content.zone content.limit content.ids content.config content.options content.hosts first
+    → InOrder 0 events → Runs first events reports states last → MakePasts (first_past content.zone) states occasions
+    → HasNoReuse (asks_of last).sent → HasNoLeastTtl content → AreFresh content events reports occasions
+
+abbrev pub ChainLaw : Type 0
+ChainLaw =
+    (content : WorldContent) (first last : RunState) (events : List Event) (reports : List EventReport) (states : List RunState)
+    (occasions : List Occasion) → IsZone content.zone
+    → IsFirst content.zone content.limit content.ids content.config content.options content.hosts first
+    → InOrder 0 events → Runs first events reports states last → MakePasts (first_past content.zone) states occasions
+    → HasNoReuse (asks_of last).sent → HasNoLeastTtl content → content.options.preserve_intermediates ≡ false
+    → HaveChainBounds content events reports occasions
+
+abbrev pub WalkedLaw : Type 0
+WalkedLaw =
+    (content : WorldContent) (first last : RunState) (events : List Event) (reports : List EventReport) (states : List RunState)
+    (occasions : List Occasion) → IsZone content.zone
+    → IsFirst content.zone content.limit content.ids content.config content.options content.hosts first
+    → InOrder 0 events → Runs first events reports states last → MakePasts (first_past content.zone) states occasions
+    → HasNoReuse (asks_of last).sent → content.options.preserve_intermediates ≡ false
+    → content.options.edns_payload_len < 2 ^ 16 → AreAskable events → AreWalked content events reports occasions
+
+-- what the events decide
+abbrev pub DecidedLaw : Type 0
+DecidedLaw =
+    (zone : ZoneContent) (limit : ℕ) (ids : List ℕ) (first last : RunState) (events : List Event) (reports : List EventReport)
+    (states : List RunState) → asks_of first ≡ first_asks zone limit ids → Runs first events reports states last
+    → (occasions : List Occasion) × AreOccasions events reports occasions × MakePasts (first_past zone) states occasions
+    × ((asks_of last).link.history ≡ history_of zone occasions)
+
+-- each run has one history, over which all claims hold
+abbrev pub HistoryLaw : Type 0
+HistoryLaw =
+    (content : WorldContent) (first : RunState) (events : List Event) (report : Report) → IsZone content.zone
+    → IsFirst content.zone content.limit content.ids content.config content.options content.hosts first
+    → content.options.edns_payload_len < 2 ^ 16 → InOrder 0 events → AreAskable events → IsReportOf first events report
+    → HasOneHistory content first events report
+
+pub one-history : FreshLaw → ChainLaw → WalkedLaw → DecidedLaw → HistoryLaw
+one-history fresh chain walked decided content first events report zone begins payload order askable r =
+    let reports : List EventReport = report.events.items in
+    let d = decided content.zone content.limit content.ids first r.last events reports r.states begins.asks r.runs in
+    record {
+      reported = r;
+      occasions = d.0;
+      are_events = d.1;
+      pasts = d.2;
+      fresh = λ once none.
+          fresh content first r.last events reports r.states d.0 zone begins order r.runs d.2 (subst HasNoReuse r.sent once) none;
+      chain_bound = λ once none off.
+          chain content first r.last events reports r.states d.0 zone begins order r.runs d.2 (subst HasNoReuse r.sent once) none off;
+      walked = λ once off.
+          walked content first r.last events reports r.states d.0 zone begins order r.runs d.2 (subst HasNoReuse r.sent once) off payload
+          askable;
+    }
+
+-- ---- the history of a report
+
+module _ (law : HistoryLaw) (content : WorldContent) (world : World) (made : IsMadeOf world content) where
+  whole : (events : List Event) (report : Report) → InOrder 0 events → AreAskable events → IsReportOf made.state events report
+      → HasOneHistory content made.state (reported events report) report
+  whole events report order askable r =
+      let same : reported events report ≡ events =
+      ap (λ (n : ℕ). take n events) (runs-length made.state r.last events report.events.items r.states r.runs) ∙ take-whole events in
+      subst (λ (es : List Event). HasOneHistory content made.state es report) (sym same)
+      (law content made.state events report made.zone made.first made.payload order askable r)
+
+  front : (events : List Event) (report : Report) → InOrder 0 events → AreAskable events → IsReportBefore made.state events report
+      → HasOneHistory content made.state (reported events report) report
+  front events report order askable b =
+      let es : List Event = take b.count events in
+      let r = b.reported in
+      let same : reported events report ≡ es =
+      ap (λ (n : ℕ). take n events) (runs-length made.state r.last es report.events.items r.states r.runs) ∙ take-front b.count events in
+      subst (λ (all : List Event). HasOneHistory content made.state all report) (sym same)
+      (law content made.state es report made.zone made.first made.payload (front-in-order 0 b.count events order)
+      (front-askable b.count events askable) r)
+
+-- what the law says of a result
+abbrev pub HistoryOfResult : World → List Event → Result Report Stopped → Type 0
+HistoryOfResult world events result =
+    IfSome (report_in result) (λ report. (content : WorldContent) → (made : IsMadeOf world content)
+    → HasOneHistory content made.state (reported events report) report)
+
+pub report-history : HistoryLaw → (world : World) (events : List Event) (result : Result Report Stopped) → AreAskable events
     → IfOk result (λ report. (state : RunState) → BeginsWith world state → IsReportOf state events report)
     → IfSome (memory_report result) (λ report. (state : RunState) → BeginsWith world state → IsReportBefore state events report)
-    → IfSome (report_in result) (λ report. InOrder 0 events) → WalkedResult world events result
-report-walked law world events (Ok report) askable run stopped order =
-    λ content made once off.
-    claim-in LeavesAliases Walks (law-of law) content world made (record { off = off; payload = made.payload }) events (Ok report) report refl
-    run stopped order once (front-askable (length report.events.items) events askable)
-report-walked law world events (Err (stops.Memory report)) askable run stopped order =
-    λ content made once off.
-    claim-in LeavesAliases Walks (law-of law) content world made (record { off = off; payload = made.payload }) events
-    (Err (stops.Memory report)) report refl run stopped order once (front-askable (length report.events.items) events askable)
-report-walked law world events (Err stops.Moments) askable run stopped order = tt
+    → IfSome (report_in result) (λ report. InOrder 0 events) → HistoryOfResult world events result
+report-history law world events (Ok report) askable run stopped order =
+    λ content made. whole law content world made events report order askable (run made.state made.begins)
+report-history law world events (Err (stops.Memory report)) askable run stopped order =
+    λ content made. front law content world made events report order askable (stopped made.state made.begins)
+report-history law world events (Err stops.Moments) askable run stopped order = tt

@@ -17,12 +17,12 @@ use Rattle.stub_link.specs.Link.{messages}
 use Rattle.stub_link.specs.LinkState.{LinkState, begin_event as begin_link, end_event as end_link, link_calls}
 use Rattle.stub_link.specs.Request.{IsUpdate}
 use Rattle.stub_link.specs.Update.{SendUpdate}
-use Rattle.stub_link.specs.History.{AreQuestions, KeepsHistory, KeepsUnlessOut, Occasion, Past, history_of, past_after_occasion, past_of, past_to_come}
+use Rattle.stub_link.specs.History.{AreQuestions, KeepsHistory, KeepsUnlessOut, Occasion, Past, first_past, history_of, past_after_occasion, past_of, past_to_come}
 use Rattle.stub_link.specs.declared.link.script.Script.{Script}
 use Rattle.stub_link.proofs.HistoryLaws.{ask-keeps, begin-asks, begin-past}
 use Rattle.stub_run.specs.Counts.{HasDrawn}
 use Rattle.stub_run.specs.Event.{moment_of, script_of, update_of}
-use Rattle.stub_run.specs.History.{AreOccasions, IsOccasion, IsUpdateOf}
+use Rattle.stub_run.specs.History.{AreOccasions, IsOccasion, IsUpdateOf, MakePasts}
 use Rattle.stub_run.specs.Run.{Replies, RepliesByZone, RunState, Runs, Step, Updates, asks_of, begin_event, begin_asks, end_event}
 use Rattle.stub_run.specs.declared.event.Event.{Event}
 use Rattle.stub_run.specs.declared.event.Event.TheVariants as event
@@ -209,21 +209,22 @@ decides-step old e report new h step =
     (decides-mid old step.mid e report h step.replies (mid-memory old e report new step))
 
 -- what a run makes of the past
-abbrev RunDecides : LinkState → List Event → List EventReport → LinkState → Type 0
-RunDecides first events reports last =
-    (occasions : List Occasion) × AreOccasions events reports occasions
+abbrev RunDecides : LinkState → List Event → List EventReport → List RunState → LinkState → Type 0
+RunDecides first events reports states last =
+    (occasions : List Occasion) × AreOccasions events reports occasions × MakePasts (past_of first) states occasions
     × (past_of last ≡ fold past_after_occasion (past_of first) occasions)
 
 runs-decide : (first last : RunState) (events : List Event) (reports : List EventReport) (states : List RunState)
     → AreQuestions (asks_of first).link.datagrams → Runs first events reports states last
-    → RunDecides (asks_of first).link events reports (asks_of last).link
-runs-decide first last [] [] [] h runs = ([], tt, ap (λ (s : RunState). past_of (asks_of s).link) runs)
+    → RunDecides (asks_of first).link events reports states (asks_of last).link
+runs-decide first last [] [] [] h runs = ([], tt, tt, ap (λ (s : RunState). past_of (asks_of s).link) runs)
 runs-decide first last (e ∷ events) (report ∷ reports) (state ∷ states) h runs =
     let one = decides-step first e report state h runs.0 in
     let rest = runs-decide state last events reports states one.questions runs.1 in (
       one.occasion ∷ rest.0,
       (one.is, rest.1),
-      rest.2 ∙ ap (λ (p : Past). fold past_after_occasion p rest.0) one.past_is,
+      (one.past_is, subst (λ (p : Past). MakePasts p states rest.0) one.past_is rest.2),
+      rest.3 ∙ ap (λ (p : Past). fold past_after_occasion p rest.0) one.past_is,
     )
 runs-decide first last [] [] (state ∷ states) h runs = absurd runs
 runs-decide first last [] (report ∷ reports) states h runs = absurd runs
@@ -232,11 +233,15 @@ runs-decide first last (e ∷ events) (report ∷ reports) [] h runs = absurd ru
 
 pub history-decided : (zone : ZoneContent) (limit : ℕ) (ids : List ℕ) (first last : RunState) (events : List Event) (reports : List EventReport)
     (states : List RunState) → asks_of first ≡ first_asks zone limit ids → Runs first events reports states last
-    → (occasions : List Occasion) × AreOccasions events reports occasions
+    → (occasions : List Occasion) × AreOccasions events reports occasions × MakePasts (first_past zone) states occasions
     × ((asks_of last).link.history ≡ history_of zone occasions)
 history-decided zone limit ids first last events reports states is runs =
     let questions : AreQuestions (asks_of first).link.datagrams =
     subst (λ (a : AskState). AreQuestions a.link.datagrams) (sym is) tt in
     let decided = runs-decide first last events reports states questions runs in
-    let past : past_of (asks_of first).link ≡ past_of (first_asks zone limit ids).link = ap (λ (a : AskState). past_of a.link) is in
-    (decided.0, decided.1, ap (λ (p : Past). p.history) (decided.2 ∙ ap (λ (p : Past). fold past_after_occasion p decided.0) past))
+    let past : past_of (asks_of first).link ≡ first_past zone = ap (λ (a : AskState). past_of a.link) is in (
+      decided.0,
+      decided.1,
+      subst (λ (p : Past). MakePasts p states decided.0) past decided.2,
+      ap (λ (p : Past). p.history) (decided.3 ∙ ap (λ (p : Past). fold past_after_occasion p decided.0) past),
+    )

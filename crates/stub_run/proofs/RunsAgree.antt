@@ -104,12 +104,10 @@ occasions-same (e ∷ events) (one ∷ ones) (other ∷ others) (o ∷ os) (p �
 -- ---- runs
 
 pub runs-agree : (content : WorldContent) (size limit : ℕ) (ids : List ℕ) (events : List Event) (reports others : List EventReport)
-    → AreWalked content events reports → AreWalked (with_sizes size limit ids content) events others
-    → AllByRecursion HasSentUpdate reports → AllByRecursion HasSentUpdate others → AreAgreed content.zone events reports others
-runs-agree content size limit ids events reports others one two i j = record {
-  occasions = one.occasions;
-  are_events = one.are_events;
-  agree = events-agree (settings_of content) size (first_past content.zone) (first_past content.zone) events reports others one.occasions one.walked
-      (subst (λ (os : List Occasion). AreWalkedEvents (settings_of (with_sizes size limit ids content)) (first_past content.zone) (first_past content.zone) events others os)
-      (sym (occasions-same events reports others one.occasions two.occasions one.are_events two.are_events i j)) two.walked);
-}
+    (occasions more : List Occasion) → AreOccasions events reports occasions → AreOccasions events others more
+    → AreWalked content events reports occasions → AreWalked (with_sizes size limit ids content) events others more
+    → AllByRecursion HasSentUpdate reports → AllByRecursion HasSentUpdate others → AreAgreed content.zone events reports others occasions
+runs-agree content size limit ids events reports others occasions more are others-are one two i j =
+    events-agree (settings_of content) size (first_past content.zone) (first_past content.zone) events reports others occasions one
+    (subst (λ (os : List Occasion). AreWalkedEvents (settings_of (with_sizes size limit ids content)) (first_past content.zone) (first_past content.zone) events others os)
+    (sym (occasions-same events reports others occasions more are others-are i j)) two)

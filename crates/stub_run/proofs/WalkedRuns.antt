@@ -30,7 +30,7 @@ use Rattle.stub_core.specs.declared.resolver.settings.Settings.{Settings}
 use Rattle.stub_core.proofs.ResolvesLaws.{all-cleared_lookup}
 use Rattle.stub_core.proofs.StatelessLaws.{looks_up-by, looks_up_host-by}
 use Rattle.stub_link.specs.AskState.{AskState, AskZone, UpdateZone, begin, begin_with_update, end}
-use Rattle.stub_link.specs.History.{AreQuestions, Occasion, Past, first_past, past_after_occasion, past_of}
+use Rattle.stub_link.specs.History.{Occasion, Past, first_past, past_of}
 use Rattle.stub_link.specs.LinkState.{LinkState, Version}
 use Rattle.stub_link.specs.Request.{IsUpdate}
 use Rattle.stub_history.specs.Answered.{IsAnsweredSince, is_plain}
@@ -46,7 +46,7 @@ use Rattle.stub_walk.specs.Walk.{AgreesWithWalk, ByWalk, CacheAgrees}
 use Rattle.stub_walk.proofs.ResolverLaws.{host-walks, name-walks}
 use Rattle.stub_run.specs.Event.{moment_of}
 use Rattle.stub_run.specs.Headline.{WorldContent, settings_of}
-use Rattle.stub_run.specs.History.{AreOccasions, IsOccasion}
+use Rattle.stub_run.specs.History.{MakePasts}
 use Rattle.stub_run.specs.Questions.{AreAskable, AsksZone, IsAskable, RepliesByQuestions}
 use Rattle.stub_run.specs.Run.{Clears, InOrder, RepliesByZone, RunState, Runs, Step, Updates, asks_of, begin_asks, begin_event, end_event}
 use Rattle.stub_run.specs.World.{IsFirst}
@@ -60,7 +60,7 @@ use Rattle.stub_run.proofs.Alike.{replies-keep}
 use Rattle.stub_run.proofs.Growing.{runs-extend}
 use Rattle.stub_run.proofs.Happening.{AsksServer, UpdatesServer}
 use Rattle.stub_run.proofs.OutOfMemory.{UnlessOut, asks-keep, update-out, with-memory}
-use Rattle.stub_run.proofs.RunLaws.{decides-step, mid-memory}
+use Rattle.stub_run.proofs.RunLaws.{mid-memory}
 use Rattle.stub_run.proofs.Unchanged.{asked-of-zone, led-zone, none-faulted, since-same, unchanged-before}
 use Rattle.stub_run.proofs.ZoneQuestions.{event-replies}
 
@@ -367,20 +367,16 @@ module _ (keep : UpdatesKeepZones) (round : (number : ℕ) → type_number (type
 
   -- ---- one event
 
-  -- what an event makes of a state: what holds of it, the past, and what holds of the reply
+  -- what an event makes of a state: what holds of it, and of the reply
   pub record HasStepped (first : Past) (e : Event) (report : EventReport) (old new : RunState) : Type 0 where
     pub has : HasWalked (past_since e first (past_of (asks_of old).link)) new
     pub moment_is : (asks_of new).link.moment ≡ moment_of e
-    pub questions : AreQuestions (asks_of new).link.datagrams
-    pub occasion : Occasion
-    pub is : IsOccasion e report.reply occasion
-    pub past_is : past_of (asks_of new).link ≡ past_after_occasion (past_of (asks_of old).link) occasion
     pub walked : IsWalkedEvent settings (past_since e first (past_of (asks_of old).link)) (past_of (asks_of new).link) e report
 
   stepped : (first : Past) (e : Event) (report : EventReport) (old new : RunState) (later : List (ℕ × Query)) → HasWalked first old
-      → AreQuestions (asks_of old).link.datagrams → (asks_of old).link.moment ≤ moment_of e → IsAskable e → Step old e report new
+      → (asks_of old).link.moment ≤ moment_of e → IsAskable e → Step old e report new
       → HasNoReuse ((asks_of new).sent ++ later) → HasStepped first e report old new
-  stepped first e report old new later h questions less askable step once =
+  stepped first e report old new later h less askable step once =
       let b = begun first e old h less in
       let memory = mid-memory old e report new step in
       let s = stays (begin_event e old) step.mid e report.reply b.0.faithful step.replies memory in
@@ -393,17 +389,12 @@ module _ (keep : UpdatesKeepZones) (round : (number : ℕ) → type_number (type
       let r : HasReplied since e report.reply step.mid = replied first e report.reply (begin_event e old) step.mid later b.0 b.1 asked s memory
       (subst (λ (xs : List (ℕ × Query)). HasNoReuse (xs ++ later)) sent once) in
       let f = end-faithful keep origin (asks_of step.mid) r.has.faithful in
-      let d = decides-step old e report new questions step in
       let more : Extends (asks_of step.mid).link.history (asks_of new).link.history =
       (f.added.0, ap (λ (t : RunState). (asks_of t).link.history) step.ends ∙ f.added.1) in
       record {
         has = subst (λ (p : Past). HasWalked p new) is
             (subst (HasWalked since) (sym step.ends) (has-after since step.mid (end (asks_of step.mid)) r.has f));
         moment_is = ap (λ (t : RunState). (asks_of t).link.moment) step.ends ∙ f.moment_is ∙ s.moment_is ∙ b.1;
-        questions = d.questions;
-        occasion = d.occasion;
-        is = d.is;
-        past_is = d.past_is;
         walked = subst (λ (p : Past). IsWalkedEvent settings p (past_of (asks_of new).link) e report) is
             (λ unchanged short none.
             r.walked (unchanged-before since (asks_of step.mid).link.history (asks_of new).link.history more unchanged) short
@@ -412,33 +403,27 @@ module _ (keep : UpdatesKeepZones) (round : (number : ℕ) → type_number (type
 
   -- ---- all events
 
-  pub record WalksRun (first past : Past) (events : List Event) (reports : List EventReport) : Type 0 where
-    pub occasions : List Occasion
-    pub are : AreOccasions events reports occasions
-    pub walked : AreWalkedEvents settings first past events reports occasions
-
   pub runs-walked : (first : Past) (old last : RunState) (events : List Event) (reports : List EventReport) (states : List RunState)
-      → HasWalked first old → AreQuestions (asks_of old).link.datagrams → InOrder (asks_of old).link.moment events
-      → AreAskable events → Runs old events reports states last → HasNoReuse (asks_of last).sent
-      → WalksRun first (past_of (asks_of old).link) events reports
-  runs-walked first old last [] [] [] h questions order askable runs once = record { occasions = []; are = tt; walked = tt }
-  runs-walked first old last (e ∷ events) (report ∷ reports) (state ∷ states) h questions order askable runs once =
+      (occasions : List Occasion) → HasWalked first old → InOrder (asks_of old).link.moment events → AreAskable events
+      → Runs old events reports states last → HasNoReuse (asks_of last).sent
+      → MakePasts (past_of (asks_of old).link) states occasions
+      → AreWalkedEvents settings first (past_of (asks_of old).link) events reports occasions
+  runs-walked first old last [] [] [] [] h order askable runs once pasts = tt
+  runs-walked first old last (e ∷ events) (report ∷ reports) (state ∷ states) (o ∷ occasions) h order askable runs once pasts =
       let more = runs-extend state last events reports states runs.1 in
-      let s = stepped first e report old state more.0 h questions order.0 askable.0 runs.0
-      (subst HasNoReuse more.1 once) in
+      let s = stepped first e report old state more.0 h order.0 askable.0 runs.0 (subst HasNoReuse more.1 once) in
       let since : Past = past_since e first (past_of (asks_of old).link) in
-      let rest = runs-walked since state last events reports states s.has s.questions
-      (subst (λ (t : ℕ). InOrder t events) (sym s.moment_is) order.2) askable.1 runs.1 once in
-      record {
-        occasions = s.occasion ∷ rest.occasions;
-        are = (s.is, rest.are);
-        walked = subst (λ (p : Past). IsWalkedEvent settings since p e report × AreWalkedEvents settings since p events reports rest.occasions)
-            s.past_is (s.walked, rest.walked);
-      }
-  runs-walked first old last [] [] (state ∷ states) h questions order askable runs once = absurd runs
-  runs-walked first old last [] (report ∷ reports) states h questions order askable runs once = absurd runs
-  runs-walked first old last (e ∷ events) [] states h questions order askable runs once = absurd runs
-  runs-walked first old last (e ∷ events) (report ∷ reports) [] h questions order askable runs once = absurd runs
+      let rest = runs-walked since state last events reports states occasions s.has
+      (subst (λ (t : ℕ). InOrder t events) (sym s.moment_is) order.2) askable.1 runs.1 once
+      (subst (λ (p : Past). MakePasts p states occasions) (sym pasts.0) pasts.1) in
+      subst (λ (p : Past). IsWalkedEvent settings since p e report × AreWalkedEvents settings since p events reports occasions)
+      pasts.0 (s.walked, rest)
+  runs-walked first old last [] [] [] (o ∷ occasions) h order askable runs once pasts = absurd pasts
+  runs-walked first old last [] [] (state ∷ states) occasions h order askable runs once pasts = absurd runs
+  runs-walked first old last [] (report ∷ reports) states occasions h order askable runs once pasts = absurd runs
+  runs-walked first old last (e ∷ events) [] states occasions h order askable runs once pasts = absurd runs
+  runs-walked first old last (e ∷ events) (report ∷ reports) [] occasions h order askable runs once pasts = absurd runs
+  runs-walked first old last (e ∷ events) (report ∷ reports) (state ∷ states) [] h order askable runs once pasts = absurd pasts
 
 -- ---- runs
 
@@ -465,14 +450,11 @@ module _ (keep : UpdatesKeepZones) (round : (number : ℕ) → type_number (type
     aliases_is = begins.aliases ∙ off;
   }
 
-  pub walked-run : AreWalked content events reports
-  walked-run =
-      let run = runs-walked keep round spells content.zone.origin (settings_of content) small (first_past content.zone) first last events
-      reports states has-first (subst (λ (a : AskState). AreQuestions a.link.datagrams) (sym begins.asks) tt)
-      (subst (λ (a : AskState). InOrder a.link.moment events) (sym begins.asks) order) askable runs once in
-      record {
-        occasions = run.occasions;
-        are_events = run.are;
-        walked = subst (λ (p : Past). AreWalkedEvents (settings_of content) (first_past content.zone) p events reports run.occasions)
-            (ap (λ (a : AskState). past_of a.link) begins.asks) run.walked;
-      }
+  pub walked-run : (occasions : List Occasion) → MakePasts (first_past content.zone) states occasions
+      → AreWalked content events reports occasions
+  walked-run occasions pasts =
+      let past : past_of (asks_of first).link ≡ first_past content.zone = ap (λ (a : AskState). past_of a.link) begins.asks in
+      subst (λ (p : Past). AreWalkedEvents (settings_of content) (first_past content.zone) p events reports occasions) past
+      (runs-walked keep round spells content.zone.origin (settings_of content) small (first_past content.zone) first last events
+      reports states occasions has-first (subst (λ (a : AskState). InOrder a.link.moment events) (sym begins.asks) order) askable runs once
+      (subst (λ (p : Past). MakePasts p states occasions) (sym past) pasts))

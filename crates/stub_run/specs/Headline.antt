@@ -14,11 +14,10 @@ use Rattle.stub_core.specs.Origins.{HasNoMinima, HostIsFrom, NameIsFrom}
 use Rattle.stub_core.specs.Resolver.{known_type}
 use Rattle.stub_core.specs.ResolverBuilder.{with_used_hosts}
 use Rattle.stub_core.specs.declared.resolver.settings.Settings.{Settings}
-use Rattle.stub_link.specs.History.{Occasion, Past, first_past, history_of, past_after_occasion}
+use Rattle.stub_link.specs.History.{Occasion, Past, first_past, past_after_occasion}
 use Rattle.stub_link.specs.LinkState.{Version}
 use Rattle.stub_history.specs.Answered.{greatest_ttl, is_plain}
 use Rattle.stub_history.specs.Stands.{HasChainFor, HasShortChains, IsFreshFor}
-use Rattle.stub_run.specs.History.{AreOccasions}
 use Rattle.stub_run.specs.Run.{RunState}
 use Rattle.stub_run.specs.World.{BeginsWith, IsFirst}
 use Rattle.stub_run.specs.declared.event.Event.{Event}
@@ -72,9 +71,9 @@ HistoryClaim = List Version → RecordClaim
 abbrev pub IsFreshBy : TtlConfigContent → HistoryClaim
 IsFreshBy ttls history q now r = IsFreshFor history (greatest_ttl ttls q.query_type) now q.name r
 
--- the chain bound, with the greatest TTL that is kept for the type
+-- the chain bound, with the greatest TTL that is kept for the type, if no chain of aliases passes seven links in any of the versions
 abbrev pub HasChainBy : TtlConfigContent → HistoryClaim
-HasChainBy ttls history q now r = HasChainFor history (greatest_ttl ttls q.query_type) now q.name r
+HasChainBy ttls history q now r = HasShortChains history → HasChainFor history (greatest_ttl ttls q.query_type) now q.name r
 
 -- A claim holds of the reply to an event: of each answer of the asked type, if this is plain, and of each address of a host.
 -- Excepted are records of the hosts for the names and types at which they are asked, and literal addresses. It holds of no reply to
@@ -100,20 +99,18 @@ HoldsOfEvents Claim settings past events reports occasions = ⊥
 
 -- ---- runs
 
--- Bounded staleness of a run: each record that is returned stood in the zone, was reached by aliases that stood there, and its
--- TTL counts from such a moment. The versions of the zone are those that the events make.
-pub record AreFresh (content : WorldContent) (events : List Event) (reports : List EventReport) : Type 0 where
-  pub occasions : List Occasion
-  pub are_events : AreOccasions events reports occasions
-  pub holds : HoldsOfEvents (IsFreshBy (ttls_of content)) (settings_of content) (first_past content.zone) events reports occasions
+-- Bounded staleness of a run with these occasions: each record that is returned stood in the zone, was reached by aliases that
+-- stood there, and its TTL counts from such a moment.
+abbrev pub AreFresh : WorldContent → List Event → List EventReport → List Occasion → Type 0
+AreFresh content events reports occasions =
+    HoldsOfEvents (IsFreshBy (ttls_of content)) (settings_of content) (first_past content.zone) events reports occasions
 
--- The chain bound of a run: if no chain of aliases passes seven links in any version of the zone, each record that is returned
--- and the aliases that lead to it stood at one moment, from which none of their TTLs is exceeded.
-pub record HaveChainBounds (content : WorldContent) (events : List Event) (reports : List EventReport) : Type 0 where
-  pub occasions : List Occasion
-  pub are_events : AreOccasions events reports occasions
-  pub holds : HasShortChains (history_of content.zone occasions)
-      → HoldsOfEvents (HasChainBy (ttls_of content)) (settings_of content) (first_past content.zone) events reports occasions
+-- The chain bound of a run with these occasions: if no chain of aliases passes seven links in any version of the zone up to the end
+-- of an event, each record that the event returns and the aliases that lead to it stood at one moment, from which none of their TTLs
+-- is exceeded.
+abbrev pub HaveChainBounds : WorldContent → List Event → List EventReport → List Occasion → Type 0
+HaveChainBounds content events reports occasions =
+    HoldsOfEvents (HasChainBy (ttls_of content)) (settings_of content) (first_past content.zone) events reports occasions
 
 -- ---- reports
 

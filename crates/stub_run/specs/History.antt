@@ -2,8 +2,9 @@
 use Rattle.std.specs.Prelude.{◌≡◌, ◌⊎◌, List, [], ◌∷◌, Option, Some, None, Err}
 use Rattle.dns_messages.specs.declared.message.Message.{Message}
 use Rattle.stub_lookup.specs.declared.error.NetError.TheVariants as net
-use Rattle.stub_link.specs.History.{Occasion}
+use Rattle.stub_link.specs.History.{Occasion, Past, past_after_occasion, past_of}
 use Rattle.stub_run.specs.Event.{moment_of, script_of, update_of}
+use Rattle.stub_run.specs.Run.{RunState, asks_of}
 use Rattle.stub_run.specs.declared.event.Event.{Event}
 use Rattle.stub_run.specs.declared.report.EventReply.{EventReply}
 use Rattle.stub_run.specs.declared.report.EventReply.TheVariants as replies
@@ -26,3 +27,11 @@ AreOccasions [] [] [] = Unit {0}
 AreOccasions (e ∷ events) (report ∷ reports) (occasion ∷ occasions) =
     IsOccasion e report.reply occasion × AreOccasions events reports occasions
 AreOccasions events reports occasions = ⊥
+
+-- After each event, the versions of the zone are those that its occasion adds to the ones before.
+abbrev pub MakePasts : Past → List RunState → List Occasion → Type 0
+MakePasts past [] [] = Unit {0}
+MakePasts past (state ∷ states) (occasion ∷ occasions) =
+    (past_of (asks_of state).link ≡ past_after_occasion past occasion)
+    × MakePasts (past_after_occasion past occasion) states occasions
+MakePasts past states occasions = ⊥

@@ -4,6 +4,7 @@ pub mod Event
 pub mod Headline
 pub mod History
 pub mod Ids
+pub mod OneHistory
 pub mod Run
 pub mod RunOver
 pub mod ScriptedEvents

@@ -15,7 +15,6 @@ use Rattle.stub_walk.specs.Agreement.{Agree}
 use Rattle.stub_walk.specs.Answered.{HasShortAliases}
 use Rattle.stub_walk.specs.Walk.{ByWalk}
 use Rattle.stub_run.specs.Headline.{WorldContent, settings_of}
-use Rattle.stub_run.specs.History.{AreOccasions}
 use Rattle.stub_run.specs.declared.event.Event.{Event}
 use Rattle.stub_run.specs.declared.event.Event.TheVariants as event
 use Rattle.stub_run.specs.declared.report.EventReply.{EventReply}
@@ -66,12 +65,11 @@ AreWalkedEvents settings first past events reports occasions = ⊥
 
 -- ---- runs
 
--- Equality of roads: where nothing was updated and the link met no fault, the lookups of a run return what walks over the zone
--- come to.
-pub record AreWalked (content : WorldContent) (events : List Event) (reports : List EventReport) : Type 0 where
-  pub occasions : List Occasion
-  pub are_events : AreOccasions events reports occasions
-  pub walked : AreWalkedEvents (settings_of content) (first_past content.zone) (first_past content.zone) events reports occasions
+-- Equality of roads: where nothing was updated and the link met no fault, the lookups of a run with these occasions return what
+-- walks over the zone come to.
+abbrev pub AreWalked : WorldContent → List Event → List EventReport → List Occasion → Type 0
+AreWalked content events reports occasions =
+    AreWalkedEvents (settings_of content) (first_past content.zone) (first_past content.zone) events reports occasions
 
 -- ---- settings
 
@@ -111,8 +109,7 @@ AreAgreedEvents first past (e ∷ events) (one ∷ reports) (other ∷ others) (
     × AreAgreedEvents (past_since e first past) (past_after_occasion past occasion) events reports others occasions
 AreAgreedEvents first past events reports others occasions = ⊥
 
--- two runs over a zone agree
-pub record AreAgreed (zone : ZoneContent) (events : List Event) (reports others : List EventReport) : Type 0 where
-  pub occasions : List Occasion
-  pub are_events : AreOccasions events reports occasions
-  pub agree : AreAgreedEvents (first_past zone) (first_past zone) events reports others occasions
+-- two runs over a zone with these occasions agree
+abbrev pub AreAgreed : ZoneContent → List Event → List EventReport → List EventReport → List Occasion → Type 0
+AreAgreed zone events reports others occasions =
+    AreAgreedEvents (first_past zone) (first_past zone) events reports others occasions

@@ -16,9 +16,9 @@ ghost use Rattle.stub_client.specs.Looks.{Answers, Reply};
 ghost use Rattle.stub_client.specs.declared.caching_client.CachingClient.{CachingClient};
 ghost use Rattle.stub_client.specs.declared.request.DnsRequest.{DnsRequest};
 ghost use Rattle.stub_link.specs.AskState.{AskState, AskZone, UpdateZone, first_asks};
-ghost use Rattle.stub_link.specs.History.{Occasion, history_of};
+ghost use Rattle.stub_link.specs.History.{Occasion, first_past, history_of};
 ghost use Rattle.stub_run.specs.Counts.{AreFew, HasDrawn};
-ghost use Rattle.stub_run.specs.History.{AreOccasions};
+ghost use Rattle.stub_run.specs.History.{AreOccasions, MakePasts};
 ghost use Rattle.stub_run.specs.Run.{RunState, Runs, asks_of};
 ghost use Rattle.stub_run.specs.declared.event.Event.{Event};
 ghost use Rattle.stub_run.specs.declared.report.EventReport.{EventReport};
@@ -27,8 +27,8 @@ mod headline;
 mod questions;
 
 pub use headline::{
-    distinct_ids_are_not_reused, every_record_stood, unchanged_zones_are_walked,
-    walked_replies_agree, walked_runs_agree,
+    distinct_ids_are_not_reused, every_record_stood, runs_have_one_history,
+    unchanged_zones_are_walked, walked_replies_agree, walked_runs_agree,
 };
 pub use questions::{
     questions_without_faults_are_answered, resolvers_ask_sound_questions,
@@ -71,11 +71,12 @@ pub fn ids_are_drawn_in_order()
         → Runs first events reports states last → HasDrawn ids (asks_of last) }
 {}
 
-/// The versions of a zone in a run are decided by its events alone, but for the updates that found no memory.
+/// The versions of a zone after each event of a run are decided by the events alone, but for the updates that found no memory.
 pub fn events_decide_the_history()
     ensures { (zone : ZoneContent) (limit : ℕ) (ids : List ℕ) (first last : RunState)
         (events : List Event) (reports : List EventReport) (states : List RunState)
         → asks_of first ≡ first_asks zone limit ids → Runs first events reports states last
         → (occasions : List Occasion) × AreOccasions events reports occasions
+        × MakePasts (first_past zone) states occasions
         × ((asks_of last).link.history ≡ history_of zone occasions) }
 {}

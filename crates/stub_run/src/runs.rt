@@ -3,17 +3,16 @@
 ghost use Rattle.std.specs.Prelude.{◌≡◌, ◌≤◌, ◌<◌, ◌+◌, ◌++◌, ◌∷◌, ◌↔◌, ◌^◌, ◌*◌, ◌-◌, min, IfOk, IsOk, OnOk, OnErr, IfSome, IsTrue, true, false, [], length, take, vec_len, vec_capacity, Err, None};
 ghost use Rattle.stub_link.specs.WireHandle.{Asks, SendsUpdate};
 ghost use Rattle.stub_run.specs.Event.{TakesMemory, moment_of};
-ghost use Rattle.stub_history.specs.Faithful.{HasNoReuse};
-ghost use Rattle.stub_run.specs.Headline.{AreFresh, HasNoLeastTtl, HaveChainBounds, IsMadeOf, WorldContent, report_in, reported};
+ghost use Rattle.stub_run.specs.Headline.{IsMadeOf, WorldContent, report_in, reported};
+ghost use Rattle.stub_run.specs.OneHistory.{HasOneHistory};
 ghost use Rattle.stub_run.specs.Questions.{AreAskable};
 ghost use Rattle.stub_run.specs.Run.{InOrder, IsReportBefore, IsReportOf, Replies, RunState, memory_report};
 ghost use Rattle.stub_run.specs.RunOver.{BeginsOver, EndsOver, IsReportBeforeOver, IsReportOver, RunsOutOver, StepOver, rules_of, with_sent};
-ghost use Rattle.stub_run.specs.Walked.{AreWalked};
 ghost use Rattle.stub_run.specs.World.{BeginsWith};
 
 use crate::event::Event;
 use crate::event_link::EventLink;
-use crate::laws::{every_record_stood, unchanged_zones_are_walked};
+use crate::laws::runs_have_one_history;
 use crate::report::{EventReply, EventReport, Report, Stopped};
 use crate::world::World;
 use std::alloc::{AllocError, Global};
@@ -34,11 +33,12 @@ const MAX_MOMENT: u64 = 1 << 62;
 /// it has the report of the events before. If memory runs out elsewhere, the reply to the event is
 /// [`NetError::Memory`](stub_lookup::NetError::Memory), and the run goes on.
 ///
+/// The report has one history (`history`), of the states of the run and of the versions of the zone, over which all of this holds.
 /// If no id serves two equal questions and the minimum TTL of positive answers is 0, whatever the link loses, repeats, delays or
-/// reorders, every record of a plain type (any type of data but CNAME, SOA, SIG and SRV) that was asked for stood in the zone,
-/// was reached by aliases that stood there, and its TTL counts from such a moment (`fresh`). Excepted are records of the hosts
-/// file, loopback records and literal addresses. If aliases are left out, the TTLs of
-/// these aliases bound it, too (`chain_bound`). And where nothing was updated since the last full clear, or the start, and the
+/// reorders, every record of a plain type (any type of data but CNAME, SOA, SIG, SRV and OPT) that was asked for stood in the
+/// zone, was reached by aliases that stood there, and its TTL counts from such a moment (`fresh`). Excepted are records of the hosts
+/// file, loopback records and literal addresses. If aliases are left out, the TTLs of these aliases bound it, too, where no chain of
+/// aliases passed seven links by then (`chain_bound`). And where nothing was updated since the last full clear, or the start, and the
 /// link met no fault in an event, its lookup of a plain type, or of a host, returns exactly what a walk over the zone comes to,
 /// whatever was cached and however large datagrams may be (`walked`). All of this also holds of the report of a run that stopped
 /// for memory.
@@ -48,21 +48,12 @@ pub fn run(world: World, events: &[Event]) -> Result<Report, Stopped>
         → IsReportOf state events.now report) }
     ensures stopped { IfSome (memory_report result) (λ report. (state : RunState)
         → BeginsWith world state → IsReportBefore state events.now report) }
-    ensures fresh { IfSome (report_in result) (λ report. (content : WorldContent)
-        → IsMadeOf world content → HasNoReuse report.sent.items → HasNoLeastTtl content
-        → AreFresh content (reported events.now report) report.events.items) }
-    ensures chain_bound { IfSome (report_in result) (λ report. (content : WorldContent)
-        → IsMadeOf world content → HasNoReuse report.sent.items → HasNoLeastTtl content
-        → content.options.preserve_intermediates ≡ false
-        → HaveChainBounds content (reported events.now report) report.events.items) }
-    ensures walked { IfSome (report_in result) (λ report. (content : WorldContent)
-        → IsMadeOf world content → HasNoReuse report.sent.items
-        → content.options.preserve_intermediates ≡ false
-        → AreWalked content (reported events.now report) report.events.items) }
+    ensures history { IfSome (report_in result) (λ report. (content : WorldContent)
+        → (made : IsMadeOf world content)
+        → HasOneHistory content made.state (reported events.now report) report) }
     ensures decided { events.now ≡ [] → IsOk result }
 {
-    every_record_stood();
-    unchanged_zones_are_walked();
+    runs_have_one_history();
     know_names(events);
     run_world(world, events)
 }

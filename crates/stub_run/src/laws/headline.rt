@@ -9,6 +9,7 @@ ghost use Rattle.dns_zone.specs.Rows.{IsZone, ZoneContent};
 ghost use Rattle.stub_client.specs.Looks.{Reply};
 ghost use Rattle.stub_core.specs.Resolver.{known_type};
 ghost use Rattle.stub_core.specs.declared.resolver.settings.Settings.{Settings};
+ghost use Rattle.stub_link.specs.History.{Occasion, first_past};
 ghost use Rattle.stub_link.specs.declared.link.script.Script.{Script};
 ghost use Rattle.stub_history.specs.Answered.{is_plain};
 ghost use Rattle.stub_walk.specs.Agreement.{Agree};
@@ -16,13 +17,17 @@ ghost use Rattle.stub_history.specs.Faithful.{HasNoReuse};
 ghost use Rattle.stub_run.specs.Headline.{AreFresh, HasNoLeastTtl, HaveChainBounds, WorldContent, settings_of};
 ghost use Rattle.stub_run.specs.Ids.{AreDistinct};
 ghost use Rattle.stub_run.specs.Questions.{AreAskable};
-ghost use Rattle.stub_run.specs.Run.{InOrder, RunState, Runs, asks_of};
+ghost use Rattle.stub_run.specs.History.{AreOccasions, MakePasts};
+ghost use Rattle.stub_run.specs.OneHistory.{HasOneHistory};
+ghost use Rattle.stub_run.specs.Run.{InOrder, IsReportOf, RunState, Runs, asks_of};
 ghost use Rattle.stub_run.specs.Walked.{AreAgreed, AreWalked, HasSentUpdate, IsWalkedReply, with_cache_size, with_sizes};
 ghost use Rattle.stub_run.specs.World.{IsFirst};
 ghost use Rattle.stub_run.specs.declared.event.Event.{Event};
 ghost use Rattle.stub_run.specs.declared.report.EventReply.{EventReply};
 ghost use Rattle.stub_run.specs.declared.report.EventReport.{EventReport};
+ghost use Rattle.stub_run.specs.declared.report.Report.{Report};
 
+use crate::laws::events_decide_the_history;
 use dns_codes::laws::type_number_round_trips;
 use dns_names::laws::parsing_follows_the_grammar;
 use dns_zone::laws::{answers_are_alias_chains, updates_keep_zones_well_formed};
@@ -33,20 +38,24 @@ use dns_zone::laws::{answers_are_alias_chains, updates_keep_zones_well_formed};
 /// No id serves two equal questions, and the least TTL of positive answers is 0.
 pub fn every_record_stood()
     ensures fresh { (content : WorldContent) (first last : RunState) (events : List Event)
-        (reports : List EventReport) (states : List RunState) → IsZone content.zone
+        (reports : List EventReport) (states : List RunState) (occasions : List Occasion)
+        → IsZone content.zone
         → IsFirst content.zone content.limit content.ids content.config content.options
         content.hosts first
         → InOrder 0 events → Runs first events reports states last
+        → MakePasts (first_past content.zone) states occasions
         → HasNoReuse (asks_of last).sent → HasNoLeastTtl content
-        → AreFresh content events reports }
+        → AreFresh content events reports occasions }
     ensures chain_bound { (content : WorldContent) (first last : RunState) (events : List Event)
-        (reports : List EventReport) (states : List RunState) → IsZone content.zone
+        (reports : List EventReport) (states : List RunState) (occasions : List Occasion)
+        → IsZone content.zone
         → IsFirst content.zone content.limit content.ids content.config content.options
         content.hosts first
         → InOrder 0 events → Runs first events reports states last
+        → MakePasts (first_past content.zone) states occasions
         → HasNoReuse (asks_of last).sent → HasNoLeastTtl content
         → content.options.preserve_intermediates ≡ false
-        → HaveChainBounds content events reports }
+        → HaveChainBounds content events reports occasions }
 {
     type_number_round_trips();
     answers_are_alias_chains();
@@ -61,18 +70,35 @@ pub fn every_record_stood()
 /// out for a lookup.
 pub fn unchanged_zones_are_walked()
     ensures { (content : WorldContent) (first last : RunState) (events : List Event)
-        (reports : List EventReport) (states : List RunState) → IsZone content.zone
+        (reports : List EventReport) (states : List RunState) (occasions : List Occasion)
+        → IsZone content.zone
         → IsFirst content.zone content.limit content.ids content.config content.options
         content.hosts first
         → InOrder 0 events → Runs first events reports states last
+        → MakePasts (first_past content.zone) states occasions
         → HasNoReuse (asks_of last).sent
         → content.options.preserve_intermediates ≡ false
         → content.options.edns_payload_len < 2 ^ 16 → AreAskable events
-        → AreWalked content events reports }
+        → AreWalked content events reports occasions }
 {
     type_number_round_trips();
     parsing_follows_the_grammar();
     updates_keep_zones_well_formed();
+}
+
+/// The headline: a report has one history, of states, of what the link sees of the events and of versions of the zone, and over it
+/// every record that a lookup returns stood, has the chain bound, and is walked, each under its premises.
+pub fn runs_have_one_history()
+    ensures { (content : WorldContent) (first : RunState) (events : List Event)
+        (report : Report) → IsZone content.zone
+        → IsFirst content.zone content.limit content.ids content.config content.options
+        content.hosts first
+        → content.options.edns_payload_len < 2 ^ 16 → InOrder 0 events → AreAskable events
+        → IsReportOf first events report → HasOneHistory content first events report }
+{
+    every_record_stood();
+    unchanged_zones_are_walked();
+    events_decide_the_history();
 }
 
 /// Two such lookups of the same name and type, or of the same host, agree: they have the same records or the same failure, TTLs aside,
@@ -100,10 +126,12 @@ pub fn walked_replies_agree()
 /// differ in the size of the cache, the limit of datagrams, the ids, and in what memory is refused to them, but not to an update.
 pub fn walked_runs_agree()
     ensures { (content : WorldContent) (size limit : ℕ) (ids : List ℕ) (events : List Event)
-        (reports others : List EventReport) → AreWalked content events reports
-        → AreWalked (with_sizes size limit ids content) events others
+        (reports others : List EventReport) (occasions more : List Occasion)
+        → AreOccasions events reports occasions → AreOccasions events others more
+        → AreWalked content events reports occasions
+        → AreWalked (with_sizes size limit ids content) events others more
         → AllByRecursion HasSentUpdate reports → AllByRecursion HasSentUpdate others
-        → AreAgreed content.zone events reports others }
+        → AreAgreed content.zone events reports others occasions }
 {}
 
 /// Distinct ids serve no two questions: if no id occurs twice in the list, no id that was drawn serves two equal questions. So do

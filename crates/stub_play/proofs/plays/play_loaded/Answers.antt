@@ -28,9 +28,7 @@ returns-in_err-print-in-Ok g c =
 pub returns-in-Ok : goal.returns-in-Ok
 returns-in-Ok g c =
     let laws : RunsHold = record {
-      fresh = c.every_record_stood.ensures.fresh;
-      chain_bound = c.every_record_stood.ensures.chain_bound;
-      walked = c.unchanged_zones_are_walked.ensures;
+      history = c.runs_have_one_history.ensures;
       drawn = c.ids_are_drawn_in_order.ensures;
       distinct = c.distinct_ids_are_not_reused.ensures.drawn;
       counted = c.distinct_ids_are_not_reused.ensures.counted;
@@ -60,9 +58,7 @@ returns-in_err-print-in-Err-Memory g c =
 pub returns-in-Err-Memory : goal.returns-in-Err-Memory
 returns-in-Err-Memory g c =
     let laws : RunsHold = record {
-      fresh = c.every_record_stood.ensures.fresh;
-      chain_bound = c.every_record_stood.ensures.chain_bound;
-      walked = c.unchanged_zones_are_walked.ensures;
+      history = c.runs_have_one_history.ensures;
       drawn = c.ids_are_drawn_in_order.ensures;
       distinct = c.distinct_ids_are_not_reused.ensures.drawn;
       counted = c.distinct_ids_are_not_reused.ensures.counted;

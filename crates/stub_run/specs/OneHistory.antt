@@ -1,0 +1,23 @@
+-- What is promised of a run, over one history of its zone.
+use Rattle.std.specs.Prelude.{◌≡◌, false, List}
+use Rattle.stub_link.specs.History.{Occasion, first_past}
+use Rattle.stub_history.specs.Faithful.{HasNoReuse}
+use Rattle.stub_run.specs.Headline.{AreFresh, HasNoLeastTtl, HaveChainBounds, WorldContent}
+use Rattle.stub_run.specs.History.{AreOccasions, MakePasts}
+use Rattle.stub_run.specs.Run.{IsReportOf, RunState}
+use Rattle.stub_run.specs.Walked.{AreWalked}
+use Rattle.stub_run.specs.declared.event.Event.{Event}
+use Rattle.stub_run.specs.declared.report.Report.{Report}
+
+-- The report of a run, the states that it went through, what the link saw of its events, and the versions of the zone that these
+-- made: every claim is over them. No id serves two equal questions.
+pub record HasOneHistory (content : WorldContent) (first : RunState) (events : List Event) (report : Report) : Type 0 where
+  pub reported : IsReportOf first events report
+  pub occasions : List Occasion
+  pub are_events : AreOccasions events report.events.items occasions
+  pub pasts : MakePasts (first_past content.zone) reported.states occasions
+  pub fresh : HasNoReuse report.sent.items → HasNoLeastTtl content → AreFresh content events report.events.items occasions
+  pub chain_bound : HasNoReuse report.sent.items → HasNoLeastTtl content → content.options.preserve_intermediates ≡ false
+      → HaveChainBounds content events report.events.items occasions
+  pub walked : HasNoReuse report.sent.items → content.options.preserve_intermediates ≡ false
+      → AreWalked content events report.events.items occasions
