@@ -1,8 +1,9 @@
 -- One event: how it begins, what it leads to on the states, how it ends, and that ids are only appended.
-use Rattle.std.proofs.Common.{◌≡◌, true, false, ℕ, List, [], ◌∷◌, Option, Some, None, Result, Ok, Err, OnOk, OnErr, IfSome, is_err, length, take, slice_get, refl, sym, ap, subst, ◌∙◌, arith}
+use Rattle.std.proofs.Common.{◌≡◌, Bool, true, false, map, reverse, IsOk, ℕ, List, [], ◌∷◌, Option, Some, None, Result, Ok, Err, OnOk, OnErr, IfSome, is_err, length, take, slice_get, refl, sym, ap, subst, ◌∙◌, arith}
 use Rattle.std.specs.List.{fold}
 use Rattle.std.specs.declared.alloc.AllocError.{AllocError}
-use Rattle.std.proofs.lemmas.List.{take_all}
+use Rattle.std.specs.Global.{Vec}
+use Rattle.std.proofs.lemmas.List.{reverse-reverse, take_all}
 use Rattle.dns_messages.specs.declared.message.Message.{Message}
 use Rattle.dns_messages.specs.declared.query.Query.{Query}
 use Rattle.dns_messages.specs.declared.response_code.ResponseCode.{ResponseCode}
@@ -15,7 +16,7 @@ use Rattle.stub_link.specs.AskState.{AskState, AskZone, UpdateZone, begin, begin
 use Rattle.stub_link.specs.LinkState.{Course, Honest, Listed, LinkState, deliver, deliver_event, deliver_named, deliver_rest, begin_event as begin_link_event, begin_update as begin_link_update, end_event as end_link, named_update}
 use Rattle.stub_link.specs.Link.{Calls, calls_of, wire}
 use Rattle.stub_link.specs.Request.{IsUpdate}
-use Rattle.stub_link.specs.ScriptedLink.{IsAt, IsBegun, IsEnded, IsListed, Receives, Sends, Streams, is_out_of_memory}
+use Rattle.stub_link.specs.ScriptedLink.{AreRelated, IsAt, IsBegun, IsCourse, IsDelivered as IsLinkDelivered, IsEnded, IsListed, IsRequest, Receives, Sends, Streams, bytes_of, is_out_of_memory}
 use Rattle.stub_link.specs.WireHandle.{Asks, IsIn, SendsUpdate, asker_of, with_link}
 use Rattle.stub_link.specs.declared.link.script.LinkEvent.{LinkEvent}
 use Rattle.stub_link.specs.declared.link.script.LinkEvent.TheVariants as does
@@ -25,8 +26,8 @@ use Rattle.stub_link.specs.declared.wire_handle.WireHandle.{WireHandle}
 use Rattle.stub_run.specs.Alike.{AreAlike}
 use Rattle.stub_run.specs.Event.{TakesMemory, moment_of, script_of, update_of}
 use Rattle.stub_run.specs.RunOver.{BeginsOver, EndsOver, LinkRules, RunsOutOver, StepOver, begun_handle, link_is_out, no_beginning, no_end, rules_of}
-use Rattle.stub_run.specs.ScriptedEvents.{Begins as LinkBegins, Ends as LinkEnds, begin_link}
-use Rattle.stub_run.specs.Run.{Replies, RepliesByZone, RunState, RunsOut, Step, asks_of, at_ask, at_begin, at_end, begin_asks, begin_event, end_event}
+use Rattle.stub_run.specs.ScriptedEvents.{Begins as LinkBegins, begin_link}
+use Rattle.stub_run.specs.Run.{IsDelivered, Replies, RepliesByZone, RunState, RunsOut, Step, asks_of, at_ask, at_begin, at_end, begin_asks, begin_event, end_event}
 use Rattle.stub_run.specs.declared.event.Event.{Event}
 use Rattle.stub_run.specs.declared.event.Event.TheVariants as event
 use Rattle.stub_run.specs.declared.report.EventReply.{EventReply}
@@ -60,7 +61,7 @@ IsInState handle asks = IsIn handle asks
 
 -- what the scripted link does
 abbrev pub scripted_rules : LinkRules ScriptedLink
-scripted_rules = rules_of LinkBegins LinkEnds is_out_of_memory Sends Receives Streams (λ link. link.failures)
+scripted_rules = rules_of LinkBegins IsEnded is_out_of_memory Sends Receives Streams (λ link. link.failures)
 
 -- ---- an event begins
 
@@ -228,17 +229,30 @@ ends-in handle link asks at h = record {
 abbrev pub Ends : WireResolver → WireResolver → Type 0
 Ends old new = (state : RunState) → AreAlike IsInState old state → AreAlike IsInState new (end_event state)
 
-ends-alike : (old new : WireResolver) → EndsOver scripted_rules old new → Ends old new
+ends-alike : (old new : WireResolver) → EndsOver scripted_rules old (Ok tt) new → Ends old new
 ends-alike old new e = λ state alike.
     let link = new.client.handle.link in
     subst (λ (r : WireResolver). AreAlike IsInState r (end_event state)) (sym e.rest)
     (alike-with old (with_link old.client.handle link) state (end (asks_of state)) alike
-    (ends-in old.client.handle link (asks_of state) (e.link (asks_of state).link alike.client.handle.link) alike.client.handle))
+    (ends-in old.client.handle link (asks_of state) (e.link.ends (asks_of state).link alike.client.handle.link) alike.client.handle))
 
-pub ended : (old new : ScriptedLink) (result : Result (Unit {0}) AllocError) → IsEnded old result new
-    → OnOk result (LinkEnds old new)
-ended old new (Ok done) e = e.ends
-ended old new (Err error) e = tt
+none-related : {A B : Type 0} (R : A → B → Type 0) (xs : List A) → AreRelated R xs [] → xs ≡ []
+none-related R [] h = refl
+none-related R (x ∷ xs) h = absurd h
+
+none-mapped : {A B : Type 0} (f : A → B) (xs : List A) → map f xs ≡ [] → xs ≡ []
+none-mapped f [] h = refl
+none-mapped f (x ∷ xs) h = absurd (cc h)
+
+-- where nothing is left of a course, nothing is left on the link
+course-delivered : (link : ScriptedLink) (course : Course) → IsCourse link course → IsDelivered course → IsLinkDelivered link
+course-delivered link (Honest under_way) is none = (
+  none-mapped (λ (bytes : Vec ℕ). bytes.items) link.under_way.items
+      (none-related IsRequest (bytes_of link.under_way) (subst (AreRelated IsRequest (bytes_of link.under_way)) none is.1)),
+  is.2,
+)
+course-delivered link (Listed events) is none =
+    (is.1, sym (reverse-reverse link.events.items) ∙ ap (λ (es : List LinkEvent). reverse es) (is.2 ∙ none))
 
 -- ---- what an event leads to
 
@@ -325,12 +339,22 @@ happens-out old begun replied ended e reply happens ends out = λ state alike.
     at_ask reply led.0 led.2 (sym (end-memory (asks_of led.0).link) ∙ sym last.client.handle.link.memory ∙ out)
 
 pub happens-unended : (old begun replied : WireResolver) (e : Event) (reply : EventReply) → Happens old e reply begun replied
-    → LeadsOut old e
-happens-unended old begun replied e reply happens = λ state alike.
-    let led = replied-in old begun replied e reply happens state alike in
-    at_end reply led.0 led.2
+    → ¬ IsLinkDelivered replied.client.handle.link → LeadsOut old e
+happens-unended old begun replied e reply happens left =
+    λ state alike.
+    by state (replied-in old begun replied e reply happens state alike) replied.client.handle.link.out_of_memory refl
+  where
+    by : (state : RunState) → RepliedIn state e reply replied → (b : Bool) → replied.client.handle.link.out_of_memory ≡ b → RunsOut state e
+    by state led true out = at_ask reply led.0 led.2 (sym led.1.client.handle.link.memory ∙ out)
+    by state led false quiet =
+        at_end reply led.0 led.2
+        (λ none. left (course-delivered replied.client.handle.link (asks_of led.0).link.course
+        (led.1.client.handle.link.shows quiet).course none))
 
 -- ---- from runs over the scripted link
+
+abbrev failed : AllocError → Result (Unit {0}) AllocError
+failed error = Err error
 
 pub step-alike : AskLaw → UpdateLaw → (old new : WireResolver) (e : Event) (report : EventReport)
     → StepOver scripted_rules old e report new → Leads old e report new
@@ -346,11 +370,15 @@ step-alike asks updates old new e report s =
       quiet = s.memory;
     })
 
+not-ok : (error : AllocError) → IsOk (failed error) → ⊥
+not-ok error ok = cc ok
+
 pub out-alike : AskLaw → UpdateLaw → (old : WireResolver) (e : Event) → RunsOutOver scripted_rules old e → LeadsOut old e
 out-alike asks updates old e (no_beginning takes) = λ state alike. at_begin takes
-out-alike asks updates old e (no_end reply replied h) =
+out-alike asks updates old e (no_end reply replied new error h ends) =
     happens-unended old h.begun replied e reply
     (happened old h.begun replied e reply asks updates (begins-alike old h.begun e h.begins) h.replies)
+    (λ none. not-ok error (ends.link.decided none))
 out-alike asks updates old e (link_is_out reply replied new h ends out) =
     happens-out old h.begun replied new e reply
     (happened old h.begun replied e reply asks updates (begins-alike old h.begun e h.begins) h.replies) (ends-alike replied new ends) out

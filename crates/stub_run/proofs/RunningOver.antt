@@ -36,6 +36,17 @@ pub if-err : {A E : Type 0} (result : Result A E) (Holds : Type 0) → is_err re
 if-err (Ok done) Holds h holds = absurd (cc)
 if-err (Err error) Holds h holds = holds
 
+-- what is known of a result, whether it is an error or not
+pub as-ok : {E : Type 0} (result : Result (Unit {0}) E) (Holds : Result (Unit {0}) E → Type 0) → is_err result ≡ false → Holds result
+    → Holds (Ok tt)
+as-ok (Ok done) Holds h holds = holds
+as-ok (Err error) Holds h holds = absurd (cc)
+
+pub as-err : {A E : Type 0} (result : Result A E) (Holds : Result A E → Type 0) → is_err result ≡ true → Holds result
+    → (error : E) × Holds (Err error)
+as-err (Ok done) Holds h holds = absurd (cc)
+as-err (Err error) Holds h holds = (error, holds)
+
 -- what is not an error has a value
 pub ok-or-err : {A E : Type 0} (result : Result A E) → is_err result ≡ true → IsOk result → ⊥
 ok-or-err (Ok done) h ok = cc h
@@ -78,17 +89,16 @@ begun-sent {L} old first reset before after lent =
     ap (λ (x : WireHandle L). x.sent.items) lent.counts ∙ ap (λ (x : WireHandle L). x.sent.items) lent.handle
 
 pub ended : {L : Type 0} (rules : LinkRules L) (old : Resolver (WireHandle L)) (first : WireHandle L) (before after : L)
-    (result : Result (Unit {0}) AllocError) → first ≡ old.client.handle → before ≡ first.link → OnOk result (rules.ends before after)
-    → OnOk result (EndsOver rules old (with_handle old (with_link first after)))
-ended {L} rules old first before after (Ok done) handle link h = record {
-  link = subst (λ (l : L). rules.ends l after) (link ∙ ap (λ (x : WireHandle L). x.link) handle) h;
+    (result : Result (Unit {0}) AllocError) → first ≡ old.client.handle → before ≡ first.link → rules.ends before result after
+    → EndsOver rules old result (with_handle old (with_link first after))
+ended {L} rules old first before after result handle link h = record {
+  link = subst (λ (l : L). rules.ends l result after) (link ∙ ap (λ (x : WireHandle L). x.link) handle) h;
   rest = ap (λ (x : WireHandle L). with_handle old (with_link x after)) handle;
 }
-ended rules old first before after (Err error) handle link h = tt
 
 -- an event, its report and the resolver at its end, which has not run out of memory
 pub step-of : {L : Type 0} (rules : LinkRules L) (old replied new : Resolver (WireHandle L)) (e : Event) (reply : EventReply)
-    (report : EventReport) → Happens rules old e reply replied → EndsOver rules replied new
+    (report : EventReport) → Happens rules old e reply replied → EndsOver rules replied (Ok tt) new
     → report ≡ record { reply = reply; faults = new.client.handle.faults; questions = new.client.handle.questions }
     → rules.is_out new.client.handle.link ≡ false → StepOver rules old e report new
 step-of rules old replied new e reply report happens ends is quiet = record {

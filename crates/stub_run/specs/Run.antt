@@ -14,6 +14,7 @@ use Rattle.stub_core.specs.Resolver.{ResolvesHost, ResolvesName, cleared_lookup,
 use Rattle.stub_client.specs.declared.request.DnsRequest.{DnsRequest}
 use Rattle.stub_core.specs.declared.resolver.Resolver.{Resolver}
 use Rattle.stub_link.specs.AskState.{AskState, AskZone, UpdateZone, begin, begin_with_update, end}
+use Rattle.stub_link.specs.LinkState.{Course, Honest, Listed}
 use Rattle.stub_link.specs.Request.{IsUpdate}
 use Rattle.stub_run.specs.Event.{TakesMemory, moment_of}
 use Rattle.stub_run.specs.declared.event.Event.{Event}
@@ -120,13 +121,19 @@ pub record IsReportOf (first : RunState) (events : List Event) (report : Report)
   pub sent : report.sent.items ≡ (asks_of last).sent
   pub dropped : report.dropped ≡ (asks_of last).dropped
 
+-- nothing is left to deliver as an event ends
+abbrev pub IsDelivered : Course → Type 0
+IsDelivered (Honest under_way) = under_way ≡ []
+IsDelivered (Listed events) = events ≡ []
+
 -- An event during which the link or its server runs out of memory: as the event begins, if that takes memory; as the resolver
--- asks; or as the event ends.
+-- asks; or as the event ends, if something is left to deliver.
 pub data RunsOut (old : RunState) (e : Event) : Type 0 where
   at_begin : TakesMemory e → RunsOut old e
   at_ask : (reply : EventReply) (new : RunState) → RepliesByZone (begin_event e old) e reply new
       → (asks_of new).link.out_of_memory ≡ true → RunsOut old e
-  at_end : (reply : EventReply) (new : RunState) → RepliesByZone (begin_event e old) e reply new → RunsOut old e
+  at_end : (reply : EventReply) (new : RunState) → RepliesByZone (begin_event e old) e reply new
+      → ¬ IsDelivered (asks_of new).link.course → RunsOut old e
 
 -- After so many events a run stops: before any event, or at the next one.
 abbrev pub StopsAt : ℕ → List Event → RunState → Type 0

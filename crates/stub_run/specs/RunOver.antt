@@ -1,6 +1,7 @@
 -- Runs over any link: what happens to a resolver whose handle asks over it, event by event, and how that is reported.
-use Rattle.std.specs.Prelude.{◌≡◌, ◌⊎◌, false, true, Bool, List, [], ◌∷◌, ℕ, Option, Some, Result, take, slice_get}
+use Rattle.std.specs.Prelude.{◌≡◌, ◌⊎◌, false, true, Bool, List, [], ◌∷◌, ℕ, Option, Some, Result, Ok, Err, take, slice_get}
 use Rattle.std.specs.Global.{Vec}
+use Rattle.std.specs.declared.alloc.AllocError.{AllocError}
 use Rattle.dns_messages.specs.declared.message.Message.{Message}
 use Rattle.dns_messages.specs.declared.query.Query.{Query}
 use Rattle.dns_messages.specs.declared.response_code.ResponseCode.{ResponseCode}
@@ -21,16 +22,16 @@ use Rattle.stub_run.specs.declared.report.Report.{Report}
 
 -- ---- what a link does
 
--- How events begin and end on a link, whether it has run out of memory, and what a handle over it does.
+-- How events begin on a link, with which results they end, whether it has run out of memory, and what a handle over it does.
 pub record LinkRules (L : Type 0) : Type 1 where
   pub begins : L → Event → L → Type 0
-  pub ends : L → L → Type 0
+  pub ends : L → Result (Unit {0}) AllocError → L → Type 0
   pub is_out : L → Bool
   pub asks : WireHandle L → DnsRequest → ℕ → Outcome → WireHandle L → Type 0
   pub updates : WireHandle L → Message → Result ResponseCode NetError → WireHandle L → Type 0
 
 -- the rules of a link by its relations, with the handle that asks and updates over it
-abbrev pub rules_of : {L : Type 0} → (L → Event → L → Type 0) → (L → L → Type 0) → (L → Bool)
+abbrev pub rules_of : {L : Type 0} → (L → Event → L → Type 0) → (L → Result (Unit {0}) AllocError → L → Type 0) → (L → Bool)
     → (L → List ℕ → Result (Unit {0}) LinkError → L → Type 0) → (L → Result (Option (List ℕ)) LinkError → L → Type 0)
     → (L → List ℕ → Result (List ℕ) LinkError → L → Type 0) → (L → ℕ) → LinkRules L
 rules_of begins ends is_out sends receives streams failure_count = record {
@@ -53,9 +54,10 @@ pub record BeginsOver {L : Type 0} (rules : LinkRules L) (old : Resolver (WireHa
   pub link : rules.begins old.client.handle.link e new.client.handle.link
   pub rest : new ≡ with_handle old (begun_handle old.client.handle new.client.handle.link)
 
--- An event ends: only the link changes.
-pub record EndsOver {L : Type 0} (rules : LinkRules L) (old new : Resolver (WireHandle L)) : Type 0 where
-  pub link : rules.ends old.client.handle.link new.client.handle.link
+-- An event ends with this result: only the link changes.
+pub record EndsOver {L : Type 0} (rules : LinkRules L) (old : Resolver (WireHandle L)) (result : Result (Unit {0}) AllocError)
+    (new : Resolver (WireHandle L)) : Type 0 where
+  pub link : rules.ends old.client.handle.link result new.client.handle.link
   pub rest : new ≡ with_handle old (with_link old.client.handle new.client.handle.link)
 
 -- An event begins, and the resolver replies to it.
@@ -71,17 +73,19 @@ pub record StepOver {L : Type 0} (rules : LinkRules L) (old : Resolver (WireHand
     (new : Resolver (WireHandle L)) : Type 0 where
   pub replied : Resolver (WireHandle L)
   pub happens : Happens rules old e report.reply replied
-  pub ends : EndsOver rules replied new
+  pub ends : EndsOver rules replied (Ok tt) new
   pub faults : report.faults ≡ new.client.handle.faults
   pub questions : report.questions ≡ new.client.handle.questions
   pub memory : rules.is_out new.client.handle.link ≡ false
 
--- An event during which memory runs out: as it begins, if that takes memory; as it ends; or before its end, as the link says.
+-- An event during which memory runs out: as it begins, if that takes memory; as it ends, by an error of the link; or before its end,
+-- as the link says.
 pub data RunsOutOver {L : Type 0} (rules : LinkRules L) (old : Resolver (WireHandle L)) (e : Event) : Type 0 where
   no_beginning : TakesMemory e → RunsOutOver rules old e
-  no_end : (reply : EventReply) (replied : Resolver (WireHandle L)) → Happens rules old e reply replied → RunsOutOver rules old e
+  no_end : (reply : EventReply) (replied new : Resolver (WireHandle L)) (error : AllocError) → Happens rules old e reply replied
+      → EndsOver rules replied (Err error) new → RunsOutOver rules old e
   link_is_out : (reply : EventReply) (replied new : Resolver (WireHandle L)) → Happens rules old e reply replied
-      → EndsOver rules replied new → rules.is_out new.client.handle.link ≡ true → RunsOutOver rules old e
+      → EndsOver rules replied (Ok tt) new → rules.is_out new.client.handle.link ≡ true → RunsOutOver rules old e
 
 -- ---- runs
 

@@ -1,5 +1,5 @@
 -- Events over the scripted link.
-use Rattle.stub_link.specs.LinkState.{LinkState, begin_event, begin_update, end_event}
+use Rattle.stub_link.specs.LinkState.{LinkState, begin_event, begin_update}
 use Rattle.stub_link.specs.ScriptedLink.{IsAt}
 use Rattle.stub_link.specs.declared.link.scripted.ScriptedLink.{ScriptedLink}
 use Rattle.stub_run.specs.declared.event.Event.{Event}
@@ -16,7 +16,3 @@ begin_link (Update at update script) state = begin_update at script state
 -- From each state that the link is in, the event begins.
 abbrev pub Begins : ScriptedLink → Event → ScriptedLink → Type 0
 Begins old e new = (state : LinkState) → IsAt old state → IsAt new (begin_link e state)
-
--- From each state that the link is in, the event ends.
-abbrev pub Ends : ScriptedLink → ScriptedLink → Type 0
-Ends old new = (state : LinkState) → IsAt old state → IsAt new (end_event state)

@@ -9,14 +9,15 @@ use stub_link::{Link, ScriptedLink};
 
 /// A link over which events happen, one after another: it is told when each one begins and ends.
 pub trait EventLink: Link {
-    ghost use Rattle.std.specs.Prelude.{Bool};
+    ghost use Rattle.std.specs.Prelude.{Bool, Result};
+    ghost use Rattle.std.specs.declared.alloc.AllocError.{AllocError};
     ghost use Rattle.stub_run.specs.declared.event.Event.{Event};
 
     /// From a state, an event may begin and lead to that state.
     ghost begins: { Self → Event → Self → Type 0 };
 
-    /// From a state, an event may end and lead to that state.
-    ghost ends: { Self → Self → Type 0 };
+    /// From a state, the end of an event may have this result and lead to that state.
+    ghost ends: { Self → Result (Unit {0}) AllocError → Self → Type 0 };
 
     /// In a state, the link or its server has run out of memory.
     ghost is_out: { Self → Bool };
@@ -26,9 +27,9 @@ pub trait EventLink: Link {
         ensures begins { OnOk result (begins self.old event.now self.new) }
         ensures refused { OnErr result (TakesMemory event.now) };
 
-    /// Ends an event. The error is that the server ran out of memory.
+    /// Ends an event. The error is that there is no memory for what is left to deliver; `ends` says when it comes.
     fn end(&mut self) -> Result<(), AllocError>
-        ensures { OnOk result (ends self.old self.new) };
+        ensures { ends self.old result self.new };
 
     /// Returns `true` if the link or its server has run out of memory.
     fn has_run_out(&self) -> bool
@@ -36,12 +37,12 @@ pub trait EventLink: Link {
 }
 
 impl EventLink for ScriptedLink {
-    ghost use Rattle.stub_link.specs.ScriptedLink.{is_out_of_memory};
-    ghost use Rattle.stub_run.specs.ScriptedEvents.{Begins, Ends};
+    ghost use Rattle.stub_link.specs.ScriptedLink.{IsEnded, is_out_of_memory};
+    ghost use Rattle.stub_run.specs.ScriptedEvents.{Begins};
 
     ghost begins = { Begins };
 
-    ghost ends = { Ends };
+    ghost ends = { λ old result new. IsEnded old result new };
 
     ghost is_out = { is_out_of_memory };
 

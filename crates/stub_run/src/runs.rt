@@ -199,7 +199,7 @@ fn happen<L: EventLink>(
     }
     let reply = reply_to(resolver, event);
     if end(resolver).is_err() {
-        // The server ran out of memory.
+        // There was no memory for what was left to deliver.
         return None;
     }
     event_report(resolver, reply)
@@ -220,10 +220,10 @@ fn begin<L: EventLink>(
     handle.link_mut().begin(event)
 }
 
-/// Ends an event.
+/// Ends an event. The error is that of the link.
 fn end<L: EventLink>(resolver: &mut Resolver<WireHandle<L>>) -> Result<(), AllocError>
-    ensures ends { OnOk result (EndsOver (rules_of L.begins L.ends L.is_out L.sends L.receives
-        L.streams L.failure_count) resolver.old resolver.new) }
+    ensures ends { EndsOver (rules_of L.begins L.ends L.is_out L.sends L.receives L.streams
+        L.failure_count) resolver.old result resolver.new }
     ensures sent { resolver.new.client.handle.sent.items ≡ resolver.old.client.handle.sent.items }
 {
     resolver.handle_mut().link_mut().end()

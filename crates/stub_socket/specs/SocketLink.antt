@@ -65,5 +65,6 @@ pub record Streams {R X : Type 0} (old : SocketLink R) (result : Result X LinkEr
 -- What links over sockets do. They follow no script, so an event begins and ends as the link is.
 abbrev pub socket_rules : (R : Type 0) → LinkRules (SocketLink R)
 socket_rules R =
-    rules_of (λ old e new. new ≡ old) (λ old new. new ≡ old) (λ link. link.out_of_memory) (λ old bytes result new. Sends old result new)
+    rules_of (λ old e new. new ≡ old) (λ old result new. (result ≡ Ok tt) × (new ≡ old)) (λ link. link.out_of_memory)
+    (λ old bytes result new. Sends old result new)
     (λ old result new. Receives old result new) (λ old bytes result new. Streams old result new) (λ link. link.failures)

@@ -1,6 +1,6 @@
 //! Events over sockets.
 
-ghost use Rattle.std.specs.Prelude.{◌≡◌};
+ghost use Rattle.std.specs.Prelude.{◌≡◌, Ok};
 
 use crate::socket_link::SocketLink;
 use std::alloc::AllocError;
@@ -11,7 +11,7 @@ use stub_run::{Event, EventLink};
 impl<R: Net<Listener = TcpListener, Stream = TcpStream> + Drop> EventLink for SocketLink<R> {
     ghost begins = { λ old _ new. new ≡ old };
 
-    ghost ends = { λ old new. new ≡ old };
+    ghost ends = { λ old result new. (result ≡ Ok tt) × (new ≡ old) };
 
     ghost is_out = { λ link. link.out_of_memory };
 

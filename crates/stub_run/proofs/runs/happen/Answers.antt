@@ -1,8 +1,8 @@
-use Rattle.std.proofs.Common.{◌≡◌, true, false, sym, ◌∙◌, ap}
+use Rattle.std.proofs.Common.{◌≡◌, true, false, Ok, sym, ◌∙◌, ap}
 use Rattle.stub_run.specs.Event.{TakesMemory}
 use Rattle.stub_run.specs.RunOver.{BeginsOver, EndsOver, Happens, link_is_out, no_beginning, no_end, rules_of}
 use Rattle.stub_run.specs.declared.report.EventReport.{EventReport}
-use Rattle.stub_run.proofs.RunningOver.{front-same, happens-front, if-err, if-ok, if-some, step-of}
+use Rattle.stub_run.proofs.RunningOver.{as-err, as-ok, front-same, happens-front, if-err, if-ok, if-some, step-of}
 use Rattle.stub_run.proofs.runs.happen.Goals as goal
 
 -- no memory as the event begins
@@ -29,9 +29,11 @@ returns-then-is_err-2 g c =
       begins = if-ok c.begin.result (BeginsOver rules old e begun) (sym c.is_err.ensures.value ∙ c.if-is_err.false) c.begin.ensures.begins;
       replies = c.reply_to-reply.ensures;
     } in
+    let error = as-err c.end.result (λ result. EndsOver rules replied result c.end.new.resolver)
+    (sym c.is_err-2.ensures.value ∙ c.if-is_err-2.true) c.end.ensures.ends in
     record {
       step = tt;
-      stop = λ none. no_end reply replied happens;
+      stop = λ none. no_end reply replied c.end.new.resolver error.0 happens error.1;
       front = happens-front g.L.Link.sends g.L.Link.receives g.L.Link.streams g.L.Link.failure_count old begun replied c.end.new.resolver e reply
           c.reply_to-reply.ensures c.begin.ensures.sent c.end.ensures.sent;
     }
@@ -50,8 +52,8 @@ returns g c =
       begins = if-ok c.begin.result (BeginsOver rules old e begun) (sym c.is_err.ensures.value ∙ c.if-is_err.false) c.begin.ensures.begins;
       replies = c.reply_to-reply.ensures;
     } in
-    let ends : EndsOver rules replied ended =
-    if-ok c.end.result (EndsOver rules replied ended) (sym c.is_err-2.ensures.value ∙ c.if-is_err-2.false) c.end.ensures.ends in
+    let ends : EndsOver rules replied (Ok tt) ended =
+    as-ok c.end.result (λ result. EndsOver rules replied result ended) (sym c.is_err-2.ensures.value ∙ c.if-is_err-2.false) c.end.ensures.ends in
     record {
       step = if-some _ _ c.event_report.result
           (λ report reports. step-of rules old replied ended e reply report happens ends reports.0 reports.1) c.event_report.ensures.report;
