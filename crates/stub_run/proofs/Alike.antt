@@ -189,7 +189,7 @@ module _ {S T : Type 0} (is_in : S → T → Type 0) where
       answers_name-alike (Ok name) kind old new state reply alike h =
           attempts_with_hosts-alike settings.hosts kind old new state (names_for settings name) reply alike h
 
-      looks_up-alike : (name : Result DomainName ParseError) (kind : RecordType) (old new : S) (state : T) (reply : Reply)
+      pub looks_up-alike : (name : Result DomainName ParseError) (kind : RecordType) (old new : S) (state : T) (reply : Reply)
           → is_in old state → LooksUp settings now asks name kind old reply new
           → LeadsAlong new (λ after. LooksUp settings now others name kind state reply after)
       looks_up-alike name kind old new state reply alike h =
@@ -217,7 +217,7 @@ module _ {S T : Type 0} (is_in : S → T → Type 0) where
       answers_host-alike true (Some address) name old new state reply alike h =
           looks_up_name-alike (Some (address_data address)) name old new state reply alike h
 
-      looks_up_host-alike : (address : Option IpAddr) (name : Result DomainName ParseError) (old new : S) (state : T)
+      pub looks_up_host-alike : (address : Option IpAddr) (name : Result DomainName ParseError) (old new : S) (state : T)
           (reply : Reply) → is_in old state → LooksUpHost settings now asks address name old reply new
           → LeadsAlong new (λ after. LooksUpHost settings now others address name state reply after)
       looks_up_host-alike address name old new state reply alike h =

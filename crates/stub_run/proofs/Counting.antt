@@ -21,7 +21,7 @@ AsksServer old request now outcome new = AskZone old request now outcome new
 
 -- ---- one request
 
-few-by : (old new : AskState) → Tallies 1 old new → AreFew 1 old new
+pub few-by : {L : Type 0} (old new : Asker L) → Tallies 1 old new → AreFew 1 old new
 few-by old new t = record { questions = t.questions; dropped = t.dropped }
 
 pub question-few : (old new : AskState) (request : DnsRequest) (now : ℕ) (outcome : Outcome) → AskZone old request now outcome new
@@ -49,13 +49,14 @@ led-out options now old (ask ∷ asks) new h out =
     led-out options now h.0 asks new h.2
     (ask-zone-out old (request_for ask.question options) now ask.outcome h.0 h.1 out)
 
-no-questions : (old new : AskState) → new ≡ old → AreFew 0 old new
-no-questions old new same = subst (λ (a : AskState). AreFew 0 old a) (sym same) (record {
+pub no-questions : {L : Type 0} (old new : Asker L) → new ≡ old → AreFew 0 old new
+no-questions {L} old new same = subst (λ (a : Asker L). AreFew 0 old a) (sym same) (record {
   questions = omega arith;
   dropped = omega arith;
 })
 
-more-questions : (count : ℕ) (old mid new : AskState) → AreFew 1 old mid → AreFew count mid new → AreFew (suc count) old new
+pub more-questions : {L : Type 0} (count : ℕ) (old mid new : Asker L) → AreFew 1 old mid → AreFew count mid new
+    → AreFew (suc count) old new
 more-questions count old mid new one rest =
     let asked = one.questions in
     let more = rest.questions in
@@ -76,7 +77,7 @@ led-few options now old (ask ∷ asks) new h memory =
     quiet true is =
         with-memory (λ a. h.0.link.out_of_memory ≡ false) new memory (inl (led-out options now h.0 asks new h.2 is))
 
-fewer : (count most : ℕ) (old new : AskState) → count ≤ most → AreFew count old new → AreFew most old new
+pub fewer : {L : Type 0} (count most : ℕ) (old new : Asker L) → count ≤ most → AreFew count old new → AreFew most old new
 fewer count most old new within few =
     let questions = few.questions in
     let dropped = few.dropped in

@@ -2,6 +2,7 @@ pub mod Alike
 pub mod Beginning
 pub mod Counting
 pub mod DistinctIds
+pub mod FewLaws
 pub mod FreshRuns
 pub mod Growing
 pub mod Happening

@@ -33,13 +33,13 @@ runs-length first last [] (report ∷ reports) states runs = absurd runs
 runs-length first last (e ∷ events) [] states runs = absurd runs
 runs-length first last (e ∷ events) (report ∷ reports) [] runs = absurd runs
 
-take-front : (count : ℕ) (events : List Event) → take (length (take count events)) events ≡ take count events
+pub take-front : (count : ℕ) (events : List Event) → take (length (take count events)) events ≡ take count events
 take-front zero [] = refl
 take-front zero (e ∷ events) = refl
 take-front (suc count) [] = refl
 take-front (suc count) (e ∷ events) = ap (λ (es : List Event). e ∷ es) (take-front count events)
 
-take-whole : (events : List Event) → take (length events) events ≡ events
+pub take-whole : (events : List Event) → take (length events) events ≡ events
 take-whole [] = refl
 take-whole (e ∷ events) = ap (λ (es : List Event). e ∷ es) (take-whole events)
 

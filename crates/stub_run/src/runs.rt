@@ -3,7 +3,8 @@
 ghost use Rattle.std.specs.Prelude.{◌≡◌, ◌≤◌, ◌<◌, ◌+◌, ◌++◌, ◌∷◌, ◌↔◌, ◌^◌, ◌*◌, ◌-◌, min, IfOk, IsOk, OnOk, OnErr, IfSome, IsTrue, true, false, [], length, take, vec_len, vec_capacity, Err, None};
 ghost use Rattle.stub_link.specs.WireHandle.{Asks, SendsUpdate};
 ghost use Rattle.stub_run.specs.Event.{TakesMemory, moment_of};
-ghost use Rattle.stub_run.specs.Headline.{IsMadeOf, WorldContent, report_in, reported};
+ghost use Rattle.stub_run.specs.Counts.{HasFew};
+ghost use Rattle.stub_run.specs.Headline.{IsMadeOf, WorldContent, report_in, reported, settings_of};
 ghost use Rattle.stub_run.specs.OneHistory.{HasOneHistory};
 ghost use Rattle.stub_run.specs.Questions.{AreAskable};
 ghost use Rattle.stub_run.specs.Run.{InOrder, IsReportBefore, IsReportOf, Replies, RunState, memory_report};
@@ -42,6 +43,9 @@ const MAX_MOMENT: u64 = 1 << 62;
 /// link met no fault in an event, its lookup of a plain type, or of a host, returns exactly what a walk over the zone comes to,
 /// whatever was cached and however large datagrams may be (`walked`). All of this also holds of the report of a run that stopped
 /// for memory.
+///
+/// An event asks at most eight questions for each name that its lookup attempts and each type of records, and drops at most
+/// sixteen datagrams for each; an update drops at most sixteen (`few`).
 pub fn run(world: World, events: &[Event]) -> Result<Report, Stopped>
     ensures moments { (result ≡ Err Stopped.Moments) ↔ ¬ InOrder 0 events.now }
     ensures run { IfOk result (λ report. (state : RunState) → BeginsWith world state
@@ -51,6 +55,9 @@ pub fn run(world: World, events: &[Event]) -> Result<Report, Stopped>
     ensures history { IfSome (report_in result) (λ report. (content : WorldContent)
         → (made : IsMadeOf world content)
         → HasOneHistory content made.state (reported events.now report) report) }
+    ensures few { IfSome (report_in result) (λ report. (content : WorldContent)
+        → IsMadeOf world content
+        → HasFew (settings_of content) 0 (reported events.now report) report) }
     ensures decided { events.now ≡ [] → IsOk result }
 {
     runs_have_one_history();
@@ -76,6 +83,8 @@ fn run_world(world: World, events: &[Event]) -> Result<Report, Stopped>
     ensures stopped { IfSome (memory_report result) (λ report. (state : RunState)
         → BeginsWith world state → IsReportBefore state events.now report) }
     ensures order { IfSome (report_in result) (λ report. InOrder 0 events.now) }
+    ensures few { IfSome (report_in result) (λ report. HasFew world.resolver.settings
+        world.resolver.client.handle.dropped (reported events.now report) report) }
     ensures decided { events.now ≡ [] → IsOk result }
 {
     handles_over_the_scripted_link_ask_the_zone();

@@ -1,5 +1,5 @@
 -- Links over sockets: what their calls do to the zone and the counts. What sockets carry is not known.
-use Rattle.std.specs.Prelude.{◌≡◌, ◌+◌, ◌-◌, ◌^◌, min, true, Bool, ℕ, Result, Err}
+use Rattle.std.specs.Prelude.{◌≡◌, ◌+◌, ◌-◌, ◌^◌, min, true, Bool, ℕ, Result, Ok, Err}
 use Rattle.dns_zone.specs.declared.road.Road.{Road}
 use Rattle.dns_zone.specs.declared.road.Road.TheVariants.{Datagram, Stream}
 use Rattle.stub_run.specs.RunOver.{LinkRules, rules_of}
