@@ -186,15 +186,18 @@ since-wider first earlier history final rows before after s =
     by a b late = omega (arith, a, b, late)
 
 -- an answer of rows that stand at a moment, and hold since earlier versions
-pub record HoldsAnswerThen (origin : DomainName) (earlier history : List Version) (moment : ℕ) (q : Query) (m : Message) : Type 0 where
+pub record HoldsAnswerThen (origin : DomainName) (earlier history : List Version) (moment : ℕ) (datagram : Message) (q : Query) (m : Message)
+    : Type 0 where
   pub rows : Rows
   pub stand : StandAt history moment rows
   pub holds : HoldsAnswer (zone_with origin rows) q m
   pub since : HoldSince earlier history rows
+  pub road : Road
+  pub reply : m ≡ sent_reply (zone_with origin rows) road datagram
 
-abbrev pub answer-since : (origin : DomainName) (earlier history : List Version) (moment : ℕ) (q : Query) (m : Message)
-    → HoldsAnswerThen origin earlier history moment q m → HoldsAnswerSince origin earlier history q m
-answer-since origin earlier history moment q m a = record { rows = a.rows; since = a.since; holds = a.holds }
+abbrev pub answer-since : (origin : DomainName) (earlier history : List Version) (moment : ℕ) (datagram : Message) (q : Query) (m : Message)
+    → HoldsAnswerThen origin earlier history moment datagram q m → HoldsAnswerSince origin earlier history q m
+answer-since origin earlier history moment datagram q m a = record { rows = a.rows; since = a.since; holds = a.holds }
 
 module _ (keep : UpdatesKeepZones) (origin : DomainName) (sent : List (ℕ × Query)) (earlier : List Version) (now : ℕ) (m : Message) (q : Query)
     (code : m.metadata.op_code ≡ ops.Query) (only : m.queries ≡ q ∷ []) where
@@ -385,12 +388,12 @@ module _ (keep : UpdatesKeepZones) (origin : DomainName) (sent : List (ℕ × Qu
     -- a response holds the answer of rows that stand now, and hold since before the question
     pub asked-answer : (later : List (ℕ × Query)) (response : DnsResponse) → HasNoReuse (sent ++ (m.metadata.id, q) ∷ later)
         → IsAsked messages link_calls m q old outcome new → outcome ≡ Ok response
-        → HoldsAnswerThen origin earlier new.link.history now q response.message
+        → HoldsAnswerThen origin earlier new.link.history now m q response.message
     asked-answer later response once x ok = by (concludes x.waited x.mid x.datagram response x.sent (ends-of x) ok)
       where
         by-reply : (r : ServerReply) (limit : ℕ) → IsKnownReply sent m now earlier new.link.history r → IsMadeBy origin new.link.history now r → response.message ≡ message_of limit r
             → matches m.metadata.id (Some q) response.message ≡ true → response.message.metadata.truncation ≡ false
-            → HoldsAnswerThen origin earlier new.link.history now q response.message
+            → HoldsAnswerThen origin earlier new.link.history now m q response.message
         by-reply r limit (inl (inl s)) made is matched whole =
             absurd (true≢false (sym (repeats-question r.zone (Datagram limit) m.metadata.id q r.datagram s.question s.op_code s.only
             (subst (λ (y : Message). matches m.metadata.id (Some q) y ≡ true) is matched))
@@ -406,9 +409,11 @@ module _ (keep : UpdatesKeepZones) (origin : DomainName) (sent : List (ℕ × Qu
                   (at-origin r.zone (sent_reply r.zone (Datagram limit) m) made.origin_is
                   (holds-answer r.zone (Datagram limit) m q code only (ap (λ (y : Message). y.metadata.truncation) (sym sent-is) ∙ whole)));
               since = both.2;
+              road = Datagram limit;
+              reply = subst (λ (o : DomainName). response.message ≡ sent_reply (zone_with o r.zone.rows) (Datagram limit) m) made.origin_is sent-is;
             }
 
-        by-got : IsGot response → response.message.metadata.truncation ≡ false → HoldsAnswerThen origin earlier new.link.history now q response.message
+        by-got : IsGot response → response.message.metadata.truncation ≡ false → HoldsAnswerThen origin earlier new.link.history now m q response.message
         by-got (inl g) whole = by-reply g.0.0 g.0.1 g.0.2 g.0.3 g.0.4 g.1 whole
         by-got (inr g) whole = record {
           rows = g.0.rows;
@@ -417,7 +422,9 @@ module _ (keep : UpdatesKeepZones) (origin : DomainName) (sent : List (ℕ × Qu
               (at-origin g.0 (sent_reply g.0 Stream m) g.3
               (holds-answer g.0 Stream m q code only (ap (λ (y : Message). y.metadata.truncation) (sym g.4) ∙ whole)));
           since = g.2;
+          road = Stream;
+          reply = subst (λ (o : DomainName). response.message ≡ sent_reply (zone_with o g.0.rows) Stream m) g.3 g.4;
         }
 
-        by : Concludes response → HoldsAnswerThen origin earlier new.link.history now q response.message
+        by : Concludes response → HoldsAnswerThen origin earlier new.link.history now m q response.message
         by c = by-got c.got c.whole

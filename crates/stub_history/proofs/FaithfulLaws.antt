@@ -1,6 +1,7 @@
 -- Questions and updates keep a handle faithful, and the outcomes of questions hold answers that stood.
-use Rattle.std.proofs.Common.{◌≡◌, ℕ, ◌≤◌, ◌++◌, Bool, true, false, List, [], ◌∷◌, length, Option, Some, None, Result, Ok, Err, sym, ap, subst, ◌∙◌, inl, inr}
+use Rattle.std.proofs.Common.{◌≡◌, ℕ, ◌≤◌, ◌++◌, Bool, true, false, List, [], ◌∷◌, length, Option, Some, None, Result, Ok, Err, refl, sym, ap, subst, ◌∙◌, inl, inr}
 use Rattle.std.specs.Prelude.{◌⊎◌, slice_get}
+use Rattle.std.proofs.lemmas.Bool.{true≢false}
 use Rattle.std.proofs.lemmas.List.{append-nil, append_assoc}
 use Rattle.dns_names.specs.Name.{DomainName}
 use Rattle.dns_records.specs.Rows.{Rows}
@@ -20,10 +21,11 @@ use Rattle.stub_link.specs.declared.link.LinkError.TheVariants.{Failed, Memory}
 use Rattle.stub_link.specs.Ask.{AfterReply, AfterSending, AfterWaiting, Ask, AskUnder, IsAsked, IsSent, IsSupported, draw}
 use Rattle.stub_link.specs.AskState.{AskState, UpdateZone}
 use Rattle.stub_link.specs.Link.{IsResponse, messages}
-use Rattle.stub_link.specs.LinkState.{LinkState, link_calls}
+use Rattle.stub_link.specs.LinkState.{LinkState, link_calls, message_of}
+use Rattle.stub_link.specs.Reply.{matches}
 use Rattle.stub_link.specs.Request.{IsUpdate, with_id}
-use Rattle.stub_link.specs.Update.{IsUpdateSent}
-use Rattle.stub_history.specs.Answered.{IsAnsweredBy, IsAnsweredSince}
+use Rattle.stub_link.specs.Update.{IsUpdateSent, code_of}
+use Rattle.stub_history.specs.Answered.{IsAnsweredBy, IsAnsweredSince, IsCodeAtDelivery, IsMadeFor}
 use Rattle.stub_history.specs.Faithful.{HasNoReuse, IsFaithful, IsSentDatagram, StaysFaithful, StaysFaithfulUnlessOut}
 use Rattle.stub_history.specs.Stands.{StandAt}
 use Rattle.stub_link.proofs.OutcomeLaws.{IsDecoded, responses-decode}
@@ -31,7 +33,7 @@ use Rattle.stub_history.proofs.AskLaws.{D, HoldsAnswerThen, R, answer-since, ask
 use Rattle.stub_history.proofs.EventLaws.{SentReplies, faithful-of, holds-of, sent-sound}
 use Rattle.stub_history.proofs.ReceiveLaws.{Still}
 use Rattle.stub_history.proofs.ServeLaws.{UpdatesKeepZones}
-use Rattle.stub_history.proofs.WaitLaws.{StillUnlessOut, sent-still}
+use Rattle.stub_history.proofs.WaitLaws.{StillUnlessOut, sent-accepts, sent-still}
 
 -- ---- names of questions
 
@@ -128,17 +130,18 @@ module _ (keep : UpdatesKeepZones) (origin : DomainName) (old : AskState) (f : I
             }))
 
     under-answers : (found : Option ℕ) (later : List (ℕ × Query)) (response : DnsResponse) → AskUnder messages link_calls found m q old outcome new
-        → HasNoReuse (new.sent ++ later) → outcome ≡ Ok response → HoldsAnswerThen origin old.link.history new.link.history old.link.moment q response.message
+        → HasNoReuse (new.sent ++ later) → outcome ≡ Ok response
+        → (id : ℕ) × (found ≡ Some id) × HoldsAnswerThen origin old.link.history new.link.history old.link.moment (with_id id m) q response.message
     under-answers None later response t once ok =
         absurd (let clash : ◌≡◌ {A = Outcome} (Err (net.Link fault.NoId)) (Ok response) = sym t.0 ∙ ok in cc)
     under-answers (Some id) later response t once ok =
         elim t [
           | inl u ↦ absurd (let clash : ◌≡◌ {A = Outcome} (Err net.Memory) (Ok response) = sym u.0 ∙ ok in cc)
-          | inr x ↦ asked-answer keep origin old.sent old.link.history old.link.moment (with_id id m) q code only (draw id q old)
+          | inr x ↦ (id, refl, asked-answer keep origin old.sent old.link.history old.link.moment (with_id id m) q code only (draw id q old)
               (known-holds keep origin old.sent old.link.history old.link.moment (with_id id m) q code only old.link (holds-of origin old f)) outcome new later response
               (subst (λ (all : List (ℕ × Query)). HasNoReuse all)
               (ap (λ (all : List (ℕ × Query)). all ++ later) (asked-same (with_id id m) q (draw id q old) outcome new x)
-              ∙ append_assoc old.sent ((id, q) ∷ []) later) once) x ok
+              ∙ append_assoc old.sent ((id, q) ∷ []) later) once) x ok)
         ]
 
   module _ (m : Message) (outcome : Outcome) (new : AskState) (x : Ask messages link_calls m old outcome new) where
@@ -156,20 +159,25 @@ module _ (keep : UpdatesKeepZones) (origin : DomainName) (old : AskState) (f : I
           | inr k ↦ under-stays m k.question k.asks.op_code k.asks.only outcome x.uncounted (slice_get old.ids (length old.sent)) k.asked
         ])
 
+    -- an answer that was made for the datagram under the next id
+    abbrev Answered : LinkState → Query → DnsResponse → Type 0
+    Answered link p response =
+        (id : ℕ) × (slice_get old.ids (length old.sent) ≡ Some id)
+        × HoldsAnswerThen origin old.link.history link.history old.link.moment (with_id id m) p response.message
+
     supported-answers : (k : IsSupported messages link_calls m old outcome x.uncounted) (later : List (ℕ × Query)) (response : DnsResponse)
-        → HasNoReuse (new.sent ++ later) → outcome ≡ Ok response → HoldsAnswerThen origin old.link.history new.link.history old.link.moment k.question response.message
+        → HasNoReuse (new.sent ++ later) → outcome ≡ Ok response → Answered new.link k.question response
     supported-answers k later response once ok =
-        subst (λ (l : LinkState). HoldsAnswerThen origin old.link.history l.history old.link.moment k.question response.message) (sym link-is)
+        subst (λ (l : LinkState). Answered l k.question response) (sym link-is)
         (under-answers m k.question k.asks.op_code k.asks.only outcome x.uncounted (slice_get old.ids (length old.sent)) later response k.asked
         (subst (λ (all : List (ℕ × Query)). HasNoReuse (all ++ later)) sent-is once) ok)
 
     answers-then : (q : Query) (later : List (ℕ × Query)) → m.queries ≡ q ∷ [] → HasNoReuse (new.sent ++ later)
-        → (response : DnsResponse) → outcome ≡ Ok response
-        → HoldsAnswerThen origin old.link.history new.link.history old.link.moment q response.message
+        → (response : DnsResponse) → outcome ≡ Ok response → Answered new.link q response
     answers-then q later only once response ok =
         elim x.asked [
           | inl u ↦ absurd (let clash : ◌≡◌ {A = Outcome} (Err net.Unsupported) (Ok response) = sym u.outcome_is ∙ ok in cc)
-          | inr k ↦ subst (λ (p : Query). HoldsAnswerThen origin old.link.history new.link.history old.link.moment p response.message)
+          | inr k ↦ subst (λ (p : Query). Answered new.link p response)
               (same-question k.question q (sym k.asks.only ∙ only)) (supported-answers k later response once ok)
         ]
       where
@@ -179,7 +187,7 @@ module _ (keep : UpdatesKeepZones) (origin : DomainName) (old : AskState) (f : I
     pub ask-answers : (q : Query) (later : List (ℕ × Query)) → m.queries ≡ q ∷ [] → HasNoReuse (new.sent ++ later)
         → IsAnsweredBy origin new.link.history (record { moment = old.link.moment; ask = record { question = q; outcome = outcome } })
     ask-answers q later only once response ok =
-        let a = answers-then q later only once response ok in
+        let a = (answers-then q later only once response ok).2 in
         let decoded : IsDecoded messages outcome = responses-decode messages link_calls m old outcome new x in
         record {
           full = asked-full response q (subst (λ (o : Outcome). IsDecoded messages o) ok decoded) a.holds.queries;
@@ -191,7 +199,17 @@ module _ (keep : UpdatesKeepZones) (origin : DomainName) (old : AskState) (f : I
     pub ask-answers-since : (q : Query) (later : List (ℕ × Query)) → m.queries ≡ q ∷ [] → HasNoReuse (new.sent ++ later)
         → IsAnsweredSince origin old.link.history new.link.history (record { question = q; outcome = outcome })
     ask-answers-since q later only once response ok =
-        answer-since origin old.link.history new.link.history old.link.moment q response.message (answers-then q later only once response ok)
+        let a = answers-then q later only once response ok in
+        answer-since origin old.link.history new.link.history old.link.moment (with_id a.0 m) q response.message a.2
+
+    -- a response is the reply to the datagram of its question, and was made while it was open
+    pub ask-made : (q : Query) (later : List (ℕ × Query)) → m.queries ≡ q ∷ [] → HasNoReuse (new.sent ++ later) → (response : DnsResponse)
+        → outcome ≡ Ok response
+        → (id : ℕ) × (slice_get old.ids (length old.sent) ≡ Some id)
+        × IsMadeFor origin old.link.history new.link.history old.link.moment (with_id id m) response.message
+    ask-made q later only once response ok =
+        let a = answers-then q later only once response ok in
+        (a.0, a.1, record { rows = a.2.rows; road = a.2.road; stand = a.2.stand; since = a.2.since; reply = a.2.reply })
 
   -- ---- updates
 
@@ -215,4 +233,42 @@ module _ (keep : UpdatesKeepZones) (origin : DomainName) (old : AskState) (f : I
         | inl e ↦ inr (more-faithful origin old x.uncounted [] (ap (λ (s : AskState). s.link) e.1)
             (ap (λ (s : AskState). s.sent) e.1 ∙ sym (append-nil old.sent)) f)
         | inr s ↦ update-sent-stays m u reply x.uncounted s
+      ])
+
+  -- the code of an update is that of a reply
+  code-of-sent : (m : Message) (u : IsUpdate m) (code : ResponseCode) (reply : Result ResponseCode NetError) (new : AskState) → reply ≡ Ok code
+      → IsUpdateSent messages link_calls m old reply new → IsCodeAtDelivery origin new.link.history old.link.moment m.metadata.id code
+  code-of-sent m u code reply new ok x = by x.waited (sym x.reply_is ∙ ok) x.sent
+    where
+      by : (waited : Outcome) → code_of waited ≡ Ok code → IsSent messages link_calls m None x.datagram old waited new
+          → IsCodeAtDelivery origin new.link.history old.link.moment m.metadata.id code
+      by (Ok response) is s =
+          let a = sent-accepts keep origin old.link.moment (IsSentDatagram old.sent) (SentReplies old.link.history old.sent) (λ y made has added d. d)
+          (sent-sound old.sent) m None x.datagram old (Ok response) new (inr u.update) (holds-of origin old f) s response refl in
+          let r = a.brings.0 in
+          let limit = a.brings.1 in
+          let made = a.brings.3 in
+          let same : response.message ≡ message_of limit r = a.brings.4 in
+          record {
+            delivered = r;
+            limit = limit;
+            origin_is = made.origin_is;
+            stand = made.stand;
+            past = made.past;
+            matching = subst (λ (y : Message). matches m.metadata.id None y ≡ true) same a.matching;
+            code_is = code-same code response.message.metadata.response_code (sym is) ∙ ap (λ (y : Message). y.metadata.response_code) same;
+          }
+        where
+          code-same : (c d : ResponseCode) → ◌≡◌ {A = Result ResponseCode NetError} (Ok c) (Ok d) → c ≡ d
+          code-same c d e = cc
+      by (Err error) is s = absurd (let clash : ◌≡◌ {A = Result ResponseCode NetError} (Err error) (Ok code) = is in cc)
+
+  pub update-code : (m : Message) (u : IsUpdate m) (code : ResponseCode) (new : AskState) → UpdateZone old m (Ok code) new
+      → new.link.out_of_memory ≡ false → IsCodeAtDelivery origin new.link.history old.link.moment m.metadata.id code
+  update-code m u code new (inl out) memory = absurd (true≢false (sym out.1 ∙ memory))
+  update-code m u code new (inr x) memory =
+      subst (λ (l : LinkState). IsCodeAtDelivery origin l.history old.link.moment m.metadata.id code) (sym (ap (λ (s : AskState). s.link) x.counted))
+      (elim x.sent [
+        | inl e ↦ absurd (let clash : ◌≡◌ {A = Result ResponseCode NetError} (Err net.Memory) (Ok code) = sym e.0 in cc)
+        | inr s ↦ code-of-sent m u code (Ok code) x.uncounted refl s
       ])

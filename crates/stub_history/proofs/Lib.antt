@@ -15,3 +15,4 @@ pub mod AskedTypeLaws
 pub mod LaterLaws
 pub mod OutLaws
 pub mod LedLaws
+pub mod MismatchLaws

@@ -1,5 +1,5 @@
 -- Outcomes of questions that hold what a zone answers by rows that stood.
-use Rattle.std.specs.Prelude.{◌≡◌, ◌==◌, ◌&&◌, ◌||◌, nat_le, nat_lt, not, Bool, true, All, List, [], ◌∷◌, ℕ, Ok}
+use Rattle.std.specs.Prelude.{◌≡◌, ◌≤◌, ◌==◌, ◌&&◌, ◌||◌, nat_le, nat_lt, not, Bool, true, All, List, [], ◌∷◌, ℕ, None, Ok}
 use Rattle.dns_codes.specs.RecordType.{type_number}
 use Rattle.dns_codes.specs.declared.record_type.RecordType.{RecordType}
 use Rattle.dns_names.specs.Name.{DomainName}
@@ -7,14 +7,18 @@ use Rattle.dns_records.specs.Rows.{Rows}
 use Rattle.dns_messages.specs.declared.message.Message.{Message}
 use Rattle.dns_messages.specs.declared.query.Query.{Query}
 use Rattle.dns_messages.specs.declared.response.DnsResponse.{DnsResponse}
+use Rattle.dns_messages.specs.declared.response_code.ResponseCode.{ResponseCode}
 use Rattle.dns_zone.specs.Answer.{answer}
 use Rattle.dns_zone.specs.Rows.{IsZone, ZoneContent}
+use Rattle.dns_zone.specs.Serving.{sent_reply}
+use Rattle.dns_zone.specs.declared.road.Road.{Road}
 use Rattle.stub_cache.specs.Ttl.{TtlConfigContent, bounds_of, positive_range}
 use Rattle.stub_client.specs.Handle.{Ask}
 use Rattle.stub_client.specs.Origins.{Asked}
 use Rattle.stub_client.specs.SpecialNames.{special_answer}
 use Rattle.stub_client.specs.declared.special_names.SpecialAnswer.TheVariants.{Ordinary}
-use Rattle.stub_link.specs.LinkState.{Version}
+use Rattle.stub_link.specs.LinkState.{ServerReply, Version, message_of}
+use Rattle.stub_link.specs.Reply.{matches}
 use Rattle.stub_history.specs.Stands.{HoldSince, StandAt}
 
 -- ---- plain types
@@ -73,6 +77,25 @@ pub record HoldsAnswerSince (origin : DomainName) (earlier history : List Versio
   pub rows : Rows
   pub since : HoldSince earlier history rows
   pub holds : HoldsAnswer (zone_with origin rows) q m
+
+-- A message is the server's reply to a datagram, by rows that stand at a moment and hold since earlier versions: it was made while
+-- the question of the datagram was open.
+pub record IsMadeFor (origin : DomainName) (earlier history : List Version) (moment : ℕ) (datagram m : Message) : Type 0 where
+  pub rows : Rows
+  pub road : Road
+  pub stand : StandAt history moment rows
+  pub since : HoldSince earlier history rows
+  pub reply : m ≡ sent_reply (zone_with origin rows) road datagram
+
+-- The code of an update is that of the server's reply to a datagram that matches it, by the zone at the delivery of the datagram.
+pub record IsCodeAtDelivery (origin : DomainName) (history : List Version) (now id : ℕ) (code : ResponseCode) : Type 0 where
+  pub delivered : ServerReply
+  pub limit : ℕ
+  pub origin_is : delivered.zone.origin ≡ origin
+  pub stand : StandAt history delivered.moment delivered.zone.rows
+  pub past : delivered.moment ≤ now
+  pub matching : matches id None (message_of limit delivered) ≡ true
+  pub code_is : code ≡ (message_of limit delivered).metadata.response_code
 
 -- If the outcome of a question is a response, this holds what the zone answers by rows that hold since earlier versions.
 abbrev pub IsAnsweredSince : DomainName → List Version → List Version → Ask → Type 0

@@ -1,5 +1,5 @@
 -- States of a handle over the scripted link: what was sent, and by which rows each reply was made.
-use Rattle.std.specs.Prelude.{◌≡◌, ◌≤◌, ◌==◌, ◌&&◌, ◌++◌, ◌⊎◌, Bool, true, false, Contains, IfSome, List, [], ◌∷◌, ℕ}
+use Rattle.std.specs.Prelude.{◌≡◌, ◌≤◌, ◌==◌, ◌&&◌, ◌++◌, ◌⊎◌, Bool, true, false, Contains, IfSome, List, [], ◌∷◌, ℕ, Err}
 use Rattle.std.specs.List.{AllByRecursion}
 use Rattle.dns_names.specs.Name.{DomainName}
 use Rattle.dns_records.specs.Rows.{Rows}
@@ -8,6 +8,9 @@ use Rattle.dns_messages.specs.declared.message.Message.{Message}
 use Rattle.dns_messages.specs.declared.op_code.OpCode.TheVariants as ops
 use Rattle.dns_messages.specs.declared.query.Query.{Query}
 use Rattle.dns_zone.specs.Rows.{IsZone}
+use Rattle.stub_lookup.specs.declared.error.LinkFault.TheVariants as fault
+use Rattle.stub_lookup.specs.declared.error.NetError.TheVariants as net
+use Rattle.stub_client.specs.Handle.{Outcome}
 use Rattle.stub_link.specs.AskState.{AskState}
 use Rattle.stub_link.specs.LinkState.{Course, Honest, LinkState, Listed, ServerReply, Version}
 use Rattle.stub_link.specs.Request.{IsSoundUpdate}
@@ -96,6 +99,12 @@ pub record StaysFaithful (origin : DomainName) (old new : AskState) : Type 0 whe
   pub stands : KeepsStanding old.link new.link
   pub drawn : List (ℕ × Query)
   pub sent_is : new.sent ≡ old.sent ++ drawn
+
+-- not F7 or F8: the stream brings no reply that cannot be read, and no other message
+abbrev pub IsNoMismatch : Outcome → Type 0
+IsNoMismatch (Err (net.Link fault.StreamUnreadable)) = ⊥
+IsNoMismatch (Err (net.Link fault.StreamMismatch)) = ⊥
+IsNoMismatch outcome = Unit {0}
 
 -- a state stays faithful, unless the link or its server runs out of memory
 abbrev pub StaysFaithfulUnlessOut : DomainName → AskState → AskState → Type 0
