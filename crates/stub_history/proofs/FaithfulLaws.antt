@@ -137,11 +137,15 @@ module _ (keep : UpdatesKeepZones) (origin : DomainName) (old : AskState) (f : I
     under-answers (Some id) later response t once ok =
         elim t [
           | inl u ↦ absurd (let clash : ◌≡◌ {A = Outcome} (Err net.Memory) (Ok response) = sym u.0 ∙ ok in cc)
-          | inr x ↦ (id, refl, asked-answer keep origin old.sent old.link.history old.link.moment (with_id id m) q code only (draw id q old)
-              (known-holds keep origin old.sent old.link.history old.link.moment (with_id id m) q code only old.link (holds-of origin old f)) outcome new later response
-              (subst (λ (all : List (ℕ × Query)). HasNoReuse all)
-              (ap (λ (all : List (ℕ × Query)). all ++ later) (asked-same (with_id id m) q (draw id q old) outcome new x)
-              ∙ append_assoc old.sent ((id, q) ∷ []) later) once) x ok)
+          | inr x ↦ (
+            id,
+            refl,
+            asked-answer keep origin old.sent old.link.history old.link.moment (with_id id m) q code only (draw id q old)
+                (known-holds keep origin old.sent old.link.history old.link.moment (with_id id m) q code only old.link (holds-of origin old f)) outcome new later response
+                (subst (λ (all : List (ℕ × Query)). HasNoReuse all)
+                (ap (λ (all : List (ℕ × Query)). all ++ later) (asked-same (with_id id m) q (draw id q old) outcome new x)
+                ∙ append_assoc old.sent ((id, q) ∷ []) later) once) x ok,
+          )
         ]
 
   module _ (m : Message) (outcome : Outcome) (new : AskState) (x : Ask messages link_calls m old outcome new) where

@@ -10,7 +10,7 @@ pub use answers::{
 };
 pub use asking::{
     events_keep_states_faithful, outcomes_hold_answers_that_stood,
-    replies_are_made_for_open_questions, streams_bring_the_reply, updates_have_the_code_of_a_delivery,
-    updates_keep_states_faithful,
+    replies_are_made_for_open_questions, streams_bring_the_reply,
+    updates_have_the_code_of_a_delivery, updates_keep_states_faithful,
 };
 pub use lookups::{lookups_have_answers_that_stood, lookups_have_current_answers};

@@ -24,9 +24,7 @@ use std::io;
 use std::net::{Net, TcpListener, TcpStream};
 use stub_config::{ResolverConfig, ResolverOpts};
 use stub_hosts::{Hosts, HostsFault};
-use stub_run::laws::{
-    distinct_ids_are_not_reused, ids_are_drawn_in_order, runs_have_one_history,
-};
+use stub_run::laws::{distinct_ids_are_not_reused, ids_are_drawn_in_order, runs_have_one_history};
 use stub_run::{Event, Report, Script, Stopped, World, know_names, run};
 
 /// Does what the program does after it has read its files: runs the script against a server for the zone, over sockets of the

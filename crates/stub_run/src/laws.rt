@@ -39,6 +39,7 @@ ghost use Rattle.stub_run.specs.declared.report.Report.{Report};
 mod headline;
 mod questions;
 
+use crate::event_link::EventLink;
 pub use headline::{
     distinct_ids_are_not_reused, every_record_stood, runs_have_one_history,
     unchanged_zones_are_walked, walked_replies_agree, walked_runs_agree,
@@ -47,7 +48,6 @@ pub use questions::{
     questions_without_faults_are_answered, resolvers_ask_sound_questions,
     resolvers_ask_the_zone_sound_questions,
 };
-use crate::event_link::EventLink;
 use stub_client::laws::every_failure_is_returned;
 use stub_link::Link;
 
