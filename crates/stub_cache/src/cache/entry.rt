@@ -83,10 +83,7 @@ impl Entry {
     }
 
     /// Returns a copy of the response or the negative answer, with the TTLs that are left at a moment.
-    pub fn reply_at(
-        &self,
-        now: Moment,
-    ) -> Result<Option<Result<Message, NoRecords>>, AllocError>
+    pub fn reply_at(&self, now: Moment) -> Result<Option<Result<Message, NoRecords>>, AllocError>
         ensures { IfOk result (λ reply. reply
             ≡ Some (aged (now - self.now.moment) self.now.kept)) }
     {
