@@ -1,0 +1,4 @@
+pub mod CompactingLaws
+pub mod EventLaws
+pub mod OpeningLaws
+pub mod UpdatingLaws

@@ -1,0 +1,3 @@
+pub mod Compacting
+pub mod Opening
+pub mod Updating

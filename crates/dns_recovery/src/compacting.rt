@@ -1,0 +1,110 @@
+//! A text and its journal are replaced.
+
+ghost use Rattle.std.specs.Prelude.{◌≡◌, List, ℕ, length, is_ok, IfOk};
+ghost use Rattle.sha2.specs.Sha256.{sha256};
+ghost use Rattle.dns_journal_format.specs.Format.{header};
+ghost use Rattle.dns_journal.specs.Appending.{IsPosition};
+ghost use Rattle.dns_journal.specs.Storage.{Performs};
+ghost use Rattle.dns_journal.specs.declared.journal.State.TheVariants as states;
+ghost use Rattle.dns_recovery.specs.Compacting.{mark, Compacts, IsReplaced};
+
+use dns_journal::{AppendError, Journal, Position, State, Storage};
+use dns_journal_format::laws::a_header_is_a_journal;
+use dns_journal_format::{HEADER_LEN, digest_of, write_header};
+use std::alloc::{AllocError, Global};
+
+/// The first byte of a payload of updates.
+pub const UPDATE_TAG: u8 = 0;
+
+/// The first byte of the mark of a compaction.
+pub const MARK_TAG: u8 = 1;
+
+/// What a compaction writes.
+#[derive(Drop)]
+struct Replacement {
+    mark: Vec<u8>,
+    header: Vec<u8>,
+    position: Position,
+}
+
+/// Replaces the text of a journal by one that has all of its updates, and begins a new journal.
+///
+/// # Errors
+///
+/// [`AppendError`] if the mark cannot be appended, or if the storage fails: then the journal is not ready and has to be opened again.
+pub fn compact<S: Storage>(
+    journal: &mut Journal<S>,
+    alloc: Global,
+    text: &[u8],
+) -> Result<(), AppendError>
+    ensures { Performs S.performs journal.old.storage journal.new.storage (λ es.
+        (old bytes digest : List ℕ) (payloads : List (List ℕ))
+        → IsPosition journal.old.position bytes digest payloads → digest ≡ sha256 old
+        → (sha256 text.now ≡ sha256 old → text.now ≡ old)
+        → Compacts journal.old.position journal.new.position (is_ok result) old text.now bytes digest payloads es) }
+{
+    a_header_is_a_journal();
+    let replacement = match replacement_of(alloc, text) {
+        Ok(replacement) => replacement,
+        // Memory for what is written was refused.
+        Err(_) => return Err(AppendError::Memory),
+    };
+    match journal.append(alloc, replacement.mark.as_slice()) {
+        Ok(()) => {}
+        Err(error) => return Err(error),
+    }
+    match replace(&mut journal.storage, text, replacement.header.as_slice()) {
+        State::Ready => {
+            journal.position = replacement.position;
+            Ok(())
+        }
+        State::Torn => {
+            journal.position.state = State::Lost;
+            Err(AppendError::Storage)
+        }
+        State::Lost => {
+            journal.position.state = State::Lost;
+            Err(AppendError::Storage)
+        }
+    }
+}
+
+/// Returns what a compaction to a text writes.
+fn replacement_of(alloc: Global, text: &[u8]) -> Result<Replacement, AllocError>
+    ensures mark { IfOk result (λ r. r.mark.items ≡ mark text.now) }
+    ensures len { IfOk result (λ r. length r.mark.items ≡ 33) }
+    ensures header { IfOk result (λ r. r.header.items ≡ header (sha256 text.now)) }
+    ensures end { IfOk result (λ r. r.position.end ≡ 40) }
+    ensures digest { IfOk result (λ r. r.position.digest ≡ sha256 text.now) }
+    ensures state { IfOk result (λ r. r.position.state ≡ states.Ready) }
+{
+    let digest = digest_of(text);
+    let mut mark = Vec::new(alloc);
+    mark.push(MARK_TAG)?;
+    mark.extend_from_slice(digest.as_slice())?;
+    let mut header = Vec::new(alloc);
+    write_header(&mut header, &digest)?;
+    Ok(Replacement {
+        mark,
+        header,
+        position: Position {
+            end: HEADER_LEN,
+            digest,
+            state: State::Ready,
+        },
+    })
+}
+
+/// Replaces a text and its journal, and returns the state that this leaves.
+fn replace<S: Storage>(storage: &mut S, text: &[u8], journal: &[u8]) -> State
+    requires { journal.now ≡ header (sha256 text.now) }
+    ensures { Performs S.performs storage.old storage.new (IsReplaced text.now result) }
+{
+    match storage.replace_text(text) {
+        Ok(()) => match storage.replace_journal(journal) {
+            Ok(()) => State::Ready,
+            Err(_) => State::Lost,
+        },
+        Err(_) => State::Torn,
+    }
+}

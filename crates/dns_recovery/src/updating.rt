@@ -1,0 +1,48 @@
+//! Updates are appended to a journal that is open.
+
+ghost use Rattle.std.specs.Prelude.{◌≡◌, ◌<◌, ◌^◌, ◌+◌, List, ℕ, length, is_ok, IfOk, IsOk};
+ghost use Rattle.dns_journal.specs.Storage.{Disk, Performs};
+ghost use Rattle.dns_journal.specs.declared.journal.State.TheVariants as states;
+ghost use Rattle.dns_recovery.specs.Updating.{AppendsUpdate, IsOpen, update_payload};
+
+use crate::compacting::UPDATE_TAG;
+use dns_journal::{AppendError, Journal, Storage};
+use std::alloc::{AllocError, Global};
+
+/// Appends the bytes of updates, and returns once they are on the disk.
+///
+/// # Errors
+///
+/// [`AppendError`], as for [`Journal::append`].
+pub fn append_update<S: Storage>(
+    journal: &mut Journal<S>,
+    alloc: Global,
+    update: &[u8],
+) -> Result<(), AppendError>
+    requires { length update.now + 1 < 2 ^ 32 }
+    ensures ready { IsOk result → journal.old.position.state ≡ states.Ready }
+    ensures performs { Performs S.performs journal.old.storage journal.new.storage (λ es.
+        (text : List ℕ) (updates : List (List ℕ)) (d : Disk)
+        → IsOpen text updates journal.old.position d
+        → AppendsUpdate journal.old.position journal.new.position update.now (is_ok result)
+        text updates d es) }
+{
+    let payload = match payload_of(alloc, update) {
+        Ok(payload) => payload,
+        // Memory for the payload was refused.
+        Err(_) => return Err(AppendError::Memory),
+    };
+    journal.append(alloc, payload.as_slice())
+}
+
+/// Returns the payload of updates.
+fn payload_of(alloc: Global, update: &[u8]) -> Result<Vec<u8>, AllocError>
+    requires { length update.now + 1 < 2 ^ 32 }
+    ensures payload { IfOk result (λ payload. payload.items ≡ update_payload update.now) }
+    ensures len { IfOk result (λ payload. length payload.items < 2 ^ 32) }
+{
+    let mut payload = Vec::new(alloc);
+    payload.push(UPDATE_TAG)?;
+    payload.extend_from_slice(update)?;
+    Ok(payload)
+}
