@@ -1,0 +1,2 @@
+pub mod CommitLaws
+pub mod ReplayLaws

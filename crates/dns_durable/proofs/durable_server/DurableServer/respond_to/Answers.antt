@@ -1,0 +1,12 @@
+use Rattle.std.proofs.Common.{[], refl}
+use Rattle.dns_durable.proofs.CommitLaws.{commits_nothing}
+use Rattle.dns_durable.proofs.durable_server.DurableServer.respond_to.Goals as goal
+
+pub returns-in_err-checked-clause-performs : goal.returns-in_err-checked-clause-performs
+returns-in_err-checked-clause-performs g c =
+    record {
+      events = [];
+      led = refl;
+      holds = λ start text updates d opened replayed.
+          commits_nothing start text updates c.args.request.now c.args.self.now.journal.position c.args.self.now.server d opened replayed c.args.self.now.server refl;
+    }

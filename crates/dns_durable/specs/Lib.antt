@@ -1,0 +1,4 @@
+pub mod Durable
+pub mod GrantText
+pub mod Policy
+pub mod Reply
