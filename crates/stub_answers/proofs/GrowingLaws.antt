@@ -1,0 +1,156 @@
+-- What stood in a history stands in one that goes on; and a whole set is fresh.
+use Rattle.std.proofs.Common.{◌≡◌, ◌≢◌, ℕ, ◌+◌, ◌≤◌, min, true, List, [], ◌∷◌, Ok, Err, All, Contains, unwrap_or, refl, sym, ap, subst, ◌∙◌, slice_index_or, arith}
+use Rattle.std.specs.FinMap as rows_map
+use Rattle.std.proofs.lemmas.Bool.{true≢false}
+use Rattle.std.proofs.lemmas.List.Elements.{All-cons, All-contains, All-nil, All-weaker, Contains-append_right}
+use Rattle.dns_codes.specs.RecordType.{type_number}
+use Rattle.dns_codes.specs.declared.record_type.RecordType.{RecordType}
+use Rattle.dns_names.specs.Compare.{lower}
+use Rattle.dns_names.specs.Name.{DomainName}
+use Rattle.dns_data.specs.rdata.{data_type}
+use Rattle.dns_records.specs.Record.{Record}
+use Rattle.dns_records.specs.Rows.{rows_at}
+use Rattle.dns_records.specs.declared.row.Row.{Row}
+use Rattle.dns_messages.specs.Response.{has_type}
+use Rattle.dns_messages.specs.declared.query.Query.{Query}
+use Rattle.dns_zone.specs.Answer.{record_of}
+use Rattle.stub_lookup.specs.declared.error.NoRecords.{NoRecords}
+use Rattle.stub_cache.specs.Cache.{CacheContent, Kept}
+use Rattle.stub_cache.specs.Ttl.{TtlConfigContent}
+use Rattle.stub_cache.specs.declared.cache.entry.Entry.{Entry}
+use Rattle.stub_core.specs.Origins.{HasNoMinima}
+use Rattle.stub_link.specs.LinkState.{Version}
+use Rattle.stub_history.specs.Answered.{greatest_ttl}
+use Rattle.stub_history.specs.Stands.{IsFresh, IsReached}
+use Rattle.stub_history.specs.Stands.IsReached.{by_alias, here}
+use Rattle.stub_history.proofs.AnswerRowLaws.{equal-numbers}
+use Rattle.stub_history.proofs.StandLaws.{contains-head}
+use Rattle.stub_answers.specs.Claims.{HasNoNegativeMinima, HoldOfKept}
+use Rattle.stub_answers.specs.Lookups.{CacheStands, GoesOn}
+use Rattle.stub_answers.specs.Standing.{FindsWhole, HasBeenAbsent, HasRows, HaveStood, IsWholeSet, LacksIndeed}
+use Rattle.stub_answers.specs.Standing.HasRows.{no_more, of_other_type, of_row}
+use Rattle.stub_answers.specs.Standing.HasBeenAbsent.{as_absence, as_aliases, as_special}
+use Rattle.stub_answers.specs.Standing.HaveStood.{as_loopback, as_set}
+
+module _ (history other : List Version) where
+  reached-on : (now : ℕ) → GoesOn now history other → {from to : DomainName} → IsReached history now from to → IsReached other now from to
+  reached-on now on (here to s) = here to s
+  reached-on now on (by_alias owner to moment rows row alias rest stand past there is s) =
+      by_alias owner to moment rows row alias (reached-on now on rest) (on moment rows past stand) past there is s
+
+  stood-on : (greatest now : ℕ) (q : Query) → GoesOn now history other → {rs : List Record} → HaveStood history greatest now q rs
+      → HaveStood other greatest now q rs
+  stood-on greatest now q on (as_set rs s) = as_set rs (record {
+    owner = s.owner;
+    full = s.full;
+    reached = reached-on now on s.reached;
+    moment = s.moment;
+    rows = s.rows;
+    stand = on s.moment s.rows s.past s.stand;
+    past = s.past;
+    filled = s.filled;
+    set = s.set;
+  })
+  stood-on greatest now q on (as_loopback r l) = as_loopback r (record {
+    question = l.question;
+    reached = reached-on now on l.reached;
+    whole = l.whole;
+    special = l.special;
+    same = l.same;
+    lasts = l.lasts;
+  })
+
+  lacking-on : (origin : DomainName) (now : ℕ) (q : Query) (answer : NoRecords) → GoesOn now history other
+      → HasBeenAbsent origin history now q answer → HasBeenAbsent origin other now q answer
+  lacking-on origin now q answer on (as_absence a) = as_absence (record {
+    owner = a.owner;
+    reached = reached-on now on a.reached;
+    moment = a.moment;
+    rows = a.rows;
+    stand = on a.moment a.rows a.past a.stand;
+    past = a.past;
+    inside = a.inside;
+    no_row = a.no_row;
+    no_alias = a.no_alias;
+    code = a.code;
+    soa_row = a.soa_row;
+    soa_there = a.soa_there;
+    soa = a.soa;
+    left = a.left;
+    left_is = a.left_is;
+    lasts = a.lasts;
+  })
+  lacking-on origin now q answer on (as_special p reached special none) = as_special p (reached-on now on reached) special none
+  lacking-on origin now q answer on (as_aliases a code none) = as_aliases (record {
+    owner = a.owner;
+    reached = reached-on now on a.reached;
+    moment = a.moment;
+    rows = a.rows;
+    stand = on a.moment a.rows a.past a.stand;
+    past = a.past;
+    there = a.there;
+  }) code none
+
+  module _ (config : TtlConfigContent) (origin : DomainName) where
+    kept-on : (now : ℕ) (q : Query) (deadline : ℕ) (kept : Kept) → GoesOn now history other
+        → HoldOfKept (HasNoMinima config) (HasNoNegativeMinima config) (λ p at rs. FindsWhole config history p at rs)
+        (λ p at answer. LacksIndeed config origin history p at answer) q now deadline kept
+        → HoldOfKept (HasNoMinima config) (HasNoNegativeMinima config) (λ p at rs. FindsWhole config other p at rs)
+        (λ p at answer. LacksIndeed config origin other p at answer) q now deadline kept
+    kept-on now q deadline (Ok m) on h = (λ none plain. stood-on (greatest_ttl config q.query_type) now q on (h.0 none plain), h.1)
+    kept-on now q deadline (Err answer) on h = (λ none plain. lacking-on origin now q answer on (h.0 none plain), h.1)
+
+    pub cache-on : (now : ℕ) (cache : CacheContent) → GoesOn now history other → CacheStands config origin history now cache
+        → CacheStands config origin other now cache
+    cache-on now cache on h = record {
+      holds = λ k d less.
+          let e : Entry = slice_index_or cache.entries k d in
+          let past : e.moment ≤ now = (h.holds k d less).past in
+          record {
+            past = past;
+            kept = kept-on e.moment e.question e.deadline e.kept (λ moment rows before. on moment rows (omega arith)) (h.holds k d less).kept;
+          };
+      typed = h.typed;
+    }
+
+-- ---- whole sets
+
+-- a record of the type is one of the rows
+abbrev Among : ℕ → ℕ → ℕ → DomainName → RecordType → List Row → Record → Type 0
+Among greatest moment now owner kind rows r =
+    has_type kind r ≡ true → (row : Row) × Contains rows row × (r ≡ record (record_of owner row) { ttl = r.ttl })
+    × (now + r.ttl ≤ moment + min row.ttl greatest)
+
+rows-among : {greatest moment now : ℕ} {owner : DomainName} {kind : RecordType} {rows : List Row} {rs : List Record}
+    → HasRows greatest moment now owner kind rows rs → All (Among greatest moment now owner kind rows) rs
+rows-among {greatest} {moment} {now} {owner} {kind} no_more = All-nil (Among greatest moment now owner kind [])
+rows-among {greatest} {moment} {now} {owner} {kind} (of_other_type r rows rs off more) =
+    All-cons (Among greatest moment now owner kind rows) r rs (λ typed. absurd (true≢false (sym typed ∙ off))) (rows-among more)
+rows-among {greatest} {moment} {now} {owner} {kind} (of_row row ttl rows rs is lasts more) =
+    All-cons (Among greatest moment now owner kind (row ∷ rows)) (record (record_of owner row) { ttl = ttl }) rs
+    (λ typed. (row, contains-head row rows, refl, lasts))
+    (All-weaker (Among greatest moment now owner kind rows) (Among greatest moment now owner kind (row ∷ rows))
+    (λ r among typed.
+    (let a = among typed in (a.0, Contains-append_right (row ∷ []) rows a.0 a.1, a.2, a.3))) rs (rows-among more))
+
+pub set-fresh : (history : List Version) (greatest now : ℕ) (kind : RecordType) (from : DomainName) (rs : List Record) (r : Record)
+    → IsWholeSet history greatest now kind from rs → Contains rs r → has_type kind r ≡ true
+    → IsFresh history greatest now r × IsReached history now from r.name
+set-fresh history greatest now kind from rs r s there typed =
+    let a = All-contains (Among greatest s.moment now s.owner kind (rows_at s.rows s.owner.labels kind)) rs r (rows-among s.set) there typed in
+    let number : type_number (data_type a.0.rdata) ≡ type_number kind =
+    ap (λ (x : Record). type_number (data_type x.rdata)) (sym a.2) ∙ equal-numbers (type_number (data_type r.rdata)) (type_number kind) typed in
+    subst (λ (x : Record). IsFresh history greatest now x × IsReached history now from x.name) (sym a.2) (
+      record {
+        full = s.full;
+        moment = s.moment;
+        rows = s.rows;
+        row = a.0;
+        stand = s.stand;
+        past = s.past;
+        holds = subst (λ (n : ℕ). Contains (unwrap_or (rows_map.get s.rows (lower s.owner.labels, n)) []) a.0) (sym number) a.1;
+        same_data = refl;
+        lasts = a.3;
+      },
+      s.reached,
+    )

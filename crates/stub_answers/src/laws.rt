@@ -1,0 +1,10 @@
+//! Theorems about whole answers, as functions with empty bodies.
+
+mod lookups;
+mod standing;
+
+pub use lookups::{
+    answers_that_stood_bear_out, caches_keep_what_stood, every_lookup_keeps_whole_answers,
+    every_resolver_lookup_stands,
+};
+pub use standing::{absences_are_negative_answers, whole_sets_are_fresh};
