@@ -371,6 +371,7 @@ module _ (input : PlayInput) (loaded : Loaded) (is : IsLoaded input loaded) wher
           history = history;
           fresh = history.fresh once (λ kind. refl);
           chain_bound = history.chain_bound once (λ kind. refl) refl;
+          whole = history.whole once;
           walked = history.walked once refl;
         }
 

@@ -23,6 +23,7 @@ use Rattle.stub_run.specs.Run.{InOrder, RunState}
 use Rattle.stub_run.specs.Headline.{AreFresh, HaveChainBounds, WorldContent}
 use Rattle.stub_run.specs.RunOver.{IsReportOver}
 use Rattle.stub_run.specs.Walked.{AreWalked}
+use Rattle.stub_run.specs.Whole.{AreWhole}
 use Rattle.stub_run.specs.World.{IsFirst, IsFirstOver}
 use Rattle.stub_socket.specs.SocketLink.{socket_rules}
 use Rattle.stub_socket.specs.declared.socket_link.SocketLink.{SocketLink}
@@ -190,7 +191,8 @@ content_of input zone ids hosts = record {
 }
 
 -- The text of the report of a run of these events, with its one history. What it says of plain types is fresh, has the chain bound where
--- no chain of aliases has passed seven links, and is what walks over the zone come to where nothing was updated and the link met no fault.
+-- no chain of aliases has passed seven links, is of whole sets and of negative answers that stood, and is what walks over the zone come to
+-- where nothing was updated and the link met no fault.
 pub record Tells (input : PlayInput) (zone : ZoneContent) (events : List Event) (text : List ℕ) : Type 0 where
   pub hosts : HostsContent
   pub state : RunState
@@ -202,6 +204,7 @@ pub record Tells (input : PlayInput) (zone : ZoneContent) (events : List Event) 
   pub history : HasOneHistory (content_of input zone start.ids hosts) state events report
   pub fresh : AreFresh (content_of input zone start.ids hosts) events report.events.items history.occasions
   pub chain_bound : HaveChainBounds (content_of input zone start.ids hosts) events report.events.items history.occasions
+  pub whole : AreWhole (content_of input zone start.ids hosts) events report.events.items history.occasions
   pub walked : AreWalked (content_of input zone start.ids hosts) events report.events.items history.occasions
 
 -- of all events of the script

@@ -19,4 +19,5 @@ pub mod SoundQuestionLaws
 pub mod SupportedLaws
 pub mod Unchanged
 pub mod WalkedRuns
+pub mod WholeRuns
 pub mod ZoneQuestions

@@ -11,3 +11,4 @@ pub mod ScriptedEvents
 pub mod World
 pub mod Questions
 pub mod Walked
+pub mod Whole

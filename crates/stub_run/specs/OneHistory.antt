@@ -6,6 +6,7 @@ use Rattle.stub_run.specs.Headline.{AreFresh, HasNoLeastTtl, HaveChainBounds, Wo
 use Rattle.stub_run.specs.History.{AreOccasions, MakePasts}
 use Rattle.stub_run.specs.Run.{IsReportOf, RunState}
 use Rattle.stub_run.specs.Walked.{AreWalked}
+use Rattle.stub_run.specs.Whole.{AreWhole}
 use Rattle.stub_run.specs.declared.event.Event.{Event}
 use Rattle.stub_run.specs.declared.report.Report.{Report}
 
@@ -19,5 +20,6 @@ pub record HasOneHistory (content : WorldContent) (first : RunState) (events : L
   pub fresh : HasNoReuse report.sent.items → HasNoLeastTtl content → AreFresh content events report.events.items occasions
   pub chain_bound : HasNoReuse report.sent.items → HasNoLeastTtl content → content.options.preserve_intermediates ≡ false
       → HaveChainBounds content events report.events.items occasions
+  pub whole : HasNoReuse report.sent.items → AreWhole content events report.events.items occasions
   pub walked : HasNoReuse report.sent.items → content.options.preserve_intermediates ≡ false
       → AreWalked content events report.events.items occasions

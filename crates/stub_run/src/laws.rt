@@ -41,7 +41,7 @@ mod questions;
 
 use crate::event_link::EventLink;
 pub use headline::{
-    distinct_ids_are_not_reused, every_record_stood, runs_have_one_history,
+    distinct_ids_are_not_reused, every_answer_stood, every_record_stood, runs_have_one_history,
     unchanged_zones_are_walked, walked_replies_agree, walked_runs_agree,
 };
 pub use questions::{

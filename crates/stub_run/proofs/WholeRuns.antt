@@ -1,0 +1,374 @@
+-- Event by event, the replies of a run stood in the zone: as whole sets, or as negative answers.
+use Rattle.std.proofs.Common.{◌≡◌, ℕ, ◌≤◌, ◌++◌, List, [], ◌∷◌, Result, Ok, Err, true, false, All, refl, sym, ap, subst, ◌∙◌, slice_index_or, inl, inr, arith}
+use Rattle.std.specs.Prelude.{string_bytes}
+use Rattle.std.proofs.lemmas.Bool.{true≢false}
+use Rattle.std.proofs.lemmas.List.Elements.{All-cons, All-head, All-nil, All-tail}
+use Rattle.dns_codes.specs.RecordType.{type_number, type_of}
+use Rattle.dns_codes.specs.declared.record_type.RecordType.{RecordType}
+use Rattle.dns_names.specs.Name.{DomainName}
+use Rattle.dns_names.specs.Parse.{name_of_text}
+use Rattle.dns_names.specs.declared.error.ParseError.{ParseError}
+use Rattle.dns_text.specs.Address.{IsTextOf}
+use Rattle.dns_messages.specs.declared.message.Message.{Message}
+use Rattle.dns_messages.specs.declared.query.Query.{Query}
+use Rattle.dns_messages.specs.declared.response.DnsResponse.{DnsResponse}
+use Rattle.dns_messages.specs.declared.response_code.ResponseCode.{ResponseCode}
+use Rattle.dns_zone.specs.Answer.{IsChain, answer}
+use Rattle.dns_zone.specs.Rows.{IsZone, ZoneContent}
+use Rattle.stub_lookup.specs.declared.error.NetError.{NetError}
+use Rattle.stub_lookup.specs.declared.error.NetError.TheVariants as net
+use Rattle.stub_cache.specs.Cache.{CacheContent}
+use Rattle.stub_cache.specs.Ttl.{TtlConfigContent}
+use Rattle.stub_client.specs.AnswerTypes.{HasAskedTypes}
+use Rattle.stub_client.specs.Handle.{Ask, Led}
+use Rattle.stub_client.specs.Looks.{Reply}
+use Rattle.stub_client.specs.Origins.{Asked, asked_at}
+use Rattle.stub_client.specs.Step.{meaning}
+use Rattle.stub_core.specs.Attempts.{Lookups}
+use Rattle.stub_core.specs.Origins.{HasNoMinima}
+use Rattle.stub_core.specs.Outcomes.{settings_of as told_by}
+use Rattle.stub_core.specs.Resolver.{LooksUp, LooksUpHost, ResolvesHost, ResolvesName, request_options, with_handle}
+use Rattle.stub_core.specs.ResolverBuilder.{empty_cache}
+use Rattle.stub_core.specs.declared.resolver.settings.Settings.{Settings}
+use Rattle.stub_link.specs.AskState.{AskState, UpdateZone, begin, begin_with_update, end}
+use Rattle.stub_link.specs.History.{Occasion, Past, first_past, past_after_occasion}
+use Rattle.stub_link.specs.LinkState.{Version}
+use Rattle.stub_history.specs.Answered.{AreZones, IsAnsweredBy}
+use Rattle.stub_history.specs.Faithful.{HasNoReuse, IsFaithful, StaysFaithful, StaysFaithfulUnlessOut}
+use Rattle.stub_history.proofs.AskedTypeLaws.{asked-types}
+use Rattle.stub_history.proofs.EventLaws.{begin-faithful, begin-update-faithful, end-faithful, first-faithful}
+use Rattle.stub_history.proofs.FaithfulLaws.{update-stays}
+use Rattle.stub_history.proofs.LedLaws.{led-holds}
+use Rattle.stub_history.proofs.ServeLaws.{UpdatesKeepZones}
+use Rattle.stub_answers.specs.Claims.{HasNoNegativeMinima}
+use Rattle.stub_answers.specs.Lookups.{ByStanding, CacheStands, GoesOn, Stands}
+use Rattle.stub_answers.proofs.ClaimLaws.{own-least}
+use Rattle.stub_answers.proofs.ErrorLaws.{led-no-meaning}
+use Rattle.stub_answers.proofs.GrowingLaws.{cache-on}
+use Rattle.stub_answers.proofs.ResolverLaws.{held-cleared, held-empty, held-later, host-keeps, name-keeps}
+use Rattle.stub_answers.proofs.StandingLaws.{finds-outlast, lacks-outlast, special-hold}
+use Rattle.stub_answers.proofs.StepLaws.{ask-bears}
+use Rattle.stub_run.specs.Event.{moment_of}
+use Rattle.stub_run.specs.Headline.{WorldContent, settings_of, ttls_of}
+use Rattle.stub_run.specs.History.{MakePasts}
+use Rattle.stub_run.specs.Run.{Clears, InOrder, RepliesByZone, RunState, Runs, Step, Updates, asks_of, begin_event, end_event}
+use Rattle.stub_run.specs.Whole.{AreStandingEvents, AreWhole, IsStandingReply}
+use Rattle.stub_run.specs.World.{IsFirst}
+use Rattle.stub_run.specs.declared.event.Event.{Event}
+use Rattle.stub_run.specs.declared.event.Event.TheVariants as event
+use Rattle.stub_run.specs.declared.report.EventReply.{EventReply}
+use Rattle.stub_run.specs.declared.report.EventReply.TheVariants as replies
+use Rattle.stub_run.specs.declared.report.EventReport.{EventReport}
+use Rattle.stub_run.proofs.Growing.{runs-extend}
+use Rattle.stub_run.proofs.Happening.{AsksServer}
+use Rattle.stub_run.proofs.RunLaws.{mid-memory}
+
+-- ---- lists
+
+-- each ask of a lookup, in the place of each question at its moment
+each-ask : (P : Asked → Type 0) (now : ℕ) (asks : List Ask) → All P (asked_at now asks) → All (λ ask. P (record { moment = now; ask = ask })) asks
+each-ask P now [] h = All-nil (λ ask. P (record { moment = now; ask = ask }))
+each-ask P now (ask ∷ asks) h =
+    All-cons (λ a. P (record { moment = now; ask = a })) ask asks (All-head P (record { moment = now; ask = ask }) (asked_at now asks) h)
+    (each-ask P now asks (All-tail P (record { moment = now; ask = ask }) (asked_at now asks) h))
+
+module _ (keep : UpdatesKeepZones) (chains : (zone : ZoneContent) (q : Query) → IsChain zone.rows q.query_type q.name (answer zone q).answers)
+    (round : (number : ℕ) → type_number (type_of number) ≡ number) (origin : DomainName) (config : TtlConfigContent)
+    (settings : Settings) where
+  -- a state: what its cache has stood
+  pub record Has (state : RunState) : Type 0 where
+    pub faithful : IsFaithful origin (asks_of state)
+    pub cache : CacheStands config origin (asks_of state).link.history (asks_of state).link.moment state.client.cache
+    pub config_is : state.client.cache.config ≡ config
+    pub settings_is : state.settings ≡ settings
+
+  -- the handle has come to other asks, and what stood still stands
+  has-after : (old : RunState) (asks : AskState) → Has old → StaysFaithful origin (asks_of old) asks → Has (with_handle old asks)
+  has-after old asks h s = record {
+    faithful = s.faithful;
+    cache = subst (λ (t : ℕ). CacheStands config origin asks.link.history t old.client.cache) (sym s.moment_is)
+        (cache-on (asks_of old).link.history asks.link.history config origin (asks_of old).link.moment old.client.cache s.stands h.cache);
+    config_is = h.config_is;
+    settings_is = h.settings_is;
+  }
+
+  -- ---- an event begins
+
+  has-begun : (moment : ℕ) (old : RunState) (asks : AskState) → Has old → IsFaithful origin asks
+      → asks.link.history ≡ (asks_of old).link.history → asks.link.moment ≡ moment → (asks_of old).link.moment ≤ moment
+      → Has (with_handle old asks)
+  has-begun moment old asks h faithful same at less = record {
+    faithful = faithful;
+    cache = subst (λ (vs : List Version). CacheStands config origin vs asks.link.moment old.client.cache) (sym same)
+        (held-later (HasNoMinima config) (HasNoNegativeMinima config) _ _ (asks_of old).link.moment asks.link.moment old.client.cache
+        (omega (arith, at)) h.cache);
+    config_is = h.config_is;
+    settings_is = h.settings_is;
+  }
+
+  begun : (e : Event) (old : RunState) → Has old → (asks_of old).link.moment ≤ moment_of e
+      → Has (begin_event e old) × ((asks_of (begin_event e old)).link.moment ≡ moment_of e)
+  begun (event.Lookup at name kind script) old h less =
+      (has-begun at old (begin at script (asks_of old)) h (begin-faithful origin at script (asks_of old) less h.faithful) refl refl less, refl)
+  begun (event.LookupIp at host script) old h less =
+      (has-begun at old (begin at script (asks_of old)) h (begin-faithful origin at script (asks_of old) less h.faithful) refl refl less, refl)
+  begun (event.Clear at name kind script) old h less =
+      (has-begun at old (begin at script (asks_of old)) h (begin-faithful origin at script (asks_of old) less h.faithful) refl refl less, refl)
+  begun (event.ClearAll at script) old h less =
+      (has-begun at old (begin at script (asks_of old)) h (begin-faithful origin at script (asks_of old) less h.faithful) refl refl less, refl)
+  begun (event.Update at update script) old h less = (
+    has-begun at old (begin_with_update at script (asks_of old)) h (begin-update-faithful origin at script (asks_of old) less h.faithful) refl refl
+        less,
+    refl,
+  )
+
+  -- ---- a lookup
+
+  -- The questions of a lookup have answers that stood, also in a history that goes on, and so has what is kept and returned.
+  pub record HasLooked (old mid : RunState) (looks : List Version → Type 0) : Type 0 where
+    pub has : Has mid
+    pub moment_is : (asks_of mid).link.moment ≡ (asks_of old).link.moment
+    pub stands : (history : List Version) → AreZones origin history → GoesOn (asks_of mid).link.moment (asks_of mid).link.history history
+        → looks history
+
+  module _ (now : ℕ) (old mid : RunState) (later : List (ℕ × Query)) (h : Has old) (at : (asks_of old).link.moment ≡ now)
+      (same : mid.settings ≡ old.settings) (memory : (asks_of mid).link.out_of_memory ≡ false) (once : HasNoReuse ((asks_of mid).sent ++ later))
+      (looks : Lookups (Unit {0}) Query → Type 0)
+      (keeps : (history : List Version) → Stands origin history AsksServer now old mid looks) where
+    led : (asks : List Ask) → Led AsksServer (request_options old.settings.options) now (asks_of old) asks (asks_of mid)
+        → StaysFaithful origin (asks_of old) (asks_of mid) × All (IsAnsweredBy origin (asks_of mid).link.history) (asked_at now asks)
+    led asks l = led-holds (request_options old.settings.options) now keep origin (asks_of old) (asks_of mid) asks later h.faithful at l memory once
+
+    stays : StaysFaithful origin (asks_of old) (asks_of mid)
+    stays = (led (keeps (asks_of mid).link.history).asks (keeps (asks_of mid).link.history).led).0
+
+    at-mid : (asks_of mid).link.moment ≡ now
+    at-mid = stays.moment_is ∙ at
+
+    answered-on : (history : List Version) → GoesOn now (asks_of mid).link.history history → (ask : Ask)
+        → IsAnsweredBy origin (asks_of mid).link.history (record { moment = now; ask = ask })
+        → IsAnsweredBy origin history (record { moment = now; ask = ask })
+    answered-on history on ask answered = λ response ok.
+        let held = answered response ok in
+        record { full = held.full; rows = held.rows; stand = on now held.rows (omega arith) held.stand; holds = held.holds }
+
+    -- over each history that goes on after the lookup
+    looked : (history : List Version) → AreZones origin history → GoesOn now (asks_of mid).link.history history
+        → CacheStands old.client.cache.config origin history now mid.client.cache
+        × looks (ByStanding old.client.cache.config origin history now)
+    looked history zones on =
+        let k = keeps history in
+        let answered : All (λ ask. IsAnsweredBy origin history (record { moment = now; ask = ask })) k.asks =
+        λ n d less. answered-on history on (slice_index_or k.asks n d)
+        (each-ask (IsAnsweredBy origin (asks_of mid).link.history) now k.asks (led k.asks k.led).1 n d less) in
+        let meanings = led-no-meaning (request_options old.settings.options) now (asks_of old) (asks_of mid) k.asks k.led memory in
+        let first : GoesOn now (asks_of old).link.history history =
+        λ moment rows past stand. on moment rows past
+        (stays.stands moment rows (let begun : (asks_of old).link.moment ≡ now = at in omega arith) stand) in
+        k.keeps
+        (record {
+          bear = λ n d less. ask-bears chains origin history zones old.client.cache.config (told_by old) now (slice_index_or k.asks n d)
+              (answered n d less) (meanings n d less);
+          typed = typed-by k.asks (led k.asks k.led).1;
+        })
+        (cache-on (asks_of old).link.history history old.client.cache.config origin now old.client.cache first
+        (subst (λ (c : TtlConfigContent). CacheStands c origin (asks_of old).link.history now old.client.cache) (sym h.config_is)
+        (subst (λ (t : ℕ). CacheStands config origin (asks_of old).link.history t old.client.cache) at h.cache)))
+      where
+        typed-by : (asks : List Ask) → All (IsAnsweredBy origin (asks_of mid).link.history) (asked_at now asks)
+            → All (λ ask. (response : DnsResponse) → meaning ask.outcome ≡ Ok response → HasAskedTypes ask.question response.message) asks
+        typed-by asks answered =
+            each-ask (λ a. (response : DnsResponse) → meaning a.ask.outcome ≡ Ok response → HasAskedTypes a.ask.question response.message) now asks
+            (asked-types chains origin (asks_of mid).link.history stays.faithful.history.versions (asked_at now asks) answered)
+
+    has-looked : HasLooked old mid (λ history. looks (ByStanding config origin history now))
+    has-looked =
+        let k = keeps (asks_of mid).link.history in
+        let here = looked (asks_of mid).link.history stays.faithful.history.versions (λ moment rows past stand. stand) in
+        record {
+          has = record {
+            faithful = stays.faithful;
+            cache = subst (λ (t : ℕ). CacheStands config origin (asks_of mid).link.history t mid.client.cache) (sym at-mid)
+                (subst (λ (c : TtlConfigContent). CacheStands c origin (asks_of mid).link.history now mid.client.cache) h.config_is here.0);
+            config_is = k.config ∙ h.config_is;
+            settings_is = same ∙ h.settings_is;
+          };
+          moment_is = stays.moment_is;
+          stands = λ history zones on.
+              subst (λ (c : TtlConfigContent). looks (ByStanding c origin history now)) h.config_is
+              (looked history zones (subst (λ (t : ℕ). GoesOn t (asks_of mid).link.history history) at-mid on)).1;
+        }
+
+  -- ---- the reply to an event
+
+  abbrev pub StandsOn : Event → EventReply → RunState → Type 0
+  StandsOn e reply mid =
+      (history : List Version) → AreZones origin history → GoesOn (asks_of mid).link.moment (asks_of mid).link.history history
+      → IsStandingReply config origin history settings e reply
+
+  pub record HasReplied (e : Event) (reply : EventReply) (old mid : RunState) : Type 0 where
+    pub has : Has mid
+    pub moment_is : (asks_of mid).link.moment ≡ (asks_of old).link.moment
+    pub stands : StandsOn e reply mid
+
+  looked-up : (at : ℕ) (name : DomainName) (kind : RecordType) (script : _) (found : Reply) (old mid : RunState) (later : List (ℕ × Query))
+      → Has old → (asks_of old).link.moment ≡ at → ResolvesName AsksServer at (Ok name) kind old found mid
+      → (asks_of mid).link.out_of_memory ≡ false → HasNoReuse ((asks_of mid).sent ++ later)
+      → HasReplied (event.Lookup at name kind script) (replies.Lookup found) old mid
+  looked-up at name kind script found old mid later h moment resolves memory once =
+      let c : TtlConfigContent = old.client.cache.config in
+      let l = has-looked at old mid later h moment resolves.settings memory once
+      (λ asks. LooksUp old.settings at asks (Ok name) kind tt found tt)
+      (λ history. name-keeps AsksServer at old mid (HasNoMinima c) (HasNoNegativeMinima c) _ _ (finds-outlast c history)
+      (lacks-outlast c origin history) (special-hold c origin history) (own-least c) round (Ok name) kind found resolves.lookup) in
+      record {
+        has = l.has;
+        moment_is = l.moment_is;
+        stands = λ history zones on.
+            subst (λ (s : Settings). LooksUp s at (ByStanding config origin history at) (Ok name) kind tt found tt) h.settings_is
+            (l.stands history zones on);
+      }
+
+  looked-up-host : (at : ℕ) (host : _) (script : _) (found : Reply) (old mid : RunState) (later : List (ℕ × Query))
+      → Has old → (asks_of old).link.moment ≡ at
+      → ResolvesHost AsksServer at (IsTextOf (string_bytes host)) (name_of_text (string_bytes host)) old found mid
+      → (asks_of mid).link.out_of_memory ≡ false → HasNoReuse ((asks_of mid).sent ++ later)
+      → HasReplied (event.LookupIp at host script) (replies.LookupIp found) old mid
+  looked-up-host at host script found old mid later h moment resolves memory once =
+      let c : TtlConfigContent = old.client.cache.config in
+      let name : Result DomainName ParseError = name_of_text (string_bytes host) in
+      let l = has-looked at old mid later h moment resolves.settings memory once
+      (λ asks. LooksUpHost old.settings at asks resolves.address name tt found tt)
+      (λ history. host-keeps AsksServer at old mid (HasNoMinima c) (HasNoNegativeMinima c) _ _ (finds-outlast c history)
+      (lacks-outlast c origin history) (special-hold c origin history) (own-least c) round resolves.address name found resolves.lookup) in
+      record {
+        has = l.has;
+        moment_is = l.moment_is;
+        stands = λ history zones on. (
+          resolves.address,
+          resolves.is_address,
+          subst (λ (s : Settings). LooksUpHost s at (ByStanding config origin history at) resolves.address name tt found tt) h.settings_is
+              (l.stands history zones on),
+        );
+      }
+
+  -- other entries in the cache
+  has-cleared : (old mid : RunState) (cache : CacheContent) → Has old
+      → CacheStands config origin (asks_of old).link.history (asks_of old).link.moment cache → cache.config ≡ old.client.cache.config
+      → mid ≡ record old { client = record old.client { cache = cache } } → Has mid
+  has-cleared old mid cache h stands same is =
+      subst Has (sym is)
+      (record { faithful = h.faithful; cache = stands; config_is = same ∙ h.config_is; settings_is = h.settings_is })
+
+  cleared : (name : DomainName) (kind : RecordType) (done : Result (Unit {0}) NetError) (old mid : RunState) → Has old
+      → Clears name kind old done mid → Has mid × ((asks_of mid).link.moment ≡ (asks_of old).link.moment)
+  cleared name kind (Ok done) old mid h clears = (
+    has-cleared old mid _ h
+        (held-cleared (HasNoMinima config) (HasNoNegativeMinima config) _ _ (asks_of old).link.moment old.client.cache old.settings (Ok name) kind
+        h.cache) refl clears,
+    ap (λ (s : RunState). (asks_of s).link.moment) clears,
+  )
+  cleared name kind (Err net.Memory) old mid h clears =
+      (subst Has (sym clears) h, ap (λ (s : RunState). (asks_of s).link.moment) clears)
+  cleared name kind (Err (net.Dns e)) old mid h clears = absurd clears
+  cleared name kind (Err (net.Proto e)) old mid h clears = absurd clears
+  cleared name kind (Err (net.Message e)) old mid h clears = absurd clears
+  cleared name kind (Err (net.Link e)) old mid h clears = absurd clears
+  cleared name kind (Err net.Unsupported) old mid h clears = absurd clears
+
+  updated : (update : Message) (reply : Result ResponseCode NetError) (old mid : RunState) → Has old
+      → Updates (λ asks update reply after. UpdateZone asks update reply after) update old reply mid
+      → (asks_of mid).link.out_of_memory ≡ false → Has mid × ((asks_of mid).link.moment ≡ (asks_of old).link.moment)
+  updated update reply old mid h updates memory =
+      by (update-stays keep origin (asks_of old) h.faithful update updates.sound reply (asks_of mid) updates.sent)
+    where
+      by : StaysFaithfulUnlessOut origin (asks_of old) (asks_of mid) → Has mid × ((asks_of mid).link.moment ≡ (asks_of old).link.moment)
+      by (inl out) = absurd (true≢false (sym out ∙ memory))
+      by (inr stays) = (subst Has (sym updates.rest) (has-after old (asks_of mid) h stays), stays.moment_is)
+
+  replied : (e : Event) (reply : EventReply) (old mid : RunState) (later : List (ℕ × Query)) → Has old
+      → (asks_of old).link.moment ≡ moment_of e → RepliesByZone old e reply mid → (asks_of mid).link.out_of_memory ≡ false
+      → HasNoReuse ((asks_of mid).sent ++ later) → HasReplied e reply old mid
+  replied (event.Lookup at name kind script) (replies.Lookup found) old mid later h moment r memory once =
+      looked-up at name kind script found old mid later h moment r memory once
+  replied (event.LookupIp at host script) (replies.LookupIp found) old mid later h moment r memory once =
+      looked-up-host at host script found old mid later h moment r memory once
+  replied (event.Clear at name kind script) (replies.Cleared done) old mid later h moment r memory once =
+      let c = cleared name kind done old mid h r in
+      record { has = c.0; moment_is = c.1; stands = λ history zones on. tt }
+  replied (event.ClearAll at script) (replies.Cleared done) old mid later h moment r memory once = record {
+    has = has-cleared old mid _ h
+        (held-empty (HasNoMinima config) (HasNoNegativeMinima config) _ _ (asks_of old).link.moment old.client.cache) refl r.1;
+    moment_is = ap (λ (s : RunState). (asks_of s).link.moment) r.1;
+    stands = λ history zones on. tt;
+  }
+  replied (event.Update at update script) (replies.Update reply) old mid later h moment r memory once =
+      let u = updated update.value reply old mid h r memory in
+      record { has = u.0; moment_is = u.1; stands = λ history zones on. tt }
+  replied e reply old mid later h moment r memory once = absurd r
+
+  -- ---- one event
+
+  pub record HasStepped (e : Event) (reply : EventReply) (new : RunState) : Type 0 where
+    pub has : Has new
+    pub moment_is : (asks_of new).link.moment ≡ moment_of e
+    pub stands : IsStandingReply config origin (asks_of new).link.history settings e reply
+
+  stepped : (e : Event) (report : EventReport) (old new : RunState) (later : List (ℕ × Query)) → Has old
+      → (asks_of old).link.moment ≤ moment_of e → Step old e report new → HasNoReuse ((asks_of new).sent ++ later)
+      → HasStepped e report.reply new
+  stepped e report old new later h less step once =
+      let b = begun e old h less in
+      let sent : (asks_of new).sent ≡ (asks_of step.mid).sent = ap (λ (s : RunState). (asks_of s).sent) step.ends in
+      let r = replied e report.reply (begin_event e old) step.mid later b.0 b.1 step.replies (mid-memory old e report new step)
+      (subst (λ (s : List (ℕ × Query)). HasNoReuse (s ++ later)) sent once) in
+      let stays = end-faithful keep origin (asks_of step.mid) r.has.faithful in
+      let last : Has (end_event step.mid) = has-after step.mid (end (asks_of step.mid)) r.has stays in
+      record {
+        has = subst Has (sym step.ends) last;
+        moment_is = ap (λ (s : RunState). (asks_of s).link.moment) step.ends ∙ stays.moment_is ∙ r.moment_is ∙ b.1;
+        stands = subst (λ (s : RunState). IsStandingReply config origin (asks_of s).link.history settings e report.reply) (sym step.ends)
+            (r.stands (end (asks_of step.mid)).link.history stays.faithful.history.versions stays.stands);
+      }
+
+  -- ---- all events
+
+  pub events-stand : (past : Past) (first last : RunState) (events : List Event) (reports : List EventReport) (states : List RunState)
+      (occasions : List Occasion) → Has first → InOrder (asks_of first).link.moment events → Runs first events reports states last
+      → HasNoReuse (asks_of last).sent → MakePasts past states occasions
+      → AreStandingEvents config origin settings past events reports occasions
+  events-stand past first last [] [] [] [] h order runs once pasts = tt
+  events-stand past first last (e ∷ events) (report ∷ reports) (state ∷ states) (o ∷ occasions) h order runs once pasts =
+      let more = runs-extend state last events reports states runs.1 in
+      let s = stepped e report first state more.0 h order.0 runs.0 (subst HasNoReuse more.1 once) in (
+        subst (λ (vs : List Version). IsStandingReply config origin vs settings e report.reply) (ap (λ (p : Past). p.history) pasts.0) s.stands,
+        events-stand (past_after_occasion past o) state last events reports states occasions s.has
+            (subst (λ (t : ℕ). InOrder t events) (sym s.moment_is) order.2) runs.1 once pasts.1,
+      )
+  events-stand past first last [] [] [] (o ∷ occasions) h order runs once pasts = absurd pasts
+  events-stand past first last [] [] (state ∷ states) occasions h order runs once pasts = absurd runs
+  events-stand past first last [] (report ∷ reports) states occasions h order runs once pasts = absurd runs
+  events-stand past first last (e ∷ events) [] states occasions h order runs once pasts = absurd runs
+  events-stand past first last (e ∷ events) (report ∷ reports) [] occasions h order runs once pasts = absurd runs
+  events-stand past first last (e ∷ events) (report ∷ reports) (state ∷ states) [] h order runs once pasts = absurd pasts
+
+-- ---- runs
+
+pub whole-run : UpdatesKeepZones → ((zone : ZoneContent) (q : Query) → IsChain zone.rows q.query_type q.name (answer zone q).answers)
+    → ((number : ℕ) → type_number (type_of number) ≡ number) → (content : WorldContent) (first last : RunState) (events : List Event)
+    (reports : List EventReport) (states : List RunState) (occasions : List Occasion) → IsZone content.zone
+    → IsFirst content.zone content.limit content.ids content.config content.options content.hosts first
+    → InOrder 0 events → Runs first events reports states last → MakePasts (first_past content.zone) states occasions
+    → HasNoReuse (asks_of last).sent → AreWhole content events reports occasions
+whole-run keep chains round content first last events reports states occasions zone begins order runs pasts once =
+    let origin : DomainName = content.zone.origin in
+    let ttls : TtlConfigContent = ttls_of content in
+    events-stand keep chains round origin ttls (settings_of content) (first_past content.zone) first last events reports states occasions
+    (record {
+      faithful = subst (IsFaithful origin) (sym begins.asks) (first-faithful content.zone content.limit content.ids zone);
+      cache = subst (λ (c : CacheContent). CacheStands ttls origin (asks_of first).link.history (asks_of first).link.moment c) (sym begins.cache)
+          (held-empty (HasNoMinima ttls) (HasNoNegativeMinima ttls) _ _ (asks_of first).link.moment (empty_cache content.options));
+      config_is = ap (λ (c : CacheContent). c.config) begins.cache;
+      settings_is = begins.settings;
+    })
+    (subst (λ (a : AskState). InOrder a.link.moment events) (sym begins.asks) order) runs once pasts
