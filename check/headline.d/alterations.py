@@ -9,12 +9,12 @@ from itertools import islice
 
 from checks import Checker, Violation
 from history import MOST_LINKS, history_of
-from names import name_of, name_text
+from names import is_at_or_below, name_of, name_text
 from output import PrintedEvent, PrintedRecord, parse_output, write_output
-from records import A, AAAA, CNAME, Record, data_text, is_plain, type_text
-from walk import is_loopback_name
+from records import A, AAAA, CNAME, SOA, Data, Record, data_text, is_plain, type_text
+from walk import is_loopback_name, special_outcome
 from world import Lookup, LookupIp, World
-from zone import Message, alias_of, has_short_chains, rows_of
+from zone import Message, Row, alias_of, has_short_chains, rows_of
 
 Output = list[PrintedEvent]
 Alteration = Callable[[World, Output], Iterator[Output]]
@@ -109,6 +109,89 @@ def other_type(world: World, output: Output) -> Iterator[Output]:
                 yield altered(output, index, replace(output[index], records=(*output[index].records, extra)))
 
 
+def server_sets(world: World, output: Output) -> Iterator[tuple[int, list[Record], list[tuple[Row, ...]]]]:
+    """The records of a lookup that come from the server, with the rows of their name and type in each version so far."""
+    history = history_of(world)
+    for index, at, _, record in found_records(world, output):
+        if at == 0 and not is_loopback_name(record.owner):
+            versions = [version.rows.get((record.owner, record.rtype), ()) for version in history.versions_by(index)]
+            yield index, [printed.record for printed in output[index].records], versions
+
+
+def data_of_rows(rows: tuple[Row, ...]) -> list[Data]:
+    return [row.data for row in rows]
+
+
+def cut_set(world: World, output: Output) -> Iterator[Output]:
+    """A set without one of its records, which no version of the zone has."""
+    for index, records, versions in server_sets(world, output):
+        for at in range(len(records)):
+            left = [record.data for record in [*records[:at], *records[at + 1 :]]]
+            if left and left not in map(data_of_rows, versions):
+                line = output[index]
+                yield altered(output, index, replace(line, records=(*line.records[:at], *line.records[at + 1 :])))
+
+
+def mixed_set(world: World, output: Output) -> Iterator[Output]:
+    """A set with a record that another version has, which no version has whole."""
+    for index, records, versions in server_sets(world, output):
+        for row in (row for rows in versions for row in rows):
+            together = [*(record.data for record in records), row.data]
+            if len(set(together)) == len(together) and together not in map(data_of_rows, versions):
+                owner, rtype = records[0].owner, records[0].rtype
+                more = PrintedRecord(name_text(owner), 0, type_text(rtype), data_text(rtype, row.data))
+                yield altered(output, index, replace(output[index], records=(*output[index].records, more)))
+
+
+def absent_codes(world: World, index: int, action: Lookup) -> dict[str, int] | None:
+    """The negative answers that the zone had so far for the name of a lookup, with the last moment at which each may be
+    printed; None if an alias leads on from the name."""
+    history, now = history_of(world), world.events[index].at
+    if history.reachable(action.name, index) != {action.name} or special_outcome(action.name, action.rtype):
+        return None
+    ends: dict[str, int] = {}
+    for standing in history.standings(index, now):
+        rows = standing.rows
+        if is_at_or_below(action.name, world.origin) and (action.name, action.rtype) not in rows:
+            exists = any(is_at_or_below(owner, action.name) for owner, _ in rows)
+            (soa,) = rows[world.origin, SOA]
+            code = EMPTY if exists else MISSING
+            ends[code] = max(ends.get(code, 0), standing.moment + min(soa.ttl, soa.data[-1]))
+    return ends
+
+
+def plain_lookups(world: World, output: Output) -> Iterator[tuple[int, Lookup, PrintedEvent]]:
+    """The lookups of plain types, where the hosts file has nothing."""
+    for index, (event, line) in enumerate(zip(world.events, output)):
+        action = event.action
+        if isinstance(action, Lookup) and is_plain(action.rtype) and not world.hosts_records(action.name, action.rtype):
+            yield index, action, line
+
+
+def old_absence(world: World, output: Output) -> Iterator[Output]:
+    """A negative answer that the zone had, longer ago than it may be kept."""
+    for index, action, line in plain_lookups(world, output):
+        for code, end in (absent_codes(world, index, action) or {}).items():
+            if end < world.events[index].at:
+                yield altered(output, index, replace(line, result=code, records=()))
+
+
+def code_of_another_moment(world: World, output: Output) -> Iterator[Output]:
+    """A negative answer with the other code, which the zone never had for the name, or had too long ago."""
+    for index, action, line in plain_lookups(world, output):
+        if line.result in (EMPTY, MISSING) and (ends := absent_codes(world, index, action)):
+            other = MISSING if line.result == EMPTY else EMPTY
+            if ends.get(other, -1) < world.events[index].at:
+                yield altered(output, index, replace(line, result=other))
+
+
+def absence_of_found(world: World, output: Output) -> Iterator[Output]:
+    """A negative answer for a name that had the records all the time."""
+    for index, action, line in plain_lookups(world, output):
+        if line.records and absent_codes(world, index, action) == {}:
+            yield altered(output, index, replace(line, result=EMPTY, records=()))
+
+
 def ttl_of_hosts(world: World, output: Output) -> Iterator[Output]:
     """A record of the hosts file, or an address that was looked up, with a lower TTL: as if it aged."""
     for index, (event, line) in enumerate(zip(world.events, output)):
@@ -188,6 +271,11 @@ ALTERATIONS: dict[str, Alteration] = {
     "a record is of an unrelated name": unrelated_record,
     "a record never stood": other_data,
     "a record is of another type": other_type,
+    "a set is cut": cut_set,
+    "a set is of two versions": mixed_set,
+    "a negative answer is too old": old_absence,
+    "a negative answer has the code of another moment": code_of_another_moment,
+    "a negative answer never stood": absence_of_found,
     "a record of the hosts file, or an address, ages": ttl_of_hosts,
     "a record of the local host is elsewhere": loopback_elsewhere,
     "a record is missing": records_altered(lambda records: records[:-1]),

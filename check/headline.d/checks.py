@@ -6,6 +6,12 @@
   hosts file, of the local host at a name that was reached, or the address that was looked up.
 - *Chain bound.* If no chain of aliases had more than seven links, the aliases and the record stood in the same rows,
   and the TTL counts from one such moment, by the least TTL of them all.
+- *Whole sets.* The printed records of a type are all rows of one name and this type, in order, in rows that stood at one
+  moment t up to now, and no TTL is more than what is left of the row's own from t. So a set is never cut, and never put
+  together from two versions.
+- *Negative answers.* Where a lookup prints that there are no records, aliases lead to a name that had none of the type,
+  and no alias, at a moment t up to now, the code says whether the name existed then, and now is at most t plus the
+  lesser of the TTL and the minimum of the SOA record. Other such names are special, or the aliases go on for too long.
 - *Equality.* If no update changed the rows since the cache was last emptied, no chain has more than seven links, and
   the link met no fault, the outcome is that of a walk over the rows, TTLs aside.
 
@@ -15,16 +21,18 @@ server answered.
 from collections import Counter
 
 from history import MOST_LINKS, History, history_of
-from names import Name, name_text
+from names import Name, is_at_or_below, name_text
 from output import PrintedEvent
-from records import A, AAAA, Record, data_text, is_plain, type_text
-from walk import LOOPBACK_DATA, LOOPBACK_TTL, Outcome, ip_outcome, is_loopback_name, literal_outcome, lookup_outcome
+from records import A, AAAA, SOA, Record, data_text, is_plain, type_text
+from walk import LOOPBACK_DATA, LOOPBACK_TTL, Outcome, ip_outcome, is_loopback_name, literal_outcome, lookup_outcome, special_outcome
 from world import ClearAll, Event, Lookup, LookupIp, World
-from zone import Message, Rows, alias_of, has_short_chains
+from zone import Message, Row, Rows, alias_of, has_short_chains
 
 
 # How many datagrams may fail to be the reply before a question ends.
 MOST_DATAGRAMS = 16
+# What is printed of a negative answer, before its code.
+NO_RECORDS = "no records"
 
 
 class Violation(Exception):
@@ -67,6 +75,8 @@ class Checker:
             self.counts["lookups"] += 1
             self.counts["lookups that end in a fault"] += is_fault(line)
             self.check_records(index, event, line)
+            self.check_sets(index, event, line)
+            self.check_absence(index, event, line)
             self.check_outcome(index, event, line, emptied)
 
     def check_code(self, index: int, event: Event, line: PrintedEvent) -> None:
@@ -149,6 +159,68 @@ class Checker:
         ]
         return max(bounds, default=-1)
 
+    def check_sets(self, index: int, event: Event, line: PrintedEvent) -> None:
+        """Whole sets: of the type of a lookup, or of each type of addresses."""
+        action = event.action
+        name = action.name if isinstance(action, Lookup) else action.host
+        if not isinstance(name, tuple) or (isinstance(action, Lookup) and not is_plain(action.rtype)):
+            return
+        for rtype in (action.rtype,) if isinstance(action, Lookup) else (AAAA, A):
+            records = [printed.record for printed in line.records if printed.record.rtype == rtype]
+            if records and not self.world.hosts_records(name, rtype) and not (
+                len(records) == 1 and is_loopback(records[0])
+            ):
+                self.check_set(index, event.at, records)
+
+    def check_set(self, index: int, now: int, records: list[Record]) -> None:
+        """These are all rows of a name and a type that stood together, none with too great a TTL."""
+        owner, rtype = records[0].owner, records[0].rtype
+        if any(record.owner != owner for record in records):
+            raise Violation(f"{text_of(records[0])}: with records of another name")
+        wholes = [
+            standing
+            for standing in self.history.standings(index, now)
+            if is_whole(standing.rows.get((owner, rtype), ()), records, now - standing.moment, self.world.max_ttl())
+        ]
+        if not wholes:
+            raise Violation(f"{text_of(records[0])}: not a whole set of {len(records)} that stood")
+        self.counts["whole sets"] += 1
+        self.counts["whole sets of several records"] += len(records) > 1
+        self.counts["whole sets that have left the zone"] += wholes[-1].rows is not self.history.versions_by(index)[-1].rows
+
+    def check_absence(self, index: int, event: Event, line: PrintedEvent) -> None:
+        """Negative answers. For addresses the one that is printed is that of the first type, AAAA."""
+        action = event.action
+        name, rtype = (action.name, action.rtype) if isinstance(action, Lookup) else (action.host, AAAA)
+        if not isinstance(name, tuple) or not is_plain(rtype) or not (line.result or "").startswith(NO_RECORDS):
+            return
+        reached = self.history.reachable(name, index)
+        if any((special := special_outcome(it, rtype)) and special.failure == line.result for it in reached):
+            self.counts["negative answers of special names"] += 1
+            return
+        absences = [
+            (standing, it)
+            for standing in self.history.standings(index, event.at)
+            for it in reached
+            if absence_of(standing.rows, self.world.origin, it, rtype) == line.result
+        ]
+        current = [it for it in absences if event.at <= it[0].moment + negative_ttl(it[0].rows, self.world.origin)]
+        if current:
+            self.counts["negative answers"] += 1
+            is_old = all(it.rows is not self.history.versions_by(index)[-1].rows for it, _ in current)
+            self.counts["negative answers that no longer hold"] += is_old
+        elif line.result != f"{NO_RECORDS} NoError" or not self.may_pass_aliases(index, reached):
+            reason = "is too old" if absences else "never stood"
+            raise Violation(f"prints {line.result}, which {reason}")
+        else:
+            self.counts["negative answers after too many aliases"] += 1
+
+    def may_pass_aliases(self, index: int, reached: set[Name]) -> bool:
+        """Whether some chain of aliases was too long, and one of these names had an alias."""
+        versions = self.history.versions_by(index)
+        has_alias = any(alias_of(version.rows, name) for version in versions for name in reached)
+        return has_alias and not self.history.has_short_chains(index)
+
     def check_outcome(self, index: int, event: Event, line: PrintedEvent, emptied: int) -> None:
         """Equality. A lookup of one name and type that meets a fault prints it. With link words, a lookup of both types
         of addresses may hide one, and is not compared."""
@@ -191,6 +263,26 @@ def possible_faults(words: tuple[str, ...]) -> set[str]:
     if sum(word.startswith("r") for word in words) >= MOST_DATAGRAMS:
         faults.add("fault F4")
     return faults
+
+
+def is_whole(rows: tuple[Row, ...], records: list[Record], age: int, most: int) -> bool:
+    """Whether records are these rows, all and in order, with no more than what is left of their TTLs after some seconds."""
+    return [row.data for row in rows] == [record.data for record in records] and all(
+        record.ttl + age <= min(row.ttl, most) for row, record in zip(rows, records)
+    )
+
+
+def absence_of(rows: Rows, origin: Name, name: Name, rtype: int) -> str | None:
+    """What is printed where a name of the zone has neither records of a type nor an alias: whether the name exists."""
+    if not is_at_or_below(name, origin) or (name, rtype) in rows or alias_of(rows, name):
+        return None
+    return f"{NO_RECORDS} {'NoError' if any(is_at_or_below(owner, name) for owner, _ in rows) else 'NXDomain'}"
+
+
+def negative_ttl(rows: Rows, origin: Name) -> int:
+    """How long a negative answer may be kept: the lesser of the SOA record's TTL and its last field (RFC 2308)."""
+    (soa,) = rows[origin, SOA]
+    return min(soa.ttl, soa.data[-1])
 
 
 def is_loopback(record: Record) -> bool:
