@@ -1,0 +1,3 @@
+pub mod Reply
+pub mod Signed
+pub mod Update
