@@ -5,6 +5,7 @@ from agreement import try_servers
 from command import try_program
 from given import Given
 from schedules import try_faults
+from signing import try_signed
 from spoofing import try_spoofer
 from timing import try_times
 
@@ -24,4 +25,5 @@ PARTS = {
     "spoofer": Part(try_spoofer),
     "times": Part(try_times),
     "program": Part(try_program),
+    "signed": Part(try_signed, ["named", "knotd", "faketime"]),
 }

@@ -16,6 +16,7 @@ PACKAGES = {
     "unbound": "unbound",
     "dnsmasq": "dnsmasq-base",
     "dnsperf": "dnsperf",
+    "faketime": "faketime",
     "pytest-3": "python3-pytest",
 }
 # The packages of Python, by what is imported.

@@ -1,6 +1,10 @@
 //! The files that the program reads.
 
-use lookup_cli::{Arguments, Ending, default_conf_path};
+use dns_tsig::Key;
+use lookup_cli::{Arguments, Ending, KeyArguments, default_conf_path, is_exposed, key_of};
+use std::fs::File;
+use std::io::Read;
+use std::os::unix::fs::PermissionsExt;
 use std::{fs, io};
 use stub_hosts::{Hosts, HostsFault};
 
@@ -38,6 +42,39 @@ pub(crate) fn read_traced_hosts(rt: &HostRuntime, arguments: &Arguments) -> Resu
     } else {
         Ok(Hosts::default(rt.alloc()))
     }
+}
+
+/// Reads the key of the arguments. If other users may read or write its file, a line on standard error says so.
+pub(crate) fn read_key(rt: &HostRuntime, arguments: &KeyArguments) -> Result<Key, Ending> {
+    let path = arguments.path.as_str();
+    match read_secrets(rt, path) {
+        Ok(Secrets { text, mode }) => {
+            if is_exposed(mode) {
+                // A failure to write to standard error can't be reported.
+                let _written = eprintln!(rt;
+                    "lookup: {path}: other users may read or write the key file"
+                );
+            }
+            key_of(rt.alloc(), path, text.as_slice(), arguments.name.as_ref())
+        }
+        Err(error) => Err(Ending::cannot_read(rt.alloc(), path, error)),
+    }
+}
+
+/// The text of a file, and its mode.
+#[derive(Drop)]
+struct Secrets {
+    text: Vec<u8>,
+    mode: u32,
+}
+
+/// Reads a file and its mode.
+fn read_secrets(rt: &HostRuntime, path: &str) -> io::Result<Secrets> {
+    let mut file = File::open(rt, path)?;
+    let mode = file.metadata()?.permissions().mode();
+    let mut text = Vec::new(rt.alloc());
+    file.read_to_end(&mut text)?;
+    Ok(Secrets { text, mode })
 }
 
 /// Reads a file.

@@ -2,18 +2,21 @@
 
 use crate::update::update_of;
 use crate::{Ids, Sockets};
-use dns_messages::Query;
+use dns_messages::{Query, ResponseCode};
 use dns_names::Name;
+use dns_signer::TsigError;
 use dns_text::parse_ip;
 use dns_wire::RecordType;
 use lookup_cli::{
     Answer, Arguments, Ending, ExitStatus, Item, JsonAnswer, JsonUpdate, PlainAnswer, PlainReason,
-    Question, Session, Status, UpdateArguments, item_of_line,
+    Question, Session, SignedSession, Status, UpdateArguments, item_of_line,
 };
 use std::fmt;
 use std::time::Instant;
 use stub_hosts::Hosts;
+use stub_link::UpdateEvent;
 use stub_net_sockets::{RandomIds, Stopwatch, SystemEntropy};
+use stub_signed::UpdateError;
 
 /// The program at work.
 #[derive(Drop)]
@@ -28,6 +31,8 @@ pub(crate) struct Program<'a> {
     pub(crate) arguments: &'a Arguments,
     /// The resolver.
     pub(crate) session: Session<Sockets<'a>, Ids<'a>>,
+    /// What sends a signed update, if the arguments name a key.
+    pub(crate) signed: Option<SignedSession<Sockets<'a>, Ids<'a>>>,
     /// The hosts, to tell what is answered from them.
     pub(crate) hosts: Hosts,
     /// The status so far.
@@ -166,26 +171,67 @@ impl Program<'_> {
         let mut ids = RandomIds::new(SystemEntropy::new(self.rt));
         let update = update_of(self.rt.alloc(), arguments, &mut ids)?;
         let start = self.clock.milliseconds();
-        let outcome = self.session.send_update(&update);
+        let outcome = self.outcome_of(&update);
         let milliseconds = self.clock.milliseconds().saturating_sub(start);
-        self.status.count(Status::of_update(&outcome));
+        self.status.count(Status::of_update(&outcome.code));
         if self.arguments.json {
             return self.print(JsonUpdate::new(
                 self.rt.alloc(),
                 arguments.words.as_str(),
                 &arguments.zone,
-                &outcome,
-                self.session.questions(),
+                &outcome.code,
+                outcome.report,
+                outcome.questions,
                 milliseconds,
             )?);
         }
-        match &outcome {
-            Ok(code) => self.print(format_args!("{code}\n")),
-            Err(error) => {
-                // A failure to write to standard error can't be reported.
-                let _written = eprintln!(self.rt; "{} UPDATE: {error}", arguments.zone);
-                Ok(())
+        self.print_update(&arguments.zone, &outcome)
+    }
+
+    /// Sends an update, signed if the arguments name a key.
+    fn outcome_of(&mut self, update: &UpdateEvent) -> Outcome {
+        match &mut self.signed {
+            Some(signed) => {
+                let code = signed.send_update(update);
+                Outcome {
+                    code,
+                    report: signed.error(),
+                    questions: signed.questions(),
+                }
+            }
+            None => {
+                let code = self.session.send_update(update);
+                Outcome {
+                    code,
+                    report: None,
+                    questions: self.session.questions(),
+                }
             }
         }
     }
+
+    /// Prints the response code of an update, and says on standard error why there is none, or what its reply reports.
+    fn print_update(&self, zone: &Name, outcome: &Outcome) -> Result<(), Ending> {
+        // A failure to write to standard error can't be reported.
+        let _written = match (&outcome.code, outcome.report) {
+            (Err(error), _) => eprintln!(self.rt; "{zone} UPDATE: {error}"),
+            (Ok(_), Some(report)) => eprintln!(self.rt; "{zone} UPDATE: {report}"),
+            (Ok(_), None) => Ok(()),
+        };
+        match &outcome.code {
+            Ok(code) => self.print(format_args!("{code}\n")),
+            Err(_) => Ok(()),
+        }
+    }
+}
+
+/// What became of an update.
+#[derive(Drop)]
+struct Outcome {
+    /// The response code of its reply, or why there is none.
+    code: Result<ResponseCode, UpdateError>,
+    /// The error of its signature that the reply reports.
+    report: Option<TsigError>,
+    /// The number of requests that were sent.
+    questions: u64,
 }

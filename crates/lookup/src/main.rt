@@ -1,21 +1,24 @@
 //! `lookup NAME.. [OPTIONS]`: looks up names at name servers, or sends an update.
 //!
-//! - `network`: the network; `files`: the files that are read; `update`: the words of an update; `lookups`: lookups, and their output
+//! - `network`: the network; `files`: the files that are read; `update`: the words of an update; `signed`: signed updates;
+//!   `lookups`: lookups, and their output
 #![tactic(auto)]
 
 mod files;
 mod lookups;
 mod network;
+mod signed;
 mod update;
 
 use files::{read_conf, read_hosts, read_traced_hosts};
 use lookup_cli::{Arguments, Ending, ExitStatus, Session, read_arguments, settings_of};
 use lookups::Program;
 use network::ProgramNetwork;
+use signed::open_signed;
 use std::process::ExitCode;
 use std::time::Instant;
 use std::{env, io};
-use stub_lookup::NetError;
+use stub_config::ResolverOpts;
 use stub_net_sockets::{RandomIds, SocketNetwork, Stopwatch, SystemEntropy, Traced};
 use stub_resolv_conf::SystemConf;
 
@@ -62,12 +65,14 @@ fn open_program<'a>(rt: &'a HostRuntime, arguments: &'a Arguments) -> Result<Pro
     let clock = stopwatch(rt)?;
     let hosts = read_traced_hosts(rt, arguments)?;
     let session = open_session(rt, arguments, start)?;
+    let signed = open_signed(rt, arguments, start)?;
     Ok(Program {
         rt,
         clock,
         start,
         arguments,
         session,
+        signed,
         hosts,
         status: ExitStatus::new(),
     })
@@ -100,9 +105,7 @@ fn open_session<'a>(
     let SystemConf { config, options } = read_settings(rt, arguments)?;
     let hosts = read_hosts(rt, arguments.hosts.as_ref())?;
     let network = open_network(rt, arguments, start)?;
-    let timeout = arguments
-        .timeout
-        .unwrap_or(options.timeout.saturating_mul(1_000));
+    let timeout = timeout_of(arguments, &options);
     let session = Session::new(
         rt.alloc(),
         network,
@@ -120,14 +123,21 @@ fn open_session<'a>(
     }
 }
 
+/// Returns how long to wait for a reply, in milliseconds.
+pub(crate) fn timeout_of(arguments: &Arguments, options: &ResolverOpts) -> u64 {
+    arguments
+        .timeout
+        .unwrap_or(options.timeout.saturating_mul(1_000))
+}
+
 /// Reads the configuration, and returns it with what the arguments say.
-fn read_settings(rt: &HostRuntime, arguments: &Arguments) -> Result<SystemConf, Ending> {
+pub(crate) fn read_settings(rt: &HostRuntime, arguments: &Arguments) -> Result<SystemConf, Ending> {
     let text = read_conf(rt, arguments)?;
     Ok(settings_of(rt.alloc(), arguments, text.as_slice())?)
 }
 
 /// Opens the network, which tells what it does since a moment if the arguments say so.
-fn open_network<'a>(
+pub(crate) fn open_network<'a>(
     rt: &'a HostRuntime,
     arguments: &Arguments,
     start: Instant,

@@ -1,2 +1,3 @@
-pub mod Status
+pub mod Keys
 pub mod Settings
+pub mod Status

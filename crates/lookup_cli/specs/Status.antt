@@ -6,6 +6,7 @@ use Rattle.stub_lookup.specs.Lookup.{LookupContent}
 use Rattle.stub_lookup.specs.declared.error.DnsError.TheVariants.{NoRecordsFound}
 use Rattle.stub_lookup.specs.declared.error.NetError.{NetError}
 use Rattle.stub_lookup.specs.declared.error.NetError.TheVariants.{Dns}
+use Rattle.stub_signed.specs.declared.error.UpdateError.{UpdateError}
 use Rattle.lookup_cli.specs.declared.status.Status.{Status}
 use Rattle.lookup_cli.specs.declared.status.Status.TheVariants.{Found, Nothing, Failed}
 
@@ -20,7 +21,7 @@ status_of (Err (Dns (NoRecordsFound none))) = Nothing
 status_of (Err error) = Failed
 
 -- what an update led to
-abbrev pub status_of_update : Result ResponseCode NetError → Status
+abbrev pub status_of_update : Result ResponseCode UpdateError → Status
 status_of_update (Ok codes.NoError) = Found
 status_of_update (Ok code) = Nothing
 status_of_update (Err error) = Failed

@@ -62,6 +62,17 @@ pub struct UpdateArguments {
     pub words: String,
     /// The name of the zone.
     pub zone: Name,
+    /// The key that signs it.
+    pub key: Option<KeyArguments>,
+}
+
+/// A key, as given.
+#[derive(Drop)]
+pub struct KeyArguments {
+    /// The path of the key file.
+    pub path: String,
+    /// The name of the key, or `None` for the first one of the file.
+    pub name: Option<Name>,
 }
 
 /// Reads the arguments, of which the first is the program's name.
@@ -240,11 +251,43 @@ fn timeout_in(alloc: Global, matches: &ArgMatches<'_>) -> Result<Option<u64>, En
 /// Returns the update. Clap has found that it has a zone.
 fn update_in(alloc: Global, matches: &ArgMatches<'_>) -> Result<Option<UpdateArguments>, Ending> {
     match (matches.get_str("update"), matches.get_str("zone")) {
-        (Some(words), Some(zone)) => Ok(Some(UpdateArguments {
-            words: String::from_str(alloc, words)?,
-            zone: name_of(alloc, "--zone", zone)?,
-        })),
+        (Some(words), Some(zone)) => Ok(Some(update_of(alloc, matches, words, zone)?)),
         _ => Ok(None),
+    }
+}
+
+/// Returns the update of its words and its zone.
+fn update_of(
+    alloc: Global,
+    matches: &ArgMatches<'_>,
+    words: &str,
+    zone: &str,
+) -> Result<UpdateArguments, Ending> {
+    let key = key_in(alloc, matches)?;
+    let words = String::from_str(alloc, words)?;
+    Ok(UpdateArguments {
+        words,
+        zone: name_of(alloc, "--zone", zone)?,
+        key,
+    })
+}
+
+/// Returns the key.
+fn key_in(alloc: Global, matches: &ArgMatches<'_>) -> Result<Option<KeyArguments>, Ending> {
+    match matches.get_str("key") {
+        Some(path) => Ok(Some(KeyArguments {
+            name: key_name_in(alloc, matches)?,
+            path: String::from_str(alloc, path)?,
+        })),
+        None => Ok(None),
+    }
+}
+
+/// Returns the name of the key.
+fn key_name_in(alloc: Global, matches: &ArgMatches<'_>) -> Result<Option<Name>, Ending> {
+    match matches.get_str("key-name") {
+        Some(text) => Ok(Some(name_of(alloc, "--key-name", text)?)),
+        None => Ok(None),
     }
 }
 

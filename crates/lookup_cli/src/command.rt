@@ -13,10 +13,8 @@ pub(crate) fn command<'a>(alloc: Global) -> Result<Command<'a>, AllocError> {
         .about("Looks up names at name servers")
         .arg(names(alloc)?)?
         .arg(type_option(alloc))?;
-    with_flags(
-        alloc,
-        with_update(alloc, with_time(alloc, with_sources(alloc, command)?)?)?,
-    )
+    let command = with_time(alloc, with_sources(alloc, command)?)?;
+    with_flags(alloc, with_key(alloc, with_update(alloc, command)?)?)
 }
 
 /// Returns the argument of the names.
@@ -120,6 +118,25 @@ fn with_update<'a>(alloc: Global, command: Command<'a>) -> Result<Command<'a>, A
     command
         .arg(update.requires_arg("zone")?)?
         .arg(zone.requires_arg("update")?)
+}
+
+/// Adds the options of the key that signs an update.
+fn with_key<'a>(alloc: Global, command: Command<'a>) -> Result<Command<'a>, AllocError> {
+    let key = option(
+        alloc,
+        "key",
+        "FILE",
+        "Sign the update with a key of this file, in BIND's syntax, and accept only a reply that is signed with it",
+    );
+    let name = option(
+        alloc,
+        "key-name",
+        "NAME",
+        "The name of the key; the first one of the file if it is omitted",
+    );
+    command
+        .arg(key.requires_arg("update")?)?
+        .arg(name.requires_arg("key")?)
 }
 
 /// Adds the options without a value.

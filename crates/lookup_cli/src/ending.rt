@@ -1,5 +1,6 @@
 //! Why the program ends early.
 
+use dns_keys::KeyFileError;
 use std::alloc::{AllocError, AllocFailed, Global};
 use std::{fmt, io};
 
@@ -16,6 +17,10 @@ pub enum Ending {
     CannotRead(String, io::Error),
     /// A line of the hosts file is not valid UTF-8: its path, as given.
     HostsNotUtf8(String),
+    /// A file is not a key file: its path, as given, and why.
+    InvalidKeys(String, KeyFileError),
+    /// A key file has no key, or none of the name that is given: its path, as given.
+    NoKey(String),
     /// Standard input could not be read.
     CannotReadInput(io::Error),
     /// A line could not be written to standard output.
@@ -96,6 +101,8 @@ impl fmt::Display for Ending {
             Ending::HostsNotUtf8(path) => {
                 writeln!(f, "lookup: {path}: a line is not valid UTF-8")
             }
+            Ending::InvalidKeys(path, error) => writeln!(f, "lookup: {path}: {error}"),
+            Ending::NoKey(path) => writeln!(f, "lookup: {path}: there is no such key"),
             Ending::CannotReadInput(error) => {
                 writeln!(f, "lookup: cannot read standard input: {error}")
             }

@@ -7,9 +7,10 @@ use crate::status::Status;
 use dns_log::JsonText;
 use dns_messages::{Record, ResponseCode};
 use dns_names::Name;
+use dns_signer::TsigError;
 use std::alloc::{AllocError, Global};
 use std::fmt;
-use stub_lookup::NetError;
+use stub_signed::UpdateError;
 
 /// An answer, which `Display` writes as a JSON object on one line.
 #[derive(Drop)]
@@ -188,18 +189,20 @@ pub struct JsonUpdate<'a> {
 }
 
 impl<'a> JsonUpdate<'a> {
-    /// Prepares what became of an update to be written.
+    /// Prepares what became of an update to be written. A signed reply may report an error of the signature of the update.
     pub fn new(
         alloc: Global,
         words: &'a str,
         zone: &Name,
-        outcome: &Result<ResponseCode, NetError>,
+        outcome: &Result<ResponseCode, UpdateError>,
+        report: Option<TsigError>,
         questions: u64,
         milliseconds: u64,
     ) -> Result<JsonUpdate<'a>, AllocError> {
-        let (code, error) = match outcome {
-            Ok(code) => (Some(*code), None),
-            Err(error) => (None, Some(text_of(alloc, error)?)),
+        let (code, error) = match (outcome, report) {
+            (Ok(code), None) => (Some(*code), None),
+            (Ok(code), Some(report)) => (Some(*code), Some(text_of(alloc, report)?)),
+            (Err(error), _) => (None, Some(text_of(alloc, error)?)),
         };
         Ok(JsonUpdate {
             words,

@@ -12,6 +12,7 @@ use stub_link::UpdateEvent;
 use stub_lookup::{Lookup, Moment, NetError};
 use stub_net::{IdSource, NameServerPool, Network};
 use stub_servers::ServerList;
+use stub_signed::UpdateError;
 
 /// The greatest moment of a resolver, in seconds: 2^62.
 const MAX_MOMENT: Moment = 4_611_686_018_427_387_904;
@@ -45,11 +46,15 @@ impl<N: Network + Drop, I: IdSource + Drop> Session<N, I> {
         hosts: Hosts,
     ) -> Result<Session<N, I>, NetError> {
         let servers = ServerList::from_config(alloc, &config, &options)?;
-        let mut pool = NameServerPool::new(alloc, network, ids, servers, &options);
-        pool.set_timeout(timeout);
-        if streams_alone {
-            pool.use_streams_alone();
-        }
+        let pool = pool_of(
+            alloc,
+            network,
+            ids,
+            servers,
+            &options,
+            timeout,
+            streams_alone,
+        );
         let resolver = Resolver::builder_with_config(alloc, config, pool)
             .with_options(options)
             .with_hosts(hosts)
@@ -72,9 +77,12 @@ impl<N: Network + Drop, I: IdSource + Drop> Session<N, I> {
         }
     }
 
-    /// Sends an update, and returns the response code of its reply.
-    pub fn send_update(&mut self, update: &UpdateEvent) -> Result<ResponseCode, NetError> {
-        self.resolver.handle_mut().send_update(update)
+    /// Sends an update without a signature, and returns the response code of its reply, which anyone may have sent.
+    pub fn send_update(&mut self, update: &UpdateEvent) -> Result<ResponseCode, UpdateError> {
+        match self.resolver.handle_mut().send_update(update) {
+            Ok(code) => Ok(code),
+            Err(error) => Err(UpdateError::Net(error)),
+        }
     }
 
     /// Returns the number of requests that were sent to servers, or were to be.
@@ -82,4 +90,24 @@ impl<N: Network + Drop, I: IdSource + Drop> Session<N, I> {
         let counts = self.resolver.handle().counts();
         counts.datagrams.saturating_add(counts.streams)
     }
+}
+
+/// Creates a pool over a network, with a time-out in milliseconds in place of that of the options.
+pub(crate) fn pool_of<N: Network, I: IdSource>(
+    alloc: Global,
+    network: N,
+    ids: I,
+    servers: ServerList,
+    options: &ResolverOpts,
+    timeout: u64,
+    streams_alone: bool,
+) -> NameServerPool<N, I>
+    ensures { result.requester.network ≡ network }
+{
+    let mut pool = NameServerPool::new(alloc, network, ids, servers, options);
+    pool.set_timeout(timeout);
+    if streams_alone {
+        pool.use_streams_alone();
+    }
+    pool
 }

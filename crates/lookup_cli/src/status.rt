@@ -5,6 +5,7 @@ ghost use Rattle.lookup_cli.specs.Status.{exit_code, status_of, status_of_count,
 
 use dns_messages::ResponseCode;
 use stub_lookup::{DnsError, Lookup, NetError};
+use stub_signed::UpdateError;
 
 /// What a lookup led to.
 #[derive(Clone, Copy, Debug, PartialEq, Eq)]
@@ -47,7 +48,7 @@ impl Status {
     }
 
     /// Returns what an update led to.
-    pub fn of_update(outcome: &Result<ResponseCode, NetError>) -> Status
+    pub fn of_update(outcome: &Result<ResponseCode, UpdateError>) -> Status
         ensures { result ≡ status_of_update outcome.now }
     {
         match outcome {

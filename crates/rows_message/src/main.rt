@@ -8,6 +8,7 @@
 #![tactic(auto)]
 
 mod answer_sets;
+mod built;
 mod changes;
 mod damaged;
 mod header;

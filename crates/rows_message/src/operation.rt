@@ -1,6 +1,7 @@
 //! The operations, by their words.
 
 use crate::answer_sets::answer_sets;
+use crate::built::built_update;
 use crate::changes::{changes, types};
 use crate::damaged::{fronts, octets};
 use crate::header::{
@@ -68,6 +69,7 @@ pub(crate) fn answer(alloc: Global, word: &str, input: &str) -> Answer {
         "compare-and-swap" => swap(alloc, input),
         "delete-rrset" => set_deletion(alloc, input),
         "delete-all" => name_deletion(alloc, input),
+        "update" => built_update(alloc, input),
         "changes" => changes(alloc, input),
         "types" => types(alloc, input),
         _ => Err(RowFault::UnknownOperation),

@@ -1,10 +1,11 @@
 //! `rows_tsig FILE..`: tries each row of the files, as the library `rows` describes, on HMAC and on signed messages.
 //!
 //! - `operation`: the operations by their words; `codes`: HMAC; `keys`: keys in rows; `messages`: messages that are signed and
-//!   verified.
+//!   verified; `exchanges`: requests of a requestor, and their replies.
 #![tactic(auto)]
 
 mod codes;
+mod exchanges;
 mod keys;
 mod messages;
 mod operation;

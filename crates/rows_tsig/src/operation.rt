@@ -1,6 +1,7 @@
 //! The operations, by their words.
 
 use crate::codes::{hmac, is_same_code};
+use crate::exchanges::exchange;
 use crate::messages::{accepts, follow, reply, request, sign, verify};
 use rows::{Answer, RowFault};
 use std::alloc::Global;
@@ -16,6 +17,7 @@ pub(crate) fn answer(alloc: Global, word: &str, input: &str) -> Answer {
         "reply" => reply(alloc, input),
         "request" => request(alloc, input),
         "follow" => follow(alloc, input),
+        "exchange" => exchange(alloc, input),
         _ => Err(RowFault::UnknownOperation),
     }
 }

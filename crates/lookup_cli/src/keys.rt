@@ -1,0 +1,42 @@
+//! The key that signs updates.
+
+ghost use Rattle.std.specs.Prelude.{◌≡◌, IfOk, option_map};
+ghost use Rattle.std.specs.Option.{option_copied};
+ghost use Rattle.lookup_cli.specs.Keys.{IsKeyIn, is_exposed};
+
+use crate::ending::Ending;
+use dns_keys::{KeyFileError, parse_keys};
+use dns_names::Name;
+use dns_signer::choose_key;
+use dns_tsig::Key;
+use std::alloc::Global;
+
+/// Returns `true` if users other than the owner and the group of a file may read it, and so have the secrets in it, or may write it. The
+/// mode is that of stat(2).
+pub fn is_exposed(mode: u32) -> bool
+    ensures { result ≡ is_exposed mode }
+{
+    mode % 8 >= 2
+}
+
+/// Returns the key of a name in the text of a key file, or its first one. The path is for errors.
+///
+/// # Errors
+///
+/// - [`Ending::InvalidKeys`] if the text is not that of a key file;
+/// - [`Ending::NoKey`] if it has no such key;
+/// - [`Ending::Memory`] if memory is refused.
+pub fn key_of(alloc: Global, path: &str, text: &[u8], name: Option<&Name>) -> Result<Key, Ending>
+    ensures { IfOk result (IsKeyIn text.now
+        (option_map (λ wanted. wanted.labels) (option_copied name.entry))) }
+{
+    match parse_keys(alloc, text) {
+        Ok(keys) => match choose_key(keys, name) {
+            Some(key) => Ok(key),
+            None => Err(Ending::NoKey(String::from_str(alloc, path)?)),
+        },
+        // Memory for the keys was refused.
+        Err(KeyFileError::Memory) => Err(Ending::Memory),
+        Err(error) => Err(Ending::InvalidKeys(String::from_str(alloc, path)?, error)),
+    }
+}
