@@ -1,2 +1,5 @@
-pub mod CommitLaws
+pub mod AnsweringLaws
+pub mod HistoryLaws
+pub mod KeepingLaws
 pub mod ReplayLaws
+pub mod StoringLaws

@@ -1,5 +1,6 @@
 //! The arguments of the program.
 
+use crate::durable_arguments::{DurableArguments, durable_in, with_durable_options};
 use crate::ending::Ending;
 use clap::error::ErrorKind;
 use clap::{Arg, ArgAction, ArgMatches, Command, value_parser};
@@ -36,6 +37,8 @@ pub(crate) struct Arguments {
     pub(crate) log: Option<String>,
     /// The addresses from which updates are taken.
     pub(crate) updaters: AddressList,
+    /// What is given of keys and of a journal.
+    pub(crate) durable: DurableArguments,
     /// What ends the server.
     pub(crate) until: Until,
 }
@@ -53,6 +56,7 @@ pub(crate) fn read_arguments(alloc: Global, words: &[&str]) -> Result<Arguments,
     let files = texts_in(alloc, &matches, "FILE")?;
     Ok(Arguments {
         origin: origin_in(alloc, &matches, files.len())?,
+        durable: durable_in(alloc, &matches, files.len())?,
         files,
         reach: reach_in(&matches),
         addresses: addresses_in(alloc, &matches)?,
@@ -72,7 +76,7 @@ fn command<'a>(alloc: Global) -> Result<Command<'a>, AllocError> {
         .action(ArgAction::Append)
         .num_args(1..)
         .required(true);
-    Command::new(alloc, "nameserver")
+    let command = Command::new(alloc, "nameserver")
         .version(VERSION)
         .about("Serves zones over UDP and TCP, takes dynamic updates, and makes faults on demand")
         .arg(files)?
@@ -94,11 +98,17 @@ fn command<'a>(alloc: Global) -> Result<Command<'a>, AllocError> {
         ))?
         .arg(flag(alloc, "no-updates", "Refuse all dynamic updates"))?
         .arg(updaters_option(alloc))?
-        .arg(flag(alloc, "until-stdin-closes", "End when standard input ends"))
+        .arg(flag(alloc, "until-stdin-closes", "End when standard input ends"))?;
+    with_durable_options(alloc, command)
 }
 
 /// Returns an option that takes one value.
-fn option<'a>(alloc: Global, name: &'a str, value_name: &'a str, help: &'a str) -> Arg<'a> {
+pub(crate) fn option<'a>(
+    alloc: Global,
+    name: &'a str,
+    value_name: &'a str,
+    help: &'a str,
+) -> Arg<'a> {
     Arg::new(alloc, name)
         .long(name)
         .value_name(value_name)
@@ -141,7 +151,7 @@ fn limit_option<'a>(alloc: Global) -> Arg<'a> {
 }
 
 /// Returns an option without a value.
-fn flag<'a>(alloc: Global, name: &'a str, help: &'a str) -> Arg<'a> {
+pub(crate) fn flag<'a>(alloc: Global, name: &'a str, help: &'a str) -> Arg<'a> {
     Arg::new(alloc, name)
         .long(name)
         .action(ArgAction::SetTrue)
@@ -150,7 +160,7 @@ fn flag<'a>(alloc: Global, name: &'a str, help: &'a str) -> Arg<'a> {
 }
 
 /// Returns the value of an option, if it has one.
-fn text_in(
+pub(crate) fn text_in(
     alloc: Global,
     matches: &ArgMatches<'_>,
     name: &str,
@@ -162,7 +172,7 @@ fn text_in(
 }
 
 /// Returns the values of an argument.
-fn texts_in(
+pub(crate) fn texts_in(
     alloc: Global,
     matches: &ArgMatches<'_>,
     name: &str,

@@ -2,22 +2,31 @@
 //! demand.
 //!
 //! - `arguments`: the arguments; `files`, `zones`, `includes`: the files; `handler`: what is done with a request; `log_file`: the log;
+//! - `durable_arguments`, `policy`: keys and grants; `durable`: zones with a journal; `durable_handler`: what is done with a request, if
+//!   there are keys or a journal;
 //! - `ending`: how the program ends.
 #![tactic(auto)]
 
 mod arguments;
+mod durable;
+mod durable_arguments;
+mod durable_handler;
 mod ending;
 mod files;
 mod handler;
 mod includes;
 mod log_file;
+mod policy;
 mod zones;
 
 use crate::arguments::{Arguments, read_arguments};
+use crate::durable::{compact_and_end, open_durable};
+use crate::durable_handler::DurableHandler;
 use crate::ending::Ending;
 use crate::files::{read_file, text_of};
 use crate::handler::LoggedServer;
 use crate::log_file::LogFile;
+use crate::policy::read_policy;
 use crate::zones::{read_former, read_zones};
 use dns_fault_rules::{FaultTable, Service as FaultService};
 use dns_fault_text::{FaultTableError, parse_faults};
@@ -49,6 +58,14 @@ fn end(rt: &HostRuntime, ending: &Ending) -> ExitCode {
 /// Serves the zones that the arguments name.
 fn run_program(rt: &HostRuntime) -> Result<(), Ending> {
     let arguments = given_arguments(rt)?;
+    if arguments.durable.is_given() {
+        return run_durable(rt, arguments);
+    }
+    run_with_faults(rt, arguments)
+}
+
+/// Serves zones, some requests by faults on demand.
+fn run_with_faults(rt: &HostRuntime, arguments: Arguments) -> Result<(), Ending> {
     let faults = read_faults(rt, &arguments)?;
     let zones = zone_server(rt, &arguments, &faults)?;
     let log = open_log(rt, &arguments)?;
@@ -66,6 +83,32 @@ fn run_program(rt: &HostRuntime) -> Result<(), Ending> {
         updaters,
     };
     let mut handler = LoggedServer { rt, server, log };
+    match service.run(rt, &mut handler, until) {
+        Ok(()) => Ok(()),
+        Err(error) => Err(Ending::Failed(error)),
+    }
+}
+
+/// Serves zones, with keys or a journal; or replaces the zone file, if that is asked for.
+fn run_durable(rt: &HostRuntime, arguments: Arguments) -> Result<(), Ending> {
+    let policy = read_policy(rt, &arguments)?;
+    let mut server = open_durable(rt, &arguments)?;
+    if arguments.durable.compact {
+        return compact_and_end(rt, &arguments, &mut server);
+    }
+    let log = open_log(rt, &arguments)?;
+    let mut service = open_service(rt, &arguments)?;
+    let until = arguments.until;
+    let mut handler = DurableHandler {
+        rt,
+        server,
+        policy,
+        limit: arguments.limit,
+        updaters: arguments.updaters,
+        journal_limit: arguments.durable.journal_limit,
+        log,
+        has_failed: false,
+    };
     match service.run(rt, &mut handler, until) {
         Ok(()) => Ok(()),
         Err(error) => Err(Ending::Failed(error)),
