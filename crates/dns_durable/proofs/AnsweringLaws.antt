@@ -1,6 +1,6 @@
 -- What requests leave.
-use Rattle.std.proofs.Common.{◌≡◌, ◌≤◌, ℕ, zero, suc, Bool, true, false, if◌then◌else◌, List, [], ◌∷◌, ◌++◌, length, map, Option, Some, None, refl, sym, ap, subst, ◌∙◌, append_assoc}
-use Rattle.std.specs.Prelude.{slice_get, slice_set}
+use Rattle.std.proofs.Common.{◌≡◌, ◌≤◌, ℕ, zero, suc, Bool, true, false, if◌then◌else◌, List, [], ◌∷◌, ◌++◌, length, map, Option, Some, None, Result, Ok, Err, refl, sym, ap, subst, ◌∙◌, append_assoc}
+use Rattle.std.specs.Prelude.{slice_get, slice_set, IfOk, OnOk}
 use Rattle.dns_frames.specs.Frame.{frame, stream_of}
 use Rattle.dns_messages.specs.declared.message.Message.{Message}
 use Rattle.dns_messages.specs.declared.op_code.OpCode.{OpCode}
@@ -8,14 +8,14 @@ use Rattle.dns_messages.specs.declared.op_code.OpCode.TheVariants as ops
 use Rattle.dns_messages.specs.declared.query.Query.{Query}
 use Rattle.dns_server.specs.declared.updates.Updates.{Updates}
 use Rattle.dns_server.specs.declared.updates.Updates.TheVariants as may
-use Rattle.dns_server.specs.Server.{route_by_code, route_by_name, route_to, zones_after, zones_by, zones_with}
+use Rattle.dns_server.specs.Server.{IsReplyBy, route, route_by_code, route_by_name, route_to, zones_after, zones_by, zones_with}
 use Rattle.dns_server.specs.Zones.{closest}
 use Rattle.dns_zone.specs.Rows.{ZoneContent}
 use Rattle.dns_zone.specs.Serving.{zone_after, zone_by_op}
 use Rattle.dns_durable.specs.Durable.{Takes, TakesFront}
 use Rattle.dns_durable.specs.Durable.Takes.{no_frame, a_frame}
 use Rattle.dns_durable.specs.Incoming.{AreJudged, IsJudged, IsJudgedIfAny, change_of, changes_in, is_change}
-use Rattle.dns_durable.specs.Reply.{AnswersAll, AnswersOne, is_unstored, makes_change, zones_left}
+use Rattle.dns_durable.specs.Reply.{AnswersAll, AnswersOne, IsPlainReply, IsReplyBut, IsReplyOf, is_unstored, makes_change, zones_left}
 use Rattle.dns_durable.specs.Reply.AnswersAll.{no_request, a_request}
 use Rattle.dns_durable.specs.declared.incoming.Admitted.{Admitted}
 use Rattle.dns_durable.specs.declared.policy.Admission.{Admission}
@@ -105,7 +105,7 @@ takes_change : (b : Bool) (policy : Policy) (zones mid after : List ZoneContent)
     → mid ≡ (if b then zones_after may.Allowed zones a.message else zones) → Takes mid (stream_of messages) after
     → Takes zones (stream_of ((if b then a.incoming.bytes.now ∷ [] else []) ++ messages)) after
 takes_change true policy zones mid after a messages judged is takes =
-    a_frame judged.short (record { request = a.message; is_request = judged.is_request; after_is = is }) takes
+    a_frame {mid = mid} {bytes = a.incoming.bytes.now} {rest = stream_of messages} judged.short (record { request = a.message; is_request = judged.is_request; after_is = is }) takes
 takes_change false policy zones mid after a messages judged is takes = subst (λ (z : List ZoneContent). Takes z (stream_of messages) after) is takes
 
 -- a request, and then others
@@ -139,7 +139,7 @@ front_change true policy zones mid after a messages judged is takes = record {
   front = frame a.incoming.bytes.now ++ takes.front;
   rest = takes.rest;
   bytes_are = ap (λ (l : List ℕ). frame a.incoming.bytes.now ++ l) takes.bytes_are ∙ sym (append_assoc (frame a.incoming.bytes.now) takes.front takes.rest);
-  takes = a_frame judged.short (record { request = a.message; is_request = judged.is_request; after_is = is }) takes.takes;
+  takes = a_frame {mid = mid} {bytes = a.incoming.bytes.now} {rest = takes.front} judged.short (record { request = a.message; is_request = judged.is_request; after_is = is }) takes.takes;
 }
 front_change false policy zones mid after a messages judged is takes = subst (λ (z : List ZoneContent). TakesFront z (stream_of messages) after) is takes
 
@@ -147,3 +147,25 @@ pub front_one_more : (policy : Policy) (zones mid after : List ZoneContent) (a :
     → mid ≡ zones_left true zones a → TakesFront mid (stream_of messages) after → TakesFront zones (stream_of (change_of a ++ messages)) after
 front_one_more policy zones mid after (Some a) messages judged is takes = front_change (makes_change a) policy zones mid after a messages judged is takes
 front_one_more policy zones mid after None messages judged is takes = subst (λ (z : List ZoneContent). TakesFront z (stream_of messages) after) is takes
+
+-- ---- the reply to one request
+
+-- the reply to a request that is served
+pub plain_served : {T E : Type 0} (result : Result T E) (out_of : T → List ℕ) (stored : Bool) (updates : Updates) (zones after : List ZoneContent) (a : Admitted) → a.admission ≡ Serve updates
+    → is_unstored stored a ≡ false → IfOk result (λ x. IsReplyBy zones (route updates zones a.message) a.incoming.terms.now.road a.message (out_of x))
+    → OnOk result (after ≡ zones_after updates zones a.message) → IfOk result (λ x. IsPlainReply stored zones after a (out_of x))
+plain_served (Ok x) out_of stored updates zones after a by un replied left = record {
+  after_is = left ∙ served_left stored updates zones a by un;
+  replied = subst (λ (b : Bool). IsReplyBut b a.admission zones a.incoming.terms.now.road a.message (out_of x)) (sym un)
+      (subst (λ (y : Admission). IsReplyOf y zones a.incoming.terms.now.road a.message (out_of x)) (sym by) replied);
+}
+plain_served (Err e) out_of stored updates zones after a by un replied left = tt
+
+-- what is on the disk, or changes nothing, is not missing there
+pub is_on_disk : (stored : Bool) (a : Admitted) → stored ≡ true → is_unstored stored a ≡ false
+is_on_disk true a is = refl
+is_on_disk false a is = absurd cc
+
+pub makes_none : (stored : Bool) (a : Admitted) → makes_change a ≡ false → is_unstored stored a ≡ false
+makes_none true a is = refl
+makes_none false a is = is

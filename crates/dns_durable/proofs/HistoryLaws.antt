@@ -150,12 +150,11 @@ then_law text updates later p q b done c weaker d law =
 module _ (text : List ℕ) (p : Position) (zones : List ZoneContent) (b : Call) (done : List Call) (c : Call) (runs : Runs b.new b.after (done ++ c ∷ []))
     (law_after : (later : List (List ℕ)) (q : Position) (e : Disk) → IsOpen text later q e → Runs q b.after (done ++ c ∷ [])
     → Ends (λ f. Always (LeavesOnly (Outlasts text later q done c)) f c.events) e (events_of done)) where
-  Law : List (List ℕ) → Disk → Type 0
+  abbrev Law : List (List ℕ) → Disk → Type 0
   Law updates e = Ends (λ f. Always (LeavesOnly (Outlasts text updates p (b ∷ done) c)) f c.events) e (events_of done)
 
   -- the first call has its entry on the disk
   on_disk : (updates : List (List ℕ)) (d : Disk) → Ends (IsOpen text (updates ++ entries_of b.frames) b.new) d b.events → Ends (Law updates) d b.events
-  unfolding Law
   on_disk updates d ends =
       ends_weaker (IsOpen text (updates ++ entries_of b.frames) b.new) (Law updates)
       (λ e opened. then_law text updates (updates ++ entries_of b.frames) p b.new b done c (after_kept text updates p b done c) e
@@ -164,7 +163,6 @@ module _ (text : List ℕ) (p : Position) (zones : List ZoneContent) (b : Call) 
   -- it was refused
   refused : (updates : List (List ℕ)) (d : Disk) → IsOpen text updates p d → is_acknowledged b.outcome ≡ false
       → Always (LeavesOnly (IsWithOrWithout text updates b.frames p)) d b.events → IsUnchanged p b.new zones b.after b.events → Ends (Law updates) d b.events
-  unfolding Law
   refused updates d opened not always same =
       ⊎_elim (λ ready.
           let both = same.unasked ready in
@@ -192,7 +190,6 @@ module _ (text : List ℕ) (p : Position) (zones : List ZoneContent) (b : Call) 
 
   after_first : (updates : List (List ℕ)) (d : Disk) → IsOpen text updates p d → Keeps b.frames b.outcome p b.new zones b.after b.events
       → Ends (λ f. Always (LeavesOnly (Outlasts text updates p (b ∷ done) c)) f c.events) d (b.events ++ events_of done)
-  unfolding Law
   after_first updates d opened keeps =
       let commits = keeps.commits text updates d opened in
       ends_then (λ f. Always (LeavesOnly (Outlasts text updates p (b ∷ done) c)) f c.events) d b.events (events_of done)

@@ -1,4 +1,5 @@
 pub mod AnsweringLaws
+pub mod BatchLaws
 pub mod HistoryLaws
 pub mod KeepingLaws
 pub mod ReplayLaws

@@ -1,5 +1,5 @@
 -- What the storing of updates asks, and what a crash leaves of it.
-use Rattle.std.proofs.Common.{◌≡◌, ◌≢◌, ℕ, Bool, true, false, List, [], ◌∷◌, ◌++◌, refl, sym, ap, subst, ◌∙◌, inl, inr, ⊎_elim, append-nil}
+use Rattle.std.proofs.Common.{◌≡◌, ◌≢◌, ℕ, Bool, true, false, List, [], ◌∷◌, ◌++◌, length, refl, sym, ap, subst, ◌∙◌, inl, inr, ⊎_elim, append-nil}
 use Rattle.sha2.specs.Sha256.{sha256}
 use Rattle.dns_journal_format.specs.Format.{IsJournal}
 use Rattle.dns_journal.specs.declared.journal.Position.{Position}
@@ -83,3 +83,10 @@ asks_append frames done old new es some ready appends = record {
   none = λ none. absurd (some none);
   idle = λ not. absurd (not ready);
 }
+
+pub no_length : (l : List ℕ) → length l ≡ 0 → l ≡ []
+no_length [] none = refl
+no_length (x ∷ l) none = absurd cc
+
+pub some_length : (l : List ℕ) → ¬ (length l ≡ 0) → l ≢ []
+some_length l some none = some (ap (λ (m : List ℕ). length m) none)

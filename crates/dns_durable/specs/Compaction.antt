@@ -18,14 +18,16 @@ pub record IsRewritten (zones : List ZoneContent) (text : List ℕ) (again : Zon
   pub is_read : ReadsZoneIn All [] None text (Ok again)
   pub is_same_text : IsZoneText again text
 
--- A zone's text takes the place of the text and the updates of a journal, if that is done; the zone that is read from it is served.
+-- A zone's text takes the place of the text and the updates of a journal, if that is done; the zone that is read from it is
+-- served.
 pub record Replaces (done : Bool) (old new : Position) (zones after : List ZoneContent) (es : List Event) : Type 0 where
   pub text : List ℕ
   pub again : ZoneContent
   pub rewritten : IsRewritten zones text again
   pub served : done ≡ true → after ≡ again ∷ []
   pub unchanged : done ≡ false → after ≡ zones
-  pub compacts : (former bytes digest : List ℕ) (payloads : List (List ℕ)) → IsPosition old bytes digest payloads → digest ≡ sha256 former
+  pub compacts : (former bytes digest : List ℕ) (payloads : List (List ℕ)) → IsPosition old bytes digest payloads
+      → digest ≡ sha256 former
       → (sha256 text ≡ sha256 former → text ≡ former) → Compacts old new done former text bytes digest payloads es
 
 -- nothing is done

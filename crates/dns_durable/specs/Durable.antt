@@ -1,5 +1,6 @@
 -- Zones whose updates outlast a crash.
-use Rattle.std.specs.Prelude.{◌≡◌, ◌≢◌, ◌≤◌, ◌⊎◌, ℕ, Bool, true, false, List, [], ◌∷◌, ◌++◌, length, map, option_map, Option, Result, Ok, Err}
+use Rattle.std.specs.Prelude.{◌≡◌, ◌≢◌, ◌≤◌, ◌⊎◌, ℕ, Bool, true, false, List, [], ◌∷◌, ◌++◌, length, map, option_map}
+use Rattle.std.specs.Prelude.{Option, Result, Ok, Err}
 use Rattle.std.specs.declared.alloc.AllocError.{AllocError}
 use Rattle.dns_frames.specs.Frame.{frame, stream_of}
 use Rattle.dns_journal.specs.declared.journal.Position.{Position}
@@ -62,19 +63,21 @@ pub record IsBehind (text : List ℕ) (updates : List (List ℕ)) (frames : List
   pub suspended : new.state ≢ states.Ready
 
 -- What requests lead to, by whether their updates are on the disk: the zones after all of these, or the same zones.
-abbrev pub LeadsTo : Bool → List ℕ → List (List ℕ) → List ℕ → Position → Position → List ZoneContent → List ZoneContent → Disk → List Event → Type 0
+abbrev pub LeadsTo : Bool → List ℕ → List (List ℕ) → List ℕ → Position → Position
+    → List ZoneContent → List ZoneContent → Disk → List Event → Type 0
 LeadsTo true text updates frames old new zones after d es = IsOnDisk text updates frames new d es × Takes zones frames after
 LeadsTo false text updates frames old new zones after d es = IsUnchanged old new zones after es
 
 -- what requests lead to, by their outcome: if memory is refused, some of their updates may have been served
-abbrev pub EndsIn : Result Replies AllocError → List ℕ → List (List ℕ) → List ℕ → Position → Position → List ZoneContent → List ZoneContent → Disk → List Event → Type 0
+abbrev pub EndsIn : Result Replies AllocError → List ℕ → List (List ℕ) → List ℕ → Position → Position
+    → List ZoneContent → List ZoneContent → Disk → List Event → Type 0
 EndsIn (Ok replies) text updates frames old new zones after d es =
     LeadsTo replies.is_stored text updates frames old new zones after d es
 EndsIn (Err error) text updates frames old new zones after d es =
     IsUnchanged old new zones after es ⊎ IsBehind text updates frames new zones after d es
 
--- What requests ask of a storage whose journal is open. At any moment, a crash leaves the updates from before them, with the entry of
--- theirs or without.
+-- What requests ask of a storage whose journal is open. At any moment, a crash leaves the updates from before them, with the
+-- entry of theirs or without.
 pub record Commits (text : List ℕ) (updates : List (List ℕ)) (frames : List ℕ) (outcome : Result Replies AllocError)
     (old new : Position) (zones after : List ZoneContent) (d : Disk) (es : List Event) : Type 0 where
   pub any_moment : Always (LeavesOnly (IsWithOrWithout text updates frames old)) d es
@@ -85,7 +88,8 @@ abbrev pub is_acknowledged : Result Replies AllocError → Bool
 is_acknowledged (Ok replies) = replies.is_stored
 is_acknowledged (Err error) = false
 
--- what requests with updates in frames do: to a storage whose journal is open, and to a journal that is not ready, which takes none
+-- what requests with updates in frames do: to a storage whose journal is open, and to a journal that is not ready, which takes
+-- none
 pub record Keeps (frames : List ℕ) (outcome : Result Replies AllocError) (old new : Position)
     (zones after : List ZoneContent) (es : List Event) : Type 0 where
   pub commits : (text : List ℕ) (updates : List (List ℕ)) (d : Disk) → IsOpen text updates old d
@@ -93,19 +97,22 @@ pub record Keeps (frames : List ℕ) (outcome : Result Replies AllocError) (old 
   pub idle : old.state ≢ states.Ready → IsLeft frames (is_acknowledged outcome) old new es × (after ≡ zones)
 
 -- the replies to requests that are decoded and verified
-abbrev pub AnswersRequests : Policy → List (Option Admitted) → List ZoneContent → List ZoneContent → Result Replies AllocError → Type 0
+abbrev pub AnswersRequests : Policy → List (Option Admitted) → List ZoneContent → List ZoneContent
+    → Result Replies AllocError → Type 0
 AnswersRequests policy admitted zones after (Ok r) =
-    AnswersAll policy r.is_stored zones admitted (map (λ reply. option_map (λ out. out.items) reply) r.replies.items) after
+    AnswersAll policy r.is_stored zones admitted
+    (map (λ reply. option_map (λ out. out.items) reply) r.replies.items) after
 AnswersRequests policy admitted zones after (Err error) = Unit {0}
 
 -- what requests that are decoded and verified ask of a storage, and what their replies are
-pub record Answers (policy : Policy) (admitted : List (Option Admitted)) (outcome : Result Replies AllocError) (old new : Position)
-    (zones after : List ZoneContent) (es : List Event) : Type 0 where
+pub record Answers (policy : Policy) (admitted : List (Option Admitted)) (outcome : Result Replies AllocError)
+    (old new : Position) (zones after : List ZoneContent) (es : List Event) : Type 0 where
   pub keeps : Keeps (stream_of (changes_in admitted)) outcome old new zones after es
   pub answered : AnswersRequests policy admitted zones after outcome
 
 -- memory was refused before anything was done
-pub record IsGivenUp (outcome : Result Replies AllocError) (old new : Position) (zones after : List ZoneContent) (es : List Event) : Type 0 where
+pub record IsGivenUp (outcome : Result Replies AllocError) (old new : Position)
+    (zones after : List ZoneContent) (es : List Event) : Type 0 where
   pub unasked : es ≡ []
   pub position : new ≡ old
   pub zones_are : after ≡ zones
@@ -119,6 +126,7 @@ pub record AnswersAdmitted (policy : Policy) (requests : List Incoming) (outcome
   pub answers : Answers policy admitted outcome old new zones after es
 
 -- what requests that arrived together ask of a storage, and what their replies are
-abbrev pub Responds : Policy → List Incoming → Result Replies AllocError → Position → Position → List ZoneContent → List ZoneContent → List Event → Type 0
+abbrev pub Responds : Policy → List Incoming → Result Replies AllocError → Position → Position
+    → List ZoneContent → List ZoneContent → List Event → Type 0
 Responds policy requests outcome old new zones after es =
     IsGivenUp outcome old new zones after es ⊎ AnswersAdmitted policy requests outcome old new zones after es

@@ -31,9 +31,10 @@ events_of (c ∷ more) = c.events ++ events_of more
 -- Entries of calls, in order: those that were acknowledged are among them, and of the others any.
 pub data Kept : List Call → List (List ℕ) → Type 0 where
   nothing : Kept [] []
-  with_it : {c : Call} {more : List Call} {entries : List (List ℕ)} → Kept more entries → Kept (c ∷ more) (entries_of c.frames ++ entries)
-  without_it : {c : Call} {more : List Call} {entries : List (List ℕ)} → is_acknowledged c.outcome ≡ false → Kept more entries
-      → Kept (c ∷ more) entries
+  with_it : {c : Call} {more : List Call} {entries : List (List ℕ)} → Kept more entries
+      → Kept (c ∷ more) (entries_of c.frames ++ entries)
+  without_it : {c : Call} {more : List Call} {entries : List (List ℕ)} → is_acknowledged c.outcome ≡ false
+      → Kept more entries → Kept (c ∷ more) entries
 
 -- the entry of a call that was interrupted is there, or is not
 abbrev pub IsWholeOrNone : Call → List (List ℕ) → Type 0
@@ -44,7 +45,8 @@ abbrev pub AreGenuine : Position → List Call → Files → Type 0
 AreGenuine p [] files = Unit {0}
 AreGenuine p (c ∷ more) files = IsGenuine c.frames p files × AreGenuine c.new more files
 
--- Files stand for earlier updates, then for those of calls that were done, and then perhaps for those of a call that was interrupted.
+-- Files stand for earlier updates, then for those of calls that were done, and then perhaps for those of a call that was
+-- interrupted.
 pub record StandAfter (updates : List (List ℕ)) (done : List Call) (c : Call) (files : Files) : Type 0 where
   pub kept : List (List ℕ)
   pub last : List (List ℕ)
@@ -53,6 +55,7 @@ pub record StandAfter (updates : List (List ℕ)) (done : List Call) (c : Call) 
   pub recovers : Recovers files ((updates ++ kept) ++ last)
 
 -- what a crash leaves while a call is made after others, unless a seal is right by chance
-pub record Outlasts (text : List ℕ) (updates : List (List ℕ)) (p : Position) (done : List Call) (c : Call) (files : Files) : Type 0 where
+pub record Outlasts (text : List ℕ) (updates : List (List ℕ)) (p : Position) (done : List Call) (c : Call)
+    (files : Files) : Type 0 where
   pub text_is : files.text ≡ text
   pub stands : AreGenuine p (done ++ c ∷ []) files → StandAfter updates done c files

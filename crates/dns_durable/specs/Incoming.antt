@@ -1,6 +1,6 @@
 -- Requests that have arrived, and what is done with them (RFC 2136 section 3.3, RFC 8945 section 5.2).
-use Rattle.std.specs.Prelude.{◌≡◌, ◌≤◌, ◌<◌, ◌⊎◌, ◌++◌, ℕ, Bool, true, false, if◌then◌else◌, List, [], ◌∷◌, length, Option, Some, None}
-use Rattle.dns_frames.specs.Frame.{stream_of}
+use Rattle.std.specs.Prelude.{◌≡◌, ◌≤◌, ◌<◌, ◌⊎◌, ◌++◌, ℕ, Bool, true, false, if◌then◌else◌, List, [], ◌∷◌, length}
+use Rattle.std.specs.Prelude.{Option, Some, None}
 use Rattle.dns_messages.specs.declared.header.Metadata.{Metadata}
 use Rattle.dns_messages.specs.declared.op_code.OpCode.{OpCode}
 use Rattle.dns_messages.specs.declared.op_code.OpCode.TheVariants as ops
@@ -10,7 +10,6 @@ use Rattle.dns_tsig.specs.Verify.{verdict_of}
 use Rattle.dns_zone.specs.Request.{DecodesRequest, IsRequest}
 use Rattle.dns_durable.specs.Policy.{admission}
 use Rattle.dns_durable.specs.declared.incoming.Admitted.{Admitted}
-use Rattle.dns_durable.specs.declared.incoming.Batch.{Batch}
 use Rattle.dns_durable.specs.declared.incoming.Incoming.{Incoming}
 use Rattle.dns_durable.specs.declared.policy.Admission.{Admission}
 use Rattle.dns_durable.specs.declared.policy.Admission.TheVariants.{Serve, Malformed, NotAuthentic}
@@ -36,8 +35,8 @@ pub record IsJudged (policy : Policy) (a : Admitted) : Type 0 where
   pub is_request : IsRequest a.incoming.bytes.now a.message
   pub short : length a.incoming.bytes.now ≤ 65535
   pub finds : Finds a.incoming.bytes.now a.checked.found
-  pub verdict_is : a.checked.verdict ≡ verdict_of policy.keys.items a.incoming.bytes.now a.checked.found a.incoming.terms.now
-  pub admission_is : a.admission ≡ admission policy a.checked.verdict a.message a.incoming.terms.local
+  pub verdict_is : a.checked.verdict ≡ verdict_of policy.keys.items a.incoming.bytes.now a.checked.found a.incoming.terms.now.time
+  pub admission_is : a.admission ≡ admission policy a.checked.verdict a.message a.incoming.terms.now.local
 
 -- Only bytes that do not decode, responses, and what is too long for a message are no request.
 abbrev pub IsAdmitted : Policy → Incoming → Option Admitted → Type 0
@@ -64,13 +63,6 @@ changes_in (a ∷ more) = change_of a ++ changes_in more
 abbrev pub IsShortIfAny : Option Admitted → Type 0
 IsShortIfAny (Some a) = length a.incoming.bytes.now ≤ 65535
 IsShortIfAny None = Unit {0}
-
--- a request is added to a batch, and its frame if it is an update that may be made
-pub record IsAdded (policy : Policy) (incoming : Incoming) (old new : Batch) : Type 0 where
-  pub last : Option Admitted
-  pub is : IsAdmitted policy incoming last
-  pub admitted_are : new.admitted.items ≡ old.admitted.items ++ last ∷ []
-  pub frames_are : new.frames.items ≡ old.frames.items ++ stream_of (change_of last)
 
 -- a request, if it is one, is decoded and verified
 abbrev pub IsJudgedIfAny : Policy → Option Admitted → Type 0

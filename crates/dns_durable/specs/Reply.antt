@@ -48,14 +48,15 @@ is_unstored false a = makes_change a
 -- the reply to a request, before it is signed, and the zones after it
 pub record IsPlainReply (stored : Bool) (zones after : List ZoneContent) (a : Admitted) (out : List ℕ) : Type 0 where
   pub after_is : after ≡ zones_left stored zones (Some a)
-  pub replied : IsReplyBut (is_unstored stored a) a.admission zones a.incoming.terms.road a.message out
+  pub replied : IsReplyBut (is_unstored stored a) a.admission zones a.incoming.terms.now.road a.message out
 
 -- the reply to a request, which is signed if the request is
-pub record IsSignedReply (policy : Policy) (stored : Bool) (zones after : List ZoneContent) (a : Admitted) (out : List ℕ) : Type 0 where
+pub record IsSignedReply (policy : Policy) (stored : Bool) (zones after : List ZoneContent) (a : Admitted)
+    (out : List ℕ) : Type 0 where
   pub plain : List ℕ
   pub code : List ℕ
   pub replied : IsPlainReply stored zones after a plain
-  pub signed : IsReply policy.keys.items a.checked.found a.checked.verdict a.incoming.terms.now plain code out
+  pub signed : IsReply policy.keys.items a.checked.found a.checked.verdict a.incoming.terms.now.time plain code out
 
 -- only what is not a request has no reply
 abbrev pub AnswersOne : Policy → Bool → List ZoneContent → List ZoneContent → Option Admitted → Option (List ℕ) → Type 0
@@ -65,7 +66,8 @@ AnswersOne policy stored zones after (Some a) None = ⊥
 AnswersOne policy stored zones after None (Some out) = ⊥
 
 -- the replies to requests that are answered one after another, by whether their updates are on the disk
-pub data AnswersAll (policy : Policy) (stored : Bool) : List ZoneContent → List (Option Admitted) → List (Option (List ℕ)) → List ZoneContent → Type 0 where
+pub data AnswersAll (policy : Policy) (stored : Bool)
+    : List ZoneContent → List (Option Admitted) → List (Option (List ℕ)) → List ZoneContent → Type 0 where
   no_request : {zones : List ZoneContent} → AnswersAll policy stored zones [] [] zones
   a_request : {zones mid after : List ZoneContent} {a : Option Admitted} {more : List (Option Admitted)}
       {reply : Option (List ℕ)} {replies : List (Option (List ℕ))}

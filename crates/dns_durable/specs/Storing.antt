@@ -18,13 +18,14 @@ abbrev pub IsGenuine : List ℕ → Position → Files → Type 0
 IsGenuine frames old files = HasNoForgery old.digest old.end (update_payload frames) (drop old.end files.journal)
 
 -- Files stand for earlier updates, with the entry for frames or without, unless a seal is right by chance.
-pub record IsWithOrWithout (text : List ℕ) (updates : List (List ℕ)) (frames : List ℕ) (old : Position) (files : Files) : Type 0 where
+pub record IsWithOrWithout (text : List ℕ) (updates : List (List ℕ)) (frames : List ℕ) (old : Position)
+    (files : Files) : Type 0 where
   pub text_is : files.text ≡ text
   pub stands : IsGenuine frames old files → Recovers files updates ⊎ Recovers files (updates ++ entries_of frames)
 
--- What the storing of frames asks of a storage whose journal is open. At any moment, a crash leaves the updates from before it, with
--- the entry of the frames or without. Once it is done, the entry is on the disk. If it is refused, the journal is not ready, or
--- nothing was asked of the storage.
+-- What the storing of frames asks of a storage whose journal is open. At any moment, a crash leaves the updates from before it,
+-- with the entry of the frames or without. Once it is done, the entry is on the disk. If it is refused, the journal is not ready,
+-- or nothing was asked of the storage.
 pub record Stores (text : List ℕ) (updates : List (List ℕ)) (frames : List ℕ) (done : Bool) (old new : Position)
     (d : Disk) (es : List Event) : Type 0 where
   pub any_moment : Always (LeavesOnly (IsWithOrWithout text updates frames old)) d es

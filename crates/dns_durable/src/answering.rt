@@ -86,7 +86,7 @@ fn signed_reply(
         policy.keys.as_slice(),
         &admitted.checked,
         &mut reply,
-        admitted.incoming.terms.now,
+        admitted.incoming.terms.time,
     ) {
         Ok(_code) => Ok(reply),
         // Memory for the signature was refused: the reply has a header and room for a record, and its key is there.
@@ -107,7 +107,7 @@ fn plain_reply(
     ensures failed { OnErr result (server.new ≡ server.old) }
 {
     let message = &admitted.message;
-    let road = admitted.incoming.terms.road;
+    let road = admitted.incoming.terms.road();
     if !is_stored && admitted.is_change() {
         return bare_reply_bytes(alloc, message, ResponseCode::ServFail, road);
     }

@@ -4,7 +4,7 @@ ghost use Rattle.std.specs.Prelude.{◌≡◌, ◌≤◌, ◌++◌, length, IfOk
 ghost use Rattle.dns_frames.specs.Frame.{stream_of};
 ghost use Rattle.dns_messages.specs.Header.{peeked_metadata};
 ghost use Rattle.dns_zone.specs.Request.{IsRequest};
-ghost use Rattle.dns_durable.specs.Incoming.{AreAdmitted, IsAdded, IsAdmitted, IsJudged, IsShortIfAny, change_of, changes_in, is_change, is_update_header};
+ghost use Rattle.dns_durable.specs.Incoming.{AreAdmitted, IsAdmitted, IsJudged, IsShortIfAny, change_of, changes_in, is_change, is_update_header};
 
 use crate::policy::{Admission, Policy, admission_of};
 use dns_frames::write_frame;
@@ -25,7 +25,19 @@ pub struct Terms {
     /// Whether its address may update without a key.
     pub local: Updates,
     /// The time, in seconds since 1 January 1970 (UTC).
-    pub now: u64,
+    pub time: u64,
+}
+
+impl Terms {
+    /// Returns the transport.
+    pub(crate) fn road(&self) -> Road
+        ensures { result ≡ self.now.road }
+    {
+        match self.road {
+            Road::Datagram(limit) => Road::Datagram(limit),
+            Road::Stream => Road::Stream,
+        }
+    }
 }
 
 /// A request that has arrived.
@@ -34,7 +46,7 @@ pub struct Incoming<'a> {
     /// The message.
     pub bytes: &'a [u8],
     /// What else decides on its reply.
-    pub terms: Terms,
+    pub terms: &'a Terms,
 }
 
 /// A request that is decoded and verified.
@@ -96,31 +108,16 @@ impl<'a> Batch<'a> {
         ensures frames { IfOk result (λ batch.
             batch.frames.items ≡ stream_of (changes_in batch.admitted.items)) }
     {
-        let mut batch = Batch {
-            admitted: Vec::new(alloc),
-            frames: Vec::new(alloc),
-        };
+        let mut admitted = Vec::new(alloc);
+        let mut frames = Vec::new(alloc);
         let mut rest = requests;
         while let [incoming, more @ ..] = rest {
-            batch.add(alloc, policy, *incoming)?;
+            let next = admit(alloc, policy, *incoming)?;
+            push_change(&mut frames, &next)?;
+            admitted.push(next)?;
             rest = more;
         }
-        Ok(batch)
-    }
-
-    /// Adds a request.
-    fn add(
-        &mut self,
-        alloc: Global,
-        policy: &Policy,
-        incoming: Incoming<'a>,
-    ) -> Result<(), AllocError>
-        ensures { OnOk result (IsAdded policy.now incoming self.old self.new) }
-    {
-        let next = admit(alloc, policy, incoming)?;
-        push_change(&mut self.frames, &next)?;
-        self.admitted.push(next)?;
-        Ok(())
+        Ok(Batch { admitted, frames })
     }
 }
 
@@ -142,7 +139,7 @@ fn admit<'a>(
     policy: &Policy,
     incoming: Incoming<'a>,
 ) -> Result<Option<Admitted<'a>>, AllocError>
-    ensures { IfOk result (λ admitted. IsAdmitted policy.now incoming admitted) }
+    ensures { IfOk result (λ admitted. IsAdmitted policy.now incoming.entry admitted) }
 {
     if incoming.bytes.len() > MAX_REQUEST_LEN {
         return Ok(None);
@@ -163,13 +160,13 @@ fn judge<'a>(
     requires request { IsRequest incoming.bytes.now message }
     requires short { length incoming.bytes.now ≤ 65535 }
     ensures judged { IfOk result (λ admitted. IsJudged policy.now admitted) }
-    ensures incoming { IfOk result (λ admitted. admitted.incoming ≡ incoming) }
+    ensures incoming { IfOk result (λ admitted. admitted.incoming ≡ incoming.entry) }
 {
     let checked = verify_request(
         alloc,
         policy.keys.as_slice(),
         incoming.bytes,
-        incoming.terms.now,
+        incoming.terms.time,
     )?;
     let admission = admission_of(policy, checked.verdict, &message, incoming.terms.local);
     Ok(Admitted {

@@ -10,6 +10,7 @@ use dns_journal::{Journal, Position, State, Storage, StorageError, StoredFiles};
 use dns_journal_files::FileStorage;
 use dns_recovery::{OpenError, Opened, open_journal};
 use dns_server::Server;
+use dns_zone::Zone;
 use std::io;
 use std::time::Instant;
 
@@ -39,6 +40,38 @@ pub(crate) fn open_durable<'a>(
     }
 }
 
+/// Files that were read, and the storage that they are from.
+struct Stored<'a> {
+    storage: FileStorage<'a>,
+    files: StoredFiles,
+}
+
+impl Drop for Stored<'_> {
+    fn drop(self) {
+        let Stored { storage, files } = self;
+        drop(storage);
+        drop(files);
+    }
+}
+
+impl<'a> Stored<'a> {
+    /// Reads a zone file and its journal.
+    fn read(rt: &'a HostRuntime, file: &str, path: &str) -> Result<Stored<'a>, Ending> {
+        let mut storage = FileStorage::new(rt, file, path)?;
+        match storage.read(rt.alloc()) {
+            Ok(files) => Ok(Stored { storage, files }),
+            Err(error) => Err(storage_ending(rt, &mut storage, path, error)),
+        }
+    }
+
+    /// Returns the storage.
+    fn into_storage(self) -> FileStorage<'a> {
+        let Stored { storage, files } = self;
+        drop(files);
+        storage
+    }
+}
+
 /// Reads a zone and the updates of its journal.
 fn open_with_journal<'a>(
     rt: &'a HostRuntime,
@@ -46,14 +79,20 @@ fn open_with_journal<'a>(
     file: &str,
     path: &str,
 ) -> Result<DurableServer<FileStorage<'a>>, Ending> {
-    let mut storage = FileStorage::new(rt, file, path)?;
-    let files = match storage.read(rt.alloc()) {
-        Ok(files) => files,
-        Err(error) => return Err(storage_ending(rt, &mut storage, path, error)),
-    };
-    let mut server = server_of(rt, arguments, file, &files)?;
-    let journal = journal_of(rt, storage, &files, &mut server, path)?;
-    Ok(DurableServer { server, journal })
+    let mut stored = Stored::read(rt, file, path)?;
+    let mut server = server_of(rt, arguments, file, &stored.files)?;
+    let position = replay_journal(
+        rt,
+        &mut stored.storage,
+        &stored.files,
+        &mut server,
+        path,
+    )?;
+    let storage = stored.into_storage();
+    Ok(DurableServer {
+        server,
+        journal: Journal { storage, position },
+    })
 }
 
 /// Returns a server of the zone of files that were read. Standard error has a line for it.
@@ -64,40 +103,46 @@ fn server_of(
     files: &StoredFiles,
 ) -> Result<Server, Ending> {
     let start = Instant::now(rt);
-    let bytes = files.text.clone()?;
-    let text = text_of(rt.alloc(), file, bytes)?;
-    refuse_includes(rt, file, text.as_str())?;
-    let zone = zone_of(rt, file, text.as_str(), &[], arguments.origin.as_ref())?;
+    let zone = stored_zone(rt, arguments, file, files)?;
     tell(rt, file, &zone, milliseconds_since(rt, start));
     let mut server = Server::new(rt.alloc());
     add_zone(rt, &mut server, file, zone)?;
     Ok(server)
 }
 
+/// Returns the zone of files that were read.
+fn stored_zone(
+    rt: &HostRuntime,
+    arguments: &Arguments,
+    file: &str,
+    files: &StoredFiles,
+) -> Result<Zone, Ending> {
+    let text = text_of(rt.alloc(), file, files.text.clone()?)?;
+    refuse_includes(rt, file, text.as_str())?;
+    zone_of(rt, file, text.as_str(), &[], arguments.origin.as_ref())
+}
+
 /// Opens the journal of files that were read, and serves its updates again. Standard error has a line for it.
-fn journal_of<'a>(
-    rt: &'a HostRuntime,
-    mut storage: FileStorage<'a>,
+fn replay_journal(
+    rt: &HostRuntime,
+    storage: &mut FileStorage<'_>,
     files: &StoredFiles,
     server: &mut Server,
     path: &str,
-) -> Result<Journal<FileStorage<'a>>, Ending> {
-    let opened = match open_journal(&mut storage, rt.alloc(), files) {
+) -> Result<Position, Ending> {
+    let Opened { updates, position } = match open_journal(storage, rt.alloc(), files) {
         Ok(opened) => opened,
-        Err(error) => return Err(open_ending(rt, &mut storage, path, error)),
+        Err(error) => return Err(open_ending(rt, storage, path, error)),
     };
-    let Opened { updates, position } = opened;
     match replay(server, rt.alloc(), updates.as_slice()) {
         Ok(()) => {}
         // Memory for an update was refused.
         Err(ReplayError::Memory) => return Err(Ending::Memory),
-        Err(error) => {
-            return Err(Ending::Refused(format!(in rt.alloc(); "{path}: {error}\n")?));
-        }
+        Err(error) => return Err(Ending::Refused(format!(in rt.alloc(); "{path}: {error}\n")?)),
     }
     // A failure to write to standard error can't be reported.
-    let _written = eprintln!(rt; "{path}: {} updates", updates.len());
-    Ok(Journal { storage, position })
+    let _written = eprintln!(rt; "{path}: {} entries", updates.len());
+    Ok(position)
 }
 
 /// Says why a journal is not opened.

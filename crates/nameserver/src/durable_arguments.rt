@@ -12,7 +12,6 @@ const DEFAULT_LIMIT: usize = 16_777_216;
 const LEAST_LIMIT: usize = 4_096;
 
 /// What is given of keys and of a journal.
-#[derive(Drop)]
 pub(crate) struct DurableArguments {
     /// The path of the journal, as given.
     pub(crate) journal: Option<String>,
@@ -24,6 +23,21 @@ pub(crate) struct DurableArguments {
     pub(crate) keys: Vec<String>,
     /// The grants, as given.
     pub(crate) grants: Vec<String>,
+}
+
+impl Drop for DurableArguments {
+    fn drop(self) {
+        let DurableArguments {
+            journal,
+            journal_limit: _journal_limit,
+            compact: _compact,
+            keys,
+            grants,
+        } = self;
+        drop(journal);
+        drop(keys);
+        drop(grants);
+    }
 }
 
 impl DurableArguments {

@@ -40,9 +40,16 @@ impl Handler for DurableHandler<'_> {
     }
 
     fn handle(&mut self, requests: &[Request<'_>]) -> Result<Vec<Delivery>, AllocError> {
-        let mut incoming = Vec::new(self.rt.alloc());
+        let mut terms = Vec::new(self.rt.alloc());
         for request in requests {
-            incoming.push(self.incoming(request))?;
+            terms.push(self.terms(request))?;
+        }
+        let mut incoming = Vec::new(self.rt.alloc());
+        for (request, terms) in requests.iter().zip(terms.as_slice()) {
+            incoming.push(Incoming {
+                bytes: request.bytes,
+                terms,
+            })?;
         }
         let replies = self
             .server
@@ -54,16 +61,13 @@ impl Handler for DurableHandler<'_> {
 }
 
 impl DurableHandler<'_> {
-    /// Returns a request with what else decides on its reply.
-    fn incoming<'r>(&self, request: &Request<'r>) -> Incoming<'r> {
-        Incoming {
-            bytes: request.bytes,
-            terms: Terms {
-                road: road_of(request.transport, self.limit),
-                local: updates_of(self.updaters.contains(request.peer.ip())),
-                // Without a clock, no signature is in time.
-                now: self.rt.since_1970().map_or(0, |time| time.as_secs()),
-            },
+    /// Returns what decides on the reply to a request, beside its bytes.
+    fn terms(&self, request: &Request<'_>) -> Terms {
+        Terms {
+            road: road_of(request.transport, self.limit),
+            local: updates_of(self.updaters.contains(request.peer.ip())),
+            // Without a clock, no signature is in time.
+            time: self.rt.since_1970().map_or(0, |time| time.as_secs()),
         }
     }
 
