@@ -131,3 +131,10 @@ front_stop policy xs d true start now mid all is some completes judged left = �
 pub answered_left : (policy : Policy) (stored : Bool) (b : Bool) (now mid : List ZoneContent) (a : Option Admitted) (reply : Option (List ℕ)) → stored ≡ b → AnswersOne policy stored now mid a reply
     → mid ≡ zones_left b now a
 answered_left policy stored b now mid a reply is one = left_by_one policy stored now mid a reply one ∙ ap (λ (x : Bool). zones_left x now a) is
+
+-- ---- one zone
+
+pub only_one : {T : Type 0} (xs : List T) (x : T) → 1 ≤ length xs → length xs < 2 → x ≡ get_or xs 0 x → xs ≡ x ∷ []
+only_one [] x some few is = absurd (omega (arith, some))
+only_one (y ∷ []) x some few is = ap (λ (z : _). z ∷ []) (sym is)
+only_one (y ∷ z ∷ l) x some few is = absurd (omega (arith, few))

@@ -9,7 +9,6 @@ use Rattle.dns_durable.proofs.durable_server.DurableServer.compact.Goals as goal
 
 pub returns-in-Ok : goal.returns-in-Ok
 returns-in-Ok g c =
-    let wrong : ℕ = c.in_ok-text.zone-is in
     let text = string_bytes c.in_ok-text.text in
     let p = c.args.self.now.journal.position in
     let q = c.compact.new.journal.position in
@@ -20,8 +19,10 @@ returns-in-Ok g c =
       holds = inr (record {
         text = text;
         again = c.in_ok-text.zone;
-        rewritten = subst (λ (z : List ZoneContent). IsRewritten z text c.in_ok-text.zone) c.zones.ensures.zones c.in_ok-text.ensures;
-        served = λ _. c.in_ok-server.ensures;
+        rewritten = subst (λ (z : List ZoneContent). IsRewritten z text c.in_ok-text.zone) c.zones.ensures.zones
+            (subst (λ (o : ZoneContent). IsRewritten c.zones.result.now text o) c.in_ok-text.zone-is
+            (subst (λ (t : _). IsRewritten c.zones.result.now (string_bytes t) c.in_ok-text.field-0.zone) c.in_ok-text.text-is c.in_ok-text.ensures));
+        served = λ _. cc (c.in_ok-server.ensures, c.in_ok-text.zone-is);
         unchanged = λ e. absurd cc;
         compacts = subst (λ (t : List ℕ). (former bytes digest : List ℕ) (payloads : List (List ℕ)) → IsPosition p bytes digest payloads → digest ≡ sha256 former
             → (sha256 t ≡ sha256 former → t ≡ former) → Compacts p q true former t bytes digest payloads es) c.as_bytes.ensures.value c.in-Ok.ensures.holds;
@@ -30,7 +31,6 @@ returns-in-Ok g c =
 
 pub returns : goal.returns
 returns g c =
-    let wrong : ℕ = c.in_ok-text.text-is in
     let text = string_bytes c.in_ok-text.text in
     let p = c.args.self.now.journal.position in
     let q = c.compact.new.journal.position in
@@ -41,7 +41,9 @@ returns g c =
       holds = inr (record {
         text = text;
         again = c.in_ok-text.zone;
-        rewritten = subst (λ (z : List ZoneContent). IsRewritten z text c.in_ok-text.zone) c.zones.ensures.zones c.in_ok-text.ensures;
+        rewritten = subst (λ (z : List ZoneContent). IsRewritten z text c.in_ok-text.zone) c.zones.ensures.zones
+            (subst (λ (o : ZoneContent). IsRewritten c.zones.result.now text o) c.in_ok-text.zone-is
+            (subst (λ (t : _). IsRewritten c.zones.result.now (string_bytes t) c.in_ok-text.field-0.zone) c.in_ok-text.text-is c.in_ok-text.ensures));
         served = λ e. absurd cc;
         unchanged = λ _. refl;
         compacts = subst (λ (t : List ℕ). (former bytes digest : List ℕ) (payloads : List (List ℕ)) → IsPosition p bytes digest payloads → digest ≡ sha256 former
