@@ -1,4 +1,4 @@
-use Rattle.std.proofs.Common.{◌≡◌, [], ℕ, List, true, false, inr, refl, sym, subst}
+use Rattle.std.proofs.Common.{◌≡◌, [], ℕ, List, true, false, inr, refl, sym, ap, subst, ◌∙◌}
 use Rattle.std.specs.String.{string_bytes}
 use Rattle.sha2.specs.Sha256.{sha256}
 use Rattle.dns_journal.specs.Appending.{IsPosition}
@@ -25,7 +25,7 @@ returns-in-Ok g c =
         served = λ _. cc (c.in_ok-server.ensures, c.in_ok-text.zone-is);
         unchanged = λ e. absurd cc;
         compacts = subst (λ (t : List ℕ). (former bytes digest : List ℕ) (payloads : List (List ℕ)) → IsPosition p bytes digest payloads → digest ≡ sha256 former
-            → (sha256 t ≡ sha256 former → t ≡ former) → Compacts p q true former t bytes digest payloads es) c.as_bytes.ensures.value c.in-Ok.ensures.holds;
+            → (sha256 t ≡ sha256 former → t ≡ former) → Compacts p q true former t bytes digest payloads es) (c.as_bytes.ensures.value ∙ ap (λ (t : _). string_bytes t) c.in_ok-text.text-is) c.in-Ok.ensures.holds;
       });
     }
 
@@ -47,6 +47,6 @@ returns g c =
         served = λ e. absurd cc;
         unchanged = λ _. refl;
         compacts = subst (λ (t : List ℕ). (former bytes digest : List ℕ) (payloads : List (List ℕ)) → IsPosition p bytes digest payloads → digest ≡ sha256 former
-            → (sha256 t ≡ sha256 former → t ≡ former) → Compacts p q false former t bytes digest payloads es) c.as_bytes.ensures.value c.in-Err.ensures.holds;
+            → (sha256 t ≡ sha256 former → t ≡ former) → Compacts p q false former t bytes digest payloads es) (c.as_bytes.ensures.value ∙ ap (λ (t : _). string_bytes t) c.in_ok-text.text-is) c.in-Err.ensures.holds;
       });
     }
