@@ -165,15 +165,15 @@ module _ (text : List ℕ) (p : Position) (zones : List ZoneContent) (b : Call) 
       → Always (LeavesOnly (IsWithOrWithout text updates b.frames p)) d b.events → IsUnchanged p b.new zones b.after b.events → Ends (Law updates) d b.events
   refused updates d opened not always same =
       ⊎_elim (λ ready.
-          let both = same.unasked ready in
-          subst (λ (es : List Event). Ends (Law updates) d es) (sym both.0)
-          (then_law text updates updates p p b done c (λ files at. after_unkept text updates p p b done c files not both.1 at) d
-          (law_after updates p d opened (subst (λ (q : Position). Runs q b.after (done ++ c ∷ [])) both.1 runs))))
+      let both = same.unasked ready in
+      subst (λ (es : List Event). Ends (Law updates) d es) (sym both.0)
+      (then_law text updates updates p p b done c (λ files at. after_unkept text updates p p b done c files not both.1 at) d
+      (law_after updates p d opened (subst (λ (q : Position). Runs q b.after (done ++ c ∷ [])) both.1 runs))))
       (λ stopped.
-          ends_weaker (LeavesOnly (IsWithOrWithout text updates b.frames p)) (Law updates)
-          (λ e holds. stuck (LeavesOnly (Outlasts text updates p (b ∷ done) c)) b.new b.after e done c stopped runs
-          (λ files leaves. after_stuck text updates p b done c files not (stuck_kept b.new b.after done c stopped runs) (holds files leaves)))
-          d b.events (always_ends (LeavesOnly (IsWithOrWithout text updates b.frames p)) d b.events always))
+      ends_weaker (LeavesOnly (IsWithOrWithout text updates b.frames p)) (Law updates)
+      (λ e holds. stuck (LeavesOnly (Outlasts text updates p (b ∷ done) c)) b.new b.after e done c stopped runs
+      (λ files leaves. after_stuck text updates p b done c files not (stuck_kept b.new b.after done c stopped runs) (holds files leaves)))
+      d b.events (always_ends (LeavesOnly (IsWithOrWithout text updates b.frames p)) d b.events always))
       (ready_or b.new.state)
 
   by_stored : (stored : Bool) (updates : List (List ℕ)) (d : Disk) → IsOpen text updates p d → is_acknowledged b.outcome ≡ stored

@@ -71,13 +71,7 @@ fn respond_batch<S: Storage>(
         journal.new.position server.old server.new) }
 {
     let is_stored = store(journal, alloc, batch.frames.as_slice());
-    match answer_all(
-        server,
-        alloc,
-        policy,
-        is_stored,
-        batch.admitted.as_slice(),
-    ) {
+    match answer_all(server, alloc, policy, is_stored, batch.admitted.as_slice()) {
         Ok(replies) => Ok(Replies { replies, is_stored }),
         Err(error) => {
             if is_stored {

@@ -60,7 +60,6 @@ impl HeldReply {
     }
 }
 
-
 /// A connection, and what has arrived and is to be written on it.
 pub(crate) struct Stream {
     alloc: Global,
@@ -181,7 +180,11 @@ impl Stream {
             return self.write(now);
         }
         if self.is_closing {
-            return if has_output { Step::Waits } else { Step::Closes };
+            return if has_output {
+                Step::Waits
+            } else {
+                Step::Closes
+            };
         }
         if self.output.is_full() {
             return Step::Waits;

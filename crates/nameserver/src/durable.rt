@@ -81,13 +81,7 @@ fn open_with_journal<'a>(
 ) -> Result<DurableServer<FileStorage<'a>>, Ending> {
     let mut stored = Stored::read(rt, file, path)?;
     let mut server = server_of(rt, arguments, file, &stored.files)?;
-    let position = replay_journal(
-        rt,
-        &mut stored.storage,
-        &stored.files,
-        &mut server,
-        path,
-    )?;
+    let position = replay_journal(rt, &mut stored.storage, &stored.files, &mut server, path)?;
     let storage = stored.into_storage();
     Ok(DurableServer {
         server,

@@ -17,15 +17,20 @@ returns-in_err-push-clause-failed c =
     (inr (answered_left c.args.policy.now c.args.is_stored c.args.is_stored c.loop-rest.server c.answer.new.server _ _ refl (subst (λ (x : Option Admitted). AnswersOne c.args.policy.now c.args.is_stored c.loop-rest.server c.answer.new.server x (option_map (λ out. out.items) c.in_ok-reply.reply)) c.next-item.is c.in_ok-reply.ensures.answered))))
 
 pub loop-rest-preserved : goal.loop-rest-preserved
-loop-rest-preserved c =
-    (λ more end rest. replies_go_on c.args.policy.now c.args.is_stored c.loop-rest.rest.now c.next-item.result c.args.server.now c.loop-rest.server c.answer.new.server c.args.admitted.now _ _
-    (option_map (λ out. out.items) c.in_ok-reply.reply) c.in-len1-up.len_at_least c.loop-rest.invariant.0 (subst (λ (x : Option Admitted). AnswersOne c.args.policy.now c.args.is_stored c.loop-rest.server c.answer.new.server x (option_map (λ out. out.items) c.in_ok-reply.reply)) c.next-item.is c.in_ok-reply.ensures.answered)
-    (mapped_more (λ reply. option_map (λ out. out.items) reply) c.loop-rest.replies.items c.in_ok-reply.reply c.push.new.self.items c.in_ok-push.ensures.items) more end rest,
-    (λ is last front. front_go_on c.args.policy.now c.loop-rest.rest.now c.next-item.result c.args.server.now c.loop-rest.server c.answer.new.server last c.args.admitted.now c.in-len1-up.len_at_least
-    (c.loop-rest.invariant.1.0 is) (first_judged c.args.policy.now c.loop-rest.rest.now c.next-item.result c.in-len1-up.len_at_least c.loop-rest.invariant.1.1.1)
-    (answered_left c.args.policy.now c.args.is_stored true c.loop-rest.server c.answer.new.server _ _ is (subst (λ (x : Option Admitted). AnswersOne c.args.policy.now c.args.is_stored c.loop-rest.server c.answer.new.server x (option_map (λ out. out.items) c.in_ok-reply.reply)) c.next-item.is c.in_ok-reply.ensures.answered)) front,
-    (λ is. answered_left c.args.policy.now c.args.is_stored false c.loop-rest.server c.answer.new.server _ _ is (subst (λ (x : Option Admitted). AnswersOne c.args.policy.now c.args.is_stored c.loop-rest.server c.answer.new.server x (option_map (λ out. out.items) c.in_ok-reply.reply)) c.next-item.is c.in_ok-reply.ensures.answered) ∙ c.loop-rest.invariant.1.1.0 is,
-    others_judged c.args.policy.now c.loop-rest.rest.now c.in-len1-up.len_at_least c.loop-rest.invariant.1.1.1)))
+loop-rest-preserved c = (
+  λ more end rest. replies_go_on c.args.policy.now c.args.is_stored c.loop-rest.rest.now c.next-item.result c.args.server.now c.loop-rest.server c.answer.new.server c.args.admitted.now _ _
+      (option_map (λ out. out.items) c.in_ok-reply.reply) c.in-len1-up.len_at_least c.loop-rest.invariant.0 (subst (λ (x : Option Admitted). AnswersOne c.args.policy.now c.args.is_stored c.loop-rest.server c.answer.new.server x (option_map (λ out. out.items) c.in_ok-reply.reply)) c.next-item.is c.in_ok-reply.ensures.answered)
+      (mapped_more (λ reply. option_map (λ out. out.items) reply) c.loop-rest.replies.items c.in_ok-reply.reply c.push.new.self.items c.in_ok-push.ensures.items) more end rest,
+  (
+    λ is last front. front_go_on c.args.policy.now c.loop-rest.rest.now c.next-item.result c.args.server.now c.loop-rest.server c.answer.new.server last c.args.admitted.now c.in-len1-up.len_at_least
+        (c.loop-rest.invariant.1.0 is) (first_judged c.args.policy.now c.loop-rest.rest.now c.next-item.result c.in-len1-up.len_at_least c.loop-rest.invariant.1.1.1)
+        (answered_left c.args.policy.now c.args.is_stored true c.loop-rest.server c.answer.new.server _ _ is (subst (λ (x : Option Admitted). AnswersOne c.args.policy.now c.args.is_stored c.loop-rest.server c.answer.new.server x (option_map (λ out. out.items) c.in_ok-reply.reply)) c.next-item.is c.in_ok-reply.ensures.answered)) front,
+    (
+      λ is. answered_left c.args.policy.now c.args.is_stored false c.loop-rest.server c.answer.new.server _ _ is (subst (λ (x : Option Admitted). AnswersOne c.args.policy.now c.args.is_stored c.loop-rest.server c.answer.new.server x (option_map (λ out. out.items) c.in_ok-reply.reply)) c.next-item.is c.in_ok-reply.ensures.answered) ∙ c.loop-rest.invariant.1.1.0 is,
+      others_judged c.args.policy.now c.loop-rest.rest.now c.in-len1-up.len_at_least c.loop-rest.invariant.1.1.1,
+    ),
+  ),
+)
 
 pub returns-clause-answered : goal.returns-clause-answered
 returns-clause-answered c =

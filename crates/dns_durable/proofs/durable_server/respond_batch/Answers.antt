@@ -24,7 +24,7 @@ returns-in-Ok g c =
     let frames_are : c.as_slice.result.now ≡ frames = c.as_slice.ensures.value ∙ c.requires.frames in
     let asks = subst (λ (l : List ℕ). Asks l c.store-is_stored.result p q es) frames_are c.store-is_stored.ensures.holds in
     let answered = subst (λ (l : List (Option Admitted)). AnswersAll policy c.store-is_stored.result c.args.server.now l
-        (map (λ reply. option_map (λ out. out.items) reply) c.in-Ok.replies.items) after) c.as_slice-2.ensures.value c.in-Ok.ensures.answered in
+    (map (λ reply. option_map (λ out. out.items) reply) c.in-Ok.replies.items) after) c.as_slice-2.ensures.value c.in-Ok.ensures.answered in
     record {
       events = es;
       led = c.store-is_stored.ensures.led;
@@ -53,7 +53,7 @@ returns-after-is_stored g c =
     let asks = subst (λ (l : List ℕ). Asks l c.store-is_stored.result p mid.position es) frames_are c.store-is_stored.ensures.holds in
     let Goal = λ (j : Journal g.row.S.Denot). Performs g.S.Storage.performs c.args.journal.now.storage j.storage (Answers policy items (Err error) p j.position z after) in
     elim c.if-is_stored.branch [
-      then-is_stored w ↦
+      | then-is_stored w ↦
           let new = w.suspend.new.journal in
           let given : w.as_slice-then-is_stored.result.now ≡ frames = w.as_slice-then-is_stored.ensures.value ∙ c.requires.frames in
           let front = subst (λ (l : List (Option Admitted)). TakesFront z (stream_of (changes_in l)) after) c.as_slice-2.ensures.value (c.in-Err.ensures.failed w.if-is_stored.true) in
