@@ -6,4 +6,3 @@ pub mod EndedLaws
 pub mod SelectingLaws
 pub mod ErrorLaws
 pub mod StepLaws
-pub mod EndsLaws

@@ -1,4 +1,3 @@
 pub mod Claims
 pub mod Standing
 pub mod Lookups
-pub mod Ends

@@ -1,0 +1,174 @@
+//! The additional section: addresses of the hosts that the other sections name (RFC 1034 section 4.3.2 step 6).
+
+ghost use Rattle.std.specs.Prelude.{◌≡◌, IfOk, option_copied};
+ghost use Rattle.dns_zone.specs.Rows.{rows_of};
+ghost use Rattle.dns_authority.specs.Additional.{has_set, host_of, rows_by, rows_without, with_additionals, with_host, with_host_of, with_hosts, with_set};
+ghost use Rattle.dns_lookup_steps.specs.Barrier.{barrier};
+
+use crate::answer::AuthorityAnswer;
+use crate::copies::push_copies;
+use crate::zones::closest_zone;
+use dns_data::RData;
+use dns_lookup_steps::barrier;
+use dns_names::Name;
+use dns_records::{Record, Sequence};
+use dns_wire::RecordType;
+use dns_zone::Zone;
+use std::alloc::{AllocError, Global};
+
+/// Why the addresses of a host are added.
+#[derive(Clone, Copy, Debug, PartialEq, Eq)]
+enum HostKind {
+    /// The host is in a referral: its addresses may be below a zone cut.
+    Glue,
+    /// The host is in the answer section.
+    Answer,
+}
+
+/// Returns an answer with its additional section.
+pub(crate) fn with_additionals(
+    alloc: Global,
+    zones: &[Zone],
+    answer: AuthorityAnswer,
+) -> Result<AuthorityAnswer, AllocError>
+    ensures { IfOk result (λ whole. whole ≡ with_additionals zones.now answer) }
+{
+    let mut answer = answer;
+    answer.additionals = {
+        let answers = answer.answers.as_slice();
+        let authorities = answer.authorities.as_slice();
+        let none = Sequence::new(alloc);
+        let glue = with_hosts(alloc, zones, HostKind::Glue, answers, none, authorities)?;
+        with_hosts(alloc, zones, HostKind::Answer, answers, glue, answers)?
+    };
+    Ok(answer)
+}
+
+/// Adds the addresses of the hosts that some records name.
+fn with_hosts(
+    alloc: Global,
+    zones: &[Zone],
+    kind: HostKind,
+    answers: &[Record],
+    records: Sequence<Record>,
+    naming: &[Record],
+) -> Result<Sequence<Record>, AllocError>
+    ensures { IfOk result (λ all. all
+        ≡ with_hosts (rows_by kind zones.now) answers.now records naming.now) }
+{
+    let mut all = records;
+    for record in naming {
+        all = with_host_of(alloc, zones, kind, answers, all, &record.rdata)?;
+    }
+    Ok(all)
+}
+
+/// Adds the addresses of the host that data names, if it names one.
+fn with_host_of(
+    alloc: Global,
+    zones: &[Zone],
+    kind: HostKind,
+    answers: &[Record],
+    records: Sequence<Record>,
+    rdata: &RData,
+) -> Result<Sequence<Record>, AllocError>
+    ensures { IfOk result (λ all. all ≡ with_host_of (rows_by kind zones.now) answers.now records
+        (host_of rdata.now)) }
+{
+    match host_of(rdata) {
+        Some(host) => with_host(alloc, zones, kind, answers, records, host),
+        None => Ok(records),
+    }
+}
+
+/// Returns the host that data names: that of an NS, an MX or an SRV record.
+fn host_of(rdata: &RData) -> Option<&Name>
+    ensures { option_copied result ≡ host_of rdata.now }
+{
+    match rdata {
+        RData::NS(data) => Some(&data.0),
+        RData::MX(data) => Some(&data.exchange),
+        RData::SRV(data) => Some(&data.target),
+        _ => None,
+    }
+}
+
+/// Adds the addresses of a host.
+fn with_host(
+    alloc: Global,
+    zones: &[Zone],
+    kind: HostKind,
+    answers: &[Record],
+    records: Sequence<Record>,
+    host: &Name,
+) -> Result<Sequence<Record>, AllocError>
+    ensures { IfOk result (λ all. all
+        ≡ with_host (rows_by kind zones.now) answers.now records host.now) }
+{
+    let records = with_set(alloc, zones, kind, answers, records, host, RecordType::A)?;
+    with_set(alloc, zones, kind, answers, records, host, RecordType::AAAA)
+}
+
+/// Adds the records of a host and a type, unless the answers or the records have them.
+fn with_set(
+    alloc: Global,
+    zones: &[Zone],
+    kind: HostKind,
+    answers: &[Record],
+    records: Sequence<Record>,
+    host: &Name,
+    record_type: RecordType,
+) -> Result<Sequence<Record>, AllocError>
+    ensures { IfOk result (λ all. all ≡ with_set answers.now records host.now record_type
+        (rows_by kind zones.now host.now record_type)) }
+{
+    if has_set(answers, host, record_type) || has_set(records.as_slice(), host, record_type) {
+        return Ok(records);
+    }
+    let stored = host_records(zones, kind, host, record_type)?;
+    push_copies(alloc, records, host, stored)
+}
+
+/// Returns `true` if a section has records of a name and a type.
+fn has_set(records: &[Record], name: &Name, record_type: RecordType) -> bool
+    ensures { result ≡ has_set records.now name.now record_type }
+{
+    records.iter().any(|record| {
+        name.eq_ignore_root(&record.name) && record.rdata.record_type().is_same(record_type)
+    })
+}
+
+/// Returns the records of a host and a type, in the closest zone: glue even below a zone cut.
+fn host_records<'a>(
+    zones: &'a [Zone],
+    kind: HostKind,
+    host: &Name,
+    record_type: RecordType,
+) -> Result<&'a [Record], AllocError>
+    ensures { IfOk result (λ found. rows_of found.now
+        ≡ rows_by kind zones.now host.now record_type) }
+{
+    let Some(zone) = closest_zone(zones, host)? else {
+        return Ok(&[]);
+    };
+    match kind {
+        HostKind::Glue => Ok(zone.records_at(host, record_type)),
+        HostKind::Answer => records_without_barrier(zone, host, record_type),
+    }
+}
+
+/// Returns the records of a host and a type, if no barrier is on the way to it.
+fn records_without_barrier<'a>(
+    zone: &'a Zone,
+    host: &Name,
+    record_type: RecordType,
+) -> Result<&'a [Record], AllocError>
+    ensures { IfOk result (λ found. rows_of found.now
+        ≡ rows_without (barrier zone.now record_type host.now)
+        zone.now host.now record_type) }
+{
+    match barrier(zone, record_type, host)? {
+        Some(_at) => Ok(&[]),
+        None => Ok(zone.records_at(host, record_type)),
+    }
+}

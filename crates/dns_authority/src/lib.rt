@@ -1,0 +1,26 @@
+//! An authoritative name server without sockets: the whole answer to a question (RFC 1034 section 4.3.2).
+//!
+//! An authority has zones, and answers each question from the one with the closest origin: with records of the name or of a
+//! wildcard, along CNAME and DNAME records, with a referral at a zone cut, and with the addresses of the hosts that the answer
+//! names.
+//!
+//! - `authority`: zones, and the answers to questions; `answer`: what an answer is; `chain`: the answer along aliases;
+//! - `step`: what a zone has at a name; `redirection`: what a DNAME record makes of it; `zones`: the zone of a name;
+//! - `asked`: the records of a type, or of ANY; `additional`: the additional section; `copies`: records of a zone, with an owner;
+//! - `laws`: theorems about the definitions of this crate.
+#![tactic(auto)]
+
+mod additional;
+mod answer;
+mod asked;
+mod authority;
+mod chain;
+mod copies;
+pub mod laws;
+mod redirection;
+mod step;
+mod zones;
+
+pub use answer::AuthorityAnswer;
+pub use asked::AnyAnswer;
+pub use authority::Authority;

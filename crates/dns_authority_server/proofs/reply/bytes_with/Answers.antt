@@ -1,0 +1,6 @@
+use Rattle.dns_authority_server.proofs.FrontLaws.{front_fits, within}
+use Rattle.dns_authority_server.proofs.reply.bytes_with.Goals as goal
+
+pub send-requires : goal.send-requires
+send-requires c =
+    within _ c.args.limit (front_fits c.repeated.result.now c.repeated.ensures.few c.repeated.ensures.short) c.requires

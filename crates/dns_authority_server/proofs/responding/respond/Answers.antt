@@ -1,0 +1,19 @@
+use Rattle.std.proofs.Common.{Option, subst}
+use Rattle.dns_messages.specs.declared.message.Message.{Message}
+use Rattle.dns_zone.specs.Request.{DecodesRequest}
+use Rattle.dns_authority_server.specs.Responding.IsSentFor.{malformed, replied}
+use Rattle.dns_authority_server.proofs.RespondingLaws.{undecodable}
+use Rattle.dns_authority_server.proofs.responding.respond.Goals as goal
+
+pub returns-in_ok-respond_to-in-Some-2-clause-reply : goal.returns-in_ok-respond_to-in-Some-2-clause-reply
+returns-in_ok-respond_to-in-Some-2-clause-reply c =
+    replied c.in-Some-2.message
+    (subst (λ (o : Option Message). DecodesRequest c.args.request.now o) c.in-Some-2.is c.in_ok-message.ensures.request)
+    c.in_ok-respond_to-in-Some-2.ensures
+
+pub returns-in_ok-malformed_bytes-in-None-clause-reply : goal.returns-in_ok-malformed_bytes-in-None-clause-reply
+returns-in_ok-malformed_bytes-in-None-clause-reply c =
+    malformed c.in-Some.metadata c.in-Some.ensures.some.0 c.in-Some.ensures.some.1
+    (undecodable c.args.request.now c.in-Some.metadata c.in-Some.ensures.some.0 c.in-Some.ensures.some.1
+    (subst (λ (o : Option Message). DecodesRequest c.args.request.now o) c.in-None.is c.in_ok-message.ensures.request))
+    c.in_ok-malformed_bytes-in-None.ensures

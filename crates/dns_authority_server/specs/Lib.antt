@@ -1,0 +1,3 @@
+pub mod Reply
+pub mod Sending
+pub mod Responding

@@ -1,0 +1,28 @@
+-- What is sent for bytes that arrive (RFC 1035 section 4.1).
+use Rattle.std.specs.Prelude.{◌≡◌, false, List, ℕ, Option, Some, None}
+use Rattle.dns_messages.specs.declared.message_type.MessageType.TheVariants as kinds
+use Rattle.dns_messages.specs.declared.header.Metadata.{Metadata}
+use Rattle.dns_messages.specs.declared.message.Message.{Message}
+use Rattle.dns_messages.specs.Encoding.{Encodes}
+use Rattle.dns_messages.specs.Grammar.{ReadsMessage}
+use Rattle.dns_messages.specs.Header.{peeked_metadata}
+use Rattle.dns_zone.specs.declared.road.Road.{Road}
+use Rattle.dns_zone.specs.Request.{IsRequest}
+use Rattle.dns_zone.specs.Rows.{ZoneContent}
+use Rattle.dns_zone.specs.Serving.{has_query_header, reply_limit}
+use Rattle.dns_authority.specs.declared.asked.AnyAnswer.{AnyAnswer}
+use Rattle.dns_authority_server.specs.Reply.{malformed_reply, reply}
+use Rattle.dns_authority_server.specs.Sending.{sent}
+
+-- The bytes that are sent for bytes with the header of a query: those of the reply to the request that these are, or, if they do
+-- not decode, those of the reply to their header.
+pub data IsSentFor (any : AnyAnswer) (zones : List ZoneContent) (road : Road) (bytes out : List ℕ) : Type 0 where
+  replied : (m : Message) → IsRequest bytes m → Encodes (reply_limit road m) (sent (reply_limit road m) (reply any zones m)) out
+      → IsSentFor any zones road bytes out
+  malformed : (metadata : Metadata) → peeked_metadata bytes ≡ Some metadata → metadata.message_type ≡ kinds.Query
+      → ((m : Message) → ReadsMessage bytes m → ⊥) → Encodes 512 (malformed_reply metadata) out → IsSentFor any zones road bytes out
+
+-- Each request has a reply. Only bytes that do not begin with the header of a query have none.
+abbrev pub Responds : AnyAnswer → List ZoneContent → Road → List ℕ → Option (List ℕ) → Type 0
+Responds any zones road bytes None = has_query_header bytes ≡ false
+Responds any zones road bytes (Some out) = IsSentFor any zones road bytes out

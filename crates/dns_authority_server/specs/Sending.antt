@@ -1,0 +1,52 @@
+-- What of a reply is sent under the limit of its transport (RFC 2181 section 9, RFC 9471 section 3).
+use Rattle.std.specs.Prelude.{◌≡◌, ◌==◌, true, false, not, if◌then◌else◌, Bool, List, [], ℕ, Option, Some, None}
+use Rattle.std.specs.List.{list_any}
+use Rattle.dns_codes.specs.RecordType.{type_number}
+use Rattle.dns_data.specs.rdata.{data_type}
+use Rattle.dns_messages.specs.declared.message.Message.{Message}
+use Rattle.dns_messages.specs.Cut.{cut}
+use Rattle.dns_messages.specs.Emit.{lent}
+use Rattle.dns_messages.specs.Encoding.{Encodes}
+use Rattle.dns_messages.specs.Message.{truncated}
+use Rattle.dns_authority_server.specs.declared.reply_ref.ReplyRef.{ReplyRef}
+
+-- the message whose parts are borrowed
+abbrev pub borrowed_message : ReplyRef → Message
+borrowed_message r = record {
+  metadata = r.metadata;
+  queries = r.queries.now;
+  answers = r.answers.now;
+  authorities = r.authorities.now;
+  additionals = r.additionals.now;
+  edns = lent r.edns;
+  signature = None;
+}
+
+-- whether all of a message fits a limit: what is left of it has no TC
+abbrev pub fits : ℕ → Message → Bool
+fits limit m = not (cut limit m).metadata.truncation
+
+-- the message without its additional records; the OPT record stays
+abbrev pub without_additionals : Message → Message
+without_additionals m = record m { additionals = [] }
+
+-- whether a message is a referral: its authority section has NS records, whose glue is then needed (RFC 9471 section 3)
+abbrev pub is_referral : Message → Bool
+is_referral m = list_any (λ r. type_number (data_type r.rdata) == 2) m.authorities
+
+-- What is sent of a reply that does not fit: it is sent without its additional records and without TC if that is enough, and they
+-- are not the glue of a referral (RFC 2181 section 9); or else with TC, and with no record but OPT.
+abbrev pub rest_sent : ℕ → Message → Message
+rest_sent limit m =
+    if is_referral m then truncated m
+    else if fits limit (without_additionals m) then without_additionals m
+    else truncated m
+
+-- what is sent of a reply
+abbrev pub sent : ℕ → Message → Message
+sent limit m = if fits limit m then m else rest_sent limit m
+
+-- the bytes of a message are there exactly if all of it fits
+abbrev pub IsWhole : ℕ → Message → Option (List ℕ) → Type 0
+IsWhole limit m None = fits limit m ≡ false
+IsWhole limit m (Some bytes) = (fits limit m ≡ true) × Encodes limit m bytes

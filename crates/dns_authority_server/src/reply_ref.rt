@@ -1,0 +1,163 @@
+//! Messages whose questions and records are borrowed, and their bytes (RFC 1035 section 4.2.1).
+
+ghost use Rattle.std.specs.Prelude.{◌≡◌, ◌≤◌, IfOk, OnOk, Err, option_map};
+ghost use Rattle.dns_wire.specs.Encoder.{state_of};
+ghost use Rattle.dns_messages.specs.Cut.{cut, front_reach, IsFresh};
+ghost use Rattle.dns_messages.specs.Encoding.{Encodes, IsTooLong};
+ghost use Rattle.dns_messages.specs.Message.{truncated};
+ghost use Rattle.dns_authority_server.specs.Sending.{borrowed_message, is_referral, without_additionals, IsWhole};
+
+use dns_messages::{Edns, Metadata, Query, emit_message_parts};
+use dns_records::Record;
+use dns_wire::{BinEncoder, EncodeError, RecordType};
+use std::alloc::{AllocError, Global};
+
+/// A message whose questions, records and OPT record are borrowed.
+#[derive(Clone, Copy)]
+pub(crate) struct ReplyRef<'a> {
+    pub(crate) metadata: Metadata,
+    pub(crate) queries: &'a [Query],
+    pub(crate) answers: &'a [Record],
+    pub(crate) authorities: &'a [Record],
+    pub(crate) additionals: &'a [Record],
+    pub(crate) edns: Option<&'a Edns>,
+}
+
+/// The bytes of a message under a limit.
+#[derive(Drop)]
+pub(crate) struct Encoded {
+    bytes: Vec<u8>,
+    /// Whether some of the message did not fit, or TC was set before.
+    is_cut: bool,
+}
+
+impl<'a> ReplyRef<'a> {
+    /// Writes the message at the start of an encoder, as much of it as fits, and returns its TC.
+    fn emit(&self, encoder: &mut BinEncoder<'_>) -> Result<bool, EncodeError>
+        requires fresh { IsFresh (state_of encoder.old) }
+        ensures encodes { OnOk result (Encodes (state_of encoder.old).limit
+            (borrowed_message self.now) (state_of encoder.new).bytes) }
+        ensures cut { IfOk result (λ is_cut. is_cut
+            ≡ (cut (state_of encoder.old).limit (borrowed_message self.now)).metadata.truncation) }
+        ensures full { result ≡ Err EncodeError.MaxBufferSizeExceeded
+            → IsTooLong (state_of encoder.old).limit (borrowed_message self.now) }
+        ensures lender { (state_of encoder.new).lender ≡ (state_of encoder.old).lender }
+    {
+        let mut queries = self.queries;
+        let mut answers = self.answers;
+        let mut authorities = self.authorities;
+        let mut additionals = self.additionals;
+        let header = emit_message_parts(
+            &self.metadata,
+            &mut queries,
+            &mut answers,
+            &mut authorities,
+            &mut additionals,
+            self.edns,
+            None,
+            encoder,
+        )?;
+        Ok(header.metadata.truncation)
+    }
+
+    /// Encodes the message, as much of it as fits `limit` bytes.
+    fn to_vec_within(&self, alloc: Global, limit: u16) -> Result<Encoded, EncodeError>
+        ensures encodes { IfOk result (λ encoded.
+            Encodes limit (borrowed_message self.now) encoded.bytes.items) }
+        ensures cut { IfOk result (λ encoded. encoded.is_cut
+            ≡ (cut limit (borrowed_message self.now)).metadata.truncation) }
+        ensures full { result ≡ Err EncodeError.MaxBufferSizeExceeded
+            → IsTooLong limit (borrowed_message self.now) }
+    {
+        let mut bytes = Vec::new(alloc);
+        let mut encoder = BinEncoder::new(alloc, &mut bytes);
+        encoder.set_max_size(limit);
+        let is_cut = self.emit(&mut encoder)?;
+        encoder.into_bytes();
+        Ok(Encoded { bytes, is_cut })
+    }
+
+    /// Encodes the message, as much of it as fits `limit` bytes. Its header and its questions fit.
+    fn encode(&self, alloc: Global, limit: u16) -> Result<Encoded, AllocError>
+        requires { front_reach (borrowed_message self.now) ≤ limit }
+        ensures encodes { IfOk result (λ encoded.
+            Encodes limit (borrowed_message self.now) encoded.bytes.items) }
+        ensures cut { IfOk result (λ encoded. encoded.is_cut
+            ≡ (cut limit (borrowed_message self.now)).metadata.truncation) }
+    {
+        match self.to_vec_within(alloc, limit) {
+            Ok(encoded) => Ok(encoded),
+            // The memory for the message's bytes was refused.
+            Err(EncodeError::Memory) => Err(AllocError),
+            Err(EncodeError::MaxBufferSizeExceeded) => unreachable!(),
+        }
+    }
+
+    /// Returns the bytes of the message if all of it fits `limit` bytes.
+    pub(crate) fn whole(&self, alloc: Global, limit: u16) -> Result<Option<Vec<u8>>, AllocError>
+        requires { front_reach (borrowed_message self.now) ≤ limit }
+        ensures { IfOk result (λ found. IsWhole limit (borrowed_message self.now)
+            (option_map (λ bytes. bytes.items) found)) }
+    {
+        let encoded = self.encode(alloc, limit)?;
+        if encoded.is_cut {
+            return Ok(None);
+        }
+        Ok(Some(encoded.into_bytes()))
+    }
+
+    /// Returns the bytes of as much of the message as fits `limit` bytes.
+    pub(crate) fn prefix(&self, alloc: Global, limit: u16) -> Result<Vec<u8>, AllocError>
+        requires { front_reach (borrowed_message self.now) ≤ limit }
+        ensures { IfOk result (λ bytes. Encodes limit (borrowed_message self.now) bytes.items) }
+    {
+        let encoded = self.encode(alloc, limit)?;
+        Ok(encoded.into_bytes())
+    }
+
+    /// Returns `true` if the message is a referral: there are NS records in its authority section.
+    pub(crate) fn is_referral(&self) -> bool
+        ensures { result ≡ is_referral (borrowed_message self.now) }
+    {
+        self.authorities.iter().any(|record| record.rdata.record_type().is_same(RecordType::NS))
+    }
+
+    /// Returns the message without its additional records. The OPT record stays.
+    pub(crate) fn without_additionals(self) -> ReplyRef<'a>
+        ensures { borrowed_message result ≡ without_additionals (borrowed_message self.entry) }
+    {
+        ReplyRef {
+            additionals: &[],
+            ..self
+        }
+    }
+
+    /// Returns the message with TC, and without records but the OPT record (RFC 2181 section 9).
+    pub(crate) fn truncated(self) -> ReplyRef<'a>
+        ensures { borrowed_message result ≡ truncated (borrowed_message self.entry) }
+    {
+        ReplyRef {
+            metadata: Metadata {
+                truncation: true,
+                ..self.metadata
+            },
+            answers: &[],
+            authorities: &[],
+            additionals: &[],
+            ..self
+        }
+    }
+}
+
+impl Encoded {
+    /// Returns the bytes.
+    fn into_bytes(self) -> Vec<u8>
+        ensures { result ≡ self.bytes }
+    {
+        let Encoded {
+            bytes,
+            is_cut: _is_cut,
+        } = self;
+        bytes
+    }
+}

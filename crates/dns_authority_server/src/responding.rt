@@ -1,0 +1,100 @@
+//! Requests, and what they are answered with (RFC 1035 section 4.1, RFC 6891 sections 6.1.1 and 6.1.3).
+
+ghost use Rattle.std.specs.Prelude.{◌≡◌, false, None, Some, Ok, IfOk, IfSome, option_map};
+ghost use Rattle.dns_messages.specs.Encoding.{Encodes};
+ghost use Rattle.dns_messages.specs.Header.{peeked_metadata};
+ghost use Rattle.dns_messages.specs.declared.message_type.MessageType.TheVariants as kinds;
+ghost use Rattle.dns_zone.specs.Serving.{has_query_header, reply_limit};
+ghost use Rattle.dns_authority_server.specs.Reply.{answer_to, answer_to_queries, reply};
+ghost use Rattle.dns_authority_server.specs.Responding.{Responds};
+ghost use Rattle.dns_authority_server.specs.Sending.{sent};
+
+use crate::reply::{malformed_bytes, reply_bytes};
+use dns_authority::{Authority, AuthorityAnswer};
+use dns_messages::{Message, MessageType, Metadata, OpCode, Query, ResponseCode};
+use dns_zone::{Road, decode_request};
+use std::alloc::{AllocError, Global};
+
+/// Returns the reply to a request, or `None` for fewer bytes than a header has, and for a response.
+///
+/// Bytes with the header of a query that do not decode, such as those with two OPT records, are answered with `FormErr`. The
+/// reply is within the limit of its transport.
+pub fn respond(
+    alloc: Global,
+    authority: &Authority,
+    request: &[u8],
+    road: Road,
+) -> Result<Option<Vec<u8>>, AllocError>
+    ensures reply { IfOk result (λ found. Responds authority.now.any authority.now.server
+        road request.now (option_map (λ out. out.items) found)) }
+    ensures header { has_query_header request.now ≡ false → result ≡ Ok None }
+{
+    let Some(metadata) = query_metadata(request) else {
+        return Ok(None);
+    };
+    match decode_request(alloc, request)? {
+        Some(message) => Ok(Some(respond_to(alloc, authority, &message, road)?)),
+        None => Ok(Some(malformed_bytes(alloc, &metadata)?)),
+    }
+}
+
+/// Returns the reply to a request that is decoded.
+pub fn respond_to(
+    alloc: Global,
+    authority: &Authority,
+    request: &Message,
+    road: Road,
+) -> Result<Vec<u8>, AllocError>
+    ensures { IfOk result (λ out. Encodes (reply_limit road request.now)
+        (sent (reply_limit road request.now)
+        (reply authority.now.any authority.now.server request.now)) out.items) }
+{
+    let answer = answer_to(alloc, authority, request)?;
+    reply_bytes(alloc, request, &answer, road)
+}
+
+/// Returns the answer to a request, or its fault: a version of EDNS above 0, or another opcode than that of a query.
+fn answer_to(
+    alloc: Global,
+    authority: &Authority,
+    request: &Message,
+) -> Result<AuthorityAnswer, AllocError>
+    ensures { IfOk result (λ answer. answer
+        ≡ answer_to authority.now.any authority.now.server request.now) }
+{
+    if request.version() > 0 {
+        return Ok(AuthorityAnswer::refusal(alloc, ResponseCode::BADVERS));
+    }
+    match request.metadata.op_code {
+        OpCode::Query => answer_to_queries(alloc, authority, request.queries.as_slice()),
+        _ => Ok(AuthorityAnswer::refusal(alloc, ResponseCode::NotImp)),
+    }
+}
+
+/// Returns the answer to the question of a query, or the fault of a query without one or with several.
+fn answer_to_queries(
+    alloc: Global,
+    authority: &Authority,
+    queries: &[Query],
+) -> Result<AuthorityAnswer, AllocError>
+    ensures { IfOk result (λ answer. answer
+        ≡ answer_to_queries authority.now.any authority.now.server queries.now) }
+{
+    let [query] = queries else {
+        return Ok(AuthorityAnswer::refusal(alloc, ResponseCode::FormErr));
+    };
+    authority.answer(query)
+}
+
+/// Returns the header that bytes begin with, if it is that of a query.
+fn query_metadata(bytes: &[u8]) -> Option<Metadata>
+    ensures none { result ≡ None → has_query_header bytes.now ≡ false }
+    ensures some { IfSome result (λ metadata. (peeked_metadata bytes.now ≡ Some metadata)
+        × (metadata.message_type ≡ kinds.Query)) }
+{
+    let metadata = Metadata::peek(bytes)?;
+    match metadata.message_type {
+        MessageType::Query => Some(metadata),
+        MessageType::Response => None,
+    }
+}

@@ -1,0 +1,17 @@
+//! The operations, by their words.
+
+use crate::answering::{answered, least_answered};
+use crate::replying::{header_replied, responded};
+use rows::{Answer, RowFault};
+use std::alloc::Global;
+
+/// The answer of the operation with this word.
+pub(crate) fn answer(alloc: Global, word: &str, input: &str) -> Answer {
+    match word {
+        "answer" => answered(alloc, input),
+        "least" => least_answered(alloc, input),
+        "respond" => responded(alloc, input),
+        "header" => header_replied(alloc, input),
+        _ => Err(RowFault::UnknownOperation),
+    }
+}

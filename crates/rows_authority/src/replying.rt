@@ -1,0 +1,56 @@
+//! The replies of authoritative servers to requests as bytes.
+
+use crate::answering::authority_of;
+use dns_authority_server::respond;
+use dns_zone::{DatagramLimit, Road};
+use rows::{Answer, RowFault, bytes_of, digits_of, split, text, two_words};
+use std::alloc::Global;
+use std::fmt::Write;
+
+/// `respond ROAD HEX || TEXT || TEXT ..`: the bytes that the server of the zones of these texts replies to a request over a
+/// road: `stream`, or the limit of its datagrams.
+pub(crate) fn responded(alloc: Global, input: &str) -> Answer {
+    match replied(alloc, input)? {
+        Some(reply) => Ok(digits_of(alloc, reply.as_slice())?),
+        None => text(alloc, "no reply"),
+    }
+}
+
+/// `header ROAD HEX || TEXT || TEXT ..`: the number of bytes of the reply, and those of its header.
+pub(crate) fn header_replied(alloc: Global, input: &str) -> Answer {
+    let Some(reply) = replied(alloc, input)? else {
+        return text(alloc, "no reply");
+    };
+    let mut shown = String::new(alloc);
+    let len = reply.len();
+    write!(shown, "{len} ")?;
+    let header = digits_of(alloc, &reply.as_slice()[..len.min(12)])?;
+    shown.push_str(header.as_str())?;
+    Ok(shown)
+}
+
+/// The reply of the server of some zones to a request over a road.
+fn replied(alloc: Global, input: &str) -> Result<Option<Vec<u8>>, RowFault> {
+    let (first, texts) = split(input, " ||", "a request and zones")?;
+    let (road, digits) = two_words(first)?;
+    let Some(road) = road_of(road) else {
+        return Err(RowFault::Lacks("a road"));
+    };
+    let request = bytes_of(alloc, digits)?;
+    let authority = authority_of(alloc, texts)?;
+    Ok(respond(alloc, &authority, request.as_slice(), road)?)
+}
+
+/// The road that a word means.
+fn road_of(word: &str) -> Option<Road> {
+    if word == "stream" {
+        return Some(Road::Stream);
+    }
+    let Ok(number) = word.parse::<u16>() else {
+        return None;
+    };
+    match DatagramLimit::new(number) {
+        Ok(limit) => Some(Road::Datagram(limit)),
+        Err(_) => None,
+    }
+}
