@@ -64,11 +64,18 @@ impl<'a> Stored<'a> {
         }
     }
 
-    /// Returns the storage.
-    fn into_storage(self) -> FileStorage<'a> {
+    /// Opens the journal of the files, and serves its updates again.
+    fn into_journal(
+        self,
+        rt: &HostRuntime,
+        server: &mut Server,
+        path: &str,
+    ) -> Result<Journal<FileStorage<'a>>, Ending> {
         let Stored { storage, files } = self;
+        let mut storage = storage;
+        let position = replay_journal(rt, &mut storage, &files, server, path)?;
         drop(files);
-        storage
+        Ok(Journal { storage, position })
     }
 }
 
@@ -79,14 +86,10 @@ fn open_with_journal<'a>(
     file: &str,
     path: &str,
 ) -> Result<DurableServer<FileStorage<'a>>, Ending> {
-    let mut stored = Stored::read(rt, file, path)?;
+    let stored = Stored::read(rt, file, path)?;
     let mut server = server_of(rt, arguments, file, &stored.files)?;
-    let position = replay_journal(rt, &mut stored.storage, &stored.files, &mut server, path)?;
-    let storage = stored.into_storage();
-    Ok(DurableServer {
-        server,
-        journal: Journal { storage, position },
-    })
+    let journal = stored.into_journal(rt, &mut server, path)?;
+    Ok(DurableServer { server, journal })
 }
 
 /// Returns a server of the zone of files that were read. Standard error has a line for it.

@@ -71,13 +71,10 @@ fn run_program(rt: &HostRuntime) -> Result<(), Ending> {
 fn run_with_faults(rt: &HostRuntime, arguments: Arguments) -> Result<(), Ending> {
     let until = arguments.until;
     let log = open_log(rt, &arguments)?;
-    let mut handler = LoggedServer {
-        rt,
-        log,
-        server: name_server(rt, &arguments)?,
-    };
+    let mut server = name_server(rt, &arguments)?;
     let mut service = open_service(rt, &arguments)?;
-    handler.server.updaters = arguments.into_updaters();
+    server.updaters = arguments.into_updaters();
+    let mut handler = LoggedServer { rt, server, log };
     match service.run(rt, &mut handler, until) {
         Ok(()) => Ok(()),
         Err(error) => Err(Ending::Failed(error)),
