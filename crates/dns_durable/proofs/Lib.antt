@@ -1,2 +1,6 @@
-pub mod CommitLaws
+pub mod AnsweringLaws
+pub mod BatchLaws
+pub mod HistoryLaws
+pub mod KeepingLaws
 pub mod ReplayLaws
+pub mod StoringLaws

@@ -1,16 +1,25 @@
 -- Zones whose updates outlast a crash.
-use Rattle.std.specs.Prelude.{◌≡◌, ◌≢◌, ◌≤◌, ◌⊎◌, ℕ, List, [], ◌∷◌, ◌++◌, length}
-use Rattle.dns_frames.specs.Frame.{frame}
+use Rattle.std.specs.Prelude.{◌≡◌, ◌≢◌, ◌≤◌, ◌⊎◌, ℕ, Bool, true, false, List, [], ◌∷◌, ◌++◌, length, map, option_map}
+use Rattle.std.specs.Prelude.{Option, Result, Ok, Err}
+use Rattle.std.specs.declared.alloc.AllocError.{AllocError}
+use Rattle.dns_frames.specs.Frame.{frame, stream_of}
 use Rattle.dns_journal.specs.declared.journal.Position.{Position}
 use Rattle.dns_journal.specs.declared.journal.State.TheVariants as states
 use Rattle.dns_journal.specs.Event.{Event}
 use Rattle.dns_journal.specs.Storage.{Always, Disk, Ends, LeavesOnly}
 use Rattle.dns_messages.specs.declared.message.Message.{Message}
-use Rattle.dns_recovery.specs.Updating.{IsBeforeOrAfterUpdate, IsOpen}
+use Rattle.dns_recovery.specs.Updating.{IsOpen}
 use Rattle.dns_server.specs.declared.updates.Updates.TheVariants.{Allowed}
 use Rattle.dns_server.specs.Server.{zones_after}
 use Rattle.dns_zone.specs.Request.{IsRequest}
 use Rattle.dns_zone.specs.Rows.{ZoneContent}
+use Rattle.dns_durable.specs.Incoming.{AreAdmitted, changes_in}
+use Rattle.dns_durable.specs.Reply.{AnswersAll}
+use Rattle.dns_durable.specs.Storing.{IsLeft, IsWithOrWithout, entries_of}
+use Rattle.dns_durable.specs.declared.durable_server.Replies.{Replies}
+use Rattle.dns_durable.specs.declared.incoming.Admitted.{Admitted}
+use Rattle.dns_durable.specs.declared.incoming.Incoming.{Incoming}
+use Rattle.dns_durable.specs.declared.policy.Policy.{Policy}
 
 -- zones after a request, whose update is allowed
 pub record IsTaken (zones : List ZoneContent) (bytes : List ℕ) (after : List ZoneContent) : Type 0 where
@@ -24,23 +33,100 @@ pub data Takes : List ZoneContent → List ℕ → List ZoneContent → Type 0 w
   a_frame : {zones mid after : List ZoneContent} {bytes rest : List ℕ} → length bytes ≤ 65535
       → IsTaken zones bytes mid → Takes mid rest after → Takes zones (frame bytes ++ rest) after
 
+-- zones after some of the requests in frames, without a gap from the first one on
+pub record TakesFront (zones : List ZoneContent) (bytes : List ℕ) (after : List ZoneContent) : Type 0 where
+  pub front : List ℕ
+  pub rest : List ℕ
+  pub bytes_are : bytes ≡ front ++ rest
+  pub takes : Takes zones front after
+
 -- zones after the updates of a journal, one after another
 pub data Replays : List ZoneContent → List (List ℕ) → List ZoneContent → Type 0 where
   no_update : {zones : List ZoneContent} → Replays zones [] zones
   an_update : {zones mid after : List ZoneContent} {update : List ℕ} {more : List (List ℕ)}
       → Takes zones update mid → Replays mid more after → Replays zones (update ∷ more) after
 
--- Zones are those after some updates, which are on the disk.
-pub record IsDurable (start : List ZoneContent) (text : List ℕ) (position : Position) (zones : List ZoneContent)
-    (d : Disk) (es : List Event) : Type 0 where
-  pub updates : List (List ℕ)
-  pub on_disk : Ends (IsOpen text updates position) d es
-  pub zones_are : Replays start updates zones
+-- The frames of updates are on the disk, as one entry behind the earlier ones.
+abbrev pub IsOnDisk : List ℕ → List (List ℕ) → List ℕ → Position → Disk → List Event → Type 0
+IsOnDisk text updates frames new d es = Ends (IsOpen text (updates ++ entries_of frames) new) d es
 
--- What a request asks of a storage whose journal is open. At any moment, a crash leaves the updates from before it, with
--- its own or without. Once it is served, the zones are those after updates that are on the disk, if the request changed them
--- or the journal takes further updates.
-pub record Commits (start : List ZoneContent) (text : List ℕ) (updates : List (List ℕ)) (request : List ℕ)
+-- nothing is changed: not the zones, and neither the journal nor its position if that is ready
+pub record IsUnchanged (old new : Position) (zones after : List ZoneContent) (es : List Event) : Type 0 where
+  pub zones_are : after ≡ zones
+  pub unasked : new.state ≡ states.Ready → (es ≡ []) × (new ≡ old)
+
+-- updates are on the disk, and some of them were served; the journal takes no further ones
+pub record IsBehind (text : List ℕ) (updates : List (List ℕ)) (frames : List ℕ) (new : Position)
+    (zones after : List ZoneContent) (d : Disk) (es : List Event) : Type 0 where
+  pub on_disk : IsOnDisk text updates frames new d es
+  pub served : TakesFront zones frames after
+  pub suspended : new.state ≢ states.Ready
+
+-- What requests lead to, by whether their updates are on the disk: the zones after all of these, or the same zones.
+abbrev pub LeadsTo : Bool → List ℕ → List (List ℕ) → List ℕ → Position → Position
+    → List ZoneContent → List ZoneContent → Disk → List Event → Type 0
+LeadsTo true text updates frames old new zones after d es = IsOnDisk text updates frames new d es × Takes zones frames after
+LeadsTo false text updates frames old new zones after d es = IsUnchanged old new zones after es
+
+-- what requests lead to, by their outcome: if memory is refused, some of their updates may have been served
+abbrev pub EndsIn : Result Replies AllocError → List ℕ → List (List ℕ) → List ℕ → Position → Position
+    → List ZoneContent → List ZoneContent → Disk → List Event → Type 0
+EndsIn (Ok replies) text updates frames old new zones after d es =
+    LeadsTo replies.is_stored text updates frames old new zones after d es
+EndsIn (Err error) text updates frames old new zones after d es =
+    IsUnchanged old new zones after es ⊎ IsBehind text updates frames new zones after d es
+
+-- What requests ask of a storage whose journal is open. At any moment, a crash leaves the updates from before them, with the
+-- entry of theirs or without.
+pub record Commits (text : List ℕ) (updates : List (List ℕ)) (frames : List ℕ) (outcome : Result Replies AllocError)
     (old new : Position) (zones after : List ZoneContent) (d : Disk) (es : List Event) : Type 0 where
-  pub any_moment : Always (LeavesOnly (IsBeforeOrAfterUpdate text updates (frame request) old)) d es
-  pub durable : (new.state ≡ states.Ready) ⊎ (after ≢ zones) → IsDurable start text new after d es
+  pub any_moment : Always (LeavesOnly (IsWithOrWithout text updates frames old)) d es
+  pub ends : EndsIn outcome text updates frames old new zones after d es
+
+-- whether all updates of requests are on the disk, and are answered by the zones
+abbrev pub is_acknowledged : Result Replies AllocError → Bool
+is_acknowledged (Ok replies) = replies.is_stored
+is_acknowledged (Err error) = false
+
+-- what requests with updates in frames do: to a storage whose journal is open, and to a journal that is not ready, which takes
+-- none
+pub record Keeps (frames : List ℕ) (outcome : Result Replies AllocError) (old new : Position)
+    (zones after : List ZoneContent) (es : List Event) : Type 0 where
+  pub commits : (text : List ℕ) (updates : List (List ℕ)) (d : Disk) → IsOpen text updates old d
+      → Commits text updates frames outcome old new zones after d es
+  pub idle : old.state ≢ states.Ready → IsLeft frames (is_acknowledged outcome) old new es × (after ≡ zones)
+
+-- the replies to requests that are decoded and verified
+abbrev pub AnswersRequests : Policy → List (Option Admitted) → List ZoneContent → List ZoneContent
+    → Result Replies AllocError → Type 0
+AnswersRequests policy admitted zones after (Ok r) =
+    AnswersAll policy r.is_stored zones admitted
+    (map (λ reply. option_map (λ out. out.items) reply) r.replies.items) after
+AnswersRequests policy admitted zones after (Err error) = Unit {0}
+
+-- what requests that are decoded and verified ask of a storage, and what their replies are
+pub record Answers (policy : Policy) (admitted : List (Option Admitted)) (outcome : Result Replies AllocError)
+    (old new : Position) (zones after : List ZoneContent) (es : List Event) : Type 0 where
+  pub keeps : Keeps (stream_of (changes_in admitted)) outcome old new zones after es
+  pub answered : AnswersRequests policy admitted zones after outcome
+
+-- memory was refused before anything was done
+pub record IsGivenUp (outcome : Result Replies AllocError) (old new : Position)
+    (zones after : List ZoneContent) (es : List Event) : Type 0 where
+  pub unasked : es ≡ []
+  pub position : new ≡ old
+  pub zones_are : after ≡ zones
+  pub refused : is_acknowledged outcome ≡ false
+
+-- requests are decoded and verified, and then answered
+pub record AnswersAdmitted (policy : Policy) (requests : List Incoming) (outcome : Result Replies AllocError) (old new : Position)
+    (zones after : List ZoneContent) (es : List Event) : Type 0 where
+  pub admitted : List (Option Admitted)
+  pub are_admitted : AreAdmitted policy requests admitted
+  pub answers : Answers policy admitted outcome old new zones after es
+
+-- what requests that arrived together ask of a storage, and what their replies are
+abbrev pub Responds : Policy → List Incoming → Result Replies AllocError → Position → Position
+    → List ZoneContent → List ZoneContent → List Event → Type 0
+Responds policy requests outcome old new zones after es =
+    IsGivenUp outcome old new zones after es ⊎ AnswersAdmitted policy requests outcome old new zones after es

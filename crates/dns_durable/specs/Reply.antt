@@ -1,78 +1,75 @@
 -- Replies of a server whose updates outlast a crash.
-use Rattle.std.specs.Prelude.{◌≡◌, ◌<◌, ◌⊎◌, ℕ, Bool, true, false, List, length, Option, Some, None}
+use Rattle.std.specs.Prelude.{◌≡◌, ℕ, Bool, true, false, if◌then◌else◌, List, [], ◌∷◌, Option, Some, None}
 use Rattle.dns_messages.specs.declared.message.Message.{Message}
-use Rattle.dns_messages.specs.declared.op_code.OpCode.{OpCode}
-use Rattle.dns_messages.specs.declared.op_code.OpCode.TheVariants as ops
 use Rattle.dns_messages.specs.declared.response_code.ResponseCode.{ResponseCode}
 use Rattle.dns_messages.specs.declared.response_code.ResponseCode.TheVariants as codes
-use Rattle.dns_server.specs.declared.updates.Updates.{Updates}
 use Rattle.dns_server.specs.declared.updates.Updates.TheVariants as may
 use Rattle.dns_server.specs.Server.{IsReplyBy, route, zones_after}
-use Rattle.dns_tsig.specs.Found.{Finds}
 use Rattle.dns_tsig.specs.Reply.{IsReply}
-use Rattle.dns_tsig.specs.Verify.{verdict_of}
-use Rattle.dns_tsig.specs.declared.found.Found.{Found}
 use Rattle.dns_zone.specs.declared.road.Road.{Road}
-use Rattle.dns_zone.specs.Request.{DecodesRequest, IsEncodedReply, IsRequest, reply_without_zone}
+use Rattle.dns_zone.specs.Request.{IsEncodedReply, reply_without_zone}
 use Rattle.dns_zone.specs.Rows.{ZoneContent}
-use Rattle.dns_durable.specs.Policy.{admission}
-use Rattle.dns_durable.specs.declared.durable_server.Terms.{Terms}
+use Rattle.dns_durable.specs.Incoming.{is_change}
+use Rattle.dns_durable.specs.declared.incoming.Admitted.{Admitted}
 use Rattle.dns_durable.specs.declared.policy.Admission.{Admission}
 use Rattle.dns_durable.specs.declared.policy.Admission.TheVariants.{Serve, Malformed, NotAuthentic}
 use Rattle.dns_durable.specs.declared.policy.Policy.{Policy}
 
--- a reply by the zones
-pub record IsServed (updates : Updates) (zones after : List ZoneContent) (road : Road) (m : Message) (out : List ℕ) : Type 0 where
-  pub after_is : after ≡ zones_after updates zones m
-  pub replied : IsReplyBy zones (route updates zones m) road m out
+-- whether a request is an update that may be made
+abbrev pub makes_change : Admitted → Bool
+makes_change a = is_change a.admission a.message.metadata.op_code
 
--- a reply with a response code and without a zone, which leaves the zones unchanged
-pub record IsRefused (code : ResponseCode) (zones after : List ZoneContent) (road : Road) (m : Message) (out : List ℕ) : Type 0 where
-  pub after_is : after ≡ zones
-  pub replied : IsEncodedReply (reply_without_zone m code) road m out
+-- the zones after a request: only an update that may be made changes them, and only if it is on the disk
+abbrev pub zones_left : Bool → List ZoneContent → Option Admitted → List ZoneContent
+zones_left true zones (Some a) = if makes_change a then zones_after may.Allowed zones a.message else zones
+zones_left true zones None = zones
+zones_left false zones a = zones
 
--- the reply to an update that may be made: it is served, or the journal did not take it, and the reply is ServFail
-abbrev pub IsCommitReply : List ZoneContent → List ZoneContent → Road → Message → List ℕ → Type 0
-IsCommitReply zones after road m out =
-    IsServed may.Allowed zones after road m out ⊎ IsRefused codes.ServFail zones after road m out
+-- a reply with a response code and without a zone
+abbrev pub IsBareReply : ResponseCode → Road → Message → List ℕ → Type 0
+IsBareReply code road m out = IsEncodedReply (reply_without_zone m code) road m out
 
--- whether a request with an opcode is an update that may be made
-abbrev pub is_change : OpCode → Updates → Bool
-is_change ops.Update may.Allowed = true
-is_change op updates = false
+-- the reply to a request that is served, or refused
+abbrev pub IsReplyOf : Admission → List ZoneContent → Road → Message → List ℕ → Type 0
+IsReplyOf (Serve updates) zones road m out = IsReplyBy zones (route updates zones m) road m out
+IsReplyOf Malformed zones road m out = IsBareReply codes.FormErr road m out
+IsReplyOf NotAuthentic zones road m out = IsBareReply codes.NotAuth road m out
 
--- the reply to a request that is served
-abbrev pub IsServedReply : Bool → Updates → List ZoneContent → List ZoneContent → Road → Message → List ℕ → Type 0
-IsServedReply true updates zones after road m out = IsCommitReply zones after road m out
-IsServedReply false updates zones after road m out = IsServed updates zones after road m out
+-- the reply to a request, by whether it is an update that may be made and is not on the disk: ServFail (RFC 2136 section 3.5)
+abbrev pub IsReplyBut : Bool → Admission → List ZoneContent → Road → Message → List ℕ → Type 0
+IsReplyBut true admission zones road m out = IsBareReply codes.ServFail road m out
+IsReplyBut false admission zones road m out = IsReplyOf admission zones road m out
 
--- the reply to a request, before it is signed
-abbrev pub IsAdmitted : Admission → List ZoneContent → List ZoneContent → Road → Message → List ℕ → Type 0
-IsAdmitted (Serve updates) zones after road m out =
-    IsServedReply (is_change m.metadata.op_code updates) updates zones after road m out
-IsAdmitted Malformed zones after road m out = IsRefused codes.FormErr zones after road m out
-IsAdmitted NotAuthentic zones after road m out = IsRefused codes.NotAuth zones after road m out
+-- whether a request is an update that may be made, and is not on the disk
+abbrev pub is_unstored : Bool → Admitted → Bool
+is_unstored true a = false
+is_unstored false a = makes_change a
 
--- the reply to a request that is decoded, which is signed if the request is
-pub record IsSignedReply (policy : Policy) (terms : Terms) (zones after : List ZoneContent)
-    (bytes : List ℕ) (m : Message) (out : List ℕ) : Type 0 where
-  pub found : Found
+-- the reply to a request, before it is signed, and the zones after it
+pub record IsPlainReply (stored : Bool) (zones after : List ZoneContent) (a : Admitted) (out : List ℕ) : Type 0 where
+  pub after_is : after ≡ zones_left stored zones (Some a)
+  pub replied : IsReplyBut (is_unstored stored a) a.admission zones a.incoming.terms.now.road a.message out
+
+-- the reply to a request, which is signed if the request is
+pub record IsSignedReply (policy : Policy) (stored : Bool) (zones after : List ZoneContent) (a : Admitted)
+    (out : List ℕ) : Type 0 where
   pub plain : List ℕ
   pub code : List ℕ
-  pub finds : Finds bytes found
-  pub admitted : IsAdmitted (admission policy (verdict_of policy.keys.items bytes found terms.now) m terms.local)
-      zones after terms.road m plain
-  pub signed : IsReply policy.keys.items found (verdict_of policy.keys.items bytes found terms.now) terms.now plain code out
+  pub replied : IsPlainReply stored zones after a plain
+  pub signed : IsReply policy.keys.items a.checked.found a.checked.verdict a.incoming.terms.now.time plain code out
 
--- the bytes are a request, and out is its reply
-pub record IsAnswered (policy : Policy) (terms : Terms) (zones after : List ZoneContent)
-    (bytes out : List ℕ) : Type 0 where
-  pub request : Message
-  pub is_request : IsRequest bytes request
-  pub replied : IsSignedReply policy terms zones after bytes request out
+-- only what is not a request has no reply
+abbrev pub AnswersOne : Policy → Bool → List ZoneContent → List ZoneContent → Option Admitted → Option (List ℕ) → Type 0
+AnswersOne policy stored zones after (Some a) (Some out) = IsSignedReply policy stored zones after a out
+AnswersOne policy stored zones after None None = after ≡ zones
+AnswersOne policy stored zones after (Some a) None = ⊥
+AnswersOne policy stored zones after None (Some out) = ⊥
 
--- Only bytes that do not decode, responses, and what is too long for a message have no reply. They leave the zones
--- unchanged.
-abbrev pub Answers : Policy → Terms → List ZoneContent → List ZoneContent → List ℕ → Option (List ℕ) → Type 0
-Answers policy terms zones after bytes (Some out) = IsAnswered policy terms zones after bytes out
-Answers policy terms zones after bytes None = (after ≡ zones) × (DecodesRequest bytes None ⊎ (65535 < length bytes))
+-- the replies to requests that are answered one after another, by whether their updates are on the disk
+pub data AnswersAll (policy : Policy) (stored : Bool)
+    : List ZoneContent → List (Option Admitted) → List (Option (List ℕ)) → List ZoneContent → Type 0 where
+  no_request : {zones : List ZoneContent} → AnswersAll policy stored zones [] [] zones
+  a_request : {zones mid after : List ZoneContent} {a : Option Admitted} {more : List (Option Admitted)}
+      {reply : Option (List ℕ)} {replies : List (Option (List ℕ))}
+      → AnswersOne policy stored zones mid a reply → AnswersAll policy stored mid more replies after
+      → AnswersAll policy stored zones (a ∷ more) (reply ∷ replies) after

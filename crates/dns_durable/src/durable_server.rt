@@ -1,34 +1,27 @@
-//! One request to a server whose updates outlast a crash.
+//! A server whose updates outlast a crash.
 
-ghost use Rattle.std.specs.Prelude.{◌≡◌, ◌≤◌, List, ℕ, length, option_map, IfOk};
-ghost use Rattle.dns_journal.specs.Storage.{Disk, Performs};
-ghost use Rattle.dns_recovery.specs.Updating.{IsOpen};
-ghost use Rattle.dns_zone.specs.Request.{IsRequest};
-ghost use Rattle.dns_zone.specs.Rows.{ZoneContent};
-ghost use Rattle.dns_durable.specs.Durable.{Commits, Replays};
-ghost use Rattle.dns_durable.specs.Reply.{Answers, IsAdmitted, IsServedReply, IsSignedReply, is_change};
+ghost use Rattle.std.specs.Prelude.{◌≡◌, ◌≢◌, []};
+ghost use Rattle.dns_frames.specs.Frame.{stream_of};
+ghost use Rattle.dns_journal.specs.Storage.{Performs};
+ghost use Rattle.dns_journal.specs.declared.journal.State.TheVariants as states;
+ghost use Rattle.dns_durable.specs.Durable.{Answers, Responds};
+ghost use Rattle.dns_durable.specs.Incoming.{AreJudged, changes_in};
 
-use crate::committing::commit;
-use crate::policy::{Admission, Policy, admission_of};
-use dns_journal::{Journal, Storage};
-use dns_messages::{Message, OpCode, ResponseCode};
-use dns_server::{Server, Updates};
-use dns_tsig::{sign_reply, verify_request};
-use dns_zone::{Road, bare_reply_bytes, decode_request};
+use crate::answering::answer_all;
+use crate::incoming::{Batch, Incoming};
+use crate::policy::Policy;
+use crate::storing::store;
+use dns_journal::{Journal, State, Storage};
+use dns_server::Server;
 use std::alloc::{AllocError, Global};
 
-/// The greatest length of a message in a frame.
-const MAX_REQUEST_LEN: usize = 65_535;
-
-/// What decides on the reply to a request, beside its bytes.
-#[derive(Clone, Copy, Debug, PartialEq, Eq)]
-pub struct Terms {
-    /// The transport, with its limit.
-    pub road: Road,
-    /// Whether its address may update without a key.
-    pub local: Updates,
-    /// The time, in seconds since 1 January 1970 (UTC).
-    pub now: u64,
+/// The replies to requests that arrived together.
+#[derive(Drop)]
+pub struct Replies {
+    /// The replies, in the order of the requests. What is not a request has none.
+    pub replies: Vec<Option<Vec<u8>>>,
+    /// Whether the updates of the requests are on the disk, if there are any.
+    pub is_stored: bool,
 }
 
 /// A server of zones. Updates are appended to its journal before they are served.
@@ -41,130 +34,63 @@ pub struct DurableServer<S: Storage> {
 }
 
 impl<S: Storage> DurableServer<S> {
-    /// Answers a request, by the keys and the grants of a policy: returns its reply, which is signed if the request is, or `None` if
-    /// the bytes are not a request.
+    /// Answers requests that arrived together, by the keys and the grants of a policy. Those of their updates that may be made are
+    /// appended to the journal as one entry. Once that is on the disk, the requests are served one after another. If the journal does
+    /// not take it, each of these updates is answered with `ServFail` and changes nothing. The reply to a signed request is signed.
     ///
-    /// An error is want of memory. An update may have been served.
-    pub fn respond(
+    /// An error is want of memory. Some of the updates may have been served; then all of them are on the disk, and the journal takes no
+    /// further ones until it is opened again.
+    pub fn respond_all(
         &mut self,
         alloc: Global,
         policy: &Policy,
-        request: &[u8],
-        terms: Terms,
-    ) -> Result<Option<Vec<u8>>, AllocError>
-        ensures performs { Performs S.performs self.old.journal.storage self.new.journal.storage (λ es.
-            (start : List ZoneContent) (text : List ℕ) (updates : List (List ℕ)) (d : Disk)
-            → IsOpen text updates self.old.journal.position d → Replays start updates self.old.server
-            → Commits start text updates request.now self.old.journal.position
-            self.new.journal.position self.old.server self.new.server d es) }
-        ensures replied { IfOk result (λ reply. Answers policy.now terms self.old.server self.new.server
-            request.now (option_map (λ out. out.items) reply)) }
+        requests: &[Incoming<'_>],
+    ) -> Result<Replies, AllocError>
+        ensures { Performs S.performs self.old.journal.storage self.new.journal.storage
+            (Responds policy.now requests.now result self.old.journal.position
+            self.new.journal.position self.old.server self.new.server) }
     {
-        if request.len() > MAX_REQUEST_LEN {
-            return Ok(None);
-        }
-        match decode_request(alloc, request)? {
-            Some(message) => Ok(Some(self.respond_to(alloc, policy, request, &message, terms)?)),
-            None => Ok(None),
-        }
-    }
-
-    /// Answers a request that is decoded.
-    fn respond_to(
-        &mut self,
-        alloc: Global,
-        policy: &Policy,
-        request: &[u8],
-        message: &Message,
-        terms: Terms,
-    ) -> Result<Vec<u8>, AllocError>
-        requires request { IsRequest request.now message.now }
-        requires short { length request.now ≤ 65535 }
-        ensures performs { Performs S.performs self.old.journal.storage self.new.journal.storage (λ es.
-            (start : List ZoneContent) (text : List ℕ) (updates : List (List ℕ)) (d : Disk)
-            → IsOpen text updates self.old.journal.position d → Replays start updates self.old.server
-            → Commits start text updates request.now self.old.journal.position
-            self.new.journal.position self.old.server self.new.server d es) }
-        ensures replied { IfOk result (λ out. IsSignedReply policy.now terms self.old.server
-            self.new.server request.now message.now out.items) }
-    {
-        let checked = verify_request(alloc, policy.keys.as_slice(), request, terms.now)?;
-        let admission = admission_of(policy, checked.verdict, message, terms.local);
-        let mut reply = self.admit(alloc, admission, request, message, terms.road)?;
-        match sign_reply(
-            alloc,
-            policy.keys.as_slice(),
-            &checked,
-            &mut reply,
-            terms.now,
-        ) {
-            Ok(_code) => Ok(reply),
-            // Memory for the signature was refused: the reply has a header and room for a record, and its key is there.
-            Err(_) => Err(AllocError),
-        }
-    }
-
-    /// Serves a request, or refuses it.
-    fn admit(
-        &mut self,
-        alloc: Global,
-        admission: Admission,
-        request: &[u8],
-        message: &Message,
-        road: Road,
-    ) -> Result<Vec<u8>, AllocError>
-        requires request { IsRequest request.now message.now }
-        requires short { length request.now ≤ 65535 }
-        ensures performs { Performs S.performs self.old.journal.storage self.new.journal.storage (λ es.
-            (start : List ZoneContent) (text : List ℕ) (updates : List (List ℕ)) (d : Disk)
-            → IsOpen text updates self.old.journal.position d → Replays start updates self.old.server
-            → Commits start text updates request.now self.old.journal.position
-            self.new.journal.position self.old.server self.new.server d es) }
-        ensures replied { IfOk result (λ out. IsAdmitted admission self.old.server self.new.server
-            road message.now out.items) }
-    {
-        match admission {
-            Admission::Serve(updates) => self.serve(alloc, request, message, road, updates),
-            Admission::Malformed => bare_reply_bytes(alloc, message, ResponseCode::FormErr, road),
-            Admission::NotAuthentic => {
-                bare_reply_bytes(alloc, message, ResponseCode::NotAuth, road)
-            }
-        }
-    }
-
-    /// Serves a request, once its update is on the disk if it has one and may make it.
-    fn serve(
-        &mut self,
-        alloc: Global,
-        request: &[u8],
-        message: &Message,
-        road: Road,
-        updates: Updates,
-    ) -> Result<Vec<u8>, AllocError>
-        requires request { IsRequest request.now message.now }
-        requires short { length request.now ≤ 65535 }
-        ensures performs { Performs S.performs self.old.journal.storage self.new.journal.storage (λ es.
-            (start : List ZoneContent) (text : List ℕ) (updates : List (List ℕ)) (d : Disk)
-            → IsOpen text updates self.old.journal.position d → Replays start updates self.old.server
-            → Commits start text updates request.now self.old.journal.position
-            self.new.journal.position self.old.server self.new.server d es) }
-        ensures replied { IfOk result (λ out. IsServedReply (is_change message.now.metadata.op_code updates)
-            updates self.old.server self.new.server road message.now out.items) }
-    {
-        if !is_change(message, updates) {
-            return self.server.respond_to(message, road, updates);
-        }
+        let batch = Batch::new(alloc, policy, requests)?;
         let DurableServer { server, journal } = self;
-        commit(server, journal, alloc, request, message, road)
+        respond_batch(server, journal, alloc, policy, &batch)
     }
 }
 
-/// Returns `true` for an update that may be made.
-fn is_change(message: &Message, updates: Updates) -> bool
-    ensures { result ≡ is_change message.now.metadata.op_code updates }
+/// Answers the requests of a batch, once their updates are on the disk.
+fn respond_batch<S: Storage>(
+    server: &mut Server,
+    journal: &mut Journal<S>,
+    alloc: Global,
+    policy: &Policy,
+    batch: &Batch<'_>,
+) -> Result<Replies, AllocError>
+    requires frames { batch.now.frames.items ≡ stream_of (changes_in batch.now.admitted.items) }
+    requires judged { AreJudged policy.now batch.now.admitted.items }
+    ensures { Performs S.performs journal.old.storage journal.new.storage
+        (Answers policy.now batch.now.admitted.items result journal.old.position
+        journal.new.position server.old server.new) }
 {
-    match (message.metadata.op_code, updates) {
-        (OpCode::Update, Updates::Allowed) => true,
-        _ => false,
+    let is_stored = store(journal, alloc, batch.frames.as_slice());
+    match answer_all(server, alloc, policy, is_stored, batch.admitted.as_slice()) {
+        Ok(replies) => Ok(Replies { replies, is_stored }),
+        Err(error) => {
+            if is_stored {
+                suspend(journal, batch.frames.as_slice());
+            }
+            Err(error)
+        }
+    }
+}
+
+/// Lets a journal take no further updates if the zones may lack some of those that were appended.
+fn suspend<S: Storage>(journal: &mut Journal<S>, frames: &[u8])
+    ensures storage { journal.new.storage ≡ journal.old.storage }
+    ensures empty { frames.now ≡ [] → journal.new.position ≡ journal.old.position }
+    ensures lost { frames.now ≢ [] → journal.new.position.state ≡ states.Lost }
+    ensures end { journal.new.position.end ≡ journal.old.position.end }
+    ensures digest { journal.new.position.digest ≡ journal.old.position.digest }
+{
+    if !frames.is_empty() {
+        journal.position.state = State::Lost;
     }
 }

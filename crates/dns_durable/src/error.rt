@@ -2,6 +2,7 @@
 
 ghost use Rattle.std.specs.Prelude.{◌≡◌};
 
+use dns_journal::AppendError;
 use std::alloc::{AllocError, AllocFailed};
 use thiserror::Error;
 
@@ -63,5 +64,32 @@ impl<T: Drop> From<AllocFailed<T>> for GrantError {
 
     fn from(_error: AllocFailed<T>) -> GrantError {
         GrantError::Memory
+    }
+}
+
+/// Why the text of a zone does not take the place of its journal.
+#[derive(Clone, Copy, Debug, PartialEq, Eq, Drop, Error)]
+pub enum CompactError {
+    /// There is not exactly one zone.
+    #[error("there is not exactly one zone")]
+    Zones,
+    /// No zone with the same text is read from the text of the zone.
+    #[error("the zone has no text that is read as it is")]
+    Text,
+    /// The journal is not ready, or the storage failed.
+    #[error("{0}")]
+    Journal(AppendError),
+    /// Memory could not be allocated.
+    #[error("out of memory")]
+    Memory,
+}
+
+impl From<AllocError> for CompactError {
+    ghost use Rattle.dns_durable.specs.declared.error.CompactError.TheVariants.{Memory};
+
+    ghost from_gives = { λ _ error. error ≡ Memory };
+
+    fn from(_error: AllocError) -> CompactError {
+        CompactError::Memory
     }
 }

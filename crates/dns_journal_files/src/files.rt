@@ -18,7 +18,6 @@ struct Paths {
 ///
 /// A journal that is missing is read as an empty one. While a storage is open, it has the lock of its journal, so that no two servers
 /// write to one.
-#[derive(Drop)]
 pub struct FileStorage<'a> {
     rt: &'a HostRuntime,
     /// The paths of the files, or `None` if nothing is kept.
@@ -27,6 +26,20 @@ pub struct FileStorage<'a> {
     file: Option<File>,
     /// The error of the last call that failed.
     error: Option<io::Error>,
+}
+
+impl Drop for FileStorage<'_> {
+    fn drop(self) {
+        let FileStorage {
+            rt: _rt,
+            paths,
+            file,
+            error,
+        } = self;
+        drop(paths);
+        drop(file);
+        drop(error);
+    }
 }
 
 impl<'a> FileStorage<'a> {

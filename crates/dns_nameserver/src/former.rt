@@ -102,7 +102,7 @@ impl FormerZones {
 }
 
 /// Returns `true` for the reply to an update that was applied (RFC 2136 section 3.8).
-pub(crate) fn is_accepted(reply: &[u8]) -> bool
+pub fn is_accepted(reply: &[u8]) -> bool
     ensures { result ≡ is_accepted reply.now }
 {
     match Metadata::peek(reply) {

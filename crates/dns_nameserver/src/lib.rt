@@ -11,7 +11,7 @@ mod log_entry;
 mod name_server;
 mod zone_server;
 
-pub use former::FormerZones;
+pub use former::{FormerZones, is_accepted};
 pub use log_entry::request_entry;
-pub use name_server::{Answered, NameServer};
+pub use name_server::{Answered, NameServer, road_of, updates_of};
 pub use zone_server::{Context, ZoneServer};

@@ -75,7 +75,7 @@ impl NameServer {
 }
 
 /// Returns whether the requestors of an address may update, given whether the list has it.
-fn updates_of(is_listed: bool) -> Updates
+pub fn updates_of(is_listed: bool) -> Updates
     ensures { result ≡ updates_of is_listed }
 {
     if is_listed {
@@ -86,7 +86,7 @@ fn updates_of(is_listed: bool) -> Updates
 }
 
 /// Returns a transport, with the maximum size of datagrams.
-fn road_of(transport: Transport, limit: DatagramLimit) -> Road
+pub fn road_of(transport: Transport, limit: DatagramLimit) -> Road
     ensures { result ≡ road_of transport limit }
 {
     match transport {

@@ -5,6 +5,7 @@ use crate::handler::{Handler, Request, Transport};
 use dns_faults::Delivery;
 use dns_schedule::Schedule;
 use mio::net::UdpSocket;
+use std::alloc::{AllocError, Global};
 use std::io::ErrorKind;
 use std::net::SocketAddr;
 
@@ -55,6 +56,21 @@ impl Drop for DatagramSocket {
     }
 }
 
+/// A datagram that has arrived, and waits until those that arrived with it are handled.
+struct Datagram {
+    /// The address from which it was sent.
+    peer: SocketAddr,
+    /// The message.
+    bytes: Vec<u8>,
+}
+
+impl Drop for Datagram {
+    fn drop(self) {
+        let Datagram { peer: _peer, bytes } = self;
+        drop(bytes);
+    }
+}
+
 impl DatagramSocket {
     /// Wraps a socket that is registered.
     pub(crate) fn new(socket: UdpSocket) -> DatagramSocket {
@@ -77,6 +93,7 @@ impl DatagramSocket {
     /// Handles datagrams that wait, at most 64 of them.
     pub(crate) fn serve<H: Handler>(
         &mut self,
+        alloc: Global,
         index: usize,
         handler: &mut H,
         waiting: &mut Schedule<WaitingReply>,
@@ -86,45 +103,66 @@ impl DatagramSocket {
         if now < self.ready_at {
             return;
         }
+        let mut gathered = Vec::new(alloc);
         for _datagram in 0..MAX_BATCH {
-            match self.socket.recv_from(buffer) {
-                Ok((count, peer)) => {
-                    self.handle(index, handler, waiting, &buffer[..count], peer, now);
+            if !self.receive(&mut gathered, alloc, buffer, now) {
+                break;
+            }
+            if let Some(last) = gathered.as_slice().last() {
+                if !handler.gathers(last.bytes.as_slice()) {
+                    self.handle(alloc, index, handler, waiting, gathered.as_slice(), now);
+                    gathered.clear();
                 }
-                Err(error) => match error.kind() {
-                    ErrorKind::Interrupted => {}
-                    ErrorKind::WouldBlock => {
-                        self.ready_at = Milliseconds::MAX;
-                        return;
-                    }
-                    // An unreachable peer, say, of which nothing can be told to anyone.
-                    _ => self.ready_at = now.saturating_add(RETRY_INTERVAL),
-                },
             }
         }
+        self.handle(alloc, index, handler, waiting, gathered.as_slice(), now);
     }
 
-    /// Handles a datagram.
+    /// Adds the next datagram to those that are handled together. Returns `false` if none waits.
+    fn receive(
+        &mut self,
+        gathered: &mut Vec<Datagram>,
+        alloc: Global,
+        buffer: &mut [u8],
+        now: Milliseconds,
+    ) -> bool {
+        match self.socket.recv_from(buffer) {
+            Ok((count, peer)) => {
+                // Without memory there is no reply, as if the datagram had been lost.
+                if let Ok(bytes) = Vec::from_slice(alloc, &buffer[..count]) {
+                    let _pushed = gathered.push(Datagram { peer, bytes });
+                }
+            }
+            Err(error) => match error.kind() {
+                ErrorKind::Interrupted => {}
+                ErrorKind::WouldBlock => {
+                    self.ready_at = Milliseconds::MAX;
+                    return false;
+                }
+                // An unreachable peer, say, of which nothing can be told to anyone.
+                _ => self.ready_at = now.saturating_add(RETRY_INTERVAL),
+            },
+        }
+        true
+    }
+
+    /// Handles datagrams that arrived together, if there are any.
     fn handle<H: Handler>(
         &self,
+        alloc: Global,
         index: usize,
         handler: &mut H,
         waiting: &mut Schedule<WaitingReply>,
-        bytes: &[u8],
-        peer: SocketAddr,
+        gathered: &[Datagram],
         now: Milliseconds,
     ) {
-        let request = Request {
-            bytes,
-            peer,
-            transport: Transport::Datagram,
-            moment: now,
-        };
-        // Without memory there is no reply, as if the datagram had been lost.
-        let Ok(delivery) = handler.handle(&request) else {
+        // Without memory there is no reply, as if the datagrams had been lost.
+        let Ok(deliveries) = deliveries_of(alloc, handler, gathered, now) else {
             return;
         };
-        self.deliver(index, waiting, delivery, peer, now);
+        for (delivery, datagram) in deliveries.into_iter().zip(gathered) {
+            self.deliver(index, waiting, delivery, datagram.peer, now);
+        }
     }
 
     /// Sends a reply, or puts it among those that wait for their moment. One for which there is no room is lost, as any
@@ -166,6 +204,28 @@ impl DatagramSocket {
             let _sent = self.socket.send_to(reply.bytes.as_slice(), reply.peer);
         }
     }
+}
+
+/// Returns what is sent for datagrams that arrived together.
+fn deliveries_of<H: Handler>(
+    alloc: Global,
+    handler: &mut H,
+    gathered: &[Datagram],
+    now: Milliseconds,
+) -> Result<Vec<Delivery>, AllocError> {
+    let mut requests = Vec::new(alloc);
+    for datagram in gathered {
+        requests.push(Request {
+            bytes: datagram.bytes.as_slice(),
+            peer: datagram.peer,
+            transport: Transport::Datagram,
+            moment: now,
+        })?;
+    }
+    if requests.is_empty() {
+        return Ok(Vec::new(alloc));
+    }
+    handler.handle(requests.as_slice())
 }
 
 /// Sends the replies whose moment has come.

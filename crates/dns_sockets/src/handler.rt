@@ -21,6 +21,10 @@ pub struct Request<'a> {
 
 /// Decides what is sent in reply to requests, and when.
 pub trait Handler {
-    /// Handles a request. After an error, which is want of memory, a datagram has no reply, and a stream is closed.
-    fn handle(&mut self, request: &Request<'_>) -> Result<Delivery, AllocError>;
+    /// Returns `true` if the requests that wait behind this one may be handled together with it.
+    fn gathers(&self, bytes: &[u8]) -> bool;
+
+    /// Handles requests that arrived together: at most 64, each of which but the last one gathers. Returns what is sent for each of
+    /// them, in order. After an error, which is want of memory, datagrams have no reply, and a stream is closed.
+    fn handle(&mut self, requests: &[Request<'_>]) -> Result<Vec<Delivery>, AllocError>;
 }

@@ -4,7 +4,7 @@
 //! and a [`Handler`], which decides what is sent, and when. It has no rule of its own about messages.
 //!
 //! - `service`: the sockets, and the loop over them; `handler`: what decides;
-//! - `datagrams`: datagram sockets; `listener`: listeners; `stream`: a connection; `stream_table`: at most 256 of them;
+//! - `datagrams`: datagram sockets; `listener`: listeners; `stream`: a connection; `output`: what it writes; `stream_table`: at most 256 of them;
 //! - `open`: the sockets at an address; `tokens`: their tokens; `input`: the end of standard input; `clock`: time.
 #![tactic(auto)]
 
@@ -14,6 +14,7 @@ mod handler;
 mod input;
 mod listener;
 mod open;
+mod output;
 mod service;
 mod stream;
 mod stream_table;

@@ -166,7 +166,7 @@ impl Service {
         let now = self.clock.now(rt)?;
         let buffer = self.buffer.as_mut_slice();
         for (index, socket) in self.datagrams.as_mut_slice().iter_mut().enumerate() {
-            socket.serve(index, handler, &mut self.waiting, buffer, now);
+            socket.serve(self.alloc, index, handler, &mut self.waiting, buffer, now);
         }
         for listener in self.listeners.as_mut_slice() {
             listener.accept(self.alloc, self.poll.registry(), &mut self.streams, now);

@@ -5,24 +5,26 @@ ghost use Rattle.dns_server.specs.Connection.{max_input_len};
 
 use crate::clock::Milliseconds;
 use crate::handler::{Handler, Request, Transport};
+use crate::output::Output;
 use dns_faults::Delivery;
-use dns_frames::write_frame;
 use dns_server::Connection;
 use mio::net::TcpStream;
 use std::alloc::{AllocError, Global};
+use std::collections::VecDeque;
 use std::io::{ErrorKind, Read, Write};
 use std::net::SocketAddr;
 
 /// How many steps a connection makes before others have their turn.
 const MAX_STEPS: usize = 8;
 
-/// The maximum length of a message, in bytes (RFC 1035 section 4.2.2).
-const MAX_MESSAGE_LEN: usize = 65_535;
+/// How many requests are handled together at most.
+const MAX_BATCH: usize = 64;
 
 /// How long a connection may be idle.
 const MAX_IDLE: Milliseconds = 10_000;
 
 /// What one step of a connection did.
+#[derive(Clone, Copy)]
 enum Step {
     /// Something, so another step may follow.
     Moved,
@@ -58,29 +60,18 @@ impl HeldReply {
     }
 }
 
-/// The bytes after which a connection is closed.
-#[derive(Drop)]
-struct LastBytes {
-    bytes: Vec<u8>,
-    written: usize,
-}
-
-impl LastBytes {
-    /// Returns the bytes that are not written yet.
-    fn rest(&self) -> &[u8] {
-        let start = self.written.min(self.bytes.len());
-        &self.bytes.as_slice()[start..]
-    }
-}
-
 /// A connection, and what has arrived and is to be written on it.
 pub(crate) struct Stream {
     alloc: Global,
     socket: TcpStream,
     peer: SocketAddr,
+    /// What has arrived. Its requests are taken from it before they are handled.
     connection: Connection,
-    held: Option<HeldReply>,
-    last: Option<LastBytes>,
+    /// The replies to requests that were handled, in order.
+    held: VecDeque<HeldReply>,
+    output: Output,
+    /// Whether the connection is closed once its output is written.
+    is_closing: bool,
     has_ended: bool,
     readiness: Readiness,
     last_activity: Milliseconds,
@@ -96,7 +87,8 @@ impl Drop for Stream {
             peer: _peer,
             connection,
             held,
-            last,
+            output,
+            is_closing: _is_closing,
             has_ended: _has_ended,
             readiness: _readiness,
             last_activity: _last_activity,
@@ -105,7 +97,7 @@ impl Drop for Stream {
         drop(socket);
         drop(connection);
         drop(held);
-        drop(last);
+        drop(output);
     }
 }
 
@@ -122,8 +114,9 @@ impl Stream {
             socket,
             peer,
             connection: Connection::new(alloc),
-            held: None,
-            last: None,
+            held: VecDeque::new(alloc),
+            output: Output::new(alloc),
+            is_closing: false,
             has_ended: false,
             readiness: Readiness {
                 read: true,
@@ -147,9 +140,9 @@ impl Stream {
         if self.wants_turn {
             return 0;
         }
-        match &self.held {
-            Some(held) => held.moment,
-            None => self.last_activity.saturating_add(MAX_IDLE),
+        match self.held.front() {
+            Some(held) if !self.output.is_full() => held.moment,
+            _ => self.last_activity.saturating_add(MAX_IDLE),
         }
     }
 
@@ -180,19 +173,23 @@ impl Stream {
         false
     }
 
-    /// Makes one step: writes what waits, releases a held reply, handles a request, or reads.
+    /// Makes one step: writes what waits, releases held replies, handles requests, or reads.
     fn step<H: Handler>(&mut self, handler: &mut H, buffer: &mut [u8], now: Milliseconds) -> Step {
-        if self.has_output() {
-            if self.readiness.write {
-                return self.write(now);
-            }
-        } else if self.last.is_some() {
-            return Step::Closes;
+        let has_output = !self.output.rest().is_empty();
+        if has_output && self.readiness.write {
+            return self.write(now);
         }
-        if self.last.is_some() {
+        if self.is_closing {
+            return if has_output {
+                Step::Waits
+            } else {
+                Step::Closes
+            };
+        }
+        if self.output.is_full() {
             return Step::Waits;
         }
-        if self.held.is_some() {
+        if !self.held.is_empty() {
             return self.release(now);
         }
         if self.connection.next_message().is_some() {
@@ -201,27 +198,13 @@ impl Stream {
         self.receive(buffer, now)
     }
 
-    /// Returns `true` if bytes wait to be written.
-    fn has_output(&self) -> bool {
-        !self.output().is_empty()
-    }
-
-    /// Returns the bytes that wait to be written.
-    fn output(&self) -> &[u8] {
-        let waiting = self.connection.to_write();
-        match &self.last {
-            Some(last) if waiting.is_empty() => last.rest(),
-            _ => waiting,
-        }
-    }
-
     /// Writes bytes that wait.
     fn write(&mut self, now: Milliseconds) -> Step {
         let mut sink = &self.socket;
-        match sink.write(self.output()) {
+        match sink.write(self.output.rest()) {
             Ok(0) => Step::Closes,
             Ok(count) => {
-                self.wrote(count);
+                self.output.wrote(count);
                 self.last_activity = now;
                 Step::Moved
             }
@@ -236,48 +219,82 @@ impl Stream {
         }
     }
 
-    /// Takes note that bytes were written.
-    fn wrote(&mut self, count: usize) {
-        let waiting = self.connection.to_write().len();
-        if waiting > 0 {
-            self.connection.wrote(count.min(waiting));
-            return;
-        }
-        if let Some(last) = &mut self.last {
-            last.written = last.written.saturating_add(count);
-        }
-    }
-
-    /// Handles the first request that has arrived.
+    /// Handles the requests that have arrived, and holds their replies.
     fn handle<H: Handler>(&mut self, handler: &mut H, now: Milliseconds) -> Step {
-        let Some(bytes) = self.connection.next_message() else {
-            return Step::Waits;
-        };
-        let request = Request {
-            bytes,
-            peer: self.peer,
-            transport: Transport::Stream,
-            moment: now,
-        };
-        match handler.handle(&request) {
-            Ok(delivery) => {
-                self.held = Some(HeldReply::new(delivery, now));
-                Step::Moved
-            }
-            // There was no memory for the reply, so that no later one may take its place.
+        match self.answer(handler, now) {
+            Ok(()) => Step::Moved,
+            // There was no memory for the replies, so that no later ones may take their place.
             Err(AllocError) => Step::Closes,
         }
     }
 
-    /// Takes the held reply to the bytes that wait to be written, if its moment has come.
-    fn release(&mut self, now: Milliseconds) -> Step {
-        match self.held.take() {
-            Some(held) if held.moment <= now => self.reply(held),
-            held => {
-                self.held = held;
-                Step::Waits
+    /// Handles the requests that have arrived and may be handled together, and holds their replies.
+    fn answer<H: Handler>(&mut self, handler: &mut H, now: Milliseconds) -> Result<(), AllocError> {
+        let gathered = self.gather(handler)?;
+        let mut requests = Vec::new(self.alloc);
+        for bytes in gathered.as_slice() {
+            requests.push(Request {
+                bytes: bytes.as_slice(),
+                peer: self.peer,
+                transport: Transport::Stream,
+                moment: now,
+            })?;
+        }
+        let deliveries = handler.handle(requests.as_slice())?;
+        self.hold(deliveries, now)
+    }
+
+    /// Takes the requests that have arrived and may be handled together, at most 64 of them.
+    fn gather<H: Handler>(&mut self, handler: &H) -> Result<Vec<Vec<u8>>, AllocError> {
+        let mut gathered = Vec::new(self.alloc);
+        for _request in 0..MAX_BATCH {
+            let Some(message) = self.connection.next_message() else {
+                break;
+            };
+            let gathers = handler.gathers(message);
+            let bytes = Vec::from_slice(self.alloc, message)?;
+            gathered.push(bytes)?;
+            self.connection.complete(None)?;
+            if !gathers {
+                break;
             }
         }
+        Ok(gathered)
+    }
+
+    /// Holds replies until their moments.
+    fn hold(&mut self, deliveries: Vec<Delivery>, now: Milliseconds) -> Result<(), AllocError> {
+        for delivery in deliveries {
+            self.held.push_back(HeldReply::new(delivery, now))?;
+        }
+        Ok(())
+    }
+
+    /// Takes the held replies to the bytes that wait to be written, as far as their moments have come and there is room.
+    fn release(&mut self, now: Milliseconds) -> Step {
+        let mut released = Step::Waits;
+        for _reply in 0..MAX_BATCH {
+            match self.next_due(now) {
+                Some(held) => released = self.reply(held),
+                None => return released,
+            }
+            if let Step::Closes = released {
+                return Step::Closes;
+            }
+        }
+        released
+    }
+
+    /// Takes the first held reply, if its moment has come and there is room for it.
+    fn next_due(&mut self, now: Milliseconds) -> Option<HeldReply> {
+        let is_due = match self.held.front() {
+            Some(held) => held.moment <= now,
+            None => false,
+        };
+        if !is_due || self.is_closing || self.output.is_full() {
+            return None;
+        }
+        self.held.pop_front()
     }
 
     /// Takes a reply to the bytes that wait to be written.
@@ -287,44 +304,28 @@ impl Stream {
             reply,
             close_after,
         } = held;
-        let reply = reply.as_ref().map(|bytes| bytes.as_slice());
-        match self.send(reply, close_after) {
+        let pushed = match reply {
+            Some(bytes) => self.output.push(bytes.as_slice(), close_after),
+            None => Ok(()),
+        };
+        if close_after.is_some() {
+            self.is_closing = true;
+            self.held.clear();
+        }
+        match pushed {
             Ok(()) => Step::Moved,
             // There was no memory for the reply's frame.
             Err(AllocError) => Step::Closes,
         }
     }
 
-    /// Adds the frame of a reply to the bytes that wait to be written, or the part of it after which the connection is closed.
-    fn send(&mut self, reply: Option<&[u8]>, close_after: Option<usize>) -> Result<(), AllocError> {
-        match close_after {
-            // The request of a held reply is still the first one.
-            None if self.connection.next_message().is_some() => self.connection.complete(reply),
-            None => Ok(()),
-            Some(count) => self.close_after(reply, count),
-        }
-    }
-
-    /// Closes the connection after the first bytes of a reply's frame.
-    fn close_after(&mut self, reply: Option<&[u8]>, count: usize) -> Result<(), AllocError> {
-        let mut bytes = Vec::new(self.alloc);
-        if let Some(reply) = reply {
-            if reply.len() <= MAX_MESSAGE_LEN {
-                write_frame(&mut bytes, reply)?;
-            }
-        }
-        bytes.truncate(count);
-        self.last = Some(LastBytes { bytes, written: 0 });
-        Ok(())
-    }
-
     /// Reads bytes, if there is room for them.
     fn receive(&mut self, buffer: &mut [u8], now: Milliseconds) -> Step {
         if self.has_ended {
-            return if self.has_output() {
-                Step::Waits
-            } else {
+            return if self.output.rest().is_empty() {
                 Step::Closes
+            } else {
+                Step::Waits
             };
         }
         let count = self.connection.room().min(buffer.len());

@@ -1,5 +1,6 @@
 //! The arguments of the program.
 
+use crate::durable_arguments::{DurableArguments, durable_in, with_durable_options};
 use crate::ending::Ending;
 use clap::error::ErrorKind;
 use clap::{Arg, ArgAction, ArgMatches, Command, value_parser};
@@ -18,26 +19,76 @@ const DEFAULT_PORT: u16 = 5300;
 const VERSION: &str = "0.1.0";
 
 /// The arguments of the program.
-#[derive(Drop)]
 pub(crate) struct Arguments {
     /// The paths of the zone files, as given: at least one.
     pub(crate) files: Vec<String>,
-    /// The origin of the zone, if there is one zone file.
-    pub(crate) origin: Option<Name>,
-    /// Which files the zone files may include.
-    pub(crate) reach: Reach,
     /// The addresses at which the server listens.
     pub(crate) addresses: Vec<SocketAddr>,
+    /// The addresses from which updates are taken.
+    pub(crate) updaters: AddressList,
     /// The maximum size of datagrams.
     pub(crate) limit: DatagramLimit,
+    /// Which files the zone files may include.
+    pub(crate) reach: Reach,
+    /// What ends the server.
+    pub(crate) until: Until,
+    /// The origin of the zone, if there is one zone file.
+    pub(crate) origin: Option<Name>,
     /// The path of the fault table, as given.
     pub(crate) faults: Option<String>,
     /// The path of the log, as given.
     pub(crate) log: Option<String>,
-    /// The addresses from which updates are taken.
-    pub(crate) updaters: AddressList,
-    /// What ends the server.
-    pub(crate) until: Until,
+    /// What is given of keys and of a journal.
+    pub(crate) durable: DurableArguments,
+}
+
+impl Drop for Arguments {
+    fn drop(self) {
+        let Arguments {
+            files,
+            addresses,
+            updaters,
+            limit: _limit,
+            reach: _reach,
+            until: _until,
+            origin,
+            faults,
+            log,
+            durable,
+        } = self;
+        drop(files);
+        drop(addresses);
+        drop(updaters);
+        drop(origin);
+        drop(faults);
+        drop(log);
+        drop(durable);
+    }
+}
+
+impl Arguments {
+    /// Returns the addresses from which updates are taken.
+    pub(crate) fn into_updaters(self) -> AddressList {
+        let Arguments {
+            files,
+            addresses,
+            updaters,
+            limit: _limit,
+            reach: _reach,
+            until: _until,
+            origin,
+            faults,
+            log,
+            durable,
+        } = self;
+        drop(files);
+        drop(addresses);
+        drop(origin);
+        drop(faults);
+        drop(log);
+        drop(durable);
+        updaters
+    }
 }
 
 /// Reads the arguments, of which the first is the program's name.
@@ -50,17 +101,28 @@ pub(crate) fn read_arguments(alloc: Global, words: &[&str]) -> Result<Arguments,
         }
         Err(error) => return Err(Ending::Arguments(error)),
     };
-    let files = texts_in(alloc, &matches, "FILE")?;
+    arguments_of(alloc, &matches)
+}
+
+/// Returns what the words stand for.
+fn arguments_of(alloc: Global, matches: &ArgMatches<'_>) -> Result<Arguments, Ending> {
+    let limit = limit_in(alloc, matches)?;
+    let files = texts_in(alloc, matches, "FILE")?;
+    let addresses = addresses_in(alloc, matches)?;
+    let updaters = updaters_in(alloc, matches)?;
+    let durable = durable_in(alloc, matches, files.len())?;
+    let origin = origin_in(alloc, matches, files.len())?;
     Ok(Arguments {
-        origin: origin_in(alloc, &matches, files.len())?,
         files,
-        reach: reach_in(&matches),
-        addresses: addresses_in(alloc, &matches)?,
-        limit: limit_in(alloc, &matches)?,
-        faults: text_in(alloc, &matches, "faults")?,
-        log: text_in(alloc, &matches, "log")?,
-        updaters: updaters_in(alloc, &matches)?,
-        until: until_in(&matches),
+        addresses,
+        updaters,
+        limit,
+        reach: reach_in(matches),
+        until: until_in(matches),
+        origin,
+        faults: text_in(alloc, matches, "faults")?,
+        log: text_in(alloc, matches, "log")?,
+        durable,
     })
 }
 
@@ -72,7 +134,7 @@ fn command<'a>(alloc: Global) -> Result<Command<'a>, AllocError> {
         .action(ArgAction::Append)
         .num_args(1..)
         .required(true);
-    Command::new(alloc, "nameserver")
+    let command = Command::new(alloc, "nameserver")
         .version(VERSION)
         .about("Serves zones over UDP and TCP, takes dynamic updates, and makes faults on demand")
         .arg(files)?
@@ -94,11 +156,17 @@ fn command<'a>(alloc: Global) -> Result<Command<'a>, AllocError> {
         ))?
         .arg(flag(alloc, "no-updates", "Refuse all dynamic updates"))?
         .arg(updaters_option(alloc))?
-        .arg(flag(alloc, "until-stdin-closes", "End when standard input ends"))
+        .arg(flag(alloc, "until-stdin-closes", "End when standard input ends"))?;
+    with_durable_options(alloc, command)
 }
 
 /// Returns an option that takes one value.
-fn option<'a>(alloc: Global, name: &'a str, value_name: &'a str, help: &'a str) -> Arg<'a> {
+pub(crate) fn option<'a>(
+    alloc: Global,
+    name: &'a str,
+    value_name: &'a str,
+    help: &'a str,
+) -> Arg<'a> {
     Arg::new(alloc, name)
         .long(name)
         .value_name(value_name)
@@ -141,7 +209,7 @@ fn limit_option<'a>(alloc: Global) -> Arg<'a> {
 }
 
 /// Returns an option without a value.
-fn flag<'a>(alloc: Global, name: &'a str, help: &'a str) -> Arg<'a> {
+pub(crate) fn flag<'a>(alloc: Global, name: &'a str, help: &'a str) -> Arg<'a> {
     Arg::new(alloc, name)
         .long(name)
         .action(ArgAction::SetTrue)
@@ -150,7 +218,7 @@ fn flag<'a>(alloc: Global, name: &'a str, help: &'a str) -> Arg<'a> {
 }
 
 /// Returns the value of an option, if it has one.
-fn text_in(
+pub(crate) fn text_in(
     alloc: Global,
     matches: &ArgMatches<'_>,
     name: &str,
@@ -162,7 +230,7 @@ fn text_in(
 }
 
 /// Returns the values of an argument.
-fn texts_in(
+pub(crate) fn texts_in(
     alloc: Global,
     matches: &ArgMatches<'_>,
     name: &str,

@@ -15,6 +15,8 @@ pub(crate) enum Ending {
     NotUtf8,
     /// A file could not be read: its path, as given, and the error.
     CannotRead(String, io::Error),
+    /// The zone file or its journal could not be read or written: the path of the journal, as given, and the error.
+    Journal(String, io::Error),
     /// The log could not be opened: its path, as given, and the error.
     CannotOpenLog(String, io::Error),
     /// A file has a fault: a report says which.
@@ -82,6 +84,7 @@ impl fmt::Display for Ending {
             Ending::CannotRead(path, error) => {
                 writeln!(f, "nameserver: cannot read {path}: {error}")
             }
+            Ending::Journal(path, error) => { writeln!(f, "nameserver: journal {path}: {error}") }
             Ending::CannotOpenLog(path, error) => {
                 writeln!(f, "nameserver: cannot open the log {path}: {error}")
             }

@@ -1,8 +1,8 @@
-//! What the program does with a request.
+//! What the program does with requests, if it makes faults.
 
 use crate::log_file::LogFile;
 use dns_faults::Delivery;
-use dns_nameserver::{Answered, NameServer, request_entry};
+use dns_nameserver::NameServer;
 use dns_sockets::{Handler, Request};
 use std::alloc::AllocError;
 
@@ -18,37 +18,32 @@ pub(crate) struct LoggedServer<'a> {
 }
 
 impl Handler for LoggedServer<'_> {
-    fn handle(&mut self, request: &Request<'_>) -> Result<Delivery, AllocError> {
+    /// A fault may close a connection, so that no request behind it is answered.
+    fn gathers(&self, _bytes: &[u8]) -> bool {
+        false
+    }
+
+    fn handle(&mut self, requests: &[Request<'_>]) -> Result<Vec<Delivery>, AllocError> {
+        let mut deliveries = Vec::new(self.rt.alloc());
+        for request in requests {
+            deliveries.push(self.answer(request)?)?;
+        }
+        Ok(deliveries)
+    }
+}
+
+impl LoggedServer<'_> {
+    /// Answers a request, and logs it.
+    fn answer(&mut self, request: &Request<'_>) -> Result<Delivery, AllocError> {
         let answered = self.server.answer(
             self.rt.alloc(),
             request.bytes,
             request.peer.ip(),
             request.transport,
         )?;
-        self.log_request(request, &answered);
-        Ok(answered.delivery)
-    }
-}
-
-impl LoggedServer<'_> {
-    /// Logs a request and what it led to. Without memory for the entry there is none.
-    fn log_request(&mut self, request: &Request<'_>, answered: &Answered) {
-        let Some(log) = &mut self.log else {
-            return;
-        };
-        let entry = request_entry(
-            self.rt.alloc(),
-            request.moment,
-            request.peer,
-            request.transport,
-            request.bytes,
-            answered,
-        );
-        let Ok(entry) = entry else {
-            return;
-        };
-        if let Ok(line) = format!(in self.rt.alloc(); "{entry}\n") {
-            log.append(self.rt, line.as_str());
+        if let Some(log) = &mut self.log {
+            log.append_request(self.rt, request, &answered);
         }
+        Ok(answered.delivery)
     }
 }

@@ -28,6 +28,16 @@ pub(crate) fn read_includes(
     Err(Ending::Refused(report))
 }
 
+/// Refuses a text that includes files: a journal belongs to the text of one file.
+pub(crate) fn refuse_includes(rt: &HostRuntime, path: &str, text: &str) -> Result<(), Ending> {
+    match missing_in(rt.alloc(), text, &[])? {
+        Some(name) => Err(Ending::Refused(format!(in rt.alloc();
+            "{path}: `$INCLUDE {name}`: the zone of a journal is in one file\n"
+        )?)),
+        None => Ok(()),
+    }
+}
+
 /// Returns the first name that a text or an included one includes, and whose file is not read yet.
 fn next_name(
     alloc: Global,

@@ -1,6 +1,8 @@
 //! The log of requests.
 
 use crate::ending::Ending;
+use dns_nameserver::{Answered, request_entry};
+use dns_sockets::Request;
 use std::fs::{File, OpenOptions};
 use std::io::Write;
 
@@ -24,7 +26,7 @@ impl LogFile {
     }
 
     /// Appends a line. The first failure is told on standard error, and none stops the server.
-    pub(crate) fn append(&mut self, rt: &HostRuntime, line: &str) {
+    fn append(&mut self, rt: &HostRuntime, line: &str) {
         let Err(error) = self.file.write_all(line.as_bytes()) else {
             return;
         };
@@ -32,6 +34,29 @@ impl LogFile {
             self.has_failed = true;
             // A failure to write to standard error can't be reported.
             let _written = eprintln!(rt; "nameserver: cannot write the log: {error}");
+        }
+    }
+
+    /// Appends the line of a request and of what it led to. Without memory for the line there is none.
+    pub(crate) fn append_request(
+        &mut self,
+        rt: &HostRuntime,
+        request: &Request<'_>,
+        answered: &Answered,
+    ) {
+        let entry = request_entry(
+            rt.alloc(),
+            request.moment,
+            request.peer,
+            request.transport,
+            request.bytes,
+            answered,
+        );
+        let Ok(entry) = entry else {
+            return;
+        };
+        if let Ok(line) = format!(in rt.alloc(); "{entry}\n") {
+            self.append(rt, line.as_str());
         }
     }
 }

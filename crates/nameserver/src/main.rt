@@ -2,26 +2,38 @@
 //! demand.
 //!
 //! - `arguments`: the arguments; `files`, `zones`, `includes`: the files; `handler`: what is done with a request; `log_file`: the log;
+//! - `durable_arguments`, `policy`: keys and grants; `durable`: zones with a journal; `durable_handler`: what is done with a request, if
+//!   there are keys or a journal;
 //! - `ending`: how the program ends.
 #![tactic(auto)]
 
 mod arguments;
+mod durable;
+mod durable_arguments;
+mod durable_handler;
 mod ending;
 mod files;
 mod handler;
 mod includes;
 mod log_file;
+mod policy;
 mod zones;
 
 use crate::arguments::{Arguments, read_arguments};
+use crate::durable::{compact_and_end, open_durable};
+use crate::durable_handler::DurableHandler;
 use crate::ending::Ending;
 use crate::files::{read_file, text_of};
 use crate::handler::LoggedServer;
 use crate::log_file::LogFile;
+use crate::policy::read_policy;
 use crate::zones::{read_former, read_zones};
+use dns_durable::DurableServer;
 use dns_fault_rules::{FaultTable, Service as FaultService};
 use dns_fault_text::{FaultTableError, parse_faults};
+use dns_journal_files::FileStorage;
 use dns_nameserver::{NameServer, ZoneServer};
+use dns_server::AddressList;
 use dns_sockets::Service;
 use std::process::ExitCode;
 use std::{env, io};
@@ -49,27 +61,72 @@ fn end(rt: &HostRuntime, ending: &Ending) -> ExitCode {
 /// Serves the zones that the arguments name.
 fn run_program(rt: &HostRuntime) -> Result<(), Ending> {
     let arguments = given_arguments(rt)?;
-    let faults = read_faults(rt, &arguments)?;
-    let zones = zone_server(rt, &arguments, &faults)?;
+    if arguments.durable.is_given() {
+        return run_durable(rt, arguments);
+    }
+    run_with_faults(rt, arguments)
+}
+
+/// Serves zones, some requests by faults on demand.
+fn run_with_faults(rt: &HostRuntime, arguments: Arguments) -> Result<(), Ending> {
+    let until = arguments.until;
     let log = open_log(rt, &arguments)?;
+    let mut server = name_server(rt, &arguments)?;
     let mut service = open_service(rt, &arguments)?;
-    let Arguments {
-        limit,
-        updaters,
-        until,
-        ..
-    } = arguments;
-    let server = NameServer {
-        zones,
-        faults,
-        limit,
-        updaters,
-    };
+    server.updaters = arguments.into_updaters();
     let mut handler = LoggedServer { rt, server, log };
     match service.run(rt, &mut handler, until) {
         Ok(()) => Ok(()),
         Err(error) => Err(Ending::Failed(error)),
     }
+}
+
+/// Returns a name server that takes no updates yet.
+fn name_server(rt: &HostRuntime, arguments: &Arguments) -> Result<NameServer, Ending> {
+    let faults = read_faults(rt, arguments)?;
+    let zones = zone_server(rt, arguments, &faults)?;
+    Ok(NameServer {
+        zones,
+        faults,
+        limit: arguments.limit,
+        updaters: AddressList::new(rt.alloc()),
+    })
+}
+
+/// Serves zones, with keys or a journal; or replaces the zone file, if that is asked for.
+fn run_durable(rt: &HostRuntime, arguments: Arguments) -> Result<(), Ending> {
+    let mut server = open_durable(rt, &arguments)?;
+    if arguments.durable.compact {
+        return compact_and_end(rt, &arguments, &mut server);
+    }
+    let mut handler = handler_of(rt, &arguments, server)?;
+    let until = arguments.until;
+    let mut service = open_service(rt, &arguments)?;
+    handler.updaters = arguments.into_updaters();
+    match service.run(rt, &mut handler, until) {
+        Ok(()) => Ok(()),
+        Err(error) => Err(Ending::Failed(error)),
+    }
+}
+
+/// Returns what handles the requests to a server. It takes no updates without a key yet.
+fn handler_of<'a>(
+    rt: &'a HostRuntime,
+    arguments: &Arguments,
+    server: DurableServer<FileStorage<'a>>,
+) -> Result<DurableHandler<'a>, Ending> {
+    let policy = read_policy(rt, arguments)?;
+    let log = open_log(rt, arguments)?;
+    Ok(DurableHandler {
+        rt,
+        server,
+        policy,
+        limit: arguments.limit,
+        updaters: AddressList::new(rt.alloc()),
+        journal_limit: arguments.durable.journal_limit,
+        log,
+        has_failed: false,
+    })
 }
 
 /// Reads the zones, twice if a fault needs those from before the last update.

@@ -39,7 +39,7 @@ pub(crate) fn read_former(rt: &HostRuntime, arguments: &Arguments) -> Result<For
 }
 
 /// Returns how many milliseconds have passed, or 0 if the clock fails.
-fn milliseconds_since(rt: &HostRuntime, start: io::Result<Instant>) -> u128 {
+pub(crate) fn milliseconds_since(rt: &HostRuntime, start: io::Result<Instant>) -> u128 {
     match start {
         Ok(start) => start.elapsed(rt).map_or(0, |elapsed| elapsed.as_millis()),
         Err(_) => 0,
@@ -47,7 +47,7 @@ fn milliseconds_since(rt: &HostRuntime, start: io::Result<Instant>) -> u128 {
 }
 
 /// Says on standard error which zone a file has.
-fn tell(rt: &HostRuntime, path: &str, zone: &Zone, milliseconds: u128) {
+pub(crate) fn tell(rt: &HostRuntime, path: &str, zone: &Zone, milliseconds: u128) {
     let name = zone.origin();
     let count = records_count(zone);
     // A failure to write to standard error can't be reported.
@@ -57,7 +57,12 @@ fn tell(rt: &HostRuntime, path: &str, zone: &Zone, milliseconds: u128) {
 }
 
 /// Adds a zone to a server. There may be no other with its origin.
-fn add_zone(rt: &HostRuntime, server: &mut Server, path: &str, zone: Zone) -> Result<(), Ending> {
+pub(crate) fn add_zone(
+    rt: &HostRuntime,
+    server: &mut Server,
+    path: &str,
+    zone: Zone,
+) -> Result<(), Ending> {
     match server.add_zone(zone) {
         Ok(()) => Ok(()),
         Err(AddZoneError::Duplicate) => {
@@ -83,7 +88,7 @@ fn read_zone(rt: &HostRuntime, path: &str, arguments: &Arguments) -> Result<Zone
 }
 
 /// Returns the zone of a zone file, or what is wrong in it.
-fn zone_of(
+pub(crate) fn zone_of(
     rt: &HostRuntime,
     path: &str,
     text: &str,

@@ -1,0 +1,22 @@
+"""The parts of check/durable."""
+from collections import namedtuple
+
+from keys import grants, keys
+from kills import damage, disk, kills
+from mutations import mutations
+from speed import speed
+from torn import torn
+
+# The programs, and how often they are killed and tried.
+Given = namedtuple("Given", "program zonecheck kills mutations")
+
+PARTS = {
+    "keys": keys,
+    "grants": grants,
+    "mutations": mutations,
+    "damage": damage,
+    "disk": disk,
+    "kills": kills,
+    "torn": torn,
+    "speed": speed,
+}

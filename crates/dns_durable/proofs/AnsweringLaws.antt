@@ -1,0 +1,171 @@
+-- What requests leave.
+use Rattle.std.proofs.Common.{◌≡◌, ◌≤◌, ℕ, zero, suc, Bool, true, false, if◌then◌else◌, List, [], ◌∷◌, ◌++◌, length, map, Option, Some, None, Result, Ok, Err, refl, sym, ap, subst, ◌∙◌, append_assoc}
+use Rattle.std.specs.Prelude.{slice_get, slice_set, IfOk, OnOk}
+use Rattle.dns_frames.specs.Frame.{frame, stream_of}
+use Rattle.dns_messages.specs.declared.message.Message.{Message}
+use Rattle.dns_messages.specs.declared.op_code.OpCode.{OpCode}
+use Rattle.dns_messages.specs.declared.op_code.OpCode.TheVariants as ops
+use Rattle.dns_messages.specs.declared.query.Query.{Query}
+use Rattle.dns_server.specs.declared.updates.Updates.{Updates}
+use Rattle.dns_server.specs.declared.updates.Updates.TheVariants as may
+use Rattle.dns_server.specs.Server.{IsReplyBy, route, route_by_code, route_by_name, route_to, zones_after, zones_by, zones_with}
+use Rattle.dns_server.specs.Zones.{closest}
+use Rattle.dns_zone.specs.Rows.{ZoneContent}
+use Rattle.dns_zone.specs.Serving.{zone_after, zone_by_op}
+use Rattle.dns_durable.specs.Durable.{Takes, TakesFront}
+use Rattle.dns_durable.specs.Durable.Takes.{no_frame, a_frame}
+use Rattle.dns_durable.specs.Incoming.{AreJudged, IsJudged, IsJudgedIfAny, change_of, changes_in, is_change}
+use Rattle.dns_durable.specs.Reply.{AnswersAll, AnswersOne, IsPlainReply, IsReplyBut, IsReplyOf, is_unstored, makes_change, zones_left}
+use Rattle.dns_durable.specs.Reply.AnswersAll.{no_request, a_request}
+use Rattle.dns_durable.specs.declared.incoming.Admitted.{Admitted}
+use Rattle.dns_durable.specs.declared.policy.Admission.{Admission}
+use Rattle.dns_durable.specs.declared.policy.Admission.TheVariants.{Serve, Malformed, NotAuthentic}
+use Rattle.dns_durable.specs.declared.policy.Policy.{Policy}
+
+-- ---- requests that change nothing
+
+set_same : (zones : List ZoneContent) (place : ℕ) (zone : ZoneContent) → slice_get zones place ≡ Some zone → slice_set zones place zone ≡ zones
+set_same [] place zone is = refl
+set_same (z ∷ zs) zero zone is = let same : zone ≡ z = cc in ap (λ (x : ZoneContent). x ∷ zs) same
+set_same (z ∷ zs) (suc n) zone is = ap (λ (l : List ZoneContent). z ∷ l) (set_same zs n zone is)
+
+same_with : (zones : List ZoneContent) (place : ℕ) (m : Message) (found : Option ZoneContent) → slice_get zones place ≡ found
+    → ((zone : ZoneContent) → zone_after zone m ≡ zone) → zones_with zones place m found ≡ zones
+same_with zones place m (Some zone) is same = ap (λ (z : ZoneContent). slice_set zones place z) (same zone) ∙ set_same zones place zone is
+same_with zones place m None is same = refl
+
+same_to : (zones : List ZoneContent) (m : Message) (found : Option ℕ) → ((zone : ZoneContent) → zone_after zone m ≡ zone) → zones_by zones m (route_to found) ≡ zones
+same_to zones m (Some place) same = same_with zones place m (slice_get zones place) refl same
+same_to zones m None same = refl
+
+same_by_name : (zones : List ZoneContent) (m : Message) (queries : List Query) → ((zone : ZoneContent) → zone_after zone m ≡ zone)
+    → zones_by zones m (route_by_name zones queries) ≡ zones
+same_by_name zones m [] same = refl
+same_by_name zones m (q ∷ []) same = same_to zones m (closest zones q.name.labels) same
+same_by_name zones m (q ∷ r ∷ queries) same = refl
+
+unchanged : (op : OpCode) (updates : Updates) (zones : List ZoneContent) (m : Message) → m.metadata.op_code ≡ op → is_change (Serve updates) op ≡ false
+    → zones_by zones m (route_by_code updates zones m.queries op) ≡ zones
+unchanged ops.Query updates zones m is idle = same_by_name zones m m.queries (λ zone. ap (λ (o : OpCode). zone_by_op zone m o) is)
+unchanged ops.Status updates zones m is idle = refl
+unchanged ops.Notify updates zones m is idle = refl
+unchanged ops.Update may.Allowed zones m is idle = absurd cc
+unchanged ops.Update may.Refused zones m is idle = refl
+unchanged (ops.Unknown number) updates zones m is idle = refl
+
+-- a request that is no update that may be made leaves the zones unchanged
+pub no_change : (updates : Updates) (zones : List ZoneContent) (m : Message) → is_change (Serve updates) m.metadata.op_code ≡ false → zones_after updates zones m ≡ zones
+no_change updates zones m idle = unchanged m.metadata.op_code updates zones m refl idle
+
+-- ---- the zones after one request
+
+-- an update that may be made is allowed
+allowed_by : (updates : Updates) (op : OpCode) → is_change (Serve updates) op ≡ true → updates ≡ may.Allowed
+allowed_by may.Allowed op is = refl
+allowed_by may.Refused op is = absurd cc
+
+left_as : (b : Bool) (updates : Updates) (zones : List ZoneContent) (a : Admitted) → a.admission ≡ Serve updates → makes_change a ≡ b
+    → zones_after updates zones a.message ≡ (if b then zones_after may.Allowed zones a.message else zones)
+left_as true updates zones a by is =
+    ap (λ (u : Updates). zones_after u zones a.message)
+    (allowed_by updates a.message.metadata.op_code (subst (λ (x : Admission). is_change x a.message.metadata.op_code ≡ true) by is))
+left_as false updates zones a by is =
+    no_change updates zones a.message (subst (λ (x : Admission). is_change x a.message.metadata.op_code ≡ false) by is)
+
+-- a request that is served leaves what it may
+pub served_left : (stored : Bool) (updates : Updates) (zones : List ZoneContent) (a : Admitted) → a.admission ≡ Serve updates → is_unstored stored a ≡ false
+    → zones_after updates zones a.message ≡ zones_left stored zones (Some a)
+served_left true updates zones a by is = left_as (makes_change a) updates zones a by refl
+served_left false updates zones a by is = no_change updates zones a.message (subst (λ (x : Admission). is_change x a.message.metadata.op_code ≡ false) by is)
+
+idle_left : (b : Bool) (zones others : List ZoneContent) → b ≡ false → (if b then others else zones) ≡ zones
+idle_left true zones others is = absurd cc
+idle_left false zones others is = refl
+
+-- a request that is refused leaves the zones unchanged
+pub refused_left : (stored : Bool) (zones : List ZoneContent) (a : Admitted) → makes_change a ≡ false → zones_left stored zones (Some a) ≡ zones
+refused_left true zones a is = idle_left (makes_change a) zones (zones_after may.Allowed zones a.message) is
+refused_left false zones a is = refl
+
+-- what is not on the disk changes nothing
+pub unstored_left : (zones : List ZoneContent) (a : Option Admitted) → zones_left false zones a ≡ zones
+unstored_left zones a = refl
+
+pub left_by_one : (policy : Policy) (stored : Bool) (zones mid : List ZoneContent) (a : Option Admitted) (reply : Option (List ℕ)) → AnswersOne policy stored zones mid a reply
+    → mid ≡ zones_left stored zones a
+left_by_one policy stored zones mid (Some a) (Some out) answers = answers.replied.after_is
+left_by_one policy true zones mid None None answers = answers
+left_by_one policy false zones mid None None answers = answers
+left_by_one policy stored zones mid (Some a) None answers = absurd answers
+left_by_one policy stored zones mid None (Some out) answers = absurd answers
+
+-- ---- the zones after several requests
+
+takes_change : (b : Bool) (policy : Policy) (zones mid after : List ZoneContent) (a : Admitted) (messages : List (List ℕ)) → IsJudged policy a
+    → mid ≡ (if b then zones_after may.Allowed zones a.message else zones) → Takes mid (stream_of messages) after
+    → Takes zones (stream_of ((if b then a.incoming.bytes.now ∷ [] else []) ++ messages)) after
+takes_change true policy zones mid after a messages judged is takes =
+    a_frame {mid = mid} {bytes = a.incoming.bytes.now} {rest = stream_of messages} judged.short (record { request = a.message; is_request = judged.is_request; after_is = is }) takes
+takes_change false policy zones mid after a messages judged is takes = subst (λ (z : List ZoneContent). Takes z (stream_of messages) after) is takes
+
+-- a request, and then others
+pub takes_one_more : (policy : Policy) (zones mid after : List ZoneContent) (a : Option Admitted) (messages : List (List ℕ)) → IsJudgedIfAny policy a
+    → mid ≡ zones_left true zones a → Takes mid (stream_of messages) after → Takes zones (stream_of (change_of a ++ messages)) after
+takes_one_more policy zones mid after (Some a) messages judged is takes = takes_change (makes_change a) policy zones mid after a messages judged is takes
+takes_one_more policy zones mid after None messages judged is takes = subst (λ (z : List ZoneContent). Takes z (stream_of messages) after) is takes
+
+pub answers_take : (policy : Policy) (zones after : List ZoneContent) (admitted : List (Option Admitted)) (replies : List (Option (List ℕ))) → AreJudged policy admitted
+    → AnswersAll policy true zones admitted replies after → Takes zones (stream_of (changes_in admitted)) after
+answers_take policy zones after admitted replies judged no_request = no_frame
+answers_take policy zones after admitted replies judged (a_request {mid = mid} {a = a} {more = more} {reply = reply} {replies = others} one answers) =
+    takes_one_more policy zones mid after a (changes_in more) judged.0 (left_by_one policy true zones mid a reply one)
+    (answers_take policy mid after more others judged.1 answers)
+
+pub answers_unstored : (policy : Policy) (zones after : List ZoneContent) (admitted : List (Option Admitted)) (replies : List (Option (List ℕ)))
+    → AnswersAll policy false zones admitted replies after → after ≡ zones
+answers_unstored policy zones after admitted replies no_request = refl
+answers_unstored policy zones after admitted replies (a_request {mid = mid} {a = a} {more = more} {reply = reply} {replies = others} one answers) =
+    answers_unstored policy mid after more others answers ∙ left_by_one policy false zones mid a reply one
+
+-- ---- a front of them
+
+pub no_front : (zones : List ZoneContent) (bytes : List ℕ) → TakesFront zones bytes zones
+no_front zones bytes = record { front = []; rest = bytes; bytes_are = refl; takes = no_frame }
+
+front_change : (b : Bool) (policy : Policy) (zones mid after : List ZoneContent) (a : Admitted) (messages : List (List ℕ)) → IsJudged policy a
+    → mid ≡ (if b then zones_after may.Allowed zones a.message else zones) → TakesFront mid (stream_of messages) after
+    → TakesFront zones (stream_of ((if b then a.incoming.bytes.now ∷ [] else []) ++ messages)) after
+front_change true policy zones mid after a messages judged is takes = record {
+  front = frame a.incoming.bytes.now ++ takes.front;
+  rest = takes.rest;
+  bytes_are = ap (λ (l : List ℕ). frame a.incoming.bytes.now ++ l) takes.bytes_are ∙ sym (append_assoc (frame a.incoming.bytes.now) takes.front takes.rest);
+  takes = a_frame {mid = mid} {bytes = a.incoming.bytes.now} {rest = takes.front} judged.short (record { request = a.message; is_request = judged.is_request; after_is = is }) takes.takes;
+}
+front_change false policy zones mid after a messages judged is takes = subst (λ (z : List ZoneContent). TakesFront z (stream_of messages) after) is takes
+
+pub front_one_more : (policy : Policy) (zones mid after : List ZoneContent) (a : Option Admitted) (messages : List (List ℕ)) → IsJudgedIfAny policy a
+    → mid ≡ zones_left true zones a → TakesFront mid (stream_of messages) after → TakesFront zones (stream_of (change_of a ++ messages)) after
+front_one_more policy zones mid after (Some a) messages judged is takes = front_change (makes_change a) policy zones mid after a messages judged is takes
+front_one_more policy zones mid after None messages judged is takes = subst (λ (z : List ZoneContent). TakesFront z (stream_of messages) after) is takes
+
+-- ---- the reply to one request
+
+-- the reply to a request that is served
+pub plain_served : {T E : Type 0} (result : Result T E) (out_of : T → List ℕ) (stored : Bool) (updates : Updates) (zones after : List ZoneContent) (a : Admitted) → a.admission ≡ Serve updates
+    → is_unstored stored a ≡ false → IfOk result (λ x. IsReplyBy zones (route updates zones a.message) a.incoming.terms.now.road a.message (out_of x))
+    → OnOk result (after ≡ zones_after updates zones a.message) → IfOk result (λ x. IsPlainReply stored zones after a (out_of x))
+plain_served (Ok x) out_of stored updates zones after a by un replied left = record {
+  after_is = left ∙ served_left stored updates zones a by un;
+  replied = subst (λ (b : Bool). IsReplyBut b a.admission zones a.incoming.terms.now.road a.message (out_of x)) (sym un)
+      (subst (λ (y : Admission). IsReplyOf y zones a.incoming.terms.now.road a.message (out_of x)) (sym by) replied);
+}
+plain_served (Err e) out_of stored updates zones after a by un replied left = tt
+
+-- what is on the disk, or changes nothing, is not missing there
+pub is_on_disk : (stored : Bool) (a : Admitted) → stored ≡ true → is_unstored stored a ≡ false
+is_on_disk true a is = refl
+is_on_disk false a is = absurd cc
+
+pub makes_none : (stored : Bool) (a : Admitted) → makes_change a ≡ false → is_unstored stored a ≡ false
+makes_none true a is = refl
+makes_none false a is = is

@@ -1,0 +1,52 @@
+use Rattle.std.proofs.Common.{◌≡◌, [], ℕ, List, true, false, inr, refl, sym, ap, subst, ◌∙◌}
+use Rattle.std.specs.String.{string_bytes}
+use Rattle.sha2.specs.Sha256.{sha256}
+use Rattle.dns_journal.specs.Appending.{IsPosition}
+use Rattle.dns_recovery.specs.Compacting.{Compacts}
+use Rattle.dns_zone.specs.Rows.{ZoneContent}
+use Rattle.dns_durable.specs.Compaction.{IsRewritten}
+use Rattle.dns_durable.proofs.durable_server.DurableServer.compact.Goals as goal
+
+pub returns-in-Ok : goal.returns-in-Ok
+returns-in-Ok g c =
+    let text = string_bytes c.in_ok-text.text in
+    let p = c.args.self.now.journal.position in
+    let q = c.compact.new.journal.position in
+    let es = c.in-Ok.ensures.events in
+    record {
+      events = es;
+      led = c.in-Ok.ensures.led;
+      holds = inr (record {
+        text = text;
+        again = c.in_ok-text.zone;
+        rewritten = subst (λ (z : List ZoneContent). IsRewritten z text c.in_ok-text.zone) c.zones.ensures.zones
+            (subst (λ (o : ZoneContent). IsRewritten c.zones.result.now text o) c.in_ok-text.zone-is
+            (subst (λ (t : _). IsRewritten c.zones.result.now (string_bytes t) c.in_ok-text.field-0.zone) c.in_ok-text.text-is c.in_ok-text.ensures));
+        served = λ _. cc (c.in_ok-server.ensures, c.in_ok-text.zone-is);
+        unchanged = λ e. absurd cc;
+        compacts = subst (λ (t : List ℕ). (former bytes digest : List ℕ) (payloads : List (List ℕ)) → IsPosition p bytes digest payloads → digest ≡ sha256 former
+            → (sha256 t ≡ sha256 former → t ≡ former) → Compacts p q true former t bytes digest payloads es) (c.as_bytes.ensures.value ∙ ap (λ (t : _). string_bytes t) c.in_ok-text.text-is) c.in-Ok.ensures.holds;
+      });
+    }
+
+pub returns : goal.returns
+returns g c =
+    let text = string_bytes c.in_ok-text.text in
+    let p = c.args.self.now.journal.position in
+    let q = c.compact.new.journal.position in
+    let es = c.in-Err.ensures.events in
+    record {
+      events = es;
+      led = c.in-Err.ensures.led;
+      holds = inr (record {
+        text = text;
+        again = c.in_ok-text.zone;
+        rewritten = subst (λ (z : List ZoneContent). IsRewritten z text c.in_ok-text.zone) c.zones.ensures.zones
+            (subst (λ (o : ZoneContent). IsRewritten c.zones.result.now text o) c.in_ok-text.zone-is
+            (subst (λ (t : _). IsRewritten c.zones.result.now (string_bytes t) c.in_ok-text.field-0.zone) c.in_ok-text.text-is c.in_ok-text.ensures));
+        served = λ e. absurd cc;
+        unchanged = λ _. refl;
+        compacts = subst (λ (t : List ℕ). (former bytes digest : List ℕ) (payloads : List (List ℕ)) → IsPosition p bytes digest payloads → digest ≡ sha256 former
+            → (sha256 t ≡ sha256 former → t ≡ former) → Compacts p q false former t bytes digest payloads es) (c.as_bytes.ensures.value ∙ ap (λ (t : _). string_bytes t) c.in_ok-text.text-is) c.in-Err.ensures.holds;
+      });
+    }

@@ -1,0 +1,178 @@
+//! Requests that have arrived, are decoded and verified.
+
+ghost use Rattle.std.specs.Prelude.{◌≡◌, ◌≤◌, ◌++◌, length, IfOk, OnOk};
+ghost use Rattle.dns_frames.specs.Frame.{stream_of};
+ghost use Rattle.dns_messages.specs.Header.{peeked_metadata};
+ghost use Rattle.dns_zone.specs.Request.{IsRequest};
+ghost use Rattle.dns_durable.specs.Incoming.{AreAdmitted, IsAdmitted, IsJudged, IsShortIfAny, change_of, changes_in, is_change, is_update_header};
+
+use crate::policy::{Admission, Policy, admission_of};
+use dns_frames::write_frame;
+use dns_messages::{Message, Metadata, OpCode};
+use dns_server::Updates;
+use dns_tsig::{Checked, verify_request};
+use dns_zone::{Road, decode_request};
+use std::alloc::{AllocError, Global};
+
+/// The greatest length of a message in a frame.
+const MAX_REQUEST_LEN: usize = 65_535;
+
+/// What decides on the reply to a request, beside its bytes.
+#[derive(Clone, Copy, Debug, PartialEq, Eq)]
+pub struct Terms {
+    /// The transport, with its limit.
+    pub road: Road,
+    /// Whether its address may update without a key.
+    pub local: Updates,
+    /// The time, in seconds since 1 January 1970 (UTC).
+    pub time: u64,
+}
+
+impl Terms {
+    /// Returns the transport.
+    pub(crate) fn road(&self) -> Road
+        ensures { result ≡ self.now.road }
+    {
+        match self.road {
+            Road::Datagram(limit) => Road::Datagram(limit),
+            Road::Stream => Road::Stream,
+        }
+    }
+}
+
+/// A request that has arrived.
+#[derive(Clone, Copy, Debug)]
+pub struct Incoming<'a> {
+    /// The message.
+    pub bytes: &'a [u8],
+    /// What else decides on its reply.
+    pub terms: &'a Terms,
+}
+
+/// A request that is decoded and verified.
+#[derive(Drop)]
+pub struct Admitted<'a> {
+    /// The request as it has arrived.
+    pub incoming: Incoming<'a>,
+    /// The message.
+    pub message: Message,
+    /// By whom it was signed.
+    pub checked: Checked<'a>,
+    /// What is done with it.
+    pub admission: Admission,
+}
+
+impl Admitted<'_> {
+    /// Returns `true` for an update that may be made.
+    pub(crate) fn is_change(&self) -> bool
+        ensures { result ≡ is_change self.now.admission self.now.message.metadata.op_code }
+    {
+        match (self.admission, self.message.metadata.op_code) {
+            (Admission::Serve(Updates::Allowed), OpCode::Update) => true,
+            _ => false,
+        }
+    }
+}
+
+/// Returns `true` for bytes that begin with the header of an update (RFC 2136 section 2.2).
+pub fn is_update(bytes: &[u8]) -> bool
+    ensures { result ≡ is_update_header (peeked_metadata bytes.now) }
+{
+    match Metadata::peek(bytes) {
+        Some(metadata) => match metadata.op_code {
+            OpCode::Update => true,
+            _ => false,
+        },
+        None => false,
+    }
+}
+
+/// Requests that are decoded and verified, and the frames of the updates that may be made.
+#[derive(Drop)]
+pub(crate) struct Batch<'a> {
+    /// The requests, in order. What is not a request is `None`.
+    pub(crate) admitted: Vec<Option<Admitted<'a>>>,
+    /// The frames.
+    pub(crate) frames: Vec<u8>,
+}
+
+impl<'a> Batch<'a> {
+    /// Creates a batch of these requests.
+    pub(crate) fn new(
+        alloc: Global,
+        policy: &Policy,
+        requests: &[Incoming<'a>],
+    ) -> Result<Batch<'a>, AllocError>
+        ensures admitted { IfOk result (λ batch.
+            AreAdmitted policy.now requests.now batch.admitted.items) }
+        ensures frames { IfOk result (λ batch.
+            batch.frames.items ≡ stream_of (changes_in batch.admitted.items)) }
+    {
+        let mut admitted = Vec::new(alloc);
+        let mut frames = Vec::new(alloc);
+        let mut rest = requests;
+        while let [incoming, more @ ..] = rest {
+            let next = admit(alloc, policy, *incoming)?;
+            push_change(&mut frames, &next)?;
+            admitted.push(next)?;
+            rest = more;
+        }
+        Ok(Batch { admitted, frames })
+    }
+}
+
+/// Adds the frame of an update that may be made.
+fn push_change(frames: &mut Vec<u8>, admitted: &Option<Admitted<'_>>) -> Result<(), AllocError>
+    requires { IsShortIfAny admitted.now }
+    ensures { OnOk result (frames.new.items
+        ≡ frames.old.items ++ stream_of (change_of admitted.now)) }
+{
+    match admitted {
+        Some(admitted) if admitted.is_change() => write_frame(frames, admitted.incoming.bytes),
+        _ => Ok(()),
+    }
+}
+
+/// Decodes and verifies a request, or returns `None` if the bytes are not one.
+fn admit<'a>(
+    alloc: Global,
+    policy: &Policy,
+    incoming: Incoming<'a>,
+) -> Result<Option<Admitted<'a>>, AllocError>
+    ensures { IfOk result (λ admitted. IsAdmitted policy.now incoming.entry admitted) }
+{
+    if incoming.bytes.len() > MAX_REQUEST_LEN {
+        return Ok(None);
+    }
+    match decode_request(alloc, incoming.bytes)? {
+        Some(message) => Ok(Some(judge(alloc, policy, incoming, message)?)),
+        None => Ok(None),
+    }
+}
+
+/// Verifies a request that is decoded, and says what is done with it.
+fn judge<'a>(
+    alloc: Global,
+    policy: &Policy,
+    incoming: Incoming<'a>,
+    message: Message,
+) -> Result<Admitted<'a>, AllocError>
+    requires request { IsRequest incoming.bytes.now message }
+    requires short { length incoming.bytes.now ≤ 65535 }
+    ensures judged { IfOk result (λ admitted. IsJudged policy.now admitted) }
+    ensures incoming { IfOk result (λ admitted. admitted.incoming ≡ incoming.entry) }
+{
+    let checked = verify_request(
+        alloc,
+        policy.keys.as_slice(),
+        incoming.bytes,
+        incoming.terms.time,
+    )?;
+    let admission = admission_of(policy, checked.verdict, &message, incoming.terms.local);
+    Ok(Admitted {
+        incoming,
+        message,
+        checked,
+        admission,
+    })
+}

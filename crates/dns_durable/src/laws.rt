@@ -1,0 +1,32 @@
+//! Theorems about the calls of a server.
+
+ghost use Rattle.std.specs.Prelude.{◌≡◌, ◌++◌, ◌∷◌, [], List, ℕ, Result};
+ghost use Rattle.std.specs.declared.alloc.AllocError.{AllocError};
+ghost use Rattle.dns_journal.specs.declared.journal.Position.{Position};
+ghost use Rattle.dns_journal.specs.Event.{Event};
+ghost use Rattle.dns_journal.specs.Storage.{Always, Disk, Ends, LeavesOnly};
+ghost use Rattle.dns_recovery.specs.Updating.{IsOpen};
+ghost use Rattle.dns_zone.specs.Rows.{ZoneContent};
+ghost use Rattle.dns_durable.specs.Durable.{Keeps, Responds};
+ghost use Rattle.dns_durable.specs.History.{Call, Outlasts, Runs, events_of};
+ghost use Rattle.dns_durable.specs.declared.durable_server.Replies.{Replies};
+ghost use Rattle.dns_durable.specs.declared.incoming.Incoming.{Incoming};
+ghost use Rattle.dns_durable.specs.declared.policy.Policy.{Policy};
+
+/// Each call of [`respond_all`](crate::DurableServer::respond_all) is a call of a history.
+pub fn responses_are_calls()
+    ensures { (policy : Policy) (requests : List Incoming) (outcome : Result Replies AllocError)
+        (old new : Position) (zones after : List ZoneContent) (es : List Event)
+        → Responds policy requests outcome old new zones after es
+        → (frames : List ℕ) × Keeps frames outcome old new zones after es }
+{}
+
+/// After any calls, and at any moment of a further one, a crash leaves the text and updates of it: those from before the calls, then
+/// in order those of the calls, none of them in part, with all that were acknowledged. Of the further call there are all updates or
+/// none.
+pub fn acknowledged_updates_outlast_crashes()
+    ensures { (text : List ℕ) (updates : List (List ℕ)) (p : Position) (zones : List ZoneContent)
+        (d : Disk) (done : List Call) (c : Call)
+        → IsOpen text updates p d → Runs p zones (done ++ c ∷ [])
+        → Ends (λ e. Always (LeavesOnly (Outlasts text updates p done c)) e c.events) d (events_of done) }
+{}

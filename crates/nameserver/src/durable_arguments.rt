@@ -1,0 +1,154 @@
+//! The arguments about keys and a journal.
+
+use crate::arguments::{flag, option, text_in, texts_in};
+use crate::ending::Ending;
+use clap::{ArgAction, ArgMatches, Command};
+use std::alloc::{AllocError, Global};
+
+/// The length of a journal, in bytes, from which on it is begun anew, unless another one is given.
+const DEFAULT_LIMIT: usize = 16_777_216;
+
+/// The least of these lengths.
+const LEAST_LIMIT: usize = 4_096;
+
+/// What is given of keys and of a journal.
+pub(crate) struct DurableArguments {
+    /// The path of the journal, as given.
+    pub(crate) journal: Option<String>,
+    /// The length of the journal from which on it is begun anew, in bytes.
+    pub(crate) journal_limit: usize,
+    /// Whether the zone file is to be replaced by the zone with its updates, and nothing else.
+    pub(crate) compact: bool,
+    /// The paths of the key files, as given.
+    pub(crate) keys: Vec<String>,
+    /// The grants, as given.
+    pub(crate) grants: Vec<String>,
+}
+
+impl Drop for DurableArguments {
+    fn drop(self) {
+        let DurableArguments {
+            journal,
+            journal_limit: _journal_limit,
+            compact: _compact,
+            keys,
+            grants,
+        } = self;
+        drop(journal);
+        drop(keys);
+        drop(grants);
+    }
+}
+
+impl DurableArguments {
+    /// Returns `true` if there is a journal, a key or a grant.
+    pub(crate) fn is_given(&self) -> bool {
+        self.journal.is_some() || !self.keys.is_empty() || !self.grants.is_empty()
+    }
+}
+
+/// Adds the options about keys and a journal to a command.
+pub(crate) fn with_durable_options<'a>(
+    alloc: Global,
+    command: Command<'a>,
+) -> Result<Command<'a>, AllocError> {
+    command
+        .arg(option(
+            alloc,
+            "journal",
+            "FILE",
+            "The journal of the updates of the zone, which outlast a crash",
+        ))?
+        .arg(option(
+            alloc,
+            "journal-limit",
+            "BYTES",
+            "The length of the journal from which on the zone file takes its place, 16777216 if none is given",
+        ))?
+        .arg(flag(
+            alloc,
+            "compact",
+            "Replace the zone file by the zone with the updates of its journal, and end",
+        ))?
+        .arg(option(
+            alloc,
+            "key",
+            "FILE",
+            "A file of keys, with which requests may be signed",
+        )
+        .action(ArgAction::Append))?
+        .arg(option(
+            alloc,
+            "grant",
+            "KEY NAME [TYPE..]",
+            "What the holders of a key may update: a name with those below it, and perhaps some types of their records",
+        )
+        .action(ArgAction::Append))
+}
+
+/// Returns what is given of keys and of a journal.
+pub(crate) fn durable_in(
+    alloc: Global,
+    matches: &ArgMatches<'_>,
+    file_count: usize,
+) -> Result<DurableArguments, Ending> {
+    let journal = text_in(alloc, matches, "journal")?;
+    let compact = matches.get_str("compact") == Some("true");
+    check_journal(alloc, matches, journal.is_some(), compact, file_count)?;
+    let durable = DurableArguments {
+        journal,
+        journal_limit: limit_in(alloc, matches)?,
+        compact,
+        keys: texts_in(alloc, matches, "key")?,
+        grants: texts_in(alloc, matches, "grant")?,
+    };
+    if durable.is_given() {
+        refuse_faults(alloc, matches)?;
+    }
+    Ok(durable)
+}
+
+/// Refuses a journal with several zone files, and what needs a journal without one.
+fn check_journal(
+    alloc: Global,
+    matches: &ArgMatches<'_>,
+    has_journal: bool,
+    compact: bool,
+    file_count: usize,
+) -> Result<(), Ending> {
+    if has_journal && file_count > 1 {
+        let path = matches.get_str("journal").unwrap_or("");
+        return Err(Ending::invalid(alloc, "journal", path, "there is more than one zone file"));
+    }
+    if compact && !has_journal {
+        return Err(Ending::invalid(alloc, "compact", "true", "there is no journal"));
+    }
+    Ok(())
+}
+
+/// Refuses a fault table beside keys or a journal.
+fn refuse_faults(alloc: Global, matches: &ArgMatches<'_>) -> Result<(), Ending> {
+    match matches.get_str("faults") {
+        Some(path) => {
+            let reason = "faults are not made beside keys or a journal";
+            Err(Ending::invalid(alloc, "faults", path, reason))
+        }
+        None => Ok(()),
+    }
+}
+
+/// Returns the length from which on a journal is begun anew.
+fn limit_in(alloc: Global, matches: &ArgMatches<'_>) -> Result<usize, Ending> {
+    let Some(text) = matches.get_str("journal-limit") else {
+        return Ok(DEFAULT_LIMIT);
+    };
+    match text.parse::<usize>() {
+        Ok(limit) if limit >= LEAST_LIMIT => Ok(limit),
+        _ => Err(Ending::invalid(
+            alloc,
+            "journal-limit",
+            text,
+            "it is not a number from 4096 on",
+        )),
+    }
+}

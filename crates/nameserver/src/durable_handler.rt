@@ -1,0 +1,144 @@
+//! What the program does with requests, if there are keys or a journal.
+
+use crate::log_file::LogFile;
+use dns_durable::{CompactError, DurableServer, Incoming, Policy, Terms, is_update};
+use dns_faults::Delivery;
+use dns_journal::State;
+use dns_journal_files::FileStorage;
+use dns_nameserver::{Answered, is_accepted, road_of, updates_of};
+use dns_server::AddressList;
+use dns_sockets::{Handler, Request};
+use dns_zone::DatagramLimit;
+use std::alloc::AllocError;
+use std::time::Clock;
+
+/// Answers requests by a server whose updates outlast a crash, and logs them.
+#[derive(Drop)]
+pub(crate) struct DurableHandler<'a> {
+    /// The runtime.
+    pub(crate) rt: &'a HostRuntime,
+    /// The server.
+    pub(crate) server: DurableServer<FileStorage<'a>>,
+    /// Who may update its zones.
+    pub(crate) policy: Policy,
+    /// The maximum size of datagrams.
+    pub(crate) limit: DatagramLimit,
+    /// The addresses from which updates are taken without a key.
+    pub(crate) updaters: AddressList,
+    /// The length of the journal from which on it is begun anew.
+    pub(crate) journal_limit: usize,
+    /// The log, if there is one.
+    pub(crate) log: Option<LogFile>,
+    /// Whether a failure of the journal was told.
+    pub(crate) has_failed: bool,
+}
+
+impl Handler for DurableHandler<'_> {
+    /// Updates that wait behind one another are on the disk by one call.
+    fn gathers(&self, bytes: &[u8]) -> bool {
+        is_update(bytes)
+    }
+
+    fn handle(&mut self, requests: &[Request<'_>]) -> Result<Vec<Delivery>, AllocError> {
+        let mut terms = Vec::new(self.rt.alloc());
+        for request in requests {
+            terms.push(self.terms(request))?;
+        }
+        let mut incoming = Vec::new(self.rt.alloc());
+        for (request, terms) in requests.iter().zip(terms.as_slice()) {
+            incoming.push(Incoming {
+                bytes: request.bytes,
+                terms,
+            })?;
+        }
+        let replies = self
+            .server
+            .respond_all(self.rt.alloc(), &self.policy, incoming.as_slice())?
+            .replies;
+        self.tend_journal();
+        self.deliver(requests, replies)
+    }
+}
+
+impl DurableHandler<'_> {
+    /// Returns what decides on the reply to a request, beside its bytes.
+    fn terms(&self, request: &Request<'_>) -> Terms {
+        Terms {
+            road: road_of(request.transport, self.limit),
+            local: updates_of(self.updaters.contains(request.peer.ip())),
+            // Without a clock, no signature is in time.
+            time: self.rt.since_1970().map_or(0, |time| time.as_secs()),
+        }
+    }
+
+    /// Logs requests with their replies, and returns what is sent.
+    fn deliver(
+        &mut self,
+        requests: &[Request<'_>],
+        replies: Vec<Option<Vec<u8>>>,
+    ) -> Result<Vec<Delivery>, AllocError> {
+        let mut deliveries = Vec::new(self.rt.alloc());
+        for (request, reply) in requests.iter().zip(replies) {
+            deliveries.push(self.logged(request, reply))?;
+        }
+        Ok(deliveries)
+    }
+
+    /// Logs a request with its reply, and returns what is sent.
+    fn logged(&mut self, request: &Request<'_>, reply: Option<Vec<u8>>) -> Delivery {
+        let has_updated = match &reply {
+            Some(bytes) => is_accepted(bytes.as_slice()),
+            None => false,
+        };
+        let answered = Answered {
+            delivery: Delivery::plain(reply),
+            line: None,
+            has_updated,
+        };
+        if let Some(log) = &mut self.log {
+            log.append_request(self.rt, request, &answered);
+        }
+        answered.delivery
+    }
+
+    /// Lets the zone file take the place of a journal that is long, and tells the first failure on standard error.
+    fn tend_journal(&mut self) {
+        if self.server.journal.storage.has_files() && self.server.is_due(self.journal_limit) {
+            if let Err(error) = self.server.compact(self.rt.alloc()) {
+                self.note_refusal(&error);
+            }
+        }
+        self.tell_failure();
+    }
+
+    /// Keeps the journal of a zone whose text is not read as it is, and says so on standard error.
+    fn note_refusal(&mut self, error: &CompactError) {
+        match error {
+            CompactError::Zones | CompactError::Text => {
+                self.journal_limit = usize::MAX;
+                // A failure to write to standard error can't be reported.
+                let _written = eprintln!(self.rt; "nameserver: the journal goes on: {error}");
+            }
+            // The state of the journal says so, or the next update tries again.
+            CompactError::Journal(_) | CompactError::Memory => {}
+        }
+    }
+
+    /// Tells the first failure of the journal on standard error.
+    fn tell_failure(&mut self) {
+        let journal = &mut self.server.journal;
+        if journal.position.state == State::Ready || self.has_failed {
+            return;
+        }
+        self.has_failed = true;
+        // A failure to write to standard error can't be reported.
+        let _written = match journal.storage.take_error() {
+            Some(error) => eprintln!(self.rt;
+                "nameserver: journal: {error}; updates are refused until a restart"
+            ),
+            None => eprintln!(self.rt;
+                "nameserver: journal: out of memory; updates are refused until a restart"
+            ),
+        };
+    }
+}
