@@ -2,6 +2,9 @@
 
 use crate::ending::Ending;
 use std::alloc::Global;
+use std::fs::File;
+use std::io::Read;
+use std::os::unix::fs::PermissionsExt;
 use std::{fs, io};
 use zone_check::encoding_report;
 
@@ -15,6 +18,47 @@ pub(crate) fn read_file(rt: &HostRuntime, path: &str) -> Result<Vec<u8>, Ending>
         }
         Err(error) => Err(Ending::CannotRead(String::from_str(rt.alloc(), path)?, error)),
     }
+}
+
+/// Reads a key file. If other users may read or write it, a line on standard error says so.
+pub(crate) fn read_key_file(rt: &HostRuntime, path: &str) -> Result<Vec<u8>, Ending> {
+    match read_secrets(rt, path) {
+        Ok(Secrets { text, mode }) => {
+            if is_exposed(mode) {
+                // A failure to write to standard error can't be reported.
+                let _written = eprintln!(rt;
+                    "nameserver: {path}: other users may read or write the key file"
+                );
+            }
+            Ok(text)
+        }
+        Err(error) if error.kind() == io::ErrorKind::OutOfMemory => {
+            // Reading the file was refused memory.
+            Err(Ending::Memory)
+        }
+        Err(error) => Err(Ending::CannotRead(String::from_str(rt.alloc(), path)?, error)),
+    }
+}
+
+/// The text of a file, and its mode.
+#[derive(Drop)]
+struct Secrets {
+    text: Vec<u8>,
+    mode: u32,
+}
+
+/// Reads a file and its mode.
+fn read_secrets(rt: &HostRuntime, path: &str) -> io::Result<Secrets> {
+    let mut file = File::open(rt, path)?;
+    let mode = file.metadata()?.permissions().mode();
+    let mut text = Vec::new(rt.alloc());
+    file.read_to_end(&mut text)?;
+    Ok(Secrets { text, mode })
+}
+
+/// Returns `true` if users other than the owner and the group of a file may read or write it, by its mode, that of stat(2).
+fn is_exposed(mode: u32) -> bool {
+    mode % 8 >= 2
 }
 
 /// Returns the text of a file, or where it is not UTF-8.

@@ -2,7 +2,7 @@
 
 use crate::arguments::Arguments;
 use crate::ending::Ending;
-use crate::files::read_file;
+use crate::files::read_key_file;
 use dns_durable::{GrantError, Policy, parse_grant};
 use dns_grants::Grant;
 use dns_keys::{KeyFileError, parse_keys};
@@ -31,7 +31,7 @@ fn read_keys(rt: &HostRuntime, paths: &[String]) -> Result<Vec<Key>, Ending> {
 
 /// Adds the keys of a file.
 fn add_keys(rt: &HostRuntime, keys: &mut Vec<Key>, path: &str) -> Result<(), Ending> {
-    let text = read_file(rt, path)?;
+    let text = read_key_file(rt, path)?;
     match parse_keys(rt.alloc(), text.as_slice()) {
         Ok(found) => {
             for key in found {
