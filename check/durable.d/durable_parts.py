@@ -1,7 +1,7 @@
 """The parts of check/durable."""
 from collections import namedtuple
 
-from keys import grants, keys
+from keys import grants, keys, modes
 from kills import damage, disk, kills
 from mutations import mutations
 from speed import speed
@@ -13,6 +13,7 @@ Given = namedtuple("Given", "program zonecheck kills mutations")
 PARTS = {
     "keys": keys,
     "grants": grants,
+    "modes": modes,
     "mutations": mutations,
     "damage": damage,
     "disk": disk,

@@ -1,5 +1,6 @@
 """What signed updates may do."""
 import os
+import signal
 import subprocess
 import time
 import tempfile
@@ -32,6 +33,23 @@ def serving(given, keys, *grants, unsigned=False):
             yield server, folder
         finally:
             server.kill()
+
+
+def modes(given):
+    """What is said of a key file that other users may read or write."""
+    for mode, is_told in ((0o600, False), (0o640, False), (0o604, True), (0o602, True), (0o644, True), (0o601, False)):
+        with tempfile.TemporaryDirectory() as name:
+            folder = Path(name)
+            (folder / "zone").write_text(ZONE)
+            (folder / "key").write_text(Key("key.example.", next(iter(ALGORITHMS)), b"secret").text())
+            (folder / "key").chmod(mode)
+            server = Server(given.program, folder, "--key", str(folder / "key"))
+            os.kill(server.process.pid, signal.SIGKILL)
+            said = server.process.stderr.read()
+            server.close()
+        if (b"other users may read or write the key file" in said) != is_told:
+            yield f"a key file of mode {mode:o}: {said!r}"
+    print("  6 modes of key files")
 
 
 def run_nsupdate(server, words, lines, program="nsupdate"):
