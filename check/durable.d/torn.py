@@ -143,7 +143,7 @@ def recorded(given, folder, chosen):
     """The calls of a server under load, and the number of updates that were sent."""
     limit = ["--journal-limit", str(chosen.choice([4096, 6000]))] if chosen.random() < 0.7 else []
     trace = folder.parent / "trace"
-    prefix = ["strace", "-f", "-xx", "-s", "200000", "-e", f"trace={CALLS}", "-o", str(trace)]
+    prefix = ["strace", "-f", "-xx", "-s", "16000000", "-e", f"trace={CALLS}", "-o", str(trace)]
     server = Server(given.program, folder, *limit, prefix=prefix)
     load = Load(0)
     way = chosen.choice([load.by_datagrams, load.by_stream])
