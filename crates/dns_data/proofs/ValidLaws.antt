@@ -19,7 +19,7 @@ use Rattle.dns_names.specs.Print.{AreOctets}
 use Rattle.dns_names.specs.declared.error.ParseError.{ParseError}
 use Rattle.dns_names.specs.declared.error.ParseError.TheVariants.{DomainNameTooLong}
 use Rattle.dns_names.proofs.GrammarCompleteness.{read_is_spelled}
-use Rattle.dns_text.specs.CharacterString.{octet_of, first_octet, octet_before, unescaped_after, unescaped}
+use Rattle.dns_text.specs.CharacterString.{octet_of, string_escape, first_octet, octet_before, unescaped_after, unescaped}
 use Rattle.dns_text.specs.Lexer.{Lexeme, CharData, QuotedString, At}
 use Rattle.dns_data.specs.Field.{Kind, Number16, Number32, Seconds, Address4, Address6, CompressibleName, WholeName, Strings, ValueOf, Values}
 use Rattle.dns_data.specs.Text.{name_of_token, string_of_text, string_of_token, IsTokenOf, AreTokensOf, no_string, one_string, Takes, AreParsed, IsValidValue, AreValidValues}
@@ -178,11 +178,19 @@ escape_valid (c ∷ cs) octet e = at (is_digit c) (nat_le 32 c && nat_le c 126) 
     at false true is f = let same : c ≡ octet = cc in grind (arith, nat_tests)
     at false false is f = absurd (cc)
 
+string_escape_valid : (text : List ℕ) (octet : ℕ) → string_escape text ≡ Some octet → octet < 256
+string_escape_valid [] octet e = absurd (cc)
+string_escape_valid (c ∷ cs) octet e = at (c == 10) refl e
+  where
+    at : (feed : Bool) → (c == 10) ≡ feed → (if feed then Some c else octet_of (escape (c ∷ cs))) ≡ Some octet → octet < 256
+    at true is f = let same : c ≡ octet = cc in grind (arith, nat_tests)
+    at false is f = escape_valid (c ∷ cs) octet f
+
 first_valid : (c : ℕ) (cs : List ℕ) (octet : ℕ) → c < 256 → first_octet (c ∷ cs) ≡ Some octet → octet < 256
 first_valid c cs octet small e = at (c == 92) e
   where
-    at : (slash : Bool) → (if slash then octet_of (escape cs) else Some c) ≡ Some octet → octet < 256
-    at true f = escape_valid cs octet f
+    at : (slash : Bool) → (if slash then string_escape cs else Some c) ≡ Some octet → octet < 256
+    at true f = string_escape_valid cs octet f
     at false f = let same : c ≡ octet = cc in omega arith
 
 both_valid : (first : Option ℕ) (more : Option (List ℕ)) (octets : List ℕ) → ((octet : ℕ) → first ≡ Some octet → octet < 256)

@@ -8,7 +8,7 @@ use Rattle.dns_codes.specs.Decimal.{is_digit, decimal_up_to}
 use Rattle.dns_names.specs.Parse.{Symbol, Escaped, escape, escape_len, more_len}
 use Rattle.dns_names.specs.Print.{escape_sequence, AreOctets}
 use Rattle.dns_names.proofs.RoundTrip.{digit, three_digits}
-use Rattle.dns_text.specs.CharacterString.{octet_of, first_octet, octet_before, unescaped_after, unescaped, octet_text, escaped_text}
+use Rattle.dns_text.specs.CharacterString.{octet_of, string_escape, first_octet, octet_before, unescaped_after, unescaped, octet_text, escaped_text}
 
 -- ---- parsing
 
@@ -75,7 +75,9 @@ by_digits x y z c is e rest =
     let long : nat_lt (length (x ∷ y ∷ z ∷ rest)) 3 ≡ false = grind (arith, nat_tests) in
     let octet : escape (x ∷ y ∷ z ∷ rest) ≡ Escaped c = rw (is, long, e) refl in
     let takes : escape_len (x ∷ y ∷ z ∷ rest) ≡ 3 = rw is refl in
-    ap (λ (s : Symbol). octet_before (octet_of s) (unescaped_after (escape_len (x ∷ y ∷ z ∷ rest)) (x ∷ y ∷ z ∷ rest))) octet
+    let no_feed : (x == 10) ≡ false = grind (arith, nat_tests) in
+    let first : string_escape (x ∷ y ∷ z ∷ rest) ≡ Some c = rw no_feed (ap octet_of octet) in
+    ap (λ (o : Option ℕ). octet_before o (unescaped_after (escape_len (x ∷ y ∷ z ∷ rest)) (x ∷ y ∷ z ∷ rest))) first
     ∙ ap (λ (n : ℕ). octet_before (Some c) (unescaped_after n (x ∷ y ∷ z ∷ rest))) takes
 
 reads_digits : (c : ℕ) → c < 256 → Reads (escape_sequence c) c

@@ -10,10 +10,16 @@ abbrev pub octet_of : Symbol → Option ℕ
 octet_of (Escaped octet) = Some octet
 octet_of _ = None
 
+-- the octet of an escape, from the text after its backslash: a line feed denotes itself, where a string goes over several
+-- lines, and every other escape is one of names
+abbrev pub string_escape : List ℕ → Option ℕ
+string_escape [] = None
+string_escape (c ∷ cs) = if c == 10 then Some c else octet_of (escape (c ∷ cs))
+
 -- the octet that a text begins with: that of the escape after a backslash, or the first character itself
 abbrev pub first_octet : List ℕ → Option ℕ
 first_octet [] = None
-first_octet (c ∷ cs) = if c == 92 then octet_of (escape cs) else Some c
+first_octet (c ∷ cs) = if c == 92 then string_escape cs else Some c
 
 -- an octet and the octets after it, if each is one
 abbrev pub octet_before : Option ℕ → Option (List ℕ) → Option (List ℕ)
@@ -27,7 +33,7 @@ unescaped_after zero (c ∷ cs) = octet_before (first_octet (c ∷ cs)) (unescap
 unescaped_after (suc past) (c ∷ cs) = unescaped_after past cs
 
 -- The octets of a string, from its text without quotes. A backslash and three decimal digits up to 255 denote an octet, a
--- backslash and another printable character that character, and any other character itself.
+-- backslash and another printable character or a line feed that character, and any other character itself.
 abbrev pub unescaped : List ℕ → Option (List ℕ)
 unescaped text = unescaped_after 0 text
 

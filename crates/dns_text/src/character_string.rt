@@ -2,17 +2,17 @@
 
 ghost use Rattle.std.specs.Prelude.{◌≡◌, ◌+◌, ◌≤◌, ◌<◌, [], length, IsOk, IfOk, IfSome, MatchOption, Option, Some, None, option_map};
 ghost use Rattle.std.specs.Fmt.{WritesOnOk};
-ghost use Rattle.dns_names.specs.Parse.{more_len};
+ghost use Rattle.dns_names.specs.Parse.{escape_len, more_len};
 ghost use Rattle.dns_names.specs.Print.{escape_sequence};
-ghost use Rattle.dns_text.specs.CharacterString.{unescaped, first_octet, octet_text, escaped_text, quoted_text};
+ghost use Rattle.dns_text.specs.CharacterString.{unescaped, string_escape, first_octet, octet_text, escaped_text, quoted_text};
 
 use dns_names::escaped_octet;
 use std::alloc::{AllocError, Global};
 use std::fmt;
 
 /// Returns the octets of a character string from its text, without quotes if it is quoted: a backslash and three decimal
-/// digits up to 255 denote an octet, a backslash and another printable ASCII character that character, and any other
-/// character itself. The result is `None` if the text has a backslash without a valid escape.
+/// digits up to 255 denote an octet, a backslash and another printable ASCII character or a line feed that character, and
+/// any other character itself. The result is `None` if the text has a backslash without a valid escape.
 pub fn unescape(alloc: Global, text: &[u8]) -> Result<Option<Vec<u8>>, AllocError>
     ensures ok { IfOk result (λ found. MatchOption found (unescaped text.now ≡ None)
         (λ octets. unescaped text.now ≡ Some octets.items)) }
@@ -40,8 +40,24 @@ fn first_octet(text: &[u8]) -> Option<(u8, usize)>
     if text[0] != b'\\' {
         return Some((text[0], 1));
     }
-    let (octet, len) = escaped_octet(&text[1..])?;
+    let (octet, len) = string_escape(&text[1..])?;
     Some((octet, len + 1))
+}
+
+/// Returns the octet that an escape of a string denotes, from the text after its backslash, and how many characters of that
+/// text the escape takes: those of an escape of names, or a line feed.
+fn string_escape(text: &[u8]) -> Option<(u8, usize)>
+    ensures octet { option_map (λ found. found.0) result ≡ string_escape text.now }
+    ensures len { IfSome result (λ found. found.1 ≡ escape_len text.now) }
+    ensures within { IfSome result (λ found. found.1 ≤ length text.now) }
+{
+    if text.is_empty() {
+        return None;
+    }
+    match text[0] {
+        b'\n' => Some((b'\n', 1)),
+        _ => escaped_octet(text),
+    }
 }
 
 /// The octets of a character string, which `Display` writes between quotes: `"` and `\` after a backslash, and each octet

@@ -5,9 +5,9 @@ use thiserror::Error;
 /// A lexical error of a zone file, with its line, from 1.
 #[derive(Clone, Copy, Debug, PartialEq, Eq, Error)]
 pub enum LexerError {
-    /// A quoted string, which begins on this line, does not end on it, or does not end at all where it may go over several
+    /// A quoted string, which begins on this line, is not closed: on this line, or at all where it may go over several
     /// lines.
-    #[error("line {0}: quoted string does not end on its line")]
+    #[error("line {0}: quoted string is not closed")]
     UnclosedQuotedString(usize),
     /// The text ends while a parenthesis is open. The line is the first of the entry.
     #[error("line {0}: parenthesis is not closed")]
