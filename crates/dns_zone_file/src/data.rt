@@ -20,8 +20,8 @@ use dns_wire::laws::type_number_round_trips;
 use dns_wire::{BinDecoder, DecodeError, RecordType};
 use std::alloc::Global;
 
-/// Parses the data of a record. The origin completes relative names.
-pub(crate) fn parse_rdata(
+/// Parses the data of a record from its tokens, exactly as the parser of zone files does. The origin completes relative names.
+pub fn parse_rdata(
     alloc: Global,
     types: Types,
     record_type: RecordType,

@@ -70,11 +70,14 @@ pub enum ZoneFileError {
     Memory,
 }
 
-/// Why an entry was not parsed.
-#[derive(Debug, Drop)]
-pub(crate) enum EntryError {
+/// Why an entry, or the data of a record, was not parsed.
+#[derive(Debug, Drop, Error)]
+pub enum EntryError {
+    /// The entry has a fault.
+    #[error("{0}")]
     Fault(EntryFault),
     /// Memory could not be allocated.
+    #[error("out of memory")]
     Memory,
 }
 

@@ -79,12 +79,13 @@ pub fn printed_records_parse_back()
         }) (printed_records origin records) }
 {}
 
-/// The sets of a zone file of the types with fields can be printed, unless their data is too long to be encoded: each has a valid owner, and its
-/// data has a text form and valid values. The origin at the end and the owner of the first SOA record are valid names.
-/// The premise holds for every `&str` and `Name`.
+/// The sets of a zone file of the types with fields can be printed, unless their data is too long to be encoded: each has a
+/// valid owner, and its data has a text form and valid values. The origin at the end and the owner of the first SOA record are
+/// valid names. The premise holds for every `&str` and `Name`.
 pub fn parsed_sets_can_be_printed()
     ensures sets { (file : ZoneFile) (c : Context) → IsTextFile file
-        → ParsesIn file.types file.includes file.origin file.text (Ok c) → AllByRecursion IsTextSet c.sets }
+        → ParsesIn file.types file.includes file.origin file.text (Ok c)
+        → AllByRecursion IsTextSet c.sets }
     ensures origin { (file : ZoneFile) (c : Context) → IsTextFile file
         → ParsesIn file.types file.includes file.origin file.text (Ok c) → IsValidName c.origin }
     ensures soa { (file : ZoneFile) (c : Context) → IsTextFile file

@@ -69,8 +69,8 @@ impl<'a> Parser<'a> {
     ghost use Rattle.dns_text.specs.declared.error.LexerError.{LexerError};
     ghost use Rattle.dns_zone_file.specs.Parsing.{ParsesIn, HasRecords};
 
-    /// Creates a parser of a text of the types that have fields, [`Types::Nine`]. Each pair of `includes` is a name, as `$INCLUDE` states it, and the text that it stands
-    /// for. The origin completes relative names; it is the root if there is none.
+    /// Creates a parser of a text of the types that have fields, [`Types::Nine`]. Each pair of `includes` is a name, as `$INCLUDE`
+    /// states it, and the text that it stands for. The origin completes relative names; it is the root if there is none.
     pub fn new(text: &'a str, includes: &'a [(String, String)], origin: Option<Name>) -> Self
         ensures { result ≡ record {
           text = text.now;
