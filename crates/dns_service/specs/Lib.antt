@@ -1,0 +1,5 @@
+pub mod Key
+pub mod Wire
+pub mod Address
+pub mod List
+pub mod Parameter

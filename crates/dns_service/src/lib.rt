@@ -1,0 +1,17 @@
+//! The parameters of service bindings, from their texts and as bytes (RFC 9460).
+//!
+//! - `key`: the keys by their names; `address`: addresses in text; `list`: lists in one value, with their escapes
+//! - `parameter`: a parameter beside those before it; `wire`: which bytes are parameters
+//! - `fault`: why a text is refused
+#![tactic(auto)]
+
+mod address;
+mod fault;
+mod key;
+mod list;
+mod parameter;
+mod wire;
+
+pub use fault::ServiceFault;
+pub use parameter::with_parameter;
+pub use wire::are_parameters;
