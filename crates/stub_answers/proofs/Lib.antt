@@ -6,3 +6,4 @@ pub mod EndedLaws
 pub mod SelectingLaws
 pub mod ErrorLaws
 pub mod StepLaws
+pub mod EndsLaws

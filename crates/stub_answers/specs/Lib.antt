@@ -1,3 +1,4 @@
 pub mod Claims
 pub mod Standing
 pub mod Lookups
+pub mod Ends

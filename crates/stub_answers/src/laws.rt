@@ -4,7 +4,7 @@ mod lookups;
 mod standing;
 
 pub use lookups::{
-    answers_that_stood_bear_out, caches_keep_what_stood, every_lookup_keeps_whole_answers,
-    every_resolver_lookup_stands,
+    WholeClaim, answers_that_stood_bear_out, caches_keep_what_stood,
+    every_lookup_keeps_whole_answers, every_resolver_lookup_stands, names_end_at_a_question,
 };
 pub use standing::{absences_are_negative_answers, whole_sets_are_fresh};

@@ -1,6 +1,6 @@
 //! What lookups keep of whole answers.
 
-ghost use Rattle.std.specs.Prelude.{◌≡◌, ◌≤◌, ℕ, List, [], All, Option, Result};
+ghost use Rattle.std.specs.Prelude.{◌≡◌, ◌≤◌, ℕ, List, [], All, Option, Result, Ok};
 ghost use Rattle.std.specs.declared.net.ip_addr.IpAddr.{IpAddr};
 ghost use Rattle.dns_codes.specs.declared.record_type.RecordType.{RecordType};
 ghost use Rattle.dns_names.specs.Name.{DomainName};
@@ -12,13 +12,14 @@ ghost use Rattle.stub_client.specs.Laws.{EveryLookup};
 ghost use Rattle.stub_client.specs.Looks.{Reply};
 ghost use Rattle.stub_client.specs.declared.caching_client.step.LookupSettings.{LookupSettings};
 ghost use Rattle.stub_core.specs.Origins.{HasNoMinima};
-ghost use Rattle.stub_core.specs.Resolver.{LooksUp, LooksUpHost, asks_of, cleared_lookup};
+ghost use Rattle.stub_core.specs.Resolver.{LooksUp, LooksUpHost, asks_of, cleared_lookup, known_type, names_for};
 ghost use Rattle.stub_core.specs.declared.resolver.Resolver.{Resolver};
 ghost use Rattle.stub_core.specs.declared.resolver.settings.Settings.{Settings};
 ghost use Rattle.stub_link.specs.LinkState.{Version};
 ghost use Rattle.stub_history.specs.Answered.{AreZones, IsAnsweredBy};
 ghost use Rattle.stub_answers.specs.Claims.{AbsencesOutlast, AnswersOutlast, BearOut, HasNoNegativeMinima, HoldOfCache, HoldOfReply, HoldOfSpecialNames, IsNoMeaning};
-ghost use Rattle.stub_answers.specs.Lookups.{CacheStands, GoesOn, Stands};
+ghost use Rattle.stub_answers.specs.Ends.{NameEnds};
+ghost use Rattle.stub_answers.specs.Lookups.{ByClaims, CacheStands, GoesOn, Stands};
 ghost use Rattle.stub_answers.specs.Standing.{FindsWhole, LacksIndeed};
 
 use dns_codes::laws::type_number_round_trips;
@@ -84,6 +85,19 @@ pub fn every_resolver_lookup_stands<H: DnsHandle>()
 {
     type_number_round_trips();
 }
+
+/// A lookup of a name in which claims hold of the reply to each question ends with the reply to the question for a name that it
+/// attempts, with what the hosts have for the first of these names, or for want of memory or of names.
+///
+/// So by [`every_resolver_lookup_stands`] what is found for a name is a whole set that stood, for one of the attempted names, and
+/// where nothing is found, one of them has a negative answer that stood.
+pub fn names_end_at_a_question<C: WholeClaim>()
+    ensures { (settings : Settings) (now : ℕ) (name : DomainName) (kind : RecordType)
+        (reply : Reply)
+        → LooksUp settings now (ByClaims C.finds C.lacks now) (Ok name) kind tt reply tt
+        → NameEnds C.finds C.lacks settings now (names_for settings name) (known_type kind)
+        reply }
+{}
 
 /// What a cache has and what stood, still stood at later moments, in a history that goes on, and after entries are removed.
 pub fn caches_keep_what_stood()
