@@ -97,7 +97,8 @@ pub record IsAlias (history : List Version) (now : ℕ) (from : DomainName) : Ty
   pub there : rows_at rows owner.labels types.CNAME ≢ []
 
 -- A negative answer to a question stood: as the absence of its type; or, without an SOA record and for no time, as that of a
--- special-use name that is reached (RFC 6761, RFC 7686), or as the end of more aliases than are followed.
+-- special-use name that is reached (RFC 6761, RFC 7686), or where a name that is reached had an alias, as after more aliases than
+-- are followed.
 pub data HasBeenAbsent (origin : DomainName) (history : List Version) (now : ℕ) (q : Query) (answer : NoRecords) : Type 0 where
   as_absence : IsAbsent origin history now q.query_type q.name answer → HasBeenAbsent origin history now q answer
   as_special : (p : Query) → IsReached history now q.name p.name → special_answer p ≡ Nothing answer.response_code
