@@ -18,8 +18,8 @@ use Rattle.dns_zone_file.specs.declared.fields.Fields.{Fields}
 use Rattle.dns_zone_file.specs.Data.{ReadsIn, RefusesIn}
 use Rattle.dns_zone_file.specs.Fields.{fields_in}
 use Rattle.dns_zone_file.specs.Context.{owner_of, ttl_for, default_class, ReadsRecord, RefusesRecord, bad_owner, bad_fields, bad_data, no_ttl, other_class}
-use Rattle.dns_zone_file.specs.Entry.{origin_directive, include_directive, record_entry, entry_of, origin_of, inclusion_of}
-use Rattle.dns_zone_file.specs.Parsing.{RefusesEntry, bad_origin, bad_include, bad_record}
+use Rattle.dns_zone_file.specs.Entry.{origin_directive, include_directive, entry_of, origin_of, inclusion_of}
+use Rattle.dns_zone_file.specs.Parsing.{RefusesEntry, bad_origin, bad_include}
 use Rattle.dns_zone_file.specs.RecordSets.{has_other_class}
 use Rattle.dns_zone_file.specs.internal.Context as behind
 use Rattle.dns_zone_file.specs.internal.Context.{ReadsData, RefusesData}
@@ -122,8 +122,3 @@ pub include_fault : (c : Context) (tokens arguments : List Lexeme) (e : EntryErr
     → IsFault (λ refusal. inclusion_of c.origin arguments ≡ Err refusal) e → IsFault (RefusesEntry c tokens) e
 include_fault c tokens arguments (error.Fault refusal) entry refused = bad_include (sym entry) refused
 include_fault c tokens arguments error.Memory entry refused = tt
-
-pub entry_record_fault : (c : Context) (tokens : List Lexeme) (e : EntryError) → record_entry ≡ entry_of tokens
-    → IsFault (RefusesRecord c tokens) e → IsFault (RefusesEntry c tokens) e
-entry_record_fault c tokens (error.Fault refusal) entry refused = bad_record (sym entry) refused
-entry_record_fault c tokens error.Memory entry refused = tt

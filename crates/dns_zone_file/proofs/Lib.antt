@@ -5,6 +5,7 @@ pub mod DistinctLaws
 pub mod EntryLaws
 pub mod FieldsLaws
 pub mod FirstLaws
+pub mod GenerateLaws
 pub mod LineLaws
 pub mod ListedLaws
 pub mod OctetLaws

@@ -39,7 +39,7 @@ use Rattle.dns_zone_file.specs.declared.context.Context.{Context}
 use Rattle.dns_zone_file.specs.declared.error.EntryFault.TheVariants.{InvalidOwner}
 use Rattle.dns_zone_file.specs.Context.{or_fault, ReadsRecord}
 use Rattle.dns_zone_file.specs.Entry.{LexesEntry, line_end, text_end, one_token, record_entry, entry_of}
-use Rattle.dns_zone_file.specs.Fields.{if_ok, name_of, Field, ttl_field, type_field, begins_with_digit, ttl_or_bad, field_of_word, Fields, fields_in, fields_of}
+use Rattle.dns_zone_file.specs.Fields.{if_ok, name_of, Field, ttl_field, type_field, begins_with_digit, ttl_or_bad, field_of_word, fields_in, fields_of}
 use Rattle.dns_zone_file.specs.declared.types.Types.{Types}
 use Rattle.dns_zone_file.specs.declared.types.Types.TheVariants.{Nine}
 use Rattle.dns_zone_file.specs.Data.{ReadsIn}
@@ -49,7 +49,7 @@ use Rattle.dns_zone_file.proofs.RecordSetsLaws.{both}
 
 -- ---- lexing
 
-abbrev at : LexerState → List ℕ → Bool → LexerState
+abbrev pub at : LexerState → List ℕ → Bool → LexerState
 at p text is_front = record p { text = text; is_front = is_front }
 
 -- the state at the start of a line, outside parentheses
@@ -59,12 +59,12 @@ line_start line text = record { text = text; line = line; entry = line; is_open 
 blank : {q end : LexerState} {found : Result (Option Lexeme) LexerError} → NextToken q found end → (p : LexerState) (rest : List ℕ) → q ≡ at p rest false → NextToken (at p (32 ∷ rest) false) found end
 blank {end = end} {found = found} next p rest e = past_nothing refl (subst (λ (s : LexerState). NextToken s found end) e next)
 
-past_blank : {q end : LexerState} {tokens : List Lexeme} → LexesEntry q tokens end → (p : LexerState) (rest : List ℕ) → q ≡ at p rest false → LexesEntry (at p (32 ∷ rest) false) tokens end
+pub past_blank : {q end : LexerState} {tokens : List Lexeme} → LexesEntry q tokens end → (p : LexerState) (rest : List ℕ) → q ≡ at p rest false → LexesEntry (at p (32 ∷ rest) false) tokens end
 past_blank (line_end next) p rest e = line_end (blank next p rest e)
 past_blank (text_end next some ends) p rest e = text_end (blank next p rest e) some ends
 past_blank (one_token next some more) p rest e = one_token (blank next p rest e) some more
 
-no_end : (datum : Lexeme) → IsDatum datum → datum ≢ EOL
+pub no_end : (datum : Lexeme) → IsDatum datum → datum ≢ EOL
 no_end (CharData word) is = λ e. absurd (cc)
 no_end (QuotedString string) is = λ e. absurd (cc)
 no_end _ is = absurd is
@@ -117,21 +117,21 @@ capital_run (c ∷ cs) e =
 capital_word : (word : List ℕ) → are_capitals word ≡ true → 0 < length word → word_token true word ≡ CharData word → IsDatum (CharData word)
 capital_word word e some plain = (some, capital_run word e, plain)
 
-class_word : IsDatum (CharData (codes "IN"))
+pub class_word : IsDatum (CharData (codes "IN"))
 class_word = capital_word (codes "IN") refl (omega arith) refl
 
 -- ---- types
 
 -- the name of a type is a word, and neither a TTL nor a class
-record IsTypeWord (t : RecordType) : Type 0 where
-  word : IsDatum (CharData (type_text t))
-  field : field_of_word (type_text t) ≡ type_field t
+pub record IsTypeWord (t : RecordType) : Type 0 where
+  pub word : IsDatum (CharData (type_text t))
+  pub field : field_of_word (type_text t) ≡ type_field t
 
 by_name : (t : RecordType) → are_capitals (type_text t) ≡ true → 0 < length (type_text t) → word_token true (type_text t) ≡ CharData (type_text t)
     → field_of_word (type_text t) ≡ type_field t → IsTypeWord t
 by_name t e some plain field = record { word = capital_word (type_text t) e some plain; field = field }
 
-type_word : (d : RData) → has_text (data_kinds d) ≡ true → is_update_data d ≡ false → IsTypeWord (data_type d)
+pub type_word : (d : RData) → has_text (data_kinds d) ≡ true → is_update_data d ≡ false → IsTypeWord (data_type d)
 type_word (of.A a) has some = by_name types.A refl (omega arith) refl refl
 type_word (of.AAAA a) has some = by_name types.AAAA refl (omega arith) refl refl
 type_word (of.CNAME c) has some = by_name types.CNAME refl (omega arith) refl refl
@@ -146,7 +146,7 @@ type_word (of.Update0 t) has some = absurd (cc)
 type_word (of.Unknown code bytes) has some = absurd (cc)
 
 -- data that is not absent has the fields of its type
-of_type : (d : RData) → HasFieldsOfType d → is_update_data d ≡ false → data_kinds d ≡ kinds_of_type (data_type d)
+pub of_type : (d : RData) → HasFieldsOfType d → is_update_data d ≡ false → data_kinds d ≡ kinds_of_type (data_type d)
 of_type (of.A a) e some = e
 of_type (of.AAAA a) e some = e
 of_type (of.CNAME c) e some = e
@@ -174,7 +174,7 @@ ttl_digit : (n : ℕ) → n < 2 ^ 64 → begins_with_digit (decimal n) ≡ true
 ttl_digit n fits =
     let some = decimal_nonempty n fits in digit_first (decimal n) some (digit_at (decimal n) 0 (decimal_is_IsNumeral n fits).0.1 some)
 
-ttl_is : (n : ℕ) → n < 2 ^ 32 → field_of_word (decimal n) ≡ ttl_field n
+pub ttl_is : (n : ℕ) → n < 2 ^ 32 → field_of_word (decimal n) ≡ ttl_field n
 ttl_is n small =
     pick (begins_with_digit (decimal n)) (ttl_or_bad (time (decimal n))) _ (ttl_digit n (omega arith)) ∙ ap ttl_or_bad (time_parses n small)
   where
@@ -189,14 +189,14 @@ fields_are n t tokens small e =
     ap (λ (f : Field). with_field Nine None None f (CharData (codes "IN") ∷ CharData (type_text t) ∷ tokens)) (ttl_is n small)
     ∙ ap (λ (f : Field). with_field Nine (Some n) (Some classes.IN) f tokens) e
 
-name_is : (origin name : DomainName) → name.is_fqdn ≡ true → AreLabels name.labels → AllByRecursion AreOctets name.labels → name_of origin (CharData (text_of_name name)) ≡ Some name
+pub name_is : (origin name : DomainName) → name.is_fqdn ≡ true → AreLabels name.labels → AllByRecursion AreOctets name.labels → name_of origin (CharData (text_of_name name)) ≡ Some name
 name_is origin name is are octets =
     ap (λ (r : Result DomainName ParseError). if_ok (elim r as (λ _. Result DomainName ParseError) [ Ok base ↦ complete base (Some origin) | Err error ↦ Err error ])) (printed_is_read name are octets)
     ∙ ap (λ (b : Bool). if_ok (if b then Ok name else append_domain name origin)) is
 
 -- ---- lines
 
-fqdn_some : (is_fqdn : Bool) (labels : List (List ℕ)) → is_fqdn ≡ true → 0 < length (text_of_labels is_fqdn labels)
+pub fqdn_some : (is_fqdn : Bool) (labels : List (List ℕ)) → is_fqdn ≡ true → 0 < length (text_of_labels is_fqdn labels)
 fqdn_some true [] is = omega arith
 fqdn_some true (label ∷ labels) is = omega (arith, length-append (label_text label) (dotted_labels labels ++ 46 ∷ []), length-append (dotted_labels labels) (46 ∷ []))
 fqdn_some false labels is = absurd (cc)
@@ -211,7 +211,7 @@ joined o n t d rest =
     ap (λ (l : List ℕ). l ++ 10 ∷ rest) (sym (append_assoc (o ++ 32 ∷ n ++ codes " IN ") t (32 ∷ d) ∙ append_assoc (o ++ 32 ∷ n) (codes " IN ") (t ++ 32 ∷ d) ∙ append_assoc o (32 ∷ n) (codes " IN " ++ (t ++ 32 ∷ d))))
     ∙ sym (append_assoc (o ++ 32 ∷ n ++ codes " IN " ++ t ++ 32 ∷ d) (10 ∷ []) rest)
 
-line_is : (r : Record) (token : Lexeme) (tokens : List Lexeme) (rest : List ℕ) → data_text (token ∷ tokens) ≡ rdata.data_text r.rdata
+pub line_is : (r : Record) (token : Lexeme) (tokens : List Lexeme) (rest : List ℕ) → data_text (token ∷ tokens) ≡ rdata.data_text r.rdata
     → data_text (line_tokens r token tokens) ++ 10 ∷ rest ≡ record_line r.name r.ttl r.rdata ++ rest
 line_is r token tokens rest e =
     ap (λ (d : List ℕ). (text_of_name r.name ++ 32 ∷ (decimal r.ttl ++ 32 ∷ (codes "IN" ++ 32 ∷ (type_text (data_type r.rdata) ++ 32 ∷ d)))) ++ 10 ∷ rest) e

@@ -1,5 +1,5 @@
 -- The names of included texts, entry by entry.
-use Rattle.std.proofs.Common.{◌≡◌, ℕ, List, [], ◌∷◌, ◌++◌, map, Option, Some, None, option_map, Ok, Err, refl, sym, ap, subst, ◌∙◌, append_assoc, Bor}
+use Rattle.std.proofs.Common.{◌≡◌, ℕ, List, [], ◌∷◌, ◌++◌, map, Option, Some, None, option_map, Ok, sym, ap, subst, ◌∙◌, append_assoc, Bor}
 use Rattle.std.proofs.lemmas.List.{append-nil, map-append}
 use Rattle.dns_text.specs.Lexer.{Lexeme, LexerState, NextToken}
 use Rattle.dns_text.specs.Token.{lexeme}

@@ -17,7 +17,10 @@ use Rattle.dns_zone_file.specs.Data.{ReadsIn, RefusesIn}
 use Rattle.dns_zone_file.specs.Context.{owner_of, ttl_for, default_class, ReadsRecord, RefusesRecord, bad_owner, bad_fields, bad_data, no_ttl, other_class, after_record, AddsRecord, included, resumed}
 use Rattle.dns_zone_file.specs.Entry.{LexesEntry, line_end, text_end, one_token, RefusesTokens, at_fault, past_token, Entry, nothing, origin_directive, ttl_directive, include_directive, record_entry, entry_of, Inclusion, origin_of, ttl_of, inclusion_of}
 use Rattle.dns_zone_file.specs.Fields.{Fields, fields_in}
-use Rattle.dns_zone_file.specs.Parsing.{Includes, text_of, max_includes, start_in, Applies, for_nothing, for_origin, for_ttl, for_record, IncludesText, RefusesEntry, bad_origin, bad_ttl, bad_include, bad_record, Parses, ended, bad_text, bad_entry, applied, too_deep, not_found, bad_included, past_included}
+use Rattle.zone_generate.specs.declared.fault.GenerateFault.{GenerateFault}
+use Rattle.dns_zone_file.specs.Generate.{Generation, generate_of, generation_of, Generates, AddsFirst, AddsLine, AddsNumber, AddsEach}
+use Rattle.dns_zone_file.specs.Generate as generate
+use Rattle.dns_zone_file.specs.Parsing.{Includes, text_of, max_includes, start_in, Applies, for_nothing, for_origin, for_ttl, for_generate, for_record, IncludesText, RefusesEntry, bad_origin, bad_ttl, bad_include, bad_directive, bad_generated, bad_record, Parses, ended, bad_text, bad_entry, applied, too_deep, not_found, bad_included, past_included}
 use Rattle.dns_zone_file.specs.RecordSets.{has_other_class}
 use Rattle.dns_zone_file.proofs.DataLaws.{same_in, not_refused_in, refused_same_in}
 
@@ -154,12 +157,23 @@ abbrev ByOwner : Context → List Lexeme → Result DomainName EntryFault → Ef
 ByOwner c tokens (Ok owner) x = ByFields c owner (fields_in c.types (drop 1 tokens)) x
 ByOwner c tokens (Err refusal) x = x ≡ refuses refusal
 
+-- that of a directive that makes records
+
+data DirectiveEffect (c : Context) : Result Generation EntryFault → Effect → Type 0 where
+  by_arguments : {refusal : EntryFault} {x : Effect} → x ≡ refuses refusal → DirectiveEffect c (Err refusal) x
+  by_records : {g : Generation} {x : Effect} (outcome : Result Context EntryFault) → Generates g c outcome → x ≡ effect_of leads_to outcome
+      → DirectiveEffect c (Ok g) x
+
+abbrev ByWord : Context → List Lexeme → Option (List Lexeme) → Effect → Type 0
+ByWord c tokens None x = ByOwner c tokens (owner_of c tokens) x
+ByWord c tokens (Some arguments) x = DirectiveEffect c (generation_of arguments) x
+
 abbrev ByEntry : Context → List Lexeme → Entry → Effect → Type 0
 ByEntry c tokens nothing x = x ≡ leads_to c
 ByEntry c tokens (origin_directive arguments) x = x ≡ effect_of (λ origin. leads_to (record c { origin = origin })) (origin_of c.origin arguments)
 ByEntry c tokens (ttl_directive arguments) x = x ≡ effect_of (λ ttl. leads_to (record c { default_ttl = Some ttl })) (ttl_of arguments)
 ByEntry c tokens (include_directive arguments) x = x ≡ effect_of includes_text (inclusion_of c.origin arguments)
-ByEntry c tokens record_entry x = ByOwner c tokens (owner_of c tokens) x
+ByEntry c tokens record_entry x = ByWord c tokens (generate_of c.types tokens) x
 
 -- one effect
 
@@ -178,13 +192,6 @@ same_by_fields c owner (Err refusal) x y h k = h ∙ sym k
 same_by_owner : (c : Context) (tokens : List Lexeme) (r : Result DomainName EntryFault) (x y : Effect) → ByOwner c tokens r x → ByOwner c tokens r y → x ≡ y
 same_by_owner c tokens (Ok owner) x y h k = same_by_fields c owner (fields_in c.types (drop 1 tokens)) x y h k
 same_by_owner c tokens (Err refusal) x y h k = h ∙ sym k
-
-same_by_entry : (c : Context) (tokens : List Lexeme) (e : Entry) (x y : Effect) → ByEntry c tokens e x → ByEntry c tokens e y → x ≡ y
-same_by_entry c tokens record_entry x y h k = same_by_owner c tokens (owner_of c tokens) x y h k
-same_by_entry c tokens nothing x y h k = h ∙ sym k
-same_by_entry c tokens (origin_directive arguments) x y h k = h ∙ sym k
-same_by_entry c tokens (ttl_directive arguments) x y h k = h ∙ sym k
-same_by_entry c tokens (include_directive arguments) x y h k = h ∙ sym k
 
 -- of records
 
@@ -218,10 +225,98 @@ by_added_record : {c : Context} {tokens : List Lexeme} {next : Context} → Adds
 by_added_record {c} {tokens} {next} adds =
     with_record c tokens adds.stated adds.added (leads_to next) adds.reads (ap leads_to adds.after ∙ sym (ap (by_class c adds.stated adds.added) adds.class_fits))
 
+-- of records that a directive makes
+
+abbrev FirstEffect : Context → Reading → Result Context EntryFault → Type 0
+FirstEffect c no_entry outcome = outcome ≡ Err fault.InvalidDirective
+FirstEffect c (broken e) outcome = outcome ≡ Err fault.InvalidDirective
+FirstEffect c (entry tokens next) outcome = ByOwner c tokens (owner_of c tokens) (effect_of leads_to outcome)
+
+record FirstOpened (c : Context) (p : LexerState) (outcome : Result Context EntryFault) : Type 0 where
+  reading : Reading
+  is_read : IsReading p reading
+  leads : FirstEffect c reading outcome
+
+same_result : (a b : Result Context EntryFault) → effect_of leads_to a ≡ effect_of leads_to b → a ≡ b
+same_result (Ok x) (Ok y) e = let same : x ≡ y = cc in ap (λ (z : Context). Ok z) same
+same_result (Ok x) (Err f) e = absurd (cc)
+same_result (Err f) (Ok y) e = absurd (cc)
+same_result (Err f) (Err g) e = let same : f ≡ g = cc in ap (λ (z : EntryFault). Err z) same
+
+open_first : {c : Context} {p : LexerState} {outcome : Result Context EntryFault} → AddsFirst c p outcome → FirstOpened c p outcome
+open_first (generate.no_entry {end = end} last) = record { reading = no_entry; is_read = (end, last); leads = refl }
+open_first (generate.bad_tokens {error = e} refused) = record { reading = broken e; is_read = refused; leads = refl }
+open_first (generate.bad_record {next = next} {tokens = tokens} lexed refused) =
+    record { reading = entry tokens next; is_read = lexed; leads = by_refused_record refused }
+open_first (generate.one_record {next = next} {tokens = tokens} lexed adds) =
+    record { reading = entry tokens next; is_read = lexed; leads = by_added_record adds }
+
+same_first_effect : (c : Context) (r : Reading) (a b : Result Context EntryFault) → FirstEffect c r a → FirstEffect c r b → a ≡ b
+same_first_effect c no_entry a b h k = h ∙ sym k
+same_first_effect c (broken e) a b h k = h ∙ sym k
+same_first_effect c (entry tokens next) a b h k =
+    same_result a b (same_by_owner c tokens (owner_of c tokens) (effect_of leads_to a) (effect_of leads_to b) h k)
+
+same_first : {c : Context} {p : LexerState} (a b : Result Context EntryFault) → AddsFirst c p a → AddsFirst c p b → a ≡ b
+same_first {c} {p} a b h k =
+    let x = open_first h in
+    let y = open_first k in
+    same_first_effect c y.reading a b (subst (λ (r : Reading). FirstEffect c r a) (same_reading p x.reading y.reading x.is_read y.is_read) x.leads) y.leads
+
+same_line : {c : Context} {line : List ℕ} {a : Result Context EntryFault} (b : Result Context EntryFault) → AddsLine c line a → AddsLine c line b → a ≡ b
+same_line b (generate.no_text other) (generate.no_text k) = refl
+same_line b (generate.no_text other) (generate.of_text is first) = absurd (other is)
+same_line b (generate.of_text is first) (generate.no_text other) = absurd (other is)
+same_line b (generate.of_text {outcome = a} is first) (generate.of_text so second) = same_first a b first second
+
+same_number : {c : Context} {template : List ℕ} {number : ℕ} {a : Result Context EntryFault} (b : Result Context EntryFault)
+    → AddsNumber c template number a → AddsNumber c template number b → a ≡ b
+same_number b (generate.bad_text {fault = f} e) (generate.bad_text {fault = g} k) =
+    let same : f ≡ g = cc in ap (λ (z : GenerateFault). Err (fault.InvalidGenerate z)) same
+same_number b (generate.bad_text e) (generate.of_line k line) = absurd (cc)
+same_number b (generate.of_line e line) (generate.bad_text k) = absurd (cc)
+same_number {c} b (generate.of_line {line = l} e first) (generate.of_line {line = m} k second) =
+    let same : l ≡ m = cc in
+    same_line b first (subst (λ (x : List ℕ). AddsLine c x b) (sym same) second)
+
+same_each : {g : Generation} {place count : ℕ} {c : Context} {a : Result Context EntryFault} (b : Result Context EntryFault)
+    → AddsEach g place count c a → AddsEach g place count c b → a ≡ b
+same_each b generate.no_more generate.no_more = refl
+same_each b (generate.bad_number h) (generate.bad_number k) = same_number b h k
+same_each b (generate.bad_number h) (generate.one_more {after = x} k rest) = let e = same_number (Ok x) h k in absurd (cc)
+same_each b (generate.one_more {after = x} h rest) (generate.bad_number {refusal = f} k) = let e = same_number (Err f) h k in absurd (cc)
+same_each {g} {place} b (generate.one_more {count = n} {after = x} h rest) (generate.one_more {after = y} k more) =
+    let e = same_number (Ok y) h k in
+    let same : x ≡ y = cc in
+    same_each b rest (subst (λ (z : Context). AddsEach g (place + 1) n z b) (sym same) more)
+
+same_directive : {c : Context} {r : Result Generation EntryFault} {x y : Effect} → DirectiveEffect c r x → DirectiveEffect c r y → x ≡ y
+same_directive (by_arguments h) (by_arguments k) = h ∙ sym k
+same_directive (by_records a h is) (by_records b k so) = is ∙ ap (effect_of leads_to) (same_each b h k) ∙ sym so
+
+same_by_word : (c : Context) (tokens : List Lexeme) (o : Option (List Lexeme)) (x y : Effect) → ByWord c tokens o x → ByWord c tokens o y → x ≡ y
+same_by_word c tokens None x y h k = same_by_owner c tokens (owner_of c tokens) x y h k
+same_by_word c tokens (Some arguments) x y h k = same_directive h k
+
+same_by_entry : (c : Context) (tokens : List Lexeme) (e : Entry) (x y : Effect) → ByEntry c tokens e x → ByEntry c tokens e y → x ≡ y
+same_by_entry c tokens record_entry x y h k = same_by_word c tokens (generate_of c.types tokens) x y h k
+same_by_entry c tokens nothing x y h k = h ∙ sym k
+same_by_entry c tokens (origin_directive arguments) x y h k = h ∙ sym k
+same_by_entry c tokens (ttl_directive arguments) x y h k = h ∙ sym k
+same_by_entry c tokens (include_directive arguments) x y h k = h ∙ sym k
+
 -- of entries
 
 at_entry : (c : Context) (tokens : List Lexeme) (e : Entry) (x : Effect) → entry_of tokens ≡ e → ByEntry c tokens e x → ByEntry c tokens (entry_of tokens) x
 at_entry c tokens e x is h = subst (λ (f : Entry). ByEntry c tokens f x) (sym is) h
+
+at_word : (c : Context) (tokens : List Lexeme) (o : Option (List Lexeme)) (x : Effect) → entry_of tokens ≡ record_entry → generate_of c.types tokens ≡ o
+    → ByWord c tokens o x → ByEntry c tokens (entry_of tokens) x
+at_word c tokens o x is word h = at_entry c tokens record_entry x is (subst (λ (p : Option (List Lexeme)). ByWord c tokens p x) (sym word) h)
+
+by_generation : (c : Context) (arguments : List Lexeme) (r : Result Generation EntryFault) (x : Effect) → generation_of arguments ≡ r
+    → DirectiveEffect c r x → DirectiveEffect c (generation_of arguments) x
+by_generation c arguments r x e h = subst (λ (s : Result Generation EntryFault). DirectiveEffect c s x) (sym e) h
 
 by_refused : {c : Context} {tokens : List Lexeme} {refusal : EntryFault} → RefusesEntry c tokens refusal → ByEntry c tokens (entry_of tokens) (refuses refusal)
 by_refused {c} {tokens} {refusal} (bad_origin {arguments = arguments} is refused) =
@@ -230,7 +325,11 @@ by_refused {c} {tokens} {refusal} (bad_ttl {arguments = arguments} is refused) =
     at_entry c tokens (ttl_directive arguments) (refuses refusal) is (sym (ap (effect_of (λ ttl. leads_to (record c { default_ttl = Some ttl }))) refused))
 by_refused {c} {tokens} {refusal} (bad_include {arguments = arguments} is refused) =
     at_entry c tokens (include_directive arguments) (refuses refusal) is (sym (ap (effect_of includes_text) refused))
-by_refused {c} {tokens} {refusal} (bad_record is refused) = at_entry c tokens record_entry (refuses refusal) is (by_refused_record refused)
+by_refused {c} {tokens} {refusal} (bad_directive {arguments = arguments} is word refused) =
+    at_word c tokens (Some arguments) (refuses refusal) is word (by_generation c arguments (Err refusal) (refuses refusal) refused (by_arguments refl))
+by_refused {c} {tokens} {refusal} (bad_generated {arguments = arguments} {g = g} is word reads made) =
+    at_word c tokens (Some arguments) (refuses refusal) is word (by_generation c arguments (Ok g) (refuses refusal) reads (by_records (Err refusal) made refl))
+by_refused {c} {tokens} {refusal} (bad_record is word refused) = at_word c tokens None (refuses refusal) is word (by_refused_record refused)
 
 by_applied : {c : Context} {tokens : List Lexeme} {next : Context} → Applies c tokens next → ByEntry c tokens (entry_of tokens) (leads_to next)
 by_applied {c} {tokens} (for_nothing is) = at_entry c tokens nothing (leads_to c) is refl
@@ -238,7 +337,9 @@ by_applied {c} {tokens} {next} (for_origin {arguments = arguments} is reads) =
     at_entry c tokens (origin_directive arguments) (leads_to next) is (sym (ap (effect_of (λ origin. leads_to (record c { origin = origin }))) reads))
 by_applied {c} {tokens} {next} (for_ttl {arguments = arguments} is reads) =
     at_entry c tokens (ttl_directive arguments) (leads_to next) is (sym (ap (effect_of (λ ttl. leads_to (record c { default_ttl = Some ttl }))) reads))
-by_applied {c} {tokens} {next} (for_record is adds) = at_entry c tokens record_entry (leads_to next) is (by_added_record adds)
+by_applied {c} {tokens} {next} (for_generate {arguments = arguments} {g = g} is word reads made) =
+    at_word c tokens (Some arguments) (leads_to next) is word (by_generation c arguments (Ok g) (leads_to next) reads (by_records (Ok next) made refl))
+by_applied {c} {tokens} {next} (for_record is word adds) = at_word c tokens None (leads_to next) is word (by_added_record adds)
 
 by_effect : (c : Context) (tokens : List Lexeme) (x : Effect) → HasEffect c tokens x → ByEntry c tokens (entry_of tokens) x
 by_effect c tokens (refuses refusal) h = by_refused h

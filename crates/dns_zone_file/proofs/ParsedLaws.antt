@@ -24,8 +24,11 @@ use Rattle.dns_zone_file.specs.Context.{ReadsRecord, soa_of, minimum_of, ttl_for
 use Rattle.dns_zone_file.specs.declared.types.Types.{Types}
 use Rattle.dns_zone_file.specs.Data.{ReadsIn}
 use Rattle.dns_zone_file.specs.Entry.{Inclusion}
+use Rattle.dns_zone_file.specs.declared.error.EntryFault.{EntryFault}
+use Rattle.dns_zone_file.specs.Generate.{Generation, AddsFirst, no_entry, bad_tokens, bad_record, one_record, AddsLine, no_text, of_text, AddsNumber, of_line, AddsEach, no_more, bad_number, one_more}
+use Rattle.dns_zone_file.specs.Generate as generate
 use Rattle.dns_zone_file.specs.Parsed.{IsParsedRecord, IsParsedSet, AreDistinctSets, is_singleton_type}
-use Rattle.dns_zone_file.specs.Parsing.{Includes, Applies, for_nothing, for_origin, for_ttl, for_record, IncludesText, Parses, ended, bad_text, bad_entry, applied, too_deep, not_found, bad_included, past_included, start_origin, ParsesIn}
+use Rattle.dns_zone_file.specs.Parsing.{Includes, Applies, for_nothing, for_origin, for_ttl, for_generate, for_record, IncludesText, Parses, ended, bad_text, bad_entry, applied, too_deep, not_found, bad_included, past_included, start_origin, ParsesIn}
 use Rattle.dns_zone_file.specs.RecordSets.{is_set_of, is_set_for, set_of, single_set, inserted_in, has_other_class}
 use Rattle.dns_zone_file.proofs.DataLaws.{named_type}
 use Rattle.dns_zone_file.proofs.DistinctLaws.{inserted_distinct, last_too, none_distinct, one_distinct}
@@ -316,12 +319,34 @@ after_one c tokens stated r h reads fits =
 with_origin : (c : Context) (origin : DomainName) → IsParsedContext c → IsQualified origin → IsParsedContext (record c { origin = origin })
 with_origin c origin h q = record { origin = q; owner = h.owner; default_ttl = h.default_ttl; last_ttl = h.last_ttl; sets = h.sets; distinct = h.distinct; first_soa = h.first_soa }
 
+-- records that a directive makes
+
+after_first : {c : Context} {p : LexerState} {outcome : Result Context EntryFault} → AddsFirst c p outcome → IsParsedContext c → IfOk outcome IsParsedContext
+after_first (no_entry last) h = tt
+after_first (bad_tokens refused) h = tt
+after_first (bad_record lexed refused) h = tt
+after_first {c} (one_record {tokens = tokens} lexed adds) h = subst IsParsedContext (sym adds.after) (after_one c tokens adds.stated adds.added h adds.reads adds.class_fits)
+
+after_line : {c : Context} {line : List ℕ} {outcome : Result Context EntryFault} → AddsLine c line outcome → IsParsedContext c → IfOk outcome IsParsedContext
+after_line (no_text other) h = tt
+after_line (of_text is first) h = after_first first h
+
+after_number : {c : Context} {template : List ℕ} {number : ℕ} {outcome : Result Context EntryFault} → AddsNumber c template number outcome → IsParsedContext c → IfOk outcome IsParsedContext
+after_number (generate.bad_text refused) h = tt
+after_number (of_line expands line) h = after_line line h
+
+after_each : {g : Generation} {place count : ℕ} {c : Context} {outcome : Result Context EntryFault} → AddsEach g place count c outcome → IsParsedContext c → IfOk outcome IsParsedContext
+after_each no_more h = h
+after_each (bad_number refused) h = tt
+after_each (one_more adds rest) h = after_each rest (after_number adds h)
+
 after_entry : {c next : Context} {tokens : List Lexeme} → Applies c tokens next → IsParsedContext c → IsParsedContext next
 after_entry (for_nothing entry) h = h
 after_entry {c} (for_origin {arguments = arguments} {origin = origin} entry reads) h = with_origin c origin h (at_ok IsQualified reads (origin_qualified c.origin arguments h.origin))
 after_entry {c} (for_ttl {arguments = arguments} {ttl = ttl} entry reads) h =
     record { origin = h.origin; owner = h.owner; default_ttl = at_ok FitsTtl reads (default_fits arguments); last_ttl = h.last_ttl; sets = h.sets; distinct = h.distinct; first_soa = h.first_soa }
-after_entry {c} {tokens = tokens} (for_record entry adds) h = subst IsParsedContext (sym adds.after) (after_one c tokens adds.stated adds.added h adds.reads adds.class_fits)
+after_entry (for_generate entry is reads adds) h = after_each adds h
+after_entry {c} {tokens = tokens} (for_record entry plain adds) h = subst IsParsedContext (sym adds.after) (after_one c tokens adds.stated adds.added h adds.reads adds.class_fits)
 
 at_include : {c : Context} {tokens : List Lexeme} {i : Inclusion} → IncludesText c tokens i → IsParsedContext c → IsParsedContext (included c i.origin)
 at_include {c} {i = i} w h = with_origin c i.origin h (at_ok (λ (x : Inclusion). IsQualified x.origin) w.read (inclusion_qualified c.origin w.arguments h.origin))

@@ -11,7 +11,9 @@ use Rattle.dns_records.specs.Record.{Record}
 use Rattle.dns_records.specs.RecordSet.{RecordSetValue, record_data, inserted, accepts_record, with_record}
 use Rattle.dns_zone_file.specs.declared.context.Context.{Context}
 use Rattle.dns_zone_file.specs.declared.context.StartOfAuthority.{StartOfAuthority}
+use Rattle.dns_zone_file.specs.declared.types.Types.{Types}
 use Rattle.dns_zone_file.specs.declared.types.Types.TheVariants.{Nine}
+use Rattle.dns_zone_file.specs.Generate.{generate_of}
 use Rattle.dns_zone_file.specs.Context.{soa_of, after_record}
 use Rattle.dns_zone_file.specs.Parsing.{Includes, for_record, Parses, ended, applied, ParsesFile, HasRecords, start_context, start_origin, zone_records}
 use Rattle.dns_zone_file.specs.Printed.{lines_of, ArePrintableRecords, after_records, inserted_each, first_soa_owner, printed_records}
@@ -20,15 +22,15 @@ use Rattle.dns_zone_file.proofs.LineLaws.{line_start, line_of}
 
 -- ---- the context after records
 
-origin_stays : (c : Context) (records : List Record) → (after_records c records).origin ≡ c.origin
+pub origin_stays : (c : Context) (records : List Record) → (after_records c records).origin ≡ c.origin
 origin_stays c [] = refl
 origin_stays c (r ∷ records) = origin_stays (after_record c (Some r.ttl) r) records
 
-sets_after : (c : Context) (records : List Record) → (after_records c records).sets ≡ inserted_each c.sets records
+pub sets_after : (c : Context) (records : List Record) → (after_records c records).sets ≡ inserted_each c.sets records
 sets_after c [] = refl
 sets_after c (r ∷ records) = sets_after (after_record c (Some r.ttl) r) records
 
-abbrev owner_of_soa : Option StartOfAuthority → Option DomainName
+abbrev pub owner_of_soa : Option StartOfAuthority → Option DomainName
 owner_of_soa found = option_map (λ soa. soa.owner) found
 
 first_or : (a b : Option StartOfAuthority) (c : Option DomainName) → or_else (owner_of_soa (or_else a b)) c ≡ or_else (owner_of_soa a) (or_else (owner_of_soa b) c)
@@ -39,7 +41,7 @@ no_other : (a : Option DomainName) → a ≡ or_else a None
 no_other (Some a) = refl
 no_other None = refl
 
-soa_after : (c : Context) (records : List Record) → owner_of_soa (after_records c records).first_soa ≡ or_else (owner_of_soa c.first_soa) (first_soa_owner records)
+pub soa_after : (c : Context) (records : List Record) → owner_of_soa (after_records c records).first_soa ≡ or_else (owner_of_soa c.first_soa) (first_soa_owner records)
 soa_after c [] = no_other (owner_of_soa c.first_soa)
 soa_after c (r ∷ records) = soa_after (after_record c (Some r.ttl) r) records ∙ first_or c.first_soa (soa_of r) (first_soa_owner records)
 
@@ -50,10 +52,10 @@ contents_after origin records =
 
 -- ---- classes
 
-abbrev IsInternet : RecordSetValue → Type 0
+abbrev pub IsInternet : RecordSetValue → Type 0
 IsInternet s = s.dns_class ≡ classes.IN
 
-no_other_class : (sets : List RecordSetValue) (r : Record) → AllByRecursion IsInternet sets → r.dns_class ≡ classes.IN → has_other_class sets r ≡ false
+pub no_other_class : (sets : List RecordSetValue) (r : Record) → AllByRecursion IsInternet sets → r.dns_class ≡ classes.IN → has_other_class sets r ≡ false
 no_other_class [] r are is = refl
 no_other_class (s ∷ sets) r are is =
     ap (λ (b : Bool). (is_set_for r s && not b) || has_other_class sets r) (same_classes s r are.0 is)
@@ -74,7 +76,7 @@ class_stays s r = at (accepts_record s r)
     at true = refl
     at false = refl
 
-still_internet : (sets : List RecordSetValue) (r : Record) → AllByRecursion IsInternet sets → r.dns_class ≡ classes.IN → AllByRecursion IsInternet (inserted_in sets r)
+pub still_internet : (sets : List RecordSetValue) (r : Record) → AllByRecursion IsInternet sets → r.dns_class ≡ classes.IN → AllByRecursion IsInternet (inserted_in sets r)
 still_internet [] r are is = (is, tt)
 still_internet (s ∷ sets) r are is = at (is_set_for r s) (still_internet sets r are.1 is)
   where
@@ -90,7 +92,7 @@ parses_from includes line c [] are sets nine = ended (at_end refl)
 parses_from includes line c (r ∷ records) are sets nine =
     let first = line_of line r (lines_of records) are.0 in
     applied first.lexed
-    (for_record first.entry (record { stated = Some r.ttl; added = r; reads = first.reads c nine; class_fits = no_other_class c.sets r sets are.0.dns_class; after = refl }))
+    (for_record first.entry (ap (λ (t : Types). generate_of t first.tokens) nine) (record { stated = Some r.ttl; added = r; reads = first.reads c nine; class_fits = no_other_class c.sets r sets are.0.dns_class; after = refl }))
     (parses_from includes (line + 1) (after_record c (Some r.ttl) r) records are.1 (still_internet c.sets r sets are.0.dns_class) nine)
 
 pub lines_parse : (includes : Includes) (origin : Option DomainName) (records : List Record) → ArePrintableRecords records

@@ -25,10 +25,11 @@ use Rattle.dns_zone_file.specs.declared.error.ZoneFileError.{ZoneFileError}
 use Rattle.dns_zone_file.specs.Context.{owner_of, ReadsRecord, soa_of, after_record, included, resumed}
 use Rattle.dns_zone_file.specs.Entry.{Inclusion, text_name, origin_of, inclusion, inclusion_of, entry_of, Entry, origin_directive, include_directive}
 use Rattle.dns_zone_file.specs.Fields.{if_ok, name_of, Field, ttl_field, bad_ttl, class_field, type_field, no_field, field_in, Fields, fields_from}
-use Rattle.dns_zone_file.specs.Parsing.{Includes, text_of, Applies, for_nothing, for_origin, for_ttl, for_record, IncludesText, Parses, ended, bad_text, bad_entry, applied, too_deep, not_found, bad_included, past_included, start_origin, ZoneFile, ParsesIn}
+use Rattle.dns_zone_file.specs.Parsing.{Includes, text_of, Applies, for_nothing, for_origin, for_ttl, for_generate, for_record, IncludesText, Parses, ended, bad_text, bad_entry, applied, too_deep, not_found, bad_included, past_included, start_origin, ZoneFile, ParsesIn}
 use Rattle.dns_zone_file.specs.declared.types.Types.{Types}
 use Rattle.dns_zone_file.specs.declared.types.Types.TheVariants.{Nine}
 use Rattle.dns_zone_file.specs.Data.{ReadsIn}
+use Rattle.dns_zone_file.specs.Generate.{generate_of}
 use Rattle.dns_zone_file.specs.Printed.{IsValidName, HasText, IsTextSet, IsTextFile}
 use Rattle.dns_zone_file.specs.RecordSets.{is_set_for, inserted_in}
 use Rattle.dns_zone_file.proofs.FieldsLaws.{with_field}
@@ -182,7 +183,11 @@ after_entry (for_nothing entry) h are = h
 after_entry {c} {tokens = tokens} (for_origin {arguments = arguments} {origin = origin} entry reads) h are =
     with_origin c origin h (at_ok IsValidName reads (origin_valid c.origin arguments h.origin (subst HasArguments entry (has_arguments tokens are))))
 after_entry {c} (for_ttl entry reads) h are = record { types = h.types; origin = h.origin; owner = h.owner; sets = h.sets; first_soa = h.first_soa }
-after_entry {c} {tokens = tokens} (for_record entry adds) h are =
+after_entry {c} {tokens = tokens} (for_generate {arguments = arguments} entry is reads adds) h are =
+    let none : generate_of c.types tokens ≡ None = ap (λ (t : Types). generate_of t tokens) h.types in
+    let wrong : ◌≡◌ {A = Option (List Lexeme)} None (Some arguments) = sym none ∙ is in
+    absurd (cc)
+after_entry {c} {tokens = tokens} (for_record entry plain adds) h are =
     subst IsTextContext (sym adds.after) (after_one c adds.stated adds.added h (text_record c tokens adds.stated adds.added h are adds.reads))
 
 at_include : {c : Context} {tokens : List Lexeme} {i : Inclusion} → IncludesText c tokens i → IsTextContext c → HaveOctets tokens → IsTextContext (included c i.origin)

@@ -4,6 +4,7 @@ pub mod Listed
 pub mod Types
 pub mod RecordSets
 pub mod Fields
+pub mod Generate
 pub mod Entry
 pub mod Context
 pub mod Parsing

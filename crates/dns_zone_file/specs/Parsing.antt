@@ -16,6 +16,7 @@ use Rattle.dns_zone_file.specs.declared.types.Types.{Types}
 use Rattle.dns_zone_file.specs.declared.types.Types.TheVariants.{Nine}
 use Rattle.dns_zone_file.specs.Types.{quotes_of}
 use Rattle.dns_zone_file.specs.Entry.{LexesEntry, RefusesTokens, nothing, origin_directive, ttl_directive, include_directive, record_entry, entry_of, Inclusion, origin_of, ttl_of, inclusion_of}
+use Rattle.dns_zone_file.specs.Generate.{Generation, generate_of, generation_of, Generates}
 use Rattle.dns_zone_file.specs.Context.{AddsRecord, RefusesRecord, included, resumed}
 
 -- texts to include, by name
@@ -39,7 +40,11 @@ pub data Applies (c : Context) (tokens : List Lexeme) : Context → Type 0 where
       → origin_of c.origin arguments ≡ Ok origin → Applies c tokens (record c { origin = origin })
   for_ttl : {arguments : List Lexeme} {ttl : ℕ} → entry_of tokens ≡ ttl_directive arguments
       → ttl_of arguments ≡ Ok ttl → Applies c tokens (record c { default_ttl = Some ttl })
-  for_record : {next : Context} → entry_of tokens ≡ record_entry → AddsRecord c tokens next → Applies c tokens next
+  for_generate : {arguments : List Lexeme} {g : Generation} {next : Context} → entry_of tokens ≡ record_entry
+      → generate_of c.types tokens ≡ Some arguments → generation_of arguments ≡ Ok g → Generates g c (Ok next)
+      → Applies c tokens next
+  for_record : {next : Context} → entry_of tokens ≡ record_entry → generate_of c.types tokens ≡ None
+      → AddsRecord c tokens next → Applies c tokens next
 
 -- The entry includes a text.
 pub record IncludesText (c : Context) (tokens : List Lexeme) (i : Inclusion) : Type 0 where
@@ -55,8 +60,13 @@ pub data RefusesEntry (c : Context) (tokens : List Lexeme) : EntryFault → Type
       → ttl_of arguments ≡ Err refusal → RefusesEntry c tokens refusal
   bad_include : {arguments : List Lexeme} {refusal : EntryFault} → entry_of tokens ≡ include_directive arguments
       → inclusion_of c.origin arguments ≡ Err refusal → RefusesEntry c tokens refusal
-  bad_record : {refusal : EntryFault} → entry_of tokens ≡ record_entry → RefusesRecord c tokens refusal
+  bad_directive : {arguments : List Lexeme} {refusal : EntryFault} → entry_of tokens ≡ record_entry
+      → generate_of c.types tokens ≡ Some arguments → generation_of arguments ≡ Err refusal → RefusesEntry c tokens refusal
+  bad_generated : {arguments : List Lexeme} {g : Generation} {refusal : EntryFault} → entry_of tokens ≡ record_entry
+      → generate_of c.types tokens ≡ Some arguments → generation_of arguments ≡ Ok g → Generates g c (Err refusal)
       → RefusesEntry c tokens refusal
+  bad_record : {refusal : EntryFault} → entry_of tokens ≡ record_entry → generate_of c.types tokens ≡ None
+      → RefusesRecord c tokens refusal → RefusesEntry c tokens refusal
 
 -- ---- texts
 

@@ -3,6 +3,7 @@ pub mod Data
 pub mod Error
 pub mod Fields
 pub mod Entry
+pub mod Generate
 pub mod Context
 pub mod Parsing
 pub mod SetIndex

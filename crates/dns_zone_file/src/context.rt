@@ -1,7 +1,7 @@
 //! What the entries of a zone file determine for those after them, and the records that they add (RFC 1035 section 5.1, RFC
 //! 2308 section 4).
 
-ghost use Rattle.std.specs.Prelude.{◌≡◌, map, drop, Ok, Err, None, IfOk, IfSome, IfErr, OnOk, true, false};
+ghost use Rattle.std.specs.Prelude.{◌≡◌, ◌+◌, ◌-◌, ◌*◌, ◌<◌, ◌≤◌, ◌^◌, map, drop, Ok, Err, None, IfOk, IfSome, IfErr, OnOk, true, false};
 ghost use Rattle.dns_text.specs.Token.{lexeme};
 ghost use Rattle.dns_data.specs.rdata.{data_type};
 ghost use Rattle.dns_zone_file.specs.Context.{soa_of};
@@ -12,6 +12,7 @@ use crate::data::parse_rdata;
 use crate::entry::{Entry, Inclusion, entry_of, parse_default_ttl, parse_inclusion, parse_origin};
 use crate::error::{EntryError, EntryFault};
 use crate::fields::{parse_fields, parse_name};
+use crate::generate::{Generation, generate_arguments, line_text, line_tokens, parse_generation};
 use crate::record_sets::RecordSets;
 use crate::types::Types;
 use dns_data::RData;
@@ -21,37 +22,41 @@ use dns_text::Token;
 use dns_wire::DNSClass;
 use std::alloc::{AllocError, Global};
 use std::mem;
+use zone_generate::{GenerateFault, expand};
 
 /// The owner and the minimum of an SOA record.
 #[derive(Drop)]
-pub(crate) struct StartOfAuthority {
-    pub(crate) owner: Name,
-    pub(crate) minimum: u32,
+pub struct StartOfAuthority {
+    /// The owner.
+    pub owner: Name,
+    /// The TTL of negative answers, in seconds.
+    pub minimum: u32,
 }
 
 /// What the entries so far determine for the next ones, and their records.
 #[derive(Drop)]
-pub(crate) struct Context {
+pub struct Context {
     /// Which types the file may have.
-    pub(crate) types: Types,
+    pub types: Types,
     /// Completes relative names.
-    pub(crate) origin: Name,
+    pub origin: Name,
     /// The owner of the last record.
-    pub(crate) owner: Option<Name>,
+    pub owner: Option<Name>,
     /// The TTL of the last `$TTL`, in seconds.
-    pub(crate) default_ttl: Option<u32>,
+    pub default_ttl: Option<u32>,
     /// The last TTL of a record that was stated, in seconds.
-    pub(crate) last_ttl: Option<u32>,
+    pub last_ttl: Option<u32>,
     /// The class of the last record, IN before any.
-    pub(crate) last_class: DNSClass,
-    pub(crate) sets: RecordSets,
+    pub last_class: DNSClass,
+    /// The records.
+    pub sets: RecordSets,
     /// That of the first SOA record.
-    pub(crate) first_soa: Option<StartOfAuthority>,
+    pub first_soa: Option<StartOfAuthority>,
 }
 
 /// What an included text does not change in the context of the text that includes it.
 #[derive(Drop)]
-pub(crate) struct SavedContext {
+pub struct SavedContext {
     origin: Name,
     owner: Option<Name>,
     default_ttl: Option<u32>,
@@ -70,9 +75,11 @@ struct ParsedData {
 
 /// A record, and its TTL if the entry states one.
 #[derive(Drop)]
-struct ParsedRecord {
-    stated: Option<u32>,
-    parsed: Record,
+pub struct ParsedRecord {
+    /// That TTL, in seconds.
+    pub stated: Option<u32>,
+    /// The record.
+    pub parsed: Record,
 }
 
 impl Context {
@@ -82,7 +89,7 @@ impl Context {
     ghost use Rattle.dns_zone_file.specs.Parsing.{context_in};
 
     /// Creates the context at the start of a file.
-    pub(crate) fn new(alloc: Global, types: Types, origin: Name) -> Context
+    pub fn new(alloc: Global, types: Types, origin: Name) -> Context
         ensures { result ≡ context_in types origin }
     {
         Context {
@@ -98,7 +105,7 @@ impl Context {
     }
 
     /// Sets the origin at the start of an included text, and returns what [`resume`](Context::resume) restores.
-    pub(crate) fn enter(&mut self, origin: Name) -> Result<SavedContext, AllocError>
+    pub fn enter(&mut self, origin: Name) -> Result<SavedContext, AllocError>
         ensures saved { IfOk result (λ saved. saved ≡ saved_of self.old) }
         ensures ok { OnOk result (self.new ≡ included self.old origin) }
     {
@@ -113,7 +120,7 @@ impl Context {
     }
 
     /// Restores origin, owner, TTLs and class after an included text.
-    pub(crate) fn resume(&mut self, saved: SavedContext)
+    pub fn resume(&mut self, saved: SavedContext)
         ensures { self.new ≡ restored saved self.old }
     {
         self.origin = saved.origin;
@@ -129,7 +136,7 @@ impl Context {
     ghost use Rattle.dns_zone_file.specs.internal.Context.{ReadsData, RefusesData, minimum_for};
 
     /// Parses the owner of a record.
-    fn parse_owner(&self, alloc: Global, tokens: &[Token<'_>]) -> Result<Name, EntryError>
+    pub fn parse_owner(&self, alloc: Global, tokens: &[Token<'_>]) -> Result<Name, EntryError>
         ensures ok { IfOk result (λ name. owner_of self.now (map lexeme tokens.now) ≡ Ok name) }
         ensures refused { IfErr result (IsFault (λ fault.
             owner_of self.now (map lexeme tokens.now) ≡ Err fault)) }
@@ -205,7 +212,11 @@ impl Context {
     }
 
     /// Parses the entry of a record.
-    fn parse_record(&self, alloc: Global, tokens: &[Token<'_>]) -> Result<ParsedRecord, EntryError>
+    pub fn parse_record(
+        &self,
+        alloc: Global,
+        tokens: &[Token<'_>],
+    ) -> Result<ParsedRecord, EntryError>
         ensures ok { IfOk result (λ p.
             ReadsRecord self.now (map lexeme tokens.now) p.stated p.parsed) }
         ensures named { IfOk result (λ p. IsNamedType (data_type p.parsed.rdata)) }
@@ -230,10 +241,14 @@ impl Context {
     ghost use Rattle.dns_zone_file.specs.internal.Context.{noted};
     ghost use Rattle.dns_zone_file.specs.internal.Entry.{inclusion_view};
     ghost use Rattle.dns_zone_file.specs.RecordSets.{has_other_class};
+    ghost use Rattle.dns_zone_file.specs.Entry.{entry_of, record_entry};
+    ghost use Rattle.dns_zone_file.specs.Generate.{AddsLine, AddsNumber, Generates};
+    ghost use Rattle.dns_zone_file.specs.internal.Generate.{generation_view};
     ghost use Rattle.dns_zone_file.specs.Parsing.{Applies, IncludesText, RefusesEntry};
+    ghost use Rattle.zone_generate.specs.Range.{greatest};
 
     /// Keeps what a record determines for the next entries, except the record itself.
-    fn note_record(&mut self, stated: Option<u32>, parsed: &Record) -> Result<(), AllocError>
+    pub fn note_record(&mut self, stated: Option<u32>, parsed: &Record) -> Result<(), AllocError>
         ensures { OnOk result (self.new ≡ noted self.old stated parsed.now) }
     {
         if self.first_soa.is_none() {
@@ -270,6 +285,64 @@ impl Context {
         self.insert_record(added)
     }
 
+    /// Adds the record of a line that a `$GENERATE` makes.
+    fn add_line(&mut self, alloc: Global, line: &[u8]) -> Result<(), EntryError>
+        ensures ok { OnOk result (AddsLine self.old line.now (Ok self.new)) }
+        ensures refused { IfErr result (IsFault (λ fault. AddsLine self.old line.now (Err fault))) }
+    {
+        let text = line_text(line)?;
+        let tokens = line_tokens(alloc, text, self.types)?;
+        self.add_record(alloc, tokens.as_slice())
+    }
+
+    /// Adds the record of a number of a `$GENERATE`.
+    fn add_number(&mut self, alloc: Global, template: &[u8], number: u32) -> Result<(), EntryError>
+        requires { number < 2 ^ 31 }
+        ensures ok { OnOk result (AddsNumber self.old template.now number (Ok self.new)) }
+        ensures refused { IfErr result (IsFault (λ fault.
+            AddsNumber self.old template.now number (Err fault))) }
+    {
+        match expand(alloc, template, number) {
+            Ok(line) => self.add_line(alloc, line.as_slice()),
+            // Memory for the text was refused.
+            Err(GenerateFault::Memory) => Err(EntryError::Memory),
+            Err(fault) => Err(EntryError::Fault(EntryFault::InvalidGenerate(fault))),
+        }
+    }
+
+    /// Adds the records of a `$GENERATE`.
+    fn add_generated(&mut self, alloc: Global, generation: &Generation) -> Result<(), EntryError>
+        requires { generation.now.numbers.start
+            + (generation.now.numbers.count - 1) * generation.now.numbers.step ≤ greatest }
+        ensures ok { OnOk result
+            (Generates (generation_view generation.now) self.old (Ok self.new)) }
+        ensures refused { IfErr result (IsFault (λ fault.
+            Generates (generation_view generation.now) self.old (Err fault))) }
+    {
+        for place in 0..generation.numbers.count {
+            let number = generation.numbers.number(place);
+            self.add_number(alloc, generation.template.as_slice(), number)?;
+        }
+        Ok(())
+    }
+
+    /// Adds the record of an entry, or those of a `$GENERATE`.
+    fn add_records(&mut self, alloc: Global, tokens: &[Token<'_>]) -> Result<(), EntryError>
+        ensures ok { OnOk result (entry_of (map lexeme tokens.now) ≡ record_entry
+            → Applies self.old (map lexeme tokens.now) self.new) }
+        ensures refused { IfErr result (IsFault (λ fault.
+            entry_of (map lexeme tokens.now) ≡ record_entry
+            → RefusesEntry self.old (map lexeme tokens.now) fault)) }
+    {
+        match generate_arguments(self.types, tokens) {
+            Some(arguments) => {
+                let generation = parse_generation(alloc, arguments)?;
+                self.add_generated(alloc, &generation)
+            }
+            None => self.add_record(alloc, tokens),
+        }
+    }
+
     /// Applies an entry, unless it includes a text, which is returned. After an error the context is not to be used.
     pub(crate) fn apply<'a>(
         &mut self,
@@ -299,7 +372,7 @@ impl Context {
                 Ok(Some(inclusion))
             }
             Entry::Record => {
-                self.add_record(alloc, tokens)?;
+                self.add_records(alloc, tokens)?;
                 Ok(None)
             }
         }

@@ -15,24 +15,30 @@ use std::alloc::Global;
 
 /// What an entry is. Directives have their arguments.
 #[derive(Clone, Copy)]
-pub(crate) enum Entry<'t, 'a> {
+pub enum Entry<'t, 'a> {
+    /// No token, or only blanks.
     Nothing,
+    /// `$ORIGIN`.
     Origin(&'t [Token<'a>]),
+    /// `$TTL`.
     Ttl(&'t [Token<'a>]),
+    /// `$INCLUDE`.
     Include(&'t [Token<'a>]),
+    /// A record, or a `$GENERATE`.
     Record,
 }
 
 /// A text to include.
 #[derive(Drop)]
-pub(crate) struct Inclusion<'a> {
-    pub(crate) name: &'a [u8],
+pub struct Inclusion<'a> {
+    /// Its name, as it is written.
+    pub name: &'a [u8],
     /// The origin at the start of the text.
-    pub(crate) origin: Name,
+    pub origin: Name,
 }
 
 /// Reads the tokens of the next entry, or `None` at the end of the text.
-pub(crate) fn next_entry<'a>(
+pub fn next_entry<'a>(
     alloc: Global,
     lexer: &mut Lexer<'a>,
 ) -> Result<Option<Vec<Token<'a>>>, ZoneFileError>
@@ -58,7 +64,7 @@ pub(crate) fn next_entry<'a>(
 }
 
 /// Returns what an entry is.
-pub(crate) fn entry_of<'t, 'a>(tokens: &'t [Token<'a>]) -> Entry<'t, 'a>
+pub fn entry_of<'t, 'a>(tokens: &'t [Token<'a>]) -> Entry<'t, 'a>
     ensures { entry_view result ≡ entry_of (map lexeme tokens.now) }
 {
     let [first, arguments @ ..] = tokens else {
@@ -74,7 +80,7 @@ pub(crate) fn entry_of<'t, 'a>(tokens: &'t [Token<'a>]) -> Entry<'t, 'a>
 }
 
 /// Parses the argument of `$ORIGIN`.
-pub(crate) fn parse_origin(
+pub fn parse_origin(
     alloc: Global,
     arguments: &[Token<'_>],
     origin: &Name,
@@ -93,7 +99,7 @@ pub(crate) fn parse_origin(
 }
 
 /// Parses the argument of `$TTL`.
-pub(crate) fn parse_default_ttl(arguments: &[Token<'_>]) -> Result<u32, EntryFault>
+pub fn parse_default_ttl(arguments: &[Token<'_>]) -> Result<u32, EntryFault>
     ensures { result ≡ ttl_of (map lexeme arguments.now) }
 {
     let [Token::CharData(text)] = arguments else {
@@ -124,7 +130,7 @@ pub(crate) fn text_name<'a>(token: Token<'a>) -> Option<&'a [u8]>
 }
 
 /// Parses the arguments of `$INCLUDE`.
-pub(crate) fn parse_inclusion<'a>(
+pub fn parse_inclusion<'a>(
     alloc: Global,
     arguments: &[Token<'a>],
     origin: &Name,

@@ -8,6 +8,7 @@ use dns_formats::FormatFault;
 use dns_text::LexerError;
 use std::alloc::{AllocError, AllocFailed};
 use thiserror::Error;
+use zone_generate::GenerateFault;
 
 /// Why an entry of a zone file cannot be parsed.
 #[derive(Debug, Drop, Error)]
@@ -48,6 +49,9 @@ pub enum EntryFault {
     /// A directive has an argument too few, too many, or one that is invalid.
     #[error("invalid directive")]
     InvalidDirective,
+    /// A `$GENERATE` has no valid range, or no valid text for one of its numbers. The fault is not `Memory`.
+    #[error("{0}")]
+    InvalidGenerate(GenerateFault),
     /// Texts are nested more than 16 deep.
     #[error("more than 16 nested includes")]
     TooManyIncludes,

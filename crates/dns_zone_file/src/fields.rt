@@ -26,12 +26,15 @@ pub(crate) enum Field {
 
 /// The fields between owner and data. TTL and class may be omitted.
 #[derive(Clone, Copy)]
-pub(crate) struct Fields {
-    pub(crate) ttl: Option<u32>,
-    pub(crate) dns_class: Option<DNSClass>,
-    pub(crate) record_type: RecordType,
+pub struct Fields {
+    /// The TTL, in seconds.
+    pub ttl: Option<u32>,
+    /// The class.
+    pub dns_class: Option<DNSClass>,
+    /// The type.
+    pub record_type: RecordType,
     /// The number of the tokens of these fields.
-    pub(crate) count: usize,
+    pub count: usize,
 }
 
 /// Returns the name of a token, which the origin completes if it is relative, or `None` if the token is no name.
@@ -96,7 +99,7 @@ fn field_of(types: Types, token: Token<'_>) -> Field
 }
 
 /// Parses the fields between owner and data: a TTL and a class, each at most once and in either order, and a type.
-pub(crate) fn parse_fields(types: Types, tokens: &[Token<'_>]) -> Result<Fields, EntryFault>
+pub fn parse_fields(types: Types, tokens: &[Token<'_>]) -> Result<Fields, EntryFault>
     ensures ok { IfOk result (λ f.
         fields_in types (map lexeme tokens.now) ≡ Ok (fields_view f (map lexeme tokens.now))) }
     ensures within { IfOk result (λ f. f.count ≤ length tokens.now) }

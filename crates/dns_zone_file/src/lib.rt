@@ -3,6 +3,7 @@
 //! - `parser`: the parser of a text; `types`: which types a file may have;
 //! - `entry`: its entries, and the arguments of directives; `fields`: owner, TTL, class and type of a record; `data`: the data of
 //!   a record; `context`: what entries determine for those after them;
+//! - `generate`: the directive `$GENERATE` of BIND;
 //! - `listed`: the names of the texts that a text includes;
 //! - `record_sets`: record sets by owner and type; `set_index`: their places;
 //! - `laws`: theorems about the definitions of this crate;
@@ -14,6 +15,7 @@ mod data;
 mod entry;
 mod error;
 mod fields;
+mod generate;
 pub mod laws;
 mod listed;
 mod parser;
@@ -21,9 +23,15 @@ mod record_sets;
 mod set_index;
 mod types;
 
+pub use context::{Context, ParsedRecord, SavedContext, StartOfAuthority};
 pub use data::parse_rdata;
+pub use entry::{
+    Entry, Inclusion, entry_of, next_entry, parse_default_ttl, parse_inclusion, parse_origin,
+};
 pub use error::{EntryError, EntryFault, ZoneFileError};
+pub use fields::{Fields, parse_fields};
+pub use generate::{Generation, generate_arguments, line_text, line_tokens, parse_generation};
 pub use listed::included_names;
-pub use parser::{Parser, ZoneRecords};
+pub use parser::{MAX_INCLUDES, Parser, ZoneRecords};
 pub use record_sets::RecordSets;
 pub use types::Types;

@@ -16,7 +16,7 @@ use std::alloc::Global;
 use std::marker::Model;
 
 /// How deep texts may be nested.
-const MAX_INCLUDES: usize = 16;
+pub const MAX_INCLUDES: usize = 16;
 
 /// What a zone file contains.
 #[derive(Drop)]

@@ -21,7 +21,7 @@ impl Types {
     ghost use Rattle.dns_zone_file.specs.Types.{quotes_of};
 
     /// Returns how far the quoted strings of a zone file may go.
-    pub(crate) fn quotes(self) -> Quotes
+    pub fn quotes(self) -> Quotes
         ensures { result ≡ quotes_of self }
     {
         match self {

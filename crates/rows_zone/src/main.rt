@@ -1,13 +1,14 @@
 //! `rows_zone FILE..`: tries each row of the files, as the library `rows` describes, on zones and their server.
 //!
 //! - `operation`: the operations by their words;
-//! - `zone_file`, `includes`: zone files, and the texts that they include;
+//! - `zone_file`, `includes`: zone files, and the texts that they include; `entries`: their entries;
 //! - `zone`, `answer`, `serve`: zones, their answers and their replies;
 //! - `updating`, `building`: updates of zones, and those that the builders make; `framing`: frames of streams.
 #![tactic(auto)]
 
 mod answer;
 mod building;
+mod entries;
 mod framing;
 mod includes;
 mod operation;

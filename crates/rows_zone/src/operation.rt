@@ -2,6 +2,7 @@
 
 use crate::answer::{all_answered, answered};
 use crate::building::build;
+use crate::entries::entries;
 use crate::framing::{failing_frames, frames, write_frames};
 use crate::serve::{limit, serve, served_size};
 use crate::updating::{apply, update};
@@ -23,6 +24,7 @@ pub(crate) fn answer(alloc: Global, word: &str, input: &str) -> Answer {
         "fault" => fault(alloc, input),
         "zone-file" => zone_file(alloc, input),
         "zone-file-all" => zone_file_all(alloc, input),
+        "entries" => entries(alloc, input),
         "included-names" => included(alloc, input),
         "zone-file-at" => zone_file_at(alloc, input),
         "zone-file-with" => zone_file_with(alloc, input),

@@ -85,6 +85,10 @@ entry_sentences (entry.InvalidFormat error) = record {
   reason = codes "data that does not have the fields of its type";
   hint = codes "write the fields of the type, or \\# LENGTH HEX with the bytes of such data";
 }
+entry_sentences (entry.InvalidGenerate error) = record {
+  reason = codes "a $GENERATE whose range or template cannot be read";
+  hint = codes "write $GENERATE START-STOP OWNER TYPE DATA, as in $GENERATE 1-9 host$ A 10.0.0.$";
+}
 entry_sentences entry.NoData = record {
   reason = codes "data of no bytes, which a record of a zone cannot have here";
   hint = codes "remove the record";

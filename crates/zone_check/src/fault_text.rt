@@ -201,6 +201,10 @@ fn entry_text(fault: &EntryFault) -> Advice
             reason: "a directive with a missing or invalid argument",
             hint: "write $ORIGIN NAME or $TTL TIME, and nothing after it",
         },
+        EntryFault::InvalidGenerate(_) => Advice {
+            reason: "a $GENERATE whose range or template cannot be read",
+            hint: "write $GENERATE START-STOP OWNER TYPE DATA, as in $GENERATE 1-9 host$ A 10.0.0.$",
+        },
         EntryFault::TooManyIncludes => Advice {
             reason: "more than 16 nested files",
             hint: "include fewer files",

@@ -58,6 +58,7 @@ fn entry_word(fault: &EntryFault) -> &'static str {
         EntryFault::NoTtl => "NoTtl",
         EntryFault::ClassMismatch => "ClassMismatch",
         EntryFault::InvalidDirective => "InvalidDirective",
+        EntryFault::InvalidGenerate(_) => "InvalidGenerate",
         EntryFault::TooManyIncludes => "TooManyIncludes",
     }
 }

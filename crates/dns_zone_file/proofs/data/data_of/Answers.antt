@@ -1,4 +1,4 @@
-use Rattle.std.proofs.Common.{rules, refl, ◌∙◌, sym}
+use Rattle.std.proofs.Common.{rules, refl, sym}
 use Rattle.dns_zone_file.specs.Data.{compressed}
 use Rattle.dns_zone_file.proofs.DataLaws.{none_at, some_at, not_decoded_at}
 use Rattle.dns_zone_file.proofs.data.data_of.Goals as goal

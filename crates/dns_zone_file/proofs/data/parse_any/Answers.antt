@@ -1,4 +1,4 @@
-use Rattle.std.proofs.Common.{map, sym, Some}
+use Rattle.std.proofs.Common.{map, sym}
 use Rattle.std.proofs.lemmas.Result.{IfOk-weaker, IfErr-weaker, err_from_is_err_and}
 use Rattle.dns_text.specs.Token.{lexeme}
 use Rattle.dns_zone_file.specs.Data.{IsDataOf, RefusesBytes, IsAnyData, RefusesAny, RefusesValues}
