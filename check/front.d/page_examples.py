@@ -21,8 +21,8 @@ ELSEWHERE = {
 # Pages whose blocks belong to a check of their own.
 OWN_CHECKS = {"TUTORIAL.md": "check/tutorial", "READING_CONTRACTS.md": "check/docs references"}
 FENCE = re.compile(r"^```(\w*)(?: (\S+))?\n(.*?)^```$", re.M | re.S)
-# What the front of a program says before the program runs.
-FRONT = re.compile(r"^\w+: (?:this build is |compiling|compiled in |waiting for another start)")
+# What the front of a program says before the program runs, and the shell of a job that was killed.
+FRONT = re.compile(r"^\w+: (?:this build is |compiling|compiled in |waiting for another start)|^bash: line \d+: +\d+ Killed ")
 # What differs from run to run, and what stands for it.
 VARYING = [
     (re.compile(r"\b\d+(?:\.\d+)?(?= ms\b)"), "N"),
@@ -83,7 +83,8 @@ class Shell:
         if can_unshare():
             words = ["unshare", "--net", "sh", "-c", 'ip link set lo up; exec "$0" "$@"', *words]
         streams = {"stdin": subprocess.PIPE, "stdout": subprocess.PIPE, "stderr": subprocess.STDOUT}
-        environment = {**os.environ, "PYTHONDONTWRITEBYTECODE": "1", "LC_ALL": "C.UTF-8"}
+        server = {"NAMESERVER": str(ROOT / "nameserver"), "NAMESERVER_SECONDS": str(LIMIT)}
+        environment = {**os.environ, **server, "PYTHONDONTWRITEBYTECODE": "1", "LC_ALL": "C.UTF-8"}
         self.process = subprocess.Popen(words, cwd=folder, start_new_session=True, env=environment, **streams)
         self.rest = ""
 
