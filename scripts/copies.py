@@ -2,6 +2,8 @@
 import contextlib
 import os
 import shutil
+import subprocess
+import tempfile
 from pathlib import Path
 
 from crates import lines_of, parts_of
@@ -21,6 +23,18 @@ def copy_crates(root, names, to, parts=None):
     lines = [it for it in lines_of(root) if parts_of(it)[0] in names]
     (to / "crates.txt").write_text("".join(f"{it}\n" for it in lines), encoding="utf-8")
     shutil.copyfile(Path(root, "HANDLES"), to / "HANDLES")
+
+
+@contextlib.contextmanager
+def folder_for_a_while(prefix):
+    """Makes a folder, and removes it in the end: if an exception leaves, such as that of an interrupt, in a process of its own."""
+    room = tempfile.mkdtemp(prefix=prefix)
+    try:
+        yield room
+    except BaseException:
+        subprocess.Popen(["rm", "-rf", "--", room], start_new_session=True, stdin=subprocess.DEVNULL, stdout=subprocess.DEVNULL, stderr=subprocess.DEVNULL)
+        raise
+    shutil.rmtree(room, ignore_errors=True)
 
 
 def copy_file(file, to, mode):

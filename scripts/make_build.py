@@ -12,14 +12,13 @@ import os
 import shutil
 import signal
 import sys
-import tempfile
 import time
 from pathlib import Path
 
 sys.dont_write_bytecode = True
 
 from compiler import CompileFault, Compiler
-from copies import copy_crates, copy_file
+from copies import copy_crates, copy_file, folder_for_a_while
 from crates import in_order, read_crates
 from processes import end_descendants, ending_together, exit_as_told
 from programs import CODE, is_program, kept_build
@@ -98,7 +97,7 @@ def only_one(folder, name):
 def make_build(name, progress):
     """Compiles a program, and returns the file that it is kept in."""
     log = ROOT / "build" / f"{name}.log"
-    with tempfile.TemporaryDirectory(prefix=f"{name}-") as room, open(log, "wb") as said:
+    with folder_for_a_while(f"{name}-") as room, open(log, "wb") as said:
         sources = Path(room, "sources")
         copy_crates(ROOT, in_order(read_crates(ROOT), [name]), sources, CODE)
         program = ROOT / "build" / kept_build(sources, name).name

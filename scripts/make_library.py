@@ -11,13 +11,12 @@ The object is kept in build/, by the checksum of the sources. The status is 0 if
 import os
 import re
 import sys
-import tempfile
 from pathlib import Path
 
 sys.dont_write_bytecode = True
 
 from compiler import CompileFault, Compiler, TARGET
-from copies import copy_crates, copy_file
+from copies import copy_crates, copy_file, folder_for_a_while
 from crates import in_order, read_crates
 from make_build import BuildFault, Progress, end_of, only_one, reason_of
 from processes import end_descendants, ending_together, exit_as_told
@@ -120,7 +119,7 @@ def library_object():
 def make_object(made, progress):
     """Compiles the library, and returns the file of its object code."""
     log = ROOT / "build" / f"{CRATE}.log"
-    with tempfile.TemporaryDirectory(prefix=f"{CRATE}-") as room, open(log, "wb") as said:
+    with folder_for_a_while(f"{CRATE}-") as room, open(log, "wb") as said:
         sources = Path(room, "sources")
         copy_crates(ROOT, in_order(read_crates(ROOT), [CRATE]), sources, CODE)
         names = make_program(sources)

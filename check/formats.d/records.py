@@ -136,6 +136,43 @@ def certificate_type(chance: random.Random) -> bytes:
     return struct.pack(">H", chance.choice([1, 2, 3, 4, 5, 6, 7, 8, 253, 254, chance.randint(1000, 60000)]))
 
 
+def parameter(key: int, data: bytes) -> bytes:
+    """A parameter of a service binding (RFC 9460 section 2.2)."""
+    return struct.pack(">HH", key, len(data)) + data
+
+
+def identifier(chance: random.Random) -> bytes:
+    """An identifier of a protocol after its length. ldns doesn't read its own text of one with a comma, a backslash or a quote."""
+    plain = bytes(c for c in PLAIN if c not in b',\\"')
+    data = bytes(chance.choice(plain + b" \0\xff") for _ in range(chance.randint(1, 10)))
+    return bytes([len(data)]) + data
+
+
+def parameters(chance: random.Random) -> bytes:
+    """Parameters of a service binding that belong together, in the order of their keys (RFC 9460 sections 7 and 8)."""
+    values = {
+        1: lambda: b"".join(identifier(chance) for _ in range(chance.randint(1, 4))),
+        3: lambda: chance.randbytes(2),
+        4: lambda: chance.randbytes(4 * chance.randint(1, 3)),
+        5: lambda: octets(chance, 1, 40),
+        6: lambda: bytes(chance.choice(b"\0\0\x01\xfe") for _ in range(16 * chance.randint(1, 2))),
+    }
+    chosen = {key: make() for key, make in values.items() if chance.random() < 0.4}
+    if 1 in chosen and chance.random() < 0.3:
+        chosen[2] = b""
+    for _ in range(chance.choice([0, 0, 1, 2])):
+        chosen[chance.randint(1000, 65000)] = octets(chance, 0, 20) if chance.random() < 0.5 else bytes(chance.choice(PLAIN) for _ in range(chance.randint(0, 20)))
+    if chosen and chance.random() < 0.3:
+        some_keys = sorted(chance.sample(sorted(chosen), chance.randint(1, len(chosen))))
+        chosen[0] = struct.pack(f">{len(some_keys)}H", *some_keys)
+    return b"".join(parameter(key, chosen[key]) for key in sorted(chosen))
+
+
+def priority(chance: random.Random) -> bytes:
+    """The priority of a service that is no alias: an alias has no parameters (RFC 9460 section 2.4.2)."""
+    return struct.pack(">H", chance.randint(1, 65535))
+
+
 TYPES = {
     "HINFO": Type(13, "HINFO", fields(string, string)),
     "RP": Type(17, "TYPE17", fields(name, name)),
@@ -158,6 +195,8 @@ TYPES = {
     "OPENPGPKEY": Type(61, "OPENPGPKEY", some(1, 80)),
     "CSYNC": Type(62, "CSYNC", fields(numbers("I"), constant(b"\x00\x03"), types)),
     "ZONEMD": Type(63, "TYPE63", fields(numbers("I"), constant(b"\x01\x01"), sized(48))),
+    "SVCB": Type(64, "SVCB", fields(priority, name, parameters)),
+    "HTTPS": Type(65, "HTTPS", fields(priority, name, parameters)),
     "URI": Type(256, "TYPE256", fields(numbers("HH"), text)),
     "CAA": Type(257, "CAA", fields(numbers("B"), tag, value)),
 }

@@ -114,12 +114,13 @@ class Copy:
         """What the environment of all processes has that a command of the repository starts."""
         return b"FRONT_COPY=" + os.fsencode(self.root)
 
-    def start(self, *words, fake="", tools="with", **how):
+    def start(self, *words, fake="", tools="with", temporary=None, **how):
         """Starts a command of the repository over the toolchain."""
         search = f"{self.tools / tools}:/usr/bin:/bin" if tools == "with" else str(self.tools / tools)
         streams = {"stdin": subprocess.DEVNULL, "stdout": subprocess.PIPE, "stderr": subprocess.PIPE}
         how = {"preexec_fn": have_signals, **streams, **how}
         environment = {**os.environ, "PATH": search, "FAKE": fake, "FRONT_COPY": str(self.root)}
+        environment.update({"TMPDIR": str(temporary)} if temporary else {})
         return subprocess.Popen([self.root / words[0], *words[1:]], env=environment, **how)
 
     def run(self, *words, given=None, **how):

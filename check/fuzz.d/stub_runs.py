@@ -1,4 +1,4 @@
-"""Random files for the program `stub`, and what docs/PROGRAM.md says of a run on them."""
+"""Random files for the program `stub`, and what docs/REPLAY.md says of a run on them."""
 import random
 import re
 from collections import Counter

@@ -1,4 +1,4 @@
-"""Hosts files, as docs/PROGRAM.md describes them."""
+"""Hosts files, as docs/REPLAY.md describes them."""
 import re
 
 from text import address, name

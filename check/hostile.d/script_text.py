@@ -1,4 +1,4 @@
-"""Scripts for the zone `t.`, as docs/PROGRAM.md describes them."""
+"""Scripts for the zone `t.`, as docs/REPLAY.md describes them."""
 from text import address, labels, name, number, record_type
 from wire import OPT, Refusal
 from zone_text import data_of, is_utf8

@@ -1,5 +1,5 @@
 """What zone files, hosts and scripts share: numbers, types, names, addresses and character strings in text (RFC 1035 section
-5.1, RFC 3597 section 5, RFC 4291 section 2.2), as docs/PROGRAM.md describes them."""
+5.1, RFC 3597 section 5, RFC 4291 section 2.2), as docs/REPLAY.md describes them."""
 import ipaddress
 import re
 

@@ -1,4 +1,4 @@
-"""Zone files: RFC 1035 section 5.1 and RFC 2308 section 4, as docs/PROGRAM.md describes them. A refusal is named like
+"""Zone files: RFC 1035 section 5.1 and RFC 2308 section 4, as docs/REPLAY.md describes them. A refusal is named like
 the fault of the libraries `dns_text`, `dns_zone_file` and `dns_data`."""
 from text import address, name, number, octets, record_type, time
 from wire import Refusal

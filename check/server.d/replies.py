@@ -1,5 +1,5 @@
 """The reply of a server to the bytes of a request, to the byte (RFC 1034 section 4.3.2, RFC 1035 section 4.1, RFC 2136 section
-3, RFC 6891 section 6). Where the RFCs leave a choice, docs/RFC.md and docs/PROGRAM.md say what it is."""
+3, RFC 6891 section 6). Where the RFCs leave a choice, docs/RFC.md and docs/REPLAY.md say what it is."""
 from dataclasses import dataclass, field
 from typing import List, NamedTuple, Optional, Tuple
 

@@ -41,17 +41,20 @@ use Rattle.dns_formats.specs.Types.{number_of_type, then_numbers, before_numbers
 use Rattle.dns_formats.specs.Read.{is_missing, field_bytes}
 use Rattle.dns_formats.specs.Wire.{at_least, name_end, short_name, counted_len, value_len}
 use Rattle.dns_formats.specs.Dnssec.{type_or_fault, date_seconds, time_or_fault, salt_bytes}
-use Rattle.dns_formats.specs.Print.{labels_at, salt_text, front_token, type_tokens, front_tokens}
+use Rattle.dns_service.specs.Text.{parameter_texts}
+use Rattle.dns_service.specs.Wire.{are_parameters}
+use Rattle.dns_formats.specs.Print.{labels_at, salt_text, front_token, type_tokens, word_tokens, front_tokens}
 use Rattle.dns_formats.specs.Data.{is_generic}
 use Rattle.dns_formats.specs.declared.fault.TokenFault.{TokenFault}
 use Rattle.dns_formats.specs.declared.fault.TokenFault.TheVariants.{StringTooLong, NotATag}
 use Rattle.dns_formats.specs.declared.field.Field.{Field}
 use Rattle.dns_formats.specs.declared.field.Field.TheVariants as kind
-use Rattle.dns_formats.proofs.DecimalLaws.{Spelled, spelled, decimal_parses}
+use Rattle.dns_service.proofs.DecimalLaws.{Spelled, spelled, decimal_parses}
 use Rattle.dns_formats.proofs.NameLaws.{name_to}
 use Rattle.dns_formats.proofs.WordLaws.{IsTame, IsPlainWord, tame_word, tag_word, unlike}
 use Rattle.dns_formats.proofs.EncodingLaws.{hex_word, hex_first, hex_back, base64_word, base64_back}
 use Rattle.dns_formats.proofs.TypeLaws.{word_plain, word_parses, round_trips}
+use Rattle.dns_formats.proofs.ParameterLaws.{parameters_back, parameters_data}
 
 some_is : (a b : ℕ) → ◌≡◌ {A = Option ℕ} (Some a) (Some b) → a ≡ b
 some_is a b e = cc
@@ -525,6 +528,21 @@ types_back origin bytes n are e =
           ∙ ap (λ (l : List ℕ). Ok l) (bitmap_back bytes octets p.0 ∙ sym (take_all bytes n p.1));
     }
 
+no_words_missing : (tokens : List Lexeme) → is_missing kind.Parameters tokens ≡ false
+no_words_missing [] = refl
+no_words_missing (t ∷ ts) = refl
+
+service_back : (origin : Option DomainName) (bytes : List ℕ) (n : ℕ) → AreOctets bytes → value_len kind.Parameters bytes ≡ Some n → AreBack origin kind.Parameters (front_tokens kind.Parameters bytes) (take n bytes)
+service_back origin bytes n are e =
+    let p = if_bitmap (are_parameters bytes 0 0 bytes) (length bytes) n e in
+    record {
+      each = parameters_data bytes are p.0;
+      special = λ no. absurd (cc);
+      present = no_words_missing (word_tokens (parameter_texts 0 bytes));
+      few = λ no. absurd (cc);
+      read = parameters_back bytes are p.0 ∙ ap (λ (l : List ℕ). Ok l) (sym (take_all bytes n p.1));
+    }
+
 pub value_back : (origin : Option DomainName) (field : Field) (bytes : List ℕ) (n : ℕ) → AreOctets bytes → value_len field bytes ≡ Some n → AreBack origin field (front_tokens field bytes) (take n bytes)
 value_back origin kind.Number8 bytes n are e = one origin kind.Number8 _ _ (number8_back origin bytes n are e)
 value_back origin kind.Number16 bytes n are e = one origin kind.Number16 _ _ (number16_back origin bytes n are e)
@@ -542,3 +560,4 @@ value_back origin kind.Text bytes n are e = one origin kind.Text _ _ (text_back 
 value_back origin kind.Hex bytes n are e = one origin kind.Hex _ _ (hex_field_back origin bytes n are e)
 value_back origin kind.Base64 bytes n are e = one origin kind.Base64 _ _ (base64_field_back origin bytes n are e)
 value_back origin kind.Types bytes n are e = types_back origin bytes n are e
+value_back origin kind.Parameters bytes n are e = service_back origin bytes n are e

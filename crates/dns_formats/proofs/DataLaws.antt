@@ -26,7 +26,7 @@ use Rattle.dns_formats.specs.declared.fault.TokenFault.{TokenFault}
 use Rattle.dns_formats.specs.declared.fault.FormatFault.{FormatFault}
 use Rattle.dns_formats.specs.declared.fault.FormatFault.TheVariants.{MissingToken, WrongLength, NotOfType, TooLong}
 use Rattle.dns_formats.specs.declared.field.Field.{Field}
-use Rattle.dns_formats.proofs.DecimalLaws.{decimal_parses}
+use Rattle.dns_service.proofs.DecimalLaws.{decimal_parses}
 use Rattle.dns_formats.proofs.WordLaws.{tag_tame, tame_word}
 use Rattle.dns_formats.proofs.EncodingLaws.{hex_word, hex_back}
 use Rattle.dns_formats.proofs.BackLaws.{value_back}

@@ -2,7 +2,6 @@ pub mod ValueLaws
 pub mod ReadLaws
 pub mod NameLaws
 pub mod WireLaws
-pub mod DecimalLaws
 pub mod WordLaws
 pub mod EncodingLaws
 pub mod PrintLaws
@@ -11,3 +10,6 @@ pub mod DataLaws
 pub mod TypeLaws
 pub mod FormatLaws
 pub mod SetLaws
+pub mod ServiceLaws
+pub mod ParameterLaws
+pub mod SignLaws

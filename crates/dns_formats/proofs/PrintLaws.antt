@@ -11,11 +11,12 @@ use Rattle.dns_text.specs.Tokens.{datum_text, data_text}
 use Rattle.dns_formats.specs.Wire.{counted_octets, value_len, value_size, fits}
 use Rattle.dns_bitmaps.specs.TypeWord.{word_of_type}
 use Rattle.dns_bitmaps.specs.Bitmap.{types_of, spaced_types}
+use Rattle.dns_service.specs.Text.{parameter_texts, spaced_words}
 use Rattle.dns_formats.specs.Field.{may_be_empty, begins}
-use Rattle.dns_formats.specs.Print.{labels_at, front_token, type_tokens, list_tokens, front_tokens, data_tokens, lead, spaced, generic_text}
+use Rattle.dns_formats.specs.Print.{labels_at, front_token, type_tokens, word_tokens, list_tokens, front_tokens, data_tokens, lead, spaced, generic_text}
 use Rattle.dns_formats.specs.Value.{is_tag}
 use Rattle.dns_formats.specs.declared.field.Field.{Field}
-use Rattle.dns_formats.specs.declared.field.Field.TheVariants.{Tag, Types}
+use Rattle.dns_formats.specs.declared.field.Field.TheVariants.{Tag, Types, Parameters}
 use Rattle.dns_formats.proofs.ValueLaws.{at_place}
 use Rattle.dns_formats.proofs.ReadLaws.{none_left}
 use Rattle.dns_formats.proofs.NameLaws.{labels_skip}
@@ -80,6 +81,13 @@ types_written (t ∷ ts) = ap (λ (l : List ℕ). (32 ∷ word_of_type (t % 6553
 
 pub types_list : (field : Field) (bytes : List ℕ) → field ≡ Types → spaced_types (types_of 0 0 bytes) ≡ spaced false (list_tokens field bytes)
 types_list field bytes is = types_written (types_of 0 0 bytes) ∙ ap (λ (k : Field). spaced false (list_tokens k bytes)) (sym is)
+
+pub words_written : (words : List (List ℕ)) → spaced_words words ≡ spaced false (word_tokens words)
+words_written [] = refl
+words_written (w ∷ ws) = ap (λ (l : List ℕ). (32 ∷ w) ++ l) (words_written ws)
+
+pub parameters_list : (field : Field) (bytes : List ℕ) → field ≡ Parameters → spaced_words (parameter_texts 0 bytes) ≡ spaced false (list_tokens field bytes)
+parameters_list field bytes is = words_written (parameter_texts 0 bytes) ∙ ap (λ (k : Field). spaced false (list_tokens k bytes)) (sym is)
 
 pub not_first : (is_first : Bool) (field : Field) → (is_first ≡ true → may_be_empty field ≡ false) → may_be_empty field ≡ true → is_first ≡ false
 not_first true field needs empty = let no = needs refl in absurd (cc)

@@ -13,7 +13,7 @@ use Rattle.dns_codes.specs.declared.record_type.RecordType.TheVariants as of
 use Rattle.dns_bitmaps.specs.TypeWord.{name_among, other_types, type_of_word, name_or_text, word_of_type}
 use Rattle.dns_bitmaps.proofs.WordLaws.{word_back}
 use Rattle.dns_formats.specs.Value.{is_tag}
-use Rattle.dns_formats.proofs.DecimalLaws.{spelled, decimal_parses}
+use Rattle.dns_service.proofs.DecimalLaws.{spelled, decimal_parses}
 use Rattle.dns_formats.proofs.WordLaws.{IsTame, tag_tame, IsPlainWord, tame_word, tag_word}
 
 pub round_trips : (n : ℕ) → type_number (type_of n) ≡ n

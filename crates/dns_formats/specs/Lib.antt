@@ -11,3 +11,4 @@ pub mod Dnssec
 pub mod Counted
 pub mod Mnemonic
 pub mod Types
+pub mod Service

@@ -12,6 +12,7 @@ use Rattle.dns_text.specs.Lexer.{Lexeme, CharData, QuotedString}
 use Rattle.dns_text.specs.Tokens.{datum_text, data_text}
 use Rattle.dns_bitmaps.specs.Bitmap.{types_of}
 use Rattle.dns_bitmaps.specs.Base32.{encoded}
+use Rattle.dns_service.specs.Text.{parameter_texts}
 use Rattle.dns_formats.specs.Field.{may_be_empty}
 use Rattle.dns_formats.specs.Wire.{counted_octets, value_size, fits}
 use Rattle.dns_formats.specs.declared.field.Field.{Field}
@@ -49,15 +50,22 @@ front_token kind.CertificateType bytes = CharData (decimal (from_be_bytes w16 by
 front_token kind.Hash bytes = CharData (encoded (counted_octets bytes))
 -- A list has no such token.
 front_token kind.Types bytes = CharData []
+front_token kind.Parameters bytes = CharData []
 
 -- types by their names
 abbrev pub type_tokens : List ℕ → List Lexeme
 type_tokens [] = []
 type_tokens (number ∷ numbers) = CharData (word_of_type (number % 65536)) ∷ type_tokens numbers
 
+-- words as tokens
+abbrev pub word_tokens : List (List ℕ) → List Lexeme
+word_tokens [] = []
+word_tokens (word ∷ words) = CharData word ∷ word_tokens words
+
 -- the tokens of the value of a field that may be empty
 abbrev pub list_tokens : Field → List ℕ → List Lexeme
 list_tokens kind.Types bytes = type_tokens (types_of 0 0 bytes)
+list_tokens kind.Parameters bytes = word_tokens (parameter_texts 0 bytes)
 list_tokens field bytes = []
 
 -- the tokens of the value of a field at the front of bytes

@@ -1,6 +1,7 @@
 //! Why the tokens of record data are refused.
 
 use dns_names::ParseError;
+use dns_service::ServiceFault;
 use std::alloc::{AllocError, AllocFailed};
 use thiserror::Error;
 
@@ -55,6 +56,13 @@ pub enum TokenFault {
     /// The word is neither a decimal number that the field has bits for, nor one of its mnemonics.
     #[error("neither a number of this field nor a mnemonic")]
     NotAMnemonic,
+    /// A parameter of a service binding is refused (RFC 9460).
+    #[error("{0}")]
+    Parameter(ServiceFault),
+    /// The parameters of a service binding don't belong together: a mandatory one is missing, `no-default-alpn` is without
+    /// `alpn`, or a value has not the form of its key (RFC 9460 sections 7 and 8).
+    #[error("the parameters are not those of a service binding")]
+    NotParameters,
     /// Memory could not be allocated.
     #[error("out of memory")]
     Memory,

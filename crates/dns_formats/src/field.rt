@@ -41,6 +41,8 @@ pub enum Field {
     Base64,
     /// Record types, perhaps none, as a bitmap that extends to the end of the data (RFC 4034 section 4.1.2).
     Types,
+    /// Parameters of a service binding, perhaps none, which extend to the end of the data (RFC 9460 sections 2.1 and 2.2).
+    Parameters,
 }
 
 impl Field {
@@ -48,20 +50,23 @@ impl Field {
     pub fn takes_rest(self) -> bool
         ensures { result ≡ takes_rest self }
     {
-        matches!(self, Field::Hex | Field::Base64 | Field::Types)
+        matches!(
+            self,
+            Field::Hex | Field::Base64 | Field::Types | Field::Parameters
+        )
     }
 
     /// Returns `true` if the field may have no token at all.
     pub fn may_be_empty(self) -> bool
         ensures { result ≡ may_be_empty self }
     {
-        matches!(self, Field::Types)
+        matches!(self, Field::Types | Field::Parameters)
     }
 }
 
 use Field::{
     Algorithm, Base64, CertificateType, CharacterString, Hash, Hex, Name, Number8, Number16,
-    Number32, Salt, Tag, Text, Time, Types,
+    Number32, Parameters, Salt, Tag, Text, Time, Types,
 };
 
 /// The fields of each type, by its number. A type of known kinds is one line here, and nothing else.
@@ -131,6 +136,10 @@ const FORMATS: &[(u16, &[Field])] = &[
     (62, &[Number32, Number16, Types]),
     // ZONEMD (RFC 8976 section 2.2)
     (63, &[Number32, Number8, Number8, Hex]),
+    // SVCB (RFC 9460 section 2.1)
+    (64, &[Number16, Name, Parameters]),
+    // HTTPS (RFC 9460 section 9)
+    (65, &[Number16, Name, Parameters]),
     // URI (RFC 7553 section 4.5)
     (256, &[Number16, Number16, Text]),
     // CAA (RFC 8659 section 4.1)

@@ -7,6 +7,7 @@
 //! - `dnssec`: the fields of DNSSEC: types by their names, times, salts and hashes; `types`: sets of types
 //! - `mnemonic`: algorithms and types of certificates by their mnemonics
 //! - `value`: a token as the bytes of one field; `rest`: all tokens that are left, as one field
+//! - `service`: the parameters of service bindings
 //! - `read`: the tokens of record data, read as its bytes
 #![tactic(auto)]
 
@@ -19,11 +20,13 @@ mod mnemonic;
 mod print;
 mod read;
 mod rest;
+mod service;
 mod types;
 mod value;
 mod wire;
 
 pub use dns_bitmaps::{TypeWord, type_of_word};
+pub use dns_service::ServiceFault;
 pub use fault::{FormatFault, TokenFault};
 pub use field::{Field, format_of};
 pub use generic::is_generic;

@@ -14,6 +14,7 @@ ghost use Rattle.dns_bitmaps.specs.TypeWord.{word_of_type};
 ghost use Rattle.dns_codes.specs.RecordType.{type_number};
 ghost use Rattle.dns_bitmaps.specs.Bitmap.{types_of, spaced_types};
 ghost use Rattle.dns_bitmaps.specs.Base32.{encoded};
+ghost use Rattle.dns_service.specs.Text.{parameter_texts, spaced_words};
 ghost use Rattle.dns_formats.specs.Field.{may_be_empty, begins, fields_of};
 ghost use Rattle.dns_formats.specs.Wire.{value_len, fits};
 ghost use Rattle.dns_formats.specs.Print.{labels_at, front_token, list_tokens, front_tokens, data_tokens, lead, spaced, salt_text, generic_text, format_text};
@@ -24,6 +25,7 @@ use base64::display::Base64Display;
 use base64::engine::general_purpose::STANDARD;
 use dns_bitmaps::{Base32Text, BitmapText, TypeWord};
 use dns_codes::RecordType;
+use dns_service::ParametersText;
 use dns_text::QuotedString;
 use std::fmt;
 
@@ -111,6 +113,7 @@ fn write_list<W: fmt::Write>(field: Field, bytes: &[u8], f: &mut fmt::Formatter<
 {
     match field {
         Field::Types => write_types(bytes, f),
+        Field::Parameters => write_parameters(bytes, f),
         _ => Ok(()),
     }
 }
@@ -137,8 +140,8 @@ fn write_value<W: fmt::Write>(field: Field, bytes: &[u8], f: &mut fmt::Formatter
         Field::Text => write_quoted(bytes, f),
         Field::Hex => write_hex(bytes, f),
         Field::Base64 => write_base64(bytes, f),
-        // It is a list, and `write_list` writes it.
-        Field::Types => Ok(()),
+        // They are lists, which `write_list` writes.
+        Field::Types | Field::Parameters => Ok(()),
     }
 }
 
@@ -284,6 +287,15 @@ fn write_types<W: fmt::Write>(bytes: &[u8], f: &mut fmt::Formatter<W>) -> fmt::R
         (spaced_types (types_of 0 0 bytes.now)) f.new }
 {
     let text = BitmapText { bytes };
+    write!(f, "{text}")
+}
+
+/// Writes the parameters of a service binding, a blank before each.
+fn write_parameters<W: fmt::Write>(bytes: &[u8], f: &mut fmt::Formatter<W>) -> fmt::Result
+    ensures { WritesOnOk W.write_str_gives f.old result
+        (spaced_words (parameter_texts 0 bytes.now)) f.new }
+{
+    let text = ParametersText { bytes };
     write!(f, "{text}")
 }
 

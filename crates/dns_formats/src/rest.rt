@@ -10,6 +10,7 @@ ghost use Rattle.dns_formats.specs.Rest.{joined, hex_outcome, base64_outcome, he
 
 use crate::fault::TokenFault;
 use crate::field::Field;
+use crate::service::push_parameters;
 use crate::types::push_types;
 use base64::DecodeAllocError;
 use base64::engine::general_purpose::STANDARD;
@@ -31,6 +32,7 @@ pub(crate) fn push_rest(
         Field::Hex => push_hex_words(alloc, tokens, out),
         Field::Base64 => push_base64_words(alloc, tokens, out),
         Field::Types => push_types(alloc, tokens, out),
+        Field::Parameters => push_parameters(alloc, tokens, out),
         _ => Err(TokenFault::NotAWord),
     }
 }

@@ -1,2 +1,11 @@
 pub mod LoopLaws
 pub mod KeyLaws
+pub mod PlainLaws
+pub mod TextLaws
+pub mod DecimalLaws
+pub mod KeyBackLaws
+pub mod WordBackLaws
+pub mod ListBackLaws
+pub mod ValueBackLaws
+pub mod ParameterBackLaws
+pub mod ParameterWordLaws

@@ -1,10 +1,10 @@
 -- Parameters and keys, one after another.
-use Rattle.std.proofs.Common.{◌≡◌, ℕ, zero, suc, ◌+◌, ◌-◌, ◌*◌, ◌<◌, ◌≤◌, Bool, true, false, ◌&&◌, List, [], ◌∷◌, ◌++◌, length, take, drop, get_or, map, Option, Some, None, option_map, refl, sym, ap, ◌∙◌, append_assoc, arith, length-drop}
-use Rattle.std.specs.Prelude.{◌==◌, ◌||◌, nat_le, nat_lt, if◌then◌else◌, ◌≢◌}
+use Rattle.std.proofs.Common.{◌≡◌, ℕ, zero, suc, ◌+◌, ◌-◌, ◌*◌, ◌<◌, ◌≤◌, Bool, true, false, ◌&&◌, List, [], ◌∷◌, length, take, drop, get_or, refl, sym, ap, ◌∙◌, arith, length-drop}
+use Rattle.std.specs.Prelude.{◌==◌, ◌||◌, nat_le, nat_lt, if◌then◌else◌}
 use Rattle.std.proofs.Math.Seq.{drop-cons}
 use Rattle.std.proofs.lemmas.Bool.Decides.{nat_tests}
 use Rattle.dns_service.specs.List.{key_place}
-use Rattle.dns_service.specs.Wire.{key_at, len_at, front_value, has_key, are_mandatory, are_protocols, is_value, is_front, are_parameters, place}
+use Rattle.dns_service.specs.Wire.{key_at, len_at, has_key, are_mandatory, are_protocols, is_front, are_parameters, place}
 
 pub at_place : {A : Type 0} (xs : List A) (i : ℕ) (d : A) → i < length xs → drop i xs ≡ get_or xs i d ∷ drop (i + 1) xs
 at_place xs i d within = let one : suc i ≡ i + 1 = omega arith in drop-cons xs i d within ∙ ap (λ n. get_or xs i d ∷ drop n xs) one
@@ -18,15 +18,15 @@ take_back xs n = whole (length xs - n) (drop n xs) (omega (arith, length-drop n 
     whole (suc k) [] le = refl
     whole (suc k) (y ∷ ys) le = ap (λ (l : List ℕ). y ∷ l) (whole k ys (omega arith))
 
-first_of : (a b : Bool) → (a && b) ≡ true → a ≡ true
+pub first_of : (a b : Bool) → (a && b) ≡ true → a ≡ true
 first_of true b e = refl
 first_of false b e = e
 
-second_of : (a b : Bool) → (a && b) ≡ true → b ≡ true
+pub second_of : (a b : Bool) → (a && b) ≡ true → b ≡ true
 second_of true b e = e
 second_of false b e = absurd (cc)
 
-at_most : (a b : ℕ) → nat_le a b ≡ true → a ≤ b
+pub at_most : (a b : ℕ) → nat_le a b ≡ true → a ≤ b
 at_most a b q = grind (arith, nat_tests)
 
 le_is : (a b : ℕ) → a ≤ b → nat_le a b ≡ true
@@ -35,18 +35,18 @@ le_is a b le = grind (arith, nat_tests)
 le_not : (a b : ℕ) → b < a → nat_le a b ≡ false
 le_not a b lt = grind (arith, nat_tests)
 
-lt_is : (a b : ℕ) → a < b → nat_lt a b ≡ true
+pub lt_is : (a b : ℕ) → a < b → nat_lt a b ≡ true
 lt_is a b lt = grind (arith, nat_tests)
 
-lt_not : (a b : ℕ) → b ≤ a → nat_lt a b ≡ false
+pub lt_not : (a b : ℕ) → b ≤ a → nat_lt a b ≡ false
 lt_not a b le = grind (arith, nat_tests)
 
-past_front : (n x : ℕ) (xs : List ℕ) → drop (4 + n) (x ∷ xs) ≡ drop (3 + n) xs
+pub past_front : (n x : ℕ) (xs : List ℕ) → drop (4 + n) (x ∷ xs) ≡ drop (3 + n) xs
 past_front n x xs = let e : 4 + n ≡ suc (3 + n) = omega arith in ap (λ (k : ℕ). drop k (x ∷ xs)) e
 
 -- ---- keys among parameters
 
-key_skip : (key n : ℕ) (xs : List ℕ) → has_key key n xs ≡ has_key key 0 (drop n xs)
+pub key_skip : (key n : ℕ) (xs : List ℕ) → has_key key n xs ≡ has_key key 0 (drop n xs)
 key_skip key zero xs = refl
 key_skip key (suc n) [] = refl
 key_skip key (suc n) (x ∷ xs) = key_skip key n xs
@@ -66,7 +66,7 @@ key_further key xs whole some is e = sym (key_front key xs some ∙ ap (λ (b : 
 
 -- ---- places
 
-place_skip : (key n : ℕ) (xs : List ℕ) → place key n xs ≡ (length xs - length (drop n xs)) + place key 0 (drop n xs)
+pub place_skip : (key n : ℕ) (xs : List ℕ) → place key n xs ≡ (length xs - length (drop n xs)) + place key 0 (drop n xs)
 place_skip key zero xs = omega arith
 place_skip key (suc n) [] = omega arith
 place_skip key (suc n) (x ∷ xs) =
@@ -96,7 +96,7 @@ place_stops key (x ∷ xs) stops = ap (λ (b : Bool). if b then 1 + place key (3
 
 -- ---- parameters
 
-parameter_skip : (all : List ℕ) (least n : ℕ) (xs : List ℕ) → n ≤ length xs → are_parameters all least n xs ≡ are_parameters all least 0 (drop n xs)
+pub parameter_skip : (all : List ℕ) (least n : ℕ) (xs : List ℕ) → n ≤ length xs → are_parameters all least n xs ≡ are_parameters all least 0 (drop n xs)
 parameter_skip all least zero xs le = refl
 parameter_skip all least (suc n) [] le = absurd (omega arith)
 parameter_skip all least (suc n) (x ∷ xs) le = parameter_skip all least n xs (omega arith)
@@ -119,12 +119,12 @@ parameter_stops all least (x ∷ xs) whole some is e =
 
 -- ---- identifiers of protocols
 
-protocol_skip : (n : ℕ) (xs : List ℕ) → n ≤ length xs → are_protocols n xs ≡ are_protocols 0 (drop n xs)
+pub protocol_skip : (n : ℕ) (xs : List ℕ) → n ≤ length xs → are_protocols n xs ≡ are_protocols 0 (drop n xs)
 protocol_skip zero xs le = refl
 protocol_skip (suc n) [] le = absurd (omega arith)
 protocol_skip (suc n) (x ∷ xs) le = protocol_skip n xs (omega arith)
 
-protocol_ends : (n : ℕ) (xs : List ℕ) → length xs < n → are_protocols n xs ≡ false
+pub protocol_ends : (n : ℕ) (xs : List ℕ) → length xs < n → are_protocols n xs ≡ false
 protocol_ends zero xs lt = absurd (omega arith)
 protocol_ends (suc n) [] lt = refl
 protocol_ends (suc n) (x ∷ xs) lt = protocol_ends n xs (omega arith)

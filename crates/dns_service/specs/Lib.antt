@@ -3,3 +3,4 @@ pub mod Wire
 pub mod Address
 pub mod List
 pub mod Parameter
+pub mod Text

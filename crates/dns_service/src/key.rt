@@ -6,7 +6,7 @@ ghost use Rattle.dns_service.specs.Key.{key_among, has_leading_zero, is_numbered
 use dns_codes::parse_decimal;
 
 /// The keys that have names (IANA registry of service parameter keys).
-const KEYS: &[(&str, u16)] = &[
+pub(crate) const KEYS: &[(&str, u16)] = &[
     ("mandatory", 0),
     ("alpn", 1),
     ("no-default-alpn", 2),

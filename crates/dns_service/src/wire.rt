@@ -30,7 +30,7 @@ fn is_front(all: &[u8], least: usize, bytes: &[u8]) -> bool
 }
 
 /// Returns a byte, or 0 after the last.
-fn byte_at(bytes: &[u8], place: usize) -> usize
+pub(crate) fn byte_at(bytes: &[u8], place: usize) -> usize
     ensures value { result ≡ get_or bytes.now place 0 }
     ensures bound { result < 256 }
 {
@@ -42,7 +42,7 @@ fn byte_at(bytes: &[u8], place: usize) -> usize
 }
 
 /// Returns the key of the parameter at the front of bytes.
-fn key_at(bytes: &[u8]) -> usize
+pub(crate) fn key_at(bytes: &[u8]) -> usize
     ensures value { result ≡ key_at bytes.now }
     ensures bound { result < 65536 }
 {
@@ -58,7 +58,7 @@ fn len_at(bytes: &[u8]) -> usize
 }
 
 /// Returns the value of the parameter at the front of bytes, as far as it is there.
-fn front_value(bytes: &[u8]) -> &[u8]
+pub(crate) fn front_value(bytes: &[u8]) -> &[u8]
     ensures { result.now ≡ front_value bytes.now }
 {
     let value = skip(bytes, 4);
@@ -66,7 +66,7 @@ fn front_value(bytes: &[u8]) -> &[u8]
 }
 
 /// Returns what follows the parameter at the front of bytes.
-fn after_front(bytes: &[u8]) -> &[u8]
+pub(crate) fn after_front(bytes: &[u8]) -> &[u8]
     ensures { result.now ≡ drop (4 + len_at bytes.now) bytes.now }
 {
     skip(bytes, 4 + len_at(bytes))

@@ -17,9 +17,9 @@ use Rattle.stub_link.specs.declared.link.script.LinkEvent.{LinkEvent}
 use Rattle.stub_link.specs.declared.link.script.LinkEvent.TheVariants.{Question, Update, Reply, Quiet, Fail}
 use Rattle.stub_link.specs.declared.link.server.Server.{Server}
 use Rattle.stub_link.specs.declared.link.scripted.ScriptedLink.{ScriptedLink}
-use Rattle.stub_link.specs.Link.{datagram_of, stream_reply_of}
+use Rattle.stub_link.specs.Link.{Rises, datagram_of, stream_reply_of}
 use Rattle.stub_link.specs.LinkState.{Course, Honest, Listed, LinkState, Received, begins_with_fail, fail, receive, send, serve, with_last, with_under_way, without_first, Receives as ReceivesMessage, Sends as SendsMessage, Streams as StreamsMessage}
-use Rattle.stub_link.specs.ScriptedLink.{AreRelated, HasSent, IsAt, IsCourse, IsPlace, IsReceived, IsRequest, IsServerOf, IsStreamReply, IsStreamed, KeepsMemory, LeadsTo, Receives, Sends, Shows, Streams, TakesFail, UnlessMemory, bytes_of, named_place, places_of}
+use Rattle.stub_link.specs.ScriptedLink.{AreRelated, CountsFailure, HasSent, IsAt, IsCourse, IsDecided, IsPlace, IsReceived, IsRequest, IsServerOf, IsStreamReply, IsStreamed, KeepsMemory, LeadsTo, Receives, Sends, Shows, Streams, TakesFail, UnlessMemory, bytes_of, named_place, places_of}
 use Rattle.stub_link.proofs.Delivering.{related-append}
 use Rattle.stub_link.proofs.Receiving.{ReceivesBy, receive-record}
 use Rattle.stub_link.proofs.Scripts.{course-same, sent-course, sent-same, with-last}
@@ -105,17 +105,19 @@ unfailed-shows old mid state t shown = (
 
 -- ---- sending
 
-pub sends-failed : (old new : ScriptedLink) (bytes : List ℕ) → Failed-call old new → Sends old bytes (Err Failed) new
-sends-failed old new bytes f = record {
+pub sends-failed : (old new : ScriptedLink) (bytes : List ℕ) → Failed-call old new → Rises old.failures new.failures → Sends old bytes (Err Failed) new
+sends-failed old new bytes f counts = record {
   memory = failed-memory old new f;
+  counts = counts;
   fault = λ first. refl;
   states = λ state m at lives r.
       let l = failed-leads old new state f at lives in
       (fail state, l.1, (l.0, refl));
 }
 
-pub sends-memory : (old mid new : ScriptedLink) (bytes : List ℕ) → TakesFail old false mid → new.out_of_memory ≡ true → Sends old bytes (Err Memory) new
-sends-memory old mid new bytes t out = record {
+pub sends-memory : (old mid new : ScriptedLink) (bytes : List ℕ) → TakesFail old false mid → new.out_of_memory ≡ true → new.failures ≡ mid.failures → Sends old bytes (Err Memory) new
+sends-memory old mid new bytes t out same = record {
+  counts = same ∙ ap (λ (l : ScriptedLink). l.failures) t.rest;
   memory = record { stays = λ was. out; reported = λ lives now. refl };
   fault = λ first. absurd (true≢false (sym first ∙ sym t.front));
   states = λ state m at lives r. (out_of state, at-out new state out, out-is state);
@@ -131,9 +133,10 @@ send-memory m state = by state.is_update
     by true = refl
     by false = refl
 
-pub sends-ok : (old mid new : ScriptedLink) (bytes : List ℕ) (done : Unit {0}) → TakesFail old false mid → ((state : LinkState) (m : Message) → Shows mid state → IsRequest bytes m → Shows new (send m state)) → new.out_of_memory ≡ mid.out_of_memory
+pub sends-ok : (old mid new : ScriptedLink) (bytes : List ℕ) (done : Unit {0}) → TakesFail old false mid → ((state : LinkState) (m : Message) → Shows mid state → IsRequest bytes m → Shows new (send m state)) → new.out_of_memory ≡ mid.out_of_memory → new.failures ≡ mid.failures
     → Sends old bytes (Ok done) new
-sends-ok old mid new bytes done t sends same = record {
+sends-ok old mid new bytes done t sends same failures = record {
+  counts = failures ∙ ap (λ (l : ScriptedLink). l.failures) t.rest;
   memory = record {
     stays = λ out. memory ∙ out;
     reported = λ lives out. absurd (true≢false (sym out ∙ memory ∙ lives));
@@ -149,8 +152,10 @@ sends-ok old mid new bytes done t sends same = record {
 
 -- ---- receiving
 
-pub receives-memory : (old new : ScriptedLink) → new.out_of_memory ≡ true → Receives old (Err Memory) new
-receives-memory old new out = record {
+pub receives-memory : (old new : ScriptedLink) → new.out_of_memory ≡ true → new.failures ≡ old.failures → IsDecided old (Err Memory) → Receives old (Err Memory) new
+receives-memory old new out counts decided = record {
+  counts = counts;
+  decided = decided;
   memory = record { stays = λ was. out; reported = λ lives now. refl };
   states = λ state at lives. (Err Memory, refl, (out_of state, at-out new state out, refl));
 }
@@ -163,8 +168,10 @@ receives-message state (Err Memory) after (Err error) other is e = absurd (other
 receives-message state (Err Memory) after (Ok None) other is e = absurd is
 receives-message state (Err Memory) after (Ok (Some bytes)) other is e = absurd is
 
-pub receives-by : (old new : ScriptedLink) (received : Result (Option (List ℕ)) LinkError) → (received ≡ Err Memory → ⊥) → ((state : LinkState) → Shows old state → ReceivesBy received new state) → new.out_of_memory ≡ old.out_of_memory → Receives old received new
-receives-by old new received other receives same = record {
+pub receives-by : (old new : ScriptedLink) (received : Result (Option (List ℕ)) LinkError) → (received ≡ Err Memory → ⊥) → ((state : LinkState) → Shows old state → ReceivesBy received new state) → new.out_of_memory ≡ old.out_of_memory → CountsFailure received old.failures new.failures → IsDecided old received → Receives old received new
+receives-by old new received other receives same counts decided = record {
+  counts = counts;
+  decided = decided;
   memory = record {
     stays = λ out. same ∙ out;
     reported = λ lives out. absurd (true≢false (sym out ∙ same ∙ lives));
@@ -176,8 +183,9 @@ receives-by old new received other receives same = record {
 
 -- ---- streams
 
-pub streams-failed : (old new : ScriptedLink) (bytes : List ℕ) → Failed-call old new → Streams old bytes (Err Failed) new
-streams-failed old new bytes f = record {
+pub streams-failed : (old new : ScriptedLink) (bytes : List ℕ) → Failed-call old new → Rises old.failures new.failures → Streams old bytes (Err Failed) new
+streams-failed old new bytes f counts = record {
+  counts = counts;
   memory = failed-memory old new f;
   fault = λ first. refl;
   states = λ state m at lives r within.
@@ -185,8 +193,9 @@ streams-failed old new bytes f = record {
       (Err Failed, refl, (fail state, l.1, (l.0, refl)));
 }
 
-pub streams-memory : (old mid new : ScriptedLink) (bytes : List ℕ) → TakesFail old false mid → new.out_of_memory ≡ true → Streams old bytes (Err Memory) new
-streams-memory old mid new bytes t out = record {
+pub streams-memory : (old mid new : ScriptedLink) (bytes : List ℕ) → TakesFail old false mid → new.out_of_memory ≡ true → new.failures ≡ mid.failures → Streams old bytes (Err Memory) new
+streams-memory old mid new bytes t out same = record {
+  counts = same ∙ ap (λ (l : ScriptedLink). l.failures) t.rest;
   memory = record { stays = λ was. out; reported = λ lives now. refl };
   fault = λ first. absurd (true≢false (sym first ∙ sym t.front));
   states = λ state m at lives r within. (Err Memory, refl, (out_of state, at-out new state out, refl));
@@ -210,6 +219,7 @@ pub streams-ok : (old mid new : ScriptedLink) (bytes : List ℕ) (reply : Vec �
     → ((state : LinkState) (m : Message) → IsServerOf mid.server state → IsRequest bytes m → length bytes ≤ 65535 → IsStreamReply (sent_reply state.zone Stream m) (Some reply) × IsServerOf new.server (serve m state))
     → Streams old bytes (Ok reply.items) new
 streams-ok old mid new bytes reply t e serves = record {
+  counts = ap (λ (l : ScriptedLink). l.failures) e ∙ ap (λ (l : ScriptedLink). l.failures) t.rest;
   memory = record {
     stays = λ out. memory ∙ out;
     reported = λ lives out. absurd (true≢false (sym out ∙ memory ∙ lives));
@@ -228,10 +238,11 @@ streams-ok old mid new bytes reply t e serves = record {
     memory = ap (λ (l : ScriptedLink). l.out_of_memory) e ∙ ap (λ (l : ScriptedLink). l.out_of_memory) t.rest
 
 -- no request of at most 65,535 bytes lacks a reply
-pub streams-none : (old mid new : ScriptedLink) (bytes : List ℕ) (server : Server) → TakesFail old false mid → new.out_of_memory ≡ mid.out_of_memory
+pub streams-none : (old mid new : ScriptedLink) (bytes : List ℕ) (server : Server) → TakesFail old false mid → new.out_of_memory ≡ mid.out_of_memory → Rises mid.failures new.failures
     → ((state : LinkState) (m : Message) → IsServerOf mid.server state → IsRequest bytes m → length bytes ≤ 65535 → IsStreamReply (sent_reply state.zone Stream m) None × IsServerOf server (serve m state))
     → Streams old bytes (Err Failed) new
-streams-none old mid new bytes server t same serves = record {
+streams-none old mid new bytes server t same counts serves = record {
+  counts = subst (λ (n : ℕ). Rises n new.failures) (ap (λ (l : ScriptedLink). l.failures) t.rest) counts;
   memory = record {
     stays = λ out. memory ∙ out;
     reported = λ lives out. absurd (true≢false (sym out ∙ memory ∙ lives));
@@ -348,34 +359,45 @@ pub noted-out : (old new : ScriptedLink) (done result : Result (Unit {0}) AllocE
 noted-out old new (Err refused) result error is same err = ap (λ (l : ScriptedLink). l.out_of_memory) err
 noted-out old new (Ok done) result error is same err = absurd (let wrong : Err error ≡ Ok done = sym is ∙ same in cc wrong)
 
+-- and counts no failure
+pub noted-failures : (old new : ScriptedLink) (done : Result (Unit {0}) AllocError) → OnOk done (new ≡ old)
+    → OnErr done (new ≡ record old { out_of_memory = true }) → new.failures ≡ old.failures
+noted-failures old new (Ok done) ok err = ap (λ (l : ScriptedLink). l.failures) ok
+noted-failures old new (Err error) ok err = ap (λ (l : ScriptedLink). l.failures) err
+
 accepted : {P : Type 0} (done result : Result (Unit {0}) AllocError) (x : Unit {0}) → result ≡ Ok x → result ≡ done → OnOk done P → P
 accepted (Ok done) result x is same p = p
 accepted (Err error) result x is same p = absurd (let wrong : Ok x ≡ Err error = sym is ∙ same in cc wrong)
 
 pub sends-noted : (old mid recorded new : ScriptedLink) (bytes : List ℕ) (done result : Result (Unit {0}) AllocError) (x : Unit {0}) → TakesFail old false mid
-    → OnOk done ((state : LinkState) (m : Message) → Shows mid state → IsRequest bytes m → Shows recorded (send m state)) → recorded.out_of_memory ≡ mid.out_of_memory
+    → OnOk done ((state : LinkState) (m : Message) → Shows mid state → IsRequest bytes m → Shows recorded (send m state)) → recorded.out_of_memory ≡ mid.out_of_memory → recorded.failures ≡ mid.failures
     → result ≡ Ok x → result ≡ done → OnOk done (new ≡ recorded) → Sends old bytes (Ok tt) new
-sends-noted old mid recorded new bytes done result x t sends memory is same ok =
+sends-noted old mid recorded new bytes done result x t sends memory failures is same ok =
     let e : new ≡ recorded = accepted done result x is same ok in
     let s : (state : LinkState) (m : Message) → Shows mid state → IsRequest bytes m → Shows recorded (send m state) = accepted done result x is same sends in
     sends-ok old mid new bytes tt t (λ state m shown r. subst (λ (l : ScriptedLink). Shows l (send m state)) (sym e) (s state m shown r)) (ap (λ (l : ScriptedLink). l.out_of_memory) e ∙ memory)
+    (ap (λ (l : ScriptedLink). l.failures) e ∙ failures)
 
 -- ---- receives, by what they report
-
-pub reports-memory : (old new : ScriptedLink) (received : Result (Option (Vec ℕ)) LinkError) → received ≡ Err Memory → new.out_of_memory ≡ true → Receives old (datagram_of received) new
-reports-memory old new received is out = subst (λ (r : Result (Option (Vec ℕ)) LinkError). Receives old (datagram_of r) new) (sym is) (receives-memory old new out)
 
 abbrev Received-as : Result (Option (List ℕ)) LinkError → ScriptedLink → LinkState → Type 0
 Received-as received new state =
     (datagram : Result (Option Message) LinkError) × (after : LinkState) × IsReceived received datagram × Shows new after × (receive state ≡ record { datagram = datagram; state = after }) × (after.out_of_memory ≡ state.out_of_memory)
 
 pub reports-other : (old new : ScriptedLink) (received : Result (Option (Vec ℕ)) LinkError) → (received ≡ Err Memory → ⊥)
-    → UnlessMemory received ((state : LinkState) → Shows old state → Received-as (datagram_of received) new state) → new.out_of_memory ≡ old.out_of_memory → Receives old (datagram_of received) new
-reports-other old new (Err Memory) other receives same = absurd (other refl)
-reports-other old new (Err Failed) other receives same = receives-by old new (Err Failed) (λ e. absurd (cc e)) (λ state shown. receive-record (Err Failed) new state (receives state shown)) same
-reports-other old new (Ok got) other receives same = receives-by old new (datagram_of (Ok got)) (λ e. absurd (cc e)) (λ state shown. receive-record (datagram_of (Ok got)) new state (receives state shown)) same
+    → UnlessMemory received ((state : LinkState) → Shows old state → Received-as (datagram_of received) new state) → new.out_of_memory ≡ old.out_of_memory → CountsFailure received old.failures new.failures → IsDecided old (datagram_of received) → Receives old (datagram_of received) new
+reports-other old new (Err Memory) other receives same counts decided = absurd (other refl)
+reports-other old new (Err Failed) other receives same counts decided = receives-by old new (Err Failed) (λ e. absurd (cc e)) (λ state shown. receive-record (Err Failed) new state (receives state shown)) same counts decided
+reports-other old new (Ok got) other receives same counts decided = receives-by old new (datagram_of (Ok got)) (λ e. absurd (cc e)) (λ state shown. receive-record (datagram_of (Ok got)) new state (receives state shown)) same counts decided
 
 pub reports-failed : (old new : ScriptedLink) (error : LinkError) → error ≡ Failed
-    → UnlessMemory {X = Option (Vec ℕ)} (Err error) ((state : LinkState) → Shows old state → Received-as (Err error) new state) → new.out_of_memory ≡ old.out_of_memory → Receives old (Err Failed) new
-reports-failed old new Failed is receives same = reports-other old new (Err Failed) (λ e. absurd (cc e)) receives same
-reports-failed old new Memory is receives same = absurd (cc is)
+    → UnlessMemory {X = Option (Vec ℕ)} (Err error) ((state : LinkState) → Shows old state → Received-as (Err error) new state) → new.out_of_memory ≡ old.out_of_memory
+    → CountsFailure {X = Option (Vec ℕ)} (Err error) old.failures new.failures → IsDecided old (Err error) → Receives old (Err Failed) new
+reports-failed old new Failed is receives same counts decided = reports-other old new (Err Failed) (λ e. absurd (cc e)) receives same counts decided
+reports-failed old new Memory is receives same counts decided = absurd (cc is)
+
+pub reports-memory : (old received new : ScriptedLink) (error : LinkError) → error ≡ Memory → new.out_of_memory ≡ true
+    → new.failures ≡ received.failures → CountsFailure {X = Option (Vec ℕ)} (Err error) old.failures received.failures
+    → IsDecided old (Err error) → Receives old (Err Memory) new
+reports-memory old received new Memory is out same counts decided = receives-memory old new out (same ∙ counts) decided
+reports-memory old received new Failed is out same counts decided = absurd (cc is)

@@ -18,7 +18,7 @@ use Rattle.stub_link.specs.declared.link.server.Server.{Server}
 use Rattle.stub_link.specs.declared.link.scripted.ScriptedLink.{ScriptedLink}
 use Rattle.stub_link.specs.Link.{Rises, datagram_of}
 use Rattle.stub_link.specs.LinkState.{Course, Honest, Listed, LinkState, Received, ServerReply, begins_with_fail, deliver, deliver_event, deliver_named, fail, message_of, receive, receive_by, receive_listed, receive_reply, receives_in, without_first}
-use Rattle.stub_link.specs.ScriptedLink.{AreRelated, HasSent, IsAt, IsCourse, IsPlace, IsReceived, IsRequest, IsServerOf, ReceivesHonestly, ReceivesListed, Shows, TakesFail, UnlessMemory, bytes_of, places_of}
+use Rattle.stub_link.specs.ScriptedLink.{AreRelated, FrontDecides, HasSent, IsAt, IsCourse, IsPlace, IsReceived, IsRequest, IsServerOf, ReceivesHonestly, ReceivesListed, Shows, TakesFail, UnlessMemory, bytes_of, places_of}
 use Rattle.stub_link.proofs.Delivering.{AreAt, IsReplyIn, at_none, at_some, related-at}
 use Rattle.stub_link.proofs.Scripts.{ReceiveLeads, course-same, events-rest, keeps-memory, keeps-update, reverse-last, sent-after, sent-course, sent-same}
 
@@ -104,13 +104,38 @@ delivery-taken old new event goal is events delivers r = record {
   same = ap (λ (v : Vec LinkEvent). receive_listed (reverse v.items) (deliver_event r.now event)) events ∙ delivery-step event (reverse old.events.items) r.now is ∙ r.same;
 }
 
+-- the front of a script decides no receive
+abbrev IsOpen : ScriptedLink → Type 0
+IsOpen link = (received : Result (Option (List ℕ)) LinkError) → FrontDecides (reverse link.events.items) received
+
 -- what a receive by the rest of a script leads to, one by all of it leads to
 pub record ReceiveLeft (first link : ScriptedLink) : Type 0 where
   pub leads : (state : LinkState) → HasSent first state → ReceiveLeads link (reverse link.events.items) (receive_listed (reverse first.events.items) state)
   pub rest : link ≡ record first { server = link.server; events = link.events }
+  pub front : (link.events.items ≡ first.events.items) ⊎ IsOpen first
 
 pub receive-begun : (link : ScriptedLink) → ReceiveLeft link link
-receive-begun link = record { leads = λ state h. record { now = state; sent = h; same = refl }; rest = refl }
+receive-begun link = record { leads = λ state h. record { now = state; sent = h; same = refl }; rest = refl; front = inl refl }
+
+-- what the next event decides, the front of the whole script decides, if it decides anything
+pub front-of : (first link : ScriptedLink) (left : Vec LinkEvent) (event : LinkEvent) (received : Result (Option (List ℕ)) LinkError)
+    → ReceiveLeft first link → link.events.items ≡ left.items ++ event ∷ [] → FrontDecides (event ∷ reverse left.items) received
+    → FrontDecides (reverse first.events.items) received
+front-of first link left event received r last here =
+    elim r.front [
+      | inl same ↦ subst (λ (es : List LinkEvent). FrontDecides es received)
+          (sym (reverse-last link.events.items left.items event last) ∙ ap reverse same) here
+      | inr h ↦ h received
+    ]
+
+-- so does the end of a script
+pub front-of-end : (first link : ScriptedLink) (received : Result (Option (List ℕ)) LinkError) → ReceiveLeft first link
+    → link.events.items ≡ [] → FrontDecides [] received → FrontDecides (reverse first.events.items) received
+front-of-end first link received r none here =
+    elim r.front [
+      | inl same ↦ subst (λ (es : List LinkEvent). FrontDecides es received) (ap reverse (sym none ∙ same)) here
+      | inr h ↦ h received
+    ]
 
 -- an event is taken, and nothing was done yet
 pub receive-popped : (first link : ScriptedLink) (popped : Vec LinkEvent) (event : LinkEvent) → ReceiveLeft first link → link.events.items ≡ popped.items ++ event ∷ [] → (state : LinkState) → HasSent first state
@@ -134,13 +159,20 @@ pub receive-skipped : (first link : ScriptedLink) (left : Vec LinkEvent) (n : �
 receive-skipped first link left n r last is = record {
   leads = λ state h. reply-skipped (record link { events = left }) n _ is (receive-popped first link left (Reply n) r last state h);
   rest = events-rest first link (record link { events = left }) left r.rest refl;
+  front = inr (λ received. front-of first link left (Reply n) received r last tt);
 }
+
+delivery-open : (event : LinkEvent) (left : List LinkEvent) (received : Result (Option (List ℕ)) LinkError) → IsDelivery event
+    → FrontDecides (event ∷ left) received
+delivery-open event left received (of_question n) = tt
+delivery-open event left received (of_update k) = tt
 
 pub receive-delivered : (first link new : ScriptedLink) (left : Vec LinkEvent) (event : LinkEvent) → ReceiveLeft first link → link.events.items ≡ left.items ++ event ∷ [] → IsDelivery event
     → ((state : LinkState) → HasSent (record link { events = left }) state → HasSent new (deliver_event state event)) → new ≡ record link { server = new.server; events = left } → ReceiveLeft first new
 receive-delivered first link new left event r last is delivers e = record {
   leads = λ state h. delivery-taken (record link { events = left }) new event _ is (ap (λ (l : ScriptedLink). l.events) e) delivers (receive-popped first link left event r last state h);
   rest = events-rest first link new left r.rest e;
+  front = inr (λ received. front-of first link left event received r last (delivery-open event (reverse left.items) received is));
 }
 
 pub receive-ended : (first link new : ScriptedLink) → ReceiveLeft first link → link.events.items ≡ [] → new.server ≡ link.server → new.datagrams ≡ link.datagrams → new.updates ≡ link.updates → new.events.items ≡ []

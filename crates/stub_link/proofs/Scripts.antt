@@ -1,9 +1,10 @@
 -- Scripted links: what was sent, and what is left of a script.
-use Rattle.std.proofs.Common.{◌≡◌, ◌≢◌, ◌+◌, ◌-◌, ◌<◌, ◌≤◌, ℕ, zero, suc, List, [], ◌∷◌, ◌++◌, Bool, true, false, length, reverse, map, take, Option, Some, None, Result, Ok, Err, IsOk, OnOk, OnErr, option_map, refl, sym, ap, subst, ◌∙◌, inl, inr, arith, length-append}
+use Rattle.std.proofs.Common.{◌≡◌, ◌≢◌, ◌+◌, ◌-◌, ◌<◌, ◌≤◌, ◌||◌, ℕ, zero, suc, List, [], ◌∷◌, ◌++◌, Bool, true, false, length, reverse, map, take, Option, Some, None, Result, Ok, Err, IsOk, OnOk, OnErr, option_map, refl, sym, ap, subst, ◌∙◌, inl, inr, arith, length-append}
 use Rattle.std.specs.Prelude.{◌⊎◌, slice_get}
 use Rattle.std.specs.Global.{Vec}
 use Rattle.std.specs.declared.alloc.AllocError.{AllocError}
-use Rattle.std.specs.List.{fold}
+use Rattle.std.specs.List.{fold, list_any}
+use Rattle.std.proofs.lemmas.List.Folds.{list_any-append}
 use Rattle.std.specs.Option.{option_to_list}
 use Rattle.std.proofs.lemmas.List.{append-nil, reverse-append, reverse-reverse}
 use Rattle.std.proofs.Math.Seq.{take-append_seam}
@@ -17,7 +18,7 @@ use Rattle.stub_link.specs.declared.link.script.LinkEvent.TheVariants.{Question,
 use Rattle.stub_link.specs.declared.link.script.Script.{Script}
 use Rattle.stub_link.specs.declared.link.server.Server.{Server}
 use Rattle.stub_link.specs.declared.link.scripted.ScriptedLink.{ScriptedLink}
-use Rattle.stub_link.specs.LinkState.{Course, Honest, Listed, LinkState, Received, ServerReply, begin_event, begin_update, begins_with_fail, course_of, deliver, deliver_event, deliver_named, deliver_rest, end_event, first_link_state, message_of, named_update, receive_listed, receive_reply, receives_in, with_last, without_first}
+use Rattle.stub_link.specs.LinkState.{Course, Honest, Listed, LinkState, Received, ServerReply, begin_event, begin_update, begins_with_fail, course_of, deliver, deliver_event, deliver_named, deliver_rest, end_event, first_link_state, is_delivery, message_of, named_update, receive_listed, receive_reply, receives_in, with_last, without_first}
 use Rattle.stub_link.specs.ScriptedLink.{AreRelated, HasSent, IsAt, IsBegun, IsCourse, IsDelivered, IsEnded, IsPlace, IsReceived, IsRequest, IsServerOf, ReceivesListed, bytes_of, named_place, places_of}
 use Rattle.stub_link.proofs.Delivering.{AreAt, at_none, at_some, related-append, related-at}
 
@@ -405,15 +406,21 @@ event-delivered old server bytes (Ok done) event place at is delivers = λ state
 pub record EventsLeft (first link : ScriptedLink) : Type 0 where
   pub leads : (state : LinkState) → HasSent first state → EventsLead link (reverse link.events.items) (fold deliver_event state (reverse first.events.items))
   pub rest : link ≡ record first { server = link.server; events = link.events }
-  pub none : first.events.items ≡ [] → link.events.items ≡ []
+  pub none : list_any is_delivery first.events.items ≡ false → list_any is_delivery link.events.items ≡ false
 
 pub events-begun : (link : ScriptedLink) → EventsLeft link link
 events-begun link = record { leads = λ state h. record { now = state; sent = h; same = refl }; rest = refl; none = λ is. is }
 
--- a list with a last event has one
-pub not-empty : (events : List LinkEvent) (event : LinkEvent) → events ++ event ∷ [] ≡ [] → ⊥
-not-empty [] event is = cc
-not-empty (e ∷ es) event is = cc
+-- no event of a list delivers, if none of it and a last one does, and neither does the last one
+neither : (a b : Bool) → (a || (b || false)) ≡ false → (a ≡ false) × (b ≡ false)
+neither true b h = absurd (cc h)
+neither false true h = absurd (cc h)
+neither false false h = (refl, refl)
+
+pub none-delivers : (events : List LinkEvent) (event : LinkEvent) → list_any is_delivery (events ++ event ∷ []) ≡ false
+    → (list_any is_delivery events ≡ false) × (is_delivery event ≡ false)
+none-delivers events event h =
+    neither (list_any is_delivery events) (is_delivery event) (sym (list_any-append is_delivery events (event ∷ [])) ∙ h)
 
 -- the server and the list alone change
 pub events-rest : (first link new : ScriptedLink) (popped : Vec LinkEvent) → link ≡ record first { server = link.server; events = link.events } → new ≡ record link { server = new.server; events = popped } → new ≡ record first { server = new.server; events = new.events }
@@ -432,7 +439,8 @@ events-taken first link new popped event e last delivers same = record {
             ∙ ap (λ (es : List LinkEvent). fold deliver_event r.now es) (sym (reverse-last link.events.items popped.items event last)) ∙ r.same;
       };
   rest = events-rest first link new popped e.rest same;
-  none = λ is. absurd (not-empty popped.items event (sym last ∙ e.none is));
+  none = λ is. ap (λ (l : ScriptedLink). list_any is_delivery l.events.items) same
+      ∙ (none-delivers popped.items event (ap (λ (es : List LinkEvent). list_any is_delivery es) (sym last) ∙ e.none is)).0;
 }
 
 pub events-ended : (first link new : ScriptedLink) → EventsLeft first link → link.events.items ≡ [] → new.server ≡ link.server → new.datagrams ≡ link.datagrams → new.updates ≡ link.updates
@@ -445,3 +453,8 @@ events-ended first link new e none server datagrams updates state h =
 -- an event that could not be delivered
 pub events-refused : (first link new : ScriptedLink) (popped : Vec LinkEvent) → EventsLeft first link → new ≡ record link { server = new.server; events = popped } → new ≡ record first { server = new.server; events = new.events }
 events-refused first link new popped e same = events-rest first link new popped e.rest same
+
+-- what succeeds is not refused
+pub never-refused : {X E : Type 0} {error : E} (result : Result X E) → result ≡ Err error → IsOk result → ⊥
+never-refused (Ok x) is ok = cc is
+never-refused (Err error) is ok = cc ok

@@ -140,6 +140,12 @@ deliver_rest (Listed events) state = fold deliver_event state events
 abbrev pub end_event : LinkState → LinkState
 end_event state = deliver_rest state.course (record state { course = Honest [] })
 
+-- whether an event of a script delivers what it names
+abbrev pub is_delivery : LinkEvent → Bool
+is_delivery (Question n) = true
+is_delivery (Update k) = true
+is_delivery event = false
+
 -- ---- sending
 
 -- whether `Fail` is in front of what is left of a script

@@ -1,6 +1,7 @@
 -- The scripted link with its bytes, and the states without bytes that it is in.
 use Rattle.std.specs.Prelude.{◌≡◌, ◌≤◌, length, List, [], ◌∷◌, ℕ, map, reverse, Bool, true, false, Option, Some, None, Result, Ok, Err, IsOk, OnOk, OnErr, option_map}
 use Rattle.std.specs.Global.{Vec}
+use Rattle.std.specs.List.{list_any}
 use Rattle.std.specs.declared.alloc.AllocError.{AllocError}
 use Rattle.dns_messages.specs.declared.message_type.MessageType.TheVariants as kinds
 use Rattle.dns_messages.specs.declared.message.Message.{Message}
@@ -11,7 +12,10 @@ use Rattle.stub_link.specs.declared.link.script.Script.{Script}
 use Rattle.stub_link.specs.declared.link.script.Script.TheVariants as script
 use Rattle.stub_link.specs.declared.link.server.Server.{Server}
 use Rattle.stub_link.specs.declared.link.scripted.ScriptedLink.{ScriptedLink}
-use Rattle.stub_link.specs.LinkState.{Course, Honest, Listed, LinkState, ServerReply, Received, begins_with_fail, end_event, message_of, receive_by, receive_listed, without_first, Receives as ReceivesMessage, Sends as SendsMessage, Streams as StreamsMessage}
+use Rattle.stub_link.specs.declared.link.script.LinkEvent.{LinkEvent}
+use Rattle.stub_link.specs.declared.link.script.LinkEvent.TheVariants.{Quiet, Fail}
+use Rattle.stub_link.specs.Link.{Rises}
+use Rattle.stub_link.specs.LinkState.{Course, Honest, Listed, LinkState, ServerReply, Received, begins_with_fail, end_event, is_delivery, message_of, receive_by, receive_listed, without_first, Receives as ReceivesMessage, Sends as SendsMessage, Streams as StreamsMessage}
 
 -- ---- bytes and messages
 
@@ -106,9 +110,9 @@ pub record IsBegun (old : ScriptedLink) (result : Result (Unit {0}) AllocError) 
   pub refused : OnErr result (new.out_of_memory ≡ true)
   pub failures : new.failures ≡ old.failures
 
--- nothing is left to deliver
+-- nothing is left to deliver: no datagram is under way, and no event that is left of a script names one
 abbrev pub IsDelivered : ScriptedLink → Type 0
-IsDelivered link = (link.under_way.items ≡ []) × (link.events.items ≡ [])
+IsDelivered link = (link.under_way.items ≡ []) × (list_any is_delivery link.events.items ≡ false)
 
 -- an event ends; the server may run out of memory if something is left to deliver
 pub record IsEnded (old : ScriptedLink) (result : Result (Unit {0}) AllocError) (new : ScriptedLink) : Type 0 where
@@ -122,6 +126,12 @@ abbrev pub IsStreamReply : Message → Option (Vec ℕ) → Type 0
 IsStreamReply m (Some bytes) = ReadsMessage bytes.items m
 IsStreamReply m None = ⊥
 
+-- a call that fails is counted, and no other one is
+abbrev pub CountsFailure : {X : Type 0} → Result X LinkError → ℕ → ℕ → Type 0
+CountsFailure (Err Failed) old new = Rises old new
+CountsFailure (Err Memory) old new = new ≡ old
+CountsFailure (Ok x) old new = new ≡ old
+
 -- a call that finds `Fail` in front of the script fails, whatever memory there is
 abbrev pub FailsFirst : {X : Type 0} → ScriptedLink → Result X LinkError → Type 0
 FailsFirst link result = begins_with_fail (Listed (reverse link.events.items)) ≡ true → result ≡ Err Failed
@@ -129,6 +139,7 @@ FailsFirst link result = begins_with_fail (Listed (reverse link.events.items)) �
 -- A request is sent as its message is, from each state in which the link is.
 pub record Sends (old : ScriptedLink) (bytes : List ℕ) (result : Result (Unit {0}) LinkError) (new : ScriptedLink) : Type 0 where
   pub memory : KeepsMemory old result new
+  pub counts : CountsFailure result old.failures new.failures
   pub fault : FailsFirst old result
   pub states : (state : LinkState) (m : Message) → IsAt old state → old.out_of_memory ≡ false → IsRequest bytes m
       → LeadsTo new (λ after. SendsMessage state m result after)
@@ -169,9 +180,23 @@ pub record TakesFail (old : ScriptedLink) (failed : Bool) (new : ScriptedLink) :
   pub kept : failed ≡ false → new.events.items ≡ old.events.items
   pub rest : new ≡ record old { events = new.events }
 
+-- what is in front of a script decides a receive, whatever memory there is: `Quiet` and the end are quiet, and `Fail` fails
+abbrev pub FrontDecides : List LinkEvent → Result (Option (List ℕ)) LinkError → Type 0
+FrontDecides [] received = received ≡ Ok None
+FrontDecides (Quiet ∷ events) received = received ≡ Ok None
+FrontDecides (Fail ∷ events) received = received ≡ Err Failed
+FrontDecides events received = Unit {0}
+
+-- A receive that takes no memory: nothing is under way by the honest script, or the front of a listed one decides it.
+pub record IsDecided (old : ScriptedLink) (received : Result (Option (List ℕ)) LinkError) : Type 0 where
+  pub honest : old.is_honest ≡ true → old.under_way.items ≡ [] → received ≡ Ok None
+  pub listed : old.is_honest ≡ false → FrontDecides (reverse old.events.items) received
+
 -- A receive brings the bytes of a message that a receive without bytes brings.
 pub record Receives (old : ScriptedLink) (received : Result (Option (List ℕ)) LinkError) (new : ScriptedLink) : Type 0 where
   pub memory : KeepsMemory old received new
+  pub counts : CountsFailure received old.failures new.failures
+  pub decided : IsDecided old received
   pub states : (state : LinkState) → IsAt old state → old.out_of_memory ≡ false
       → (datagram : Result (Option Message) LinkError) × IsReceived received datagram
       × LeadsTo new (λ after. ReceivesMessage state datagram after)
@@ -185,6 +210,7 @@ IsStreamed result other = ⊥
 -- A request over a stream, of at most 65,535 bytes, has the bytes of the reply to its message.
 pub record Streams (old : ScriptedLink) (bytes : List ℕ) (result : Result (List ℕ) LinkError) (new : ScriptedLink) : Type 0 where
   pub memory : KeepsMemory old result new
+  pub counts : CountsFailure result old.failures new.failures
   pub fault : FailsFirst old result
   pub states : (state : LinkState) (m : Message) → IsAt old state → old.out_of_memory ≡ false → IsRequest bytes m
       → length bytes ≤ 65535 → (answer : Result Message LinkError) × IsStreamed result answer

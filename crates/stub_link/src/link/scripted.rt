@@ -1,6 +1,6 @@
 //! A link to the server of a zone, in memory, which follows a script.
 
-ghost use Rattle.std.specs.Prelude.{◌≡◌, ◌∷◌, ◌++◌, ◌≤◌, [], ℕ, List, Option, None, Some, Err, false, true, OnOk, OnErr, IfOk, IsOk, map, option_map, reverse, slice_get};
+ghost use Rattle.std.specs.Prelude.{◌≡◌, ◌∷◌, ◌++◌, ◌≤◌, [], ℕ, List, Option, None, Some, Ok, Err, false, true, OnOk, OnErr, IfOk, IsOk, map, option_map, reverse, slice_get};
 ghost use Rattle.std.specs.Option.{option_copied};
 ghost use Rattle.stub_link.specs.LinkState.{with_last};
 ghost use Rattle.stub_link.specs.ScriptedLink.{named_place, places_of};
@@ -35,11 +35,11 @@ pub struct ScriptedLink {
 
 impl ScriptedLink {
     ghost use Rattle.std.specs.Prelude.{Result};
-    ghost use Rattle.std.specs.List.{fold};
+    ghost use Rattle.std.specs.List.{fold, list_any};
     ghost use Rattle.dns_messages.specs.declared.message.Message.{Message};
     ghost use Rattle.stub_link.specs.Link.{Rises, datagram_of};
-    ghost use Rattle.stub_link.specs.LinkState.{Course, LinkState, first_link_state, begin_event, begin_update, course_of, deliver_event, deliver_rest, end_event, receive, send};
-    ghost use Rattle.stub_link.specs.ScriptedLink.{AreRelated, HasSent, IsAt, IsBegun, IsCourse, IsDelivered, IsEnded, IsListed, IsReceived, IsRequest, ReceivesHonestly, ReceivesListed, Shows, TakesFail, UnlessMemory, bytes_of, is_out_of_memory};
+    ghost use Rattle.stub_link.specs.LinkState.{Course, LinkState, first_link_state, begin_event, begin_update, course_of, deliver_event, deliver_rest, end_event, is_delivery, receive, send};
+    ghost use Rattle.stub_link.specs.ScriptedLink.{AreRelated, CountsFailure, FrontDecides, HasSent, IsAt, IsBegun, IsCourse, IsDecided, IsDelivered, IsEnded, IsListed, IsReceived, IsRequest, ReceivesHonestly, ReceivesListed, Shows, TakesFail, UnlessMemory, bytes_of, is_out_of_memory};
 
     /// Creates a link to a server of the zone whose datagrams have at most `limit` bytes.
     pub fn new(alloc: Global, zone: Zone, limit: DatagramLimit) -> Self
@@ -161,7 +161,7 @@ impl ScriptedLink {
         ensures ends { OnOk result ((state : LinkState) → HasSent self.old state
             → HasSent self.new (fold deliver_event state (reverse self.old.events.items))) }
         ensures empty { OnOk result (self.new.events.items ≡ []) }
-        ensures decided { self.old.events.items ≡ [] → IsOk result }
+        ensures decided { list_any is_delivery self.old.events.items ≡ false → IsOk result }
         ensures rest { self.new ≡ record self.old {
           server = self.new.server;
           events = self.new.events;
@@ -177,6 +177,7 @@ impl ScriptedLink {
     fn deliver_event(&mut self, event: LinkEvent) -> Result<(), AllocError>
         ensures delivers { OnOk result ((state : LinkState) → HasSent self.old state
             → HasSent self.new (deliver_event state event)) }
+        ensures decided { is_delivery event ≡ false → IsOk result }
         ensures rest { self.new ≡ record self.old { server = self.new.server } }
     {
         match event {
@@ -197,6 +198,8 @@ impl ScriptedLink {
             × (receive state ≡ record { datagram = datagram; state = after })
             × (after.out_of_memory ≡ state.out_of_memory)) }
         ensures memory { self.new.out_of_memory ≡ self.old.out_of_memory }
+        ensures decided { IsDecided self.old (datagram_of result) }
+        ensures counts { CountsFailure result self.old.failures self.new.failures }
         ensures kept { self.old.failures ≤ self.new.failures }
         ensures fails { result ≡ Err LinkError.Failed → Rises self.old.failures self.new.failures }
     {
@@ -213,6 +216,7 @@ impl ScriptedLink {
             → HasSent self.old state → AreRelated IsRequest (bytes_of self.old.under_way) under_way
             → ReceivesHonestly self.old (option_map (λ bytes. bytes.items) received) self.new state
             under_way) }
+        ensures decided { self.old.under_way.items ≡ [] → result ≡ Ok None }
         ensures rest { self.new ≡ record self.old {
           server = self.new.server;
           under_way = self.new.under_way;
@@ -233,6 +237,8 @@ impl ScriptedLink {
     fn receive_listed(&mut self) -> Result<Option<Vec<u8>>, LinkError>
         ensures receives { UnlessMemory result ((state : LinkState) → HasSent self.old state
             → ReceivesListed self.old (datagram_of result) self.new state) }
+        ensures decided { FrontDecides (reverse self.old.events.items) (datagram_of result) }
+        ensures counts { CountsFailure result self.old.failures self.new.failures }
         ensures rest { self.new ≡ record self.old {
           server = self.new.server;
           events = self.new.events;

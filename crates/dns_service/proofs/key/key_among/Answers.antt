@@ -1,4 +1,4 @@
-use Rattle.std.proofs.Common.{sym, ◌∙◌, rules}
+use Rattle.std.proofs.Common.{rules}
 use Rattle.dns_service.proofs.KeyLaws.{key_further, key_found}
 use Rattle.dns_service.proofs.key.key_among.Goals as goal
 

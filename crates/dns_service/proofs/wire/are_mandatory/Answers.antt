@@ -1,6 +1,5 @@
-use Rattle.std.proofs.Common.{◌+◌, List, ℕ, length, drop, sym, ap, ◌∙◌, rules, arith}
-use Rattle.dns_service.specs.Wire.{are_mandatory, key_at}
-use Rattle.dns_service.proofs.LoopLaws.{mandatory_further, mandatory_low, mandatory_missing, mandatory_ends}
+use Rattle.std.proofs.Common.{rules}
+use Rattle.dns_service.proofs.LoopLaws.{mandatory_further, mandatory_low, mandatory_missing}
 use Rattle.dns_service.proofs.wire.are_mandatory.Goals as goal
 
 pub returns-then-key-least : goal.returns-then-key-least

@@ -1,5 +1,8 @@
-use Rattle.std.proofs.Common.{refl, sym, ◌∙◌}
-use Rattle.stub_link.proofs.Scripts.{events-begun, events-ended, events-refused, events-taken, not-empty}
+use Rattle.std.proofs.Common.{List, refl, sym, ap, ◌∙◌}
+use Rattle.std.specs.List.{list_any}
+use Rattle.stub_link.specs.LinkState.{is_delivery}
+use Rattle.stub_link.specs.declared.link.script.LinkEvent.{LinkEvent}
+use Rattle.stub_link.proofs.Scripts.{events-begun, events-ended, events-refused, events-taken, never-refused, none-delivers}
 use Rattle.stub_link.proofs.link.scripted.ScriptedLink.deliver_events.Goals as goal
 
 pub loop-event-init : goal.loop-event-init
@@ -14,4 +17,6 @@ returns-in_err-deliver_event-clause-rest c = events-refused c.args.self.now c.lo
 
 pub returns-in_err-deliver_event-clause-decided : goal.returns-in_err-deliver_event-clause-decided
 returns-in_err-deliver_event-clause-decided c = λ is.
-    absurd (not-empty c.pop.new.self.items c.in-Some.event (sym c.in-Some.ensures.items ∙ c.loop-event.invariant.none is))
+    let none = none-delivers c.pop.new.self.items c.in-Some.event
+    (ap (λ (es : List LinkEvent). list_any is_delivery es) (sym c.in-Some.ensures.items) ∙ c.loop-event.invariant.none is) in
+    absurd (never-refused c.deliver_event.result c.in_err-deliver_event.was (c.deliver_event.ensures.decided none.1))
