@@ -26,7 +26,7 @@ use Rattle.dns_formats.specs.declared.fault.FormatFault.TheVariants.{WrongLength
 use Rattle.dns_formats.specs.Wire.{fits}
 use Rattle.dns_formats.specs.declared.field.Field.{Field}
 use Rattle.dns_formats.specs.declared.field.Field.TheVariants.{Number16, Number32, Name}
-use Rattle.dns_formats.proofs.DecimalLaws.{decimal_parses}
+use Rattle.dns_service.proofs.DecimalLaws.{decimal_parses}
 use Rattle.dns_formats.proofs.EncodingLaws.{hex_word, hex_back}
 use Rattle.dns_data.specs.Field.{Opaque}
 use Rattle.dns_data.specs.Text.{hex_text, generic_text}

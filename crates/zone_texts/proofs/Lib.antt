@@ -3,3 +3,4 @@ pub mod TypeLaws
 pub mod GenericLaws
 pub mod LineLaws
 pub mod FileLaws
+pub mod ZoneLaws

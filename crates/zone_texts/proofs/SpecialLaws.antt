@@ -18,7 +18,7 @@ use Rattle.dns_text.specs.Lexer.{Lexeme, CharData, QuotedString}
 use Rattle.dns_text.specs.Tokens.{IsDatum, data_text}
 use Rattle.dns_text.proofs.TokenGrammarLaws.{tested}
 use Rattle.dns_formats.specs.Data.{is_generic}
-use Rattle.dns_formats.proofs.DecimalLaws.{Spelled, spelled}
+use Rattle.dns_service.proofs.DecimalLaws.{Spelled, spelled}
 use Rattle.dns_formats.proofs.WordLaws.{unlike}
 use Rattle.dns_data.specs.Text.{has_text, strings_text, AreValidValues}
 use Rattle.dns_data.specs.Field.{AreSoundValues}

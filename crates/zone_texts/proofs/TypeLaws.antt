@@ -10,7 +10,7 @@ use Rattle.dns_codes.specs.declared.record_type.RecordType.TheVariants as of
 use Rattle.dns_text.specs.Lexer.{CharData}
 use Rattle.dns_text.specs.Tokens.{IsDatum}
 use Rattle.dns_text.specs.Ttl.{time}
-use Rattle.dns_formats.proofs.DecimalLaws.{Spelled, spelled}
+use Rattle.dns_service.proofs.DecimalLaws.{Spelled, spelled}
 use Rattle.dns_formats.proofs.TypeLaws.{type_word, type_parses}
 use Rattle.dns_data.proofs.PrintedLaws.{time_parses}
 use Rattle.dns_zone_file.specs.Fields.{Field, ttl_field, class_field, type_field, begins_with_digit, zone_class, ttl_or_bad, type_or_none, word_field}

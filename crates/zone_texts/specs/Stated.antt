@@ -1,5 +1,6 @@
--- Records whose lines are read back as a zone file of all types.
-use Rattle.std.specs.Prelude.{◌≡◌, ◌<◌, ◌^◌, ℕ, true, false, List, length}
+-- Records and zones whose texts are read back as a zone file of all types.
+use Rattle.std.specs.Prelude.{◌≡◌, ◌<◌, ◌^◌, ℕ, true, false, List, length, IfSome}
+use Rattle.std.specs.FinMap as rows_map
 use Rattle.std.specs.List.{AllByRecursion}
 use Rattle.dns_codes.specs.RecordType.{type_number}
 use Rattle.dns_codes.specs.declared.dns_class.DNSClass.TheVariants as classes
@@ -12,8 +13,12 @@ use Rattle.dns_data.specs.declared.rdata.RData.{RData}
 use Rattle.dns_data.specs.declared.rdata.RData.TheVariants as of
 use Rattle.dns_data.specs.rdata.{is_update_data, IsSoundData}
 use Rattle.dns_records.specs.Record.{Record}
+use Rattle.dns_records.specs.declared.row.Row.{Row}
 use Rattle.dns_zone_file.specs.Data.{is_meta_type}
 use Rattle.dns_zone_file.specs.Printed.{HasText}
+use Rattle.dns_zone.specs.Rows.{Key, ZoneContent}
+
+-- ---- records
 
 -- Bytes that the generic form (RFC 3597 section 5) states as data of a type: some octets, of a type that a zone may have, which
 -- are the fields of the type if it has a format.
@@ -42,3 +47,19 @@ pub record IsStatedRecord (r : Record) : Type 0 where
 -- each record can be stated
 abbrev pub AreStatedRecords : List Record → Type 0
 AreStatedRecords records = AllByRecursion IsStatedRecord records
+
+-- ---- zones
+
+-- a row with data that can be stated
+abbrev pub IsStatedRow : Row → Type 0
+IsStatedRow row = IsStatedData row.rdata
+
+-- rows that can be stated, whose owner has the labels of a name
+pub record AreStatedAt (k : Key) (found : List Row) : Type 0 where
+  pub labels : AreLabels k.0
+  pub octets : AllByRecursion AreOctets k.0
+  pub rows : AllByRecursion IsStatedRow found
+
+-- every row of a zone can be stated
+abbrev pub IsStated : ZoneContent → Type 0
+IsStated zone = (k : Key) → IfSome (rows_map.get zone.rows k) (AreStatedAt k)
