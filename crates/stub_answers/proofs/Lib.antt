@@ -3,7 +3,9 @@ pub mod ResolverLaws
 pub mod StandingLaws
 pub mod GrowingLaws
 pub mod EndedLaws
+pub mod LeadingLaws
 pub mod SelectingLaws
 pub mod ErrorLaws
 pub mod StepLaws
 pub mod EndsLaws
+pub mod SteadyLaws

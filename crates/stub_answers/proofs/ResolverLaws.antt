@@ -24,7 +24,6 @@ use Rattle.stub_client.specs.declared.caching_client.CachingClient.{CachingClien
 use Rattle.stub_client.specs.declared.caching_client.step.LookupSettings.{LookupSettings}
 use Rattle.stub_client.proofs.AnswerTypesLaws.{lookup-fits}
 use Rattle.stub_client.proofs.PassingLaws.{settings-stay}
-use Rattle.stub_hosts.specs.Hosts.{question}
 use Rattle.stub_core.specs.Attempts.{Lookups}
 use Rattle.stub_core.specs.Resolver.{LooksUp, LooksUpHost, asks_of, cleared_lookup, request_options}
 use Rattle.stub_core.specs.declared.resolver.Resolver.{Resolver}
@@ -51,8 +50,8 @@ none-kept settings q =
     record { aliases = All-nil (λ r. has_type types.CNAME r ≡ true); of_aliases = λ e. refl; left_out = λ e. refl }
 
 module _ {H : Type 0} (gives : Behavior H) (options : DnsRequestOptions) (now : ℕ) (config : TtlConfigContent) (aliases : Bool)
-    (low short : Type 0) (finds : Query → ℕ → List Record → Type 0) (lacks : Query → ℕ → NoRecords → Type 0)
-    (answers : AnswersOutlast low finds) (absences : AbsencesOutlast short lacks) (special : HoldOfSpecialNames finds lacks) (none : HasNoLeast low short config)
+    (low short : Type 0) (longest : Query → ℕ) (finds : Query → ℕ → List Record → Type 0) (misses lacks : Query → ℕ → NoRecords → Type 0)
+    (answers : AnswersOutlast low finds) (absences : AbsencesOutlast short longest misses lacks) (special : HoldOfSpecialNames finds lacks) (none : HasNoLeast low short longest config)
     (round : (number : ℕ) → type_number (type_of number) ≡ number) where
   abbrev told : LookupSettings
   told = record { preserve_intermediates = aliases; dnssec_ok = options.edns_set_dnssec_ok }
@@ -69,12 +68,12 @@ module _ {H : Type 0} (gives : Behavior H) (options : DnsRequestOptions) (now : 
   IsTyped ask = (response : DnsResponse) → meaning ask.outcome ≡ Ok response → HasAskedTypes ask.question response.message
 
   abbrev Fits : List Ask → Unit {0} → Type 0
-  Fits asks all = All (BearOut finds lacks told config now) asks × All IsTyped asks
+  Fits asks all = All (BearOut finds misses lacks told config now) asks × All IsTyped asks
 
   -- the claims hold of what a client has
   abbrev Good : Unit {0} → CachingClient H → Type 0
   Good all client =
-      (client.preserve_intermediates ≡ aliases) × (client.cache.config ≡ config) × IsHeldCache low short finds lacks now client.cache
+      (client.preserve_intermediates ≡ aliases) × (client.cache.config ≡ config) × IsHeldCache low short longest finds misses now client.cache
 
   path-none : (client : CachingClient H) → Path client [] client
   path-none client = (refl, refl, refl)
@@ -88,10 +87,10 @@ module _ {H : Type 0} (gives : Behavior H) (options : DnsRequestOptions) (now : 
   path-both old mid new asks more h k = (led-both old.handle mid.handle new.handle asks more h.0 k.0, k.1 ∙ h.1, k.2 ∙ h.2)
 
   fits-front : (asks more : List Ask) (all : Unit {0}) → Fits (asks ++ more) all → Fits asks all
-  fits-front asks more all h = (all-front (BearOut finds lacks told config now) asks more h.0, all-front IsTyped asks more h.1)
+  fits-front asks more all h = (all-front (BearOut finds misses lacks told config now) asks more h.0, all-front IsTyped asks more h.1)
 
   fits-back : (asks more : List Ask) (all : Unit {0}) → Fits (asks ++ more) all → Fits more all
-  fits-back asks more all h = (all-back (BearOut finds lacks told config now) asks more h.0, all-back IsTyped asks more h.1)
+  fits-back asks more all h = (all-back (BearOut finds misses lacks told config now) asks more h.0, all-back IsTyped asks more h.1)
 
   abbrev AsksClient : Lookups (CachingClient H) Query
   AsksClient old q reply new = Answers gives options now old q reply new
@@ -106,9 +105,9 @@ module _ {H : Type 0} (gives : Behavior H) (options : DnsRequestOptions) (now : 
             let looks : Looks told now 0 [] old.cache q h.asks reply new.cache =
             subst (λ (b : Bool). Looks (record { preserve_intermediates = b; dnssec_ok = options.edns_set_dnssec_ok }) now 0 []
             old.cache q h.asks reply new.cache) good.0 h.looks in
-            let kept = lookup-keeps low short finds lacks answers absences special told now 0 [] old.cache q h.asks reply new.cache
-            (subst (HasNoLeast low short) (sym good.1) none) (none-kept told q) good.2.holds
-            (subst (λ (c : TtlConfigContent). All (BearOut finds lacks told c now) h.asks) (sym good.1) fits.0) looks in
+            let kept = lookup-keeps low short longest finds misses lacks answers absences special told now 0 [] old.cache q h.asks reply new.cache
+            (subst (HasNoLeast low short longest) (sym good.1) none) (none-kept told q) good.2.holds
+            (subst (λ (c : TtlConfigContent). All (BearOut finds misses lacks told c now) h.asks) (sym good.1) fits.0) looks in
             let fit = lookup-fits round told now 0 [] old.cache q h.asks reply new.cache (All-nil (λ r. has_type types.CNAME r ≡ true))
             good.2.typed fits.1 looks in (
               (h.settings ∙ good.0, bounds.1 ∙ good.1, record { holds = kept.0; typed = fit.0 }),
@@ -119,9 +118,9 @@ module _ {H : Type 0} (gives : Behavior H) (options : DnsRequestOptions) (now : 
 -- ---- lookups of a resolver
 
 module _ {H : Type 0} (gives : Behavior H) (now : ℕ) (old new : Resolver H)
-    (low short : Type 0) (finds : Query → ℕ → List Record → Type 0) (lacks : Query → ℕ → NoRecords → Type 0)
-    (answers : AnswersOutlast low finds) (absences : AbsencesOutlast short lacks) (special : HoldOfSpecialNames finds lacks)
-    (none : HasNoLeast low short old.client.cache.config)
+    (low short : Type 0) (longest : Query → ℕ) (finds : Query → ℕ → List Record → Type 0) (misses lacks : Query → ℕ → NoRecords → Type 0)
+    (answers : AnswersOutlast low finds) (absences : AbsencesOutlast short longest misses lacks) (special : HoldOfSpecialNames finds lacks)
+    (none : HasNoLeast low short longest old.client.cache.config)
     (round : (number : ℕ) → type_number (type_of number) ≡ number) where
   abbrev options : DnsRequestOptions
   options = request_options old.settings.options
@@ -133,29 +132,29 @@ module _ {H : Type 0} (gives : Behavior H) (now : ℕ) (old new : Resolver H)
   aliases = old.client.preserve_intermediates
 
   abbrev P : CachingClient H → List Ask → CachingClient H → Type 0
-  P = Path gives options now config aliases low short finds lacks answers absences special none round
+  P = Path gives options now config aliases low short longest finds misses lacks answers absences special none round
 
   abbrev F : List Ask → Unit {0} → Type 0
-  F = Fits gives options now config aliases low short finds lacks answers absences special none round
+  F = Fits gives options now config aliases low short longest finds misses lacks answers absences special none round
 
   abbrev G : Unit {0} → CachingClient H → Type 0
-  G = Good gives options now config aliases low short finds lacks answers absences special none round
+  G = Good gives options now config aliases low short longest finds misses lacks answers absences special none round
 
   abbrev first : (client : CachingClient H) → P client [] client
-  first = path-none gives options now config aliases low short finds lacks answers absences special none round
+  first = path-none gives options now config aliases low short longest finds misses lacks answers absences special none round
 
   abbrev both : (s t u : CachingClient H) (asks more : List Ask) → P s asks t → P t more u → P s (asks ++ more) u
-  both = path-both gives options now config aliases low short finds lacks answers absences special none round
+  both = path-both gives options now config aliases low short longest finds misses lacks answers absences special none round
 
   abbrev front : (asks more : List Ask) (all : Unit {0}) → F (asks ++ more) all → F asks all
-  front = fits-front gives options now config aliases low short finds lacks answers absences special none round
+  front = fits-front gives options now config aliases low short longest finds misses lacks answers absences special none round
 
   abbrev back : (asks more : List Ask) (all : Unit {0}) → F (asks ++ more) all → F more all
-  back = fits-back gives options now config aliases low short finds lacks answers absences special none round
+  back = fits-back gives options now config aliases low short longest finds misses lacks answers absences special none round
 
   explained : (leads : Lookups (Unit {0}) Query → Type 0)
       → Explained P F G first both front back old.client new.client (λ all. leads (ByClaims finds lacks now))
-      → KeepsClaims low short finds lacks gives now old new leads
+      → KeepsClaims low short longest finds misses lacks gives now old new leads
   explained leads h = record {
     asks = h.0;
     led = h.1.0;
@@ -168,38 +167,38 @@ module _ {H : Type 0} (gives : Behavior H) (now : ℕ) (old new : Resolver H)
 
   pub name-keeps : (name : Result DomainName ParseError) (kind : RecordType) (reply : Reply)
       → LooksUp old.settings now (asks_of gives now old) name kind old.client reply new.client
-      → KeepsClaims low short finds lacks gives now old new (λ asks. LooksUp old.settings now asks name kind tt reply tt)
+      → KeepsClaims low short longest finds misses lacks gives now old new (λ asks. LooksUp old.settings now asks name kind tt reply tt)
   name-keeps name kind reply h =
       explained (λ asks. LooksUp old.settings now asks name kind tt reply tt)
       (looks_up-by P F G first both front back now (asks_of gives now old) (λ all. ByClaims finds lacks now)
-      (question-by gives options now config aliases low short finds lacks answers absences special none round)
+      (question-by gives options now config aliases low short longest finds misses lacks answers absences special none round)
       old.settings name kind old.client new.client reply h)
 
   pub host-keeps : (address : Option IpAddr) (name : Result DomainName ParseError) (reply : Reply)
       → LooksUpHost old.settings now (asks_of gives now old) address name old.client reply new.client
-      → KeepsClaims low short finds lacks gives now old new (λ asks. LooksUpHost old.settings now asks address name tt reply tt)
+      → KeepsClaims low short longest finds misses lacks gives now old new (λ asks. LooksUpHost old.settings now asks address name tt reply tt)
   host-keeps address name reply h =
       explained (λ asks. LooksUpHost old.settings now asks address name tt reply tt)
       (looks_up_host-by P F G first both front back now (asks_of gives now old) (λ all. ByClaims finds lacks now)
-      (question-by gives options now config aliases low short finds lacks answers absences special none round)
+      (question-by gives options now config aliases low short longest finds misses lacks answers absences special none round)
       old.settings address name old.client new.client reply h)
 
 -- ---- between lookups
 
-module _ (low short : Type 0) (finds : Query → ℕ → List Record → Type 0) (lacks : Query → ℕ → NoRecords → Type 0) where
-  pub held-later : (now later : ℕ) (cache : CacheContent) → now ≤ later → IsHeldCache low short finds lacks now cache → IsHeldCache low short finds lacks later cache
-  held-later now later cache after h = record { holds = hold-later low short finds lacks now later cache after h.holds; typed = h.typed }
+module _ (low short : Type 0) (longest : Query → ℕ) (finds : Query → ℕ → List Record → Type 0) (misses : Query → ℕ → NoRecords → Type 0) where
+  pub held-later : (now later : ℕ) (cache : CacheContent) → now ≤ later → IsHeldCache low short longest finds misses now cache → IsHeldCache low short longest finds misses later cache
+  held-later now later cache after h = record { holds = hold-later low short longest finds misses now later cache after h.holds; typed = h.typed }
 
   pub held-cleared : (now : ℕ) (cache : CacheContent) (settings : Settings) (name : Result DomainName ParseError) (kind : RecordType)
-      → IsHeldCache low short finds lacks now cache
-      → IsHeldCache low short finds lacks now (record cache { entries = cleared_lookup settings name kind cache.entries })
+      → IsHeldCache low short longest finds misses now cache
+      → IsHeldCache low short longest finds misses now (record cache { entries = cleared_lookup settings name kind cache.entries })
   held-cleared now cache settings name kind h = record {
-    holds = all-cleared_lookup (HoldOfEntry low short finds lacks now) settings name kind cache.entries h.holds;
+    holds = all-cleared_lookup (HoldOfEntry low short longest finds misses now) settings name kind cache.entries h.holds;
     typed = all-cleared_lookup (λ (e : Entry). KeptHasAskedTypes e.question e.kept) settings name kind cache.entries h.typed;
   }
 
-  pub held-empty : (now : ℕ) (cache : CacheContent) → IsHeldCache low short finds lacks now (record cache { entries = [] })
+  pub held-empty : (now : ℕ) (cache : CacheContent) → IsHeldCache low short longest finds misses now (record cache { entries = [] })
   held-empty now cache = record {
-    holds = All-nil (HoldOfEntry low short finds lacks now);
+    holds = All-nil (HoldOfEntry low short longest finds misses now);
     typed = All-nil (λ (e : Entry). KeptHasAskedTypes e.question e.kept);
   }

@@ -1,6 +1,6 @@
 -- Among the records of a message those of a type are all rows at a name, also after others are added or left out, and TTLs
 -- lowered.
-use Rattle.std.proofs.Common.{◌≡◌, ℕ, ◌+◌, ◌≤◌, ◌||◌, ◌++◌, min, Bool, true, false, cond, List, [], ◌∷◌, map, filter, All, refl, sym, subst, arith}
+use Rattle.std.proofs.Common.{◌≡◌, ℕ, ◌≤◌, ◌||◌, ◌++◌, min, Bool, true, false, cond, List, [], ◌∷◌, map, filter, All, refl, sym, subst, arith}
 use Rattle.std.proofs.lemmas.Bool.{cond_both, true≢false}
 use Rattle.std.proofs.lemmas.List.Elements.{All-head, All-tail}
 use Rattle.dns_codes.specs.RecordType.{type_number}

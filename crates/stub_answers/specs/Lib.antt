@@ -2,3 +2,4 @@ pub mod Claims
 pub mod Standing
 pub mod Lookups
 pub mod Ends
+pub mod Steady

@@ -1,11 +1,14 @@
 -- Whole sets of records, and negative answers, that stood in a zone: what may be returned for a name, whole and in time.
-use Rattle.std.specs.Prelude.{◌≡◌, ◌≢◌, ◌≤◌, ◌+◌, true, false, min, List, [], ◌∷◌, ℕ, Some, None, IsSomeAnd}
+use Rattle.std.specs.Prelude.{◌≡◌, ◌≢◌, ◌≤◌, ◌+◌, ◌*◌, ◌<◌, ◌⊎◌, Bool, true, false, suc, min, Contains, List, [], ◌∷◌, ℕ, Some, None, IsSomeAnd}
+use Rattle.dns_codes.specs.RecordType.{type_number}
 use Rattle.dns_codes.specs.declared.record_type.RecordType.{RecordType}
 use Rattle.dns_codes.specs.declared.record_type.RecordType.TheVariants as types
 use Rattle.dns_names.specs.Compare.{at_or_below}
 use Rattle.dns_names.specs.Name.{DomainName}
 use Rattle.dns_data.specs.declared.rdata.RData.TheVariants as of
+use Rattle.dns_data.specs.declared.rdata.cname.CNAME.{CNAME}
 use Rattle.dns_data.specs.declared.rdata.soa.SOA.{SOA}
+use Rattle.dns_data.specs.declared.rdata.srv.SRV.{SRV}
 use Rattle.dns_records.specs.Record.{Record}
 use Rattle.dns_records.specs.Rows.{Rows, rows_at}
 use Rattle.dns_records.specs.declared.record.Record as generic
@@ -17,12 +20,39 @@ use Rattle.dns_zone.specs.Answer.{negative, negative_ttl, record_of}
 use Rattle.stub_lookup.specs.declared.error.NoRecords.{NoRecords}
 use Rattle.stub_cache.specs.Ttl.{TtlConfigContent}
 use Rattle.stub_client.specs.SpecialNames.{special_answer}
-use Rattle.stub_client.specs.declared.special_names.SpecialAnswer.TheVariants.{Nothing}
+use Rattle.stub_client.specs.declared.special_names.SpecialAnswer.TheVariants.{Loopback, Nothing}
 use Rattle.stub_core.specs.Origins.{HasNoMinima}
 use Rattle.stub_link.specs.LinkState.{Version}
-use Rattle.stub_history.specs.Answered.{greatest_ttl, is_plain, zone_with}
-use Rattle.stub_history.specs.Stands.{IsLoopback, IsReached, StandAt}
-use Rattle.stub_answers.specs.Claims.{HasNoNegativeMinima}
+use Rattle.stub_history.specs.Answered.{greatest_ttl, zone_with}
+use Rattle.stub_history.specs.Stands.{AreSame, StandAt}
+use Rattle.stub_answers.specs.Claims.{HasNoNegativeMinima, longest_absence}
+
+-- ---- names that a question leads to
+
+-- A question for a type leads from one name to another along links, each of which stood in the zone by now: aliases, which a
+-- question for aliases themselves does not follow (RFC 1034 section 3.6.2), and for services their targets (RFC 2782), where an
+-- alias led to these, or intermediate aliases are preserved: a lookup goes on there. The links are counted.
+pub data IsLed (preserves : Bool) (history : List Version) (now : ℕ) (kind : RecordType) (from : DomainName) : ℕ → DomainName → Type 0 where
+  here : (name : DomainName) → AreSame from name → IsLed preserves history now kind from 0 name
+  by_alias : (links : ℕ) (owner name : DomainName) (moment : ℕ) (rows : Rows) (row : Row) (alias : CNAME) → type_number kind ≢ 5
+      → IsLed preserves history now kind from links owner → StandAt history moment rows → moment ≤ now
+      → Contains (rows_at rows owner.labels types.CNAME) row → row.rdata ≡ of.CNAME alias → AreSame alias.0 name
+      → IsLed preserves history now kind from (suc links) name
+  by_service : (links : ℕ) (owner name : DomainName) (moment : ℕ) (rows : Rows) (row : Row) (service : SRV) → type_number kind ≡ 33
+      → (0 < links) ⊎ (preserves ≡ true)
+      → IsLed preserves history now kind from links owner → StandAt history moment rows → moment ≤ now
+      → Contains (rows_at rows owner.labels types.SRV) row → row.rdata ≡ of.SRV service → AreSame service.target name
+      → IsLed preserves history now kind from (suc links) name
+
+-- a record of the local host, with at most its own TTL, at a special-use name that a question leads to (RFC 6761 section 6.3)
+pub record IsOfLocalHost (preserves : Bool) (history : List Version) (now : ℕ) (kind : RecordType) (from : DomainName) (r : Record) : Type 0 where
+  pub question : Query
+  pub links : ℕ
+  pub led : IsLed preserves history now kind from links question.name
+  pub whole : Record
+  pub special : special_answer question ≡ Loopback whole
+  pub same : r ≡ record whole { ttl = r.ttl }
+  pub lasts : r.ttl ≤ whole.ttl
 
 -- ---- sets of records (RFC 2181 section 5)
 
@@ -38,12 +68,13 @@ pub data HasRows (greatest moment now : ℕ) (owner : DomainName) (kind : Record
       → HasRows greatest moment now owner kind (row ∷ rows) (record (record_of owner row) { ttl = ttl } ∷ records)
 
 -- A whole set: the records of a type are all rows of this type at a name in one version of the zone, which stood at one moment
--- up to now, from which all their TTLs count. There is at least one, and the name is reached.
-pub record IsWholeSet (history : List Version) (greatest now : ℕ) (kind : RecordType) (from : DomainName) (records : List Record)
-    : Type 0 where
+-- up to now, from which all their TTLs count. There is at least one, and the question leads to the name.
+pub record IsWholeSet (preserves : Bool) (history : List Version) (greatest now : ℕ) (kind : RecordType) (from : DomainName)
+    (records : List Record) : Type 0 where
   pub owner : DomainName
   pub full : owner.is_fqdn ≡ true
-  pub reached : IsReached history now from owner
+  pub links : ℕ
+  pub led : IsLed preserves history now kind from links owner
   pub moment : ℕ
   pub rows : Rows
   pub stand : StandAt history moment rows
@@ -52,11 +83,12 @@ pub record IsWholeSet (history : List Version) (greatest now : ℕ) (kind : Reco
   pub set : HasRows greatest moment now owner kind (rows_at rows owner.labels kind) records
 
 -- The answers to a question stood: they have a whole set of the type that was asked for, or are the record of the local host,
--- at a special-use name that is reached (RFC 6761 section 6.3).
-pub data HaveStood (history : List Version) (greatest now : ℕ) (q : Query) : List Record → Type 0 where
-  as_set : (records : List Record) → IsWholeSet history greatest now q.query_type q.name records
-      → HaveStood history greatest now q records
-  as_loopback : (r : Record) → IsLoopback history now q.name r → HaveStood history greatest now q (r ∷ [])
+-- at a special-use name that the question leads to (RFC 6761 section 6.3).
+pub data HaveStood (preserves : Bool) (history : List Version) (greatest now : ℕ) (q : Query) : List Record → Type 0 where
+  as_set : (records : List Record) → IsWholeSet preserves history greatest now q.query_type q.name records
+      → HaveStood preserves history greatest now q records
+  as_loopback : (r : Record) → IsOfLocalHost preserves history now q.query_type q.name r
+      → HaveStood preserves history greatest now q (r ∷ [])
 
 -- ---- negative answers (RFC 2308)
 
@@ -64,17 +96,21 @@ pub data HaveStood (history : List Version) (greatest now : ℕ) (q : Query) : L
 abbrev pub IsSoaOf : DomainName → Row → generic.Record SOA → Type 0
 IsSoaOf origin row soa = (soa.name ≡ origin) × (of.SOA soa.rdata ≡ row.rdata)
 
--- The absence of a type stood: at one moment up to now a name that is reached had neither rows of this type nor an alias, the
--- answer of the zone was negative, with this code and the zone's SOA record (RFC 2308 sections 2 and 3). What is left of its
--- time at `now` counts from that moment: the lesser of the TTL of the SOA record and its minimum (section 5).
-pub record IsAbsent (origin : DomainName) (history : List Version) (now : ℕ) (kind : RecordType) (from : DomainName) (answer : NoRecords)
-    : Type 0 where
+-- The absence of a type stood: at one moment a name that the question leads to had neither rows of this type nor an alias, the
+-- answer of the zone was negative, with this code and the zone's SOA record (RFC 2308 sections 2 and 3). That moment is no longer
+-- ago than a negative answer may be kept, once for each link and, as `age` says, for what is kept under the question. If no minimum
+-- prolongs it, what is left of its time at `now` counts from that moment: the lesser of the TTL of the SOA record and its minimum
+-- (section 5).
+pub record IsAbsent (config : TtlConfigContent) (preserves : Bool) (origin : DomainName) (history : List Version) (age now : ℕ)
+    (kind : RecordType) (from : DomainName) (answer : NoRecords) : Type 0 where
   pub owner : DomainName
-  pub reached : IsReached history now from owner
+  pub links : ℕ
+  pub led : IsLed preserves history now kind from links owner
   pub moment : ℕ
   pub rows : Rows
   pub stand : StandAt history moment rows
   pub past : moment ≤ now
+  pub recent : now ≤ moment + (links * longest_absence config kind + age)
   pub inside : at_or_below origin.labels owner.labels ≡ true
   pub no_row : rows_at rows owner.labels kind ≡ []
   pub no_alias : rows_at rows owner.labels types.CNAME ≡ []
@@ -84,36 +120,53 @@ pub record IsAbsent (origin : DomainName) (history : List Version) (now : ℕ) (
   pub soa : IsSomeAnd answer.soa (IsSoaOf origin soa_row)
   pub left : ℕ
   pub left_is : answer.negative_ttl ≡ Some left
-  pub lasts : now + left ≤ moment + negative_ttl soa_row.ttl soa_row.rdata
+  pub lasts : HasNoNegativeMinima config → now + left ≤ moment + negative_ttl soa_row.ttl soa_row.rdata
 
--- An alias stood at a name that is reached.
-pub record IsAlias (history : List Version) (now : ℕ) (from : DomainName) : Type 0 where
+-- a question for a type leads on from a name: to the target of an alias, or of a service
+abbrev pub LeadsOn : Rows → RecordType → DomainName → Type 0
+LeadsOn rows kind owner =
+    ((type_number kind ≢ 5) × (rows_at rows owner.labels types.CNAME ≢ []))
+    ⊎ ((type_number kind ≡ 33) × (rows_at rows owner.labels types.SRV ≢ []))
+
+-- A link stood at a name that the question leads to: now, if no minimum prolongs the answer, and else no longer ago than above.
+pub record HasLink (config : TtlConfigContent) (preserves : Bool) (history : List Version) (age now : ℕ) (kind : RecordType)
+    (from : DomainName) : Type 0 where
   pub owner : DomainName
-  pub reached : IsReached history now from owner
+  pub links : ℕ
+  pub led : IsLed preserves history now kind from links owner
   pub moment : ℕ
   pub rows : Rows
   pub stand : StandAt history moment rows
   pub past : moment ≤ now
-  pub there : rows_at rows owner.labels types.CNAME ≢ []
+  pub recent : now ≤ moment + (links * longest_absence config kind + age)
+  pub there : LeadsOn rows kind owner
+  pub lasts : HasNoNegativeMinima config → now ≤ moment
 
 -- A negative answer to a question stood: as the absence of its type; or, without an SOA record and for no time, as that of a
--- special-use name that is reached (RFC 6761, RFC 7686), or where a name that is reached had an alias, as after more aliases than
+-- special-use name that the question leads to (RFC 6761, RFC 7686), or where it leads on from a name, as after more links than
 -- are followed.
-pub data HasBeenAbsent (origin : DomainName) (history : List Version) (now : ℕ) (q : Query) (answer : NoRecords) : Type 0 where
-  as_absence : IsAbsent origin history now q.query_type q.name answer → HasBeenAbsent origin history now q answer
-  as_special : (p : Query) → IsReached history now q.name p.name → special_answer p ≡ Nothing answer.response_code
-      → answer.negative_ttl ≡ None → HasBeenAbsent origin history now q answer
-  as_aliases : IsAlias history now q.name → answer.response_code ≡ NoError → answer.negative_ttl ≡ None
-      → HasBeenAbsent origin history now q answer
+pub data HasBeenAbsent (config : TtlConfigContent) (preserves : Bool) (origin : DomainName) (history : List Version) (age now : ℕ)
+    (q : Query) (answer : NoRecords) : Type 0 where
+  as_absence : IsAbsent config preserves origin history age now q.query_type q.name answer
+      → HasBeenAbsent config preserves origin history age now q answer
+  as_special : (links : ℕ) (p : Query) → IsLed preserves history now q.query_type q.name links p.name
+      → special_answer p ≡ Nothing answer.response_code → answer.negative_ttl ≡ None
+      → HasBeenAbsent config preserves origin history age now q answer
+  as_link : HasLink config preserves history age now q.query_type q.name → answer.response_code ≡ NoError → answer.negative_ttl ≡ None
+      → HasBeenAbsent config preserves origin history age now q answer
 
 -- ---- claims
 
--- The answers to a question of a plain type stood, whole, if the least TTL of positive answers is 0.
-abbrev pub FindsWhole : TtlConfigContent → List Version → Query → ℕ → List Record → Type 0
-FindsWhole config history q now records =
-    HasNoMinima config → is_plain q.query_type ≡ true → HaveStood history (greatest_ttl config q.query_type) now q records
+-- The answers to a question stood, whole, if the least TTL of positive answers is 0.
+abbrev pub FindsWhole : TtlConfigContent → Bool → List Version → Query → ℕ → List Record → Type 0
+FindsWhole config preserves history q now records =
+    HasNoMinima config → HaveStood preserves history (greatest_ttl config q.query_type) now q records
 
--- A negative answer to a question of a plain type stood, if the least time for which negative answers are kept is 0.
-abbrev pub LacksIndeed : TtlConfigContent → DomainName → List Version → Query → ℕ → NoRecords → Type 0
-LacksIndeed config origin history q now answer =
-    HasNoNegativeMinima config → is_plain q.query_type ≡ true → HasBeenAbsent origin history now q answer
+-- A negative answer to a question stood as it was stored, or passed on.
+abbrev pub MissesIndeed : TtlConfigContent → Bool → DomainName → List Version → Query → ℕ → NoRecords → Type 0
+MissesIndeed config preserves origin history q now answer = HasBeenAbsent config preserves origin history 0 now q answer
+
+-- A negative answer to a question stood, since when it may have been kept once more.
+abbrev pub LacksIndeed : TtlConfigContent → Bool → DomainName → List Version → Query → ℕ → NoRecords → Type 0
+LacksIndeed config preserves origin history q now answer =
+    HasBeenAbsent config preserves origin history (longest_absence config q.query_type) now q answer

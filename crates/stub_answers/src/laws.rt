@@ -7,4 +7,7 @@ pub use lookups::{
     WholeClaim, answers_that_stood_bear_out, caches_keep_what_stood,
     every_lookup_keeps_whole_answers, every_resolver_lookup_stands, names_end_at_a_question,
 };
-pub use standing::{absences_are_negative_answers, whole_sets_are_fresh};
+pub use standing::{
+    absences_are_negative_answers, questions_lead_along_aliases,
+    questions_that_lead_nowhere_are_answered_at_their_name, whole_sets_are_fresh,
+};

@@ -16,6 +16,7 @@ pub mod Running
 pub mod RunningOver
 pub mod RunsAgree
 pub mod SoundQuestionLaws
+pub mod SteadyRuns
 pub mod SupportedLaws
 pub mod Unchanged
 pub mod WalkedRuns

@@ -12,6 +12,7 @@ use Rattle.stub_run.specs.History.{AreOccasions, MakePasts}
 use Rattle.stub_run.specs.OneHistory.{HasOneHistory}
 use Rattle.stub_run.specs.Questions.{AreAskable}
 use Rattle.stub_run.specs.Run.{InOrder, IsReportBefore, IsReportOf, RunState, Runs, asks_of, memory_report}
+use Rattle.stub_run.specs.Steady.{AreSteady}
 use Rattle.stub_run.specs.Walked.{AreWalked}
 use Rattle.stub_run.specs.Whole.{AreWhole}
 use Rattle.stub_run.specs.World.{BeginsWith, IsFirst}
@@ -84,6 +85,14 @@ WholeLaw =
     → InOrder 0 events → Runs first events reports states last → MakePasts (first_past content.zone) states occasions
     → HasNoReuse (asks_of last).sent → AreWhole content events reports occasions
 
+abbrev pub SteadyLaw : Type 0
+SteadyLaw =
+    (content : WorldContent) (first last : RunState) (events : List Event) (reports : List EventReport) (states : List RunState)
+    (occasions : List Occasion) → IsZone content.zone
+    → IsFirst content.zone content.limit content.ids content.config content.options content.hosts first
+    → InOrder 0 events → Runs first events reports states last → MakePasts (first_past content.zone) states occasions
+    → HasNoReuse (asks_of last).sent → AreSteady content events reports occasions
+
 abbrev pub WalkedLaw : Type 0
 WalkedLaw =
     (content : WorldContent) (first last : RunState) (events : List Event) (reports : List EventReport) (states : List RunState)
@@ -109,8 +118,8 @@ HistoryLaw =
     → content.options.edns_payload_len < 2 ^ 16 → InOrder 0 events → AreAskable events → IsReportOf first events report
     → HasOneHistory content first events report
 
-pub one-history : FreshLaw → ChainLaw → WholeLaw → WalkedLaw → DecidedLaw → HistoryLaw
-one-history fresh chain whole walked decided content first events report zone begins payload order askable r =
+pub one-history : FreshLaw → ChainLaw → WholeLaw → SteadyLaw → WalkedLaw → DecidedLaw → HistoryLaw
+one-history fresh chain whole steady walked decided content first events report zone begins payload order askable r =
     let reports : List EventReport = report.events.items in
     let d = decided content.zone content.limit content.ids first r.last events reports r.states begins.asks r.runs in
     record {
@@ -124,6 +133,8 @@ one-history fresh chain whole walked decided content first events report zone be
           chain content first r.last events reports r.states d.0 zone begins order r.runs d.2 (subst HasNoReuse r.sent once) none off;
       whole = λ once.
           whole content first r.last events reports r.states d.0 zone begins order r.runs d.2 (subst HasNoReuse r.sent once);
+      steady = λ once.
+          steady content first r.last events reports r.states d.0 zone begins order r.runs d.2 (subst HasNoReuse r.sent once);
       walked = λ once off.
           walked content first r.last events reports r.states d.0 zone begins order r.runs d.2 (subst HasNoReuse r.sent once) off payload
           askable;

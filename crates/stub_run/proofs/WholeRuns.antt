@@ -1,5 +1,5 @@
 -- Event by event, the replies of a run stood in the zone: as whole sets, or as negative answers.
-use Rattle.std.proofs.Common.{◌≡◌, ℕ, ◌≤◌, ◌++◌, List, [], ◌∷◌, Result, Ok, Err, true, false, All, refl, sym, ap, subst, ◌∙◌, slice_index_or, inl, inr, arith}
+use Rattle.std.proofs.Common.{◌≡◌, ℕ, ◌≤◌, ◌++◌, List, [], ◌∷◌, Result, Ok, Err, Bool, true, false, All, refl, sym, ap, subst, ◌∙◌, slice_index_or, inl, inr, arith}
 use Rattle.std.specs.Prelude.{string_bytes}
 use Rattle.std.proofs.lemmas.Bool.{true≢false}
 use Rattle.std.proofs.lemmas.List.Elements.{All-cons, All-head, All-nil, All-tail}
@@ -40,7 +40,7 @@ use Rattle.stub_history.proofs.EventLaws.{begin-faithful, begin-update-faithful,
 use Rattle.stub_history.proofs.FaithfulLaws.{update-stays}
 use Rattle.stub_history.proofs.LedLaws.{led-holds}
 use Rattle.stub_history.proofs.ServeLaws.{UpdatesKeepZones}
-use Rattle.stub_answers.specs.Claims.{HasNoNegativeMinima}
+use Rattle.stub_answers.specs.Claims.{HasNoNegativeMinima, longest_of}
 use Rattle.stub_answers.specs.Lookups.{ByStanding, CacheStands, GoesOn, Stands}
 use Rattle.stub_answers.proofs.ClaimLaws.{own-least}
 use Rattle.stub_answers.proofs.ErrorLaws.{led-no-meaning}
@@ -66,7 +66,7 @@ use Rattle.stub_run.proofs.RunLaws.{mid-memory}
 -- ---- lists
 
 -- each ask of a lookup, in the place of each question at its moment
-each-ask : (P : Asked → Type 0) (now : ℕ) (asks : List Ask) → All P (asked_at now asks) → All (λ ask. P (record { moment = now; ask = ask })) asks
+pub each-ask : (P : Asked → Type 0) (now : ℕ) (asks : List Ask) → All P (asked_at now asks) → All (λ ask. P (record { moment = now; ask = ask })) asks
 each-ask P now [] h = All-nil (λ ask. P (record { moment = now; ask = ask }))
 each-ask P now (ask ∷ asks) h =
     All-cons (λ a. P (record { moment = now; ask = a })) ask asks (All-head P (record { moment = now; ask = ask }) (asked_at now asks) h)
@@ -75,21 +75,38 @@ each-ask P now (ask ∷ asks) h =
 module _ (keep : UpdatesKeepZones) (chains : (zone : ZoneContent) (q : Query) → IsChain zone.rows q.query_type q.name (answer zone q).answers)
     (round : (number : ℕ) → type_number (type_of number) ≡ number) (origin : DomainName) (config : TtlConfigContent)
     (settings : Settings) where
+  -- whether intermediate aliases are preserved
+  abbrev preserves : Bool
+  preserves = settings.options.preserve_intermediates
+
   -- a state: what its cache has stood
   pub record Has (state : RunState) : Type 0 where
     pub faithful : IsFaithful origin (asks_of state)
-    pub cache : CacheStands config origin (asks_of state).link.history (asks_of state).link.moment state.client.cache
+    pub cache : CacheStands config preserves origin (asks_of state).link.history (asks_of state).link.moment state.client.cache
     pub config_is : state.client.cache.config ≡ config
     pub settings_is : state.settings ≡ settings
+    pub aliases_is : state.client.preserve_intermediates ≡ preserves
+
+  -- what holds by the bounds and the client of a state holds by those of the run, and the other way round
+  by-run : (P : TtlConfigContent → Bool → Type 0) (state : RunState) → Has state
+      → P state.client.cache.config state.client.preserve_intermediates → P config preserves
+  by-run P state h x =
+      subst (λ (b : Bool). P config b) h.aliases_is (subst (λ (c : TtlConfigContent). P c state.client.preserve_intermediates) h.config_is x)
+
+  by-state : (P : TtlConfigContent → Bool → Type 0) (state : RunState) → Has state → P config preserves
+      → P state.client.cache.config state.client.preserve_intermediates
+  by-state P state h x =
+      subst (λ (c : TtlConfigContent). P c state.client.preserve_intermediates) (sym h.config_is) (subst (λ (b : Bool). P config b) (sym h.aliases_is) x)
 
   -- the handle has come to other asks, and what stood still stands
   has-after : (old : RunState) (asks : AskState) → Has old → StaysFaithful origin (asks_of old) asks → Has (with_handle old asks)
   has-after old asks h s = record {
     faithful = s.faithful;
-    cache = subst (λ (t : ℕ). CacheStands config origin asks.link.history t old.client.cache) (sym s.moment_is)
-        (cache-on (asks_of old).link.history asks.link.history config origin (asks_of old).link.moment old.client.cache s.stands h.cache);
+    cache = subst (λ (t : ℕ). CacheStands config preserves origin asks.link.history t old.client.cache) (sym s.moment_is)
+        (cache-on preserves (asks_of old).link.history asks.link.history config origin (asks_of old).link.moment old.client.cache s.stands h.cache);
     config_is = h.config_is;
     settings_is = h.settings_is;
+    aliases_is = h.aliases_is;
   }
 
   -- ---- an event begins
@@ -99,11 +116,12 @@ module _ (keep : UpdatesKeepZones) (chains : (zone : ZoneContent) (q : Query) �
       → Has (with_handle old asks)
   has-begun moment old asks h faithful same at less = record {
     faithful = faithful;
-    cache = subst (λ (vs : List Version). CacheStands config origin vs asks.link.moment old.client.cache) (sym same)
-        (held-later (HasNoMinima config) (HasNoNegativeMinima config) _ _ (asks_of old).link.moment asks.link.moment old.client.cache
+    cache = subst (λ (vs : List Version). CacheStands config preserves origin vs asks.link.moment old.client.cache) (sym same)
+        (held-later (HasNoMinima config) (HasNoNegativeMinima config) (longest_of config) _ _ (asks_of old).link.moment asks.link.moment old.client.cache
         (omega (arith, at)) h.cache);
     config_is = h.config_is;
     settings_is = h.settings_is;
+    aliases_is = h.aliases_is;
   }
 
   begun : (e : Event) (old : RunState) → Has old → (asks_of old).link.moment ≤ moment_of e
@@ -154,8 +172,8 @@ module _ (keep : UpdatesKeepZones) (chains : (zone : ZoneContent) (q : Query) �
 
     -- over each history that goes on after the lookup
     looked : (history : List Version) → AreZones origin history → GoesOn now (asks_of mid).link.history history
-        → CacheStands old.client.cache.config origin history now mid.client.cache
-        × looks (ByStanding old.client.cache.config origin history now)
+        → CacheStands old.client.cache.config old.client.preserve_intermediates origin history now mid.client.cache
+        × looks (ByStanding old.client.cache.config old.client.preserve_intermediates origin history now)
     looked history zones on =
         let k = keeps history in
         let answered : All (λ ask. IsAnsweredBy origin history (record { moment = now; ask = ask })) k.asks =
@@ -171,9 +189,9 @@ module _ (keep : UpdatesKeepZones) (chains : (zone : ZoneContent) (q : Query) �
               (answered n d less) (meanings n d less);
           typed = typed-by k.asks (led k.asks k.led).1;
         })
-        (cache-on (asks_of old).link.history history old.client.cache.config origin now old.client.cache first
-        (subst (λ (c : TtlConfigContent). CacheStands c origin (asks_of old).link.history now old.client.cache) (sym h.config_is)
-        (subst (λ (t : ℕ). CacheStands config origin (asks_of old).link.history t old.client.cache) at h.cache)))
+        (cache-on old.client.preserve_intermediates (asks_of old).link.history history old.client.cache.config origin now old.client.cache first
+        (by-state (λ c b. CacheStands c b origin (asks_of old).link.history now old.client.cache) old h
+        (subst (λ (t : ℕ). CacheStands config preserves origin (asks_of old).link.history t old.client.cache) at h.cache)))
       where
         typed-by : (asks : List Ask) → All (IsAnsweredBy origin (asks_of mid).link.history) (asked_at now asks)
             → All (λ ask. (response : DnsResponse) → meaning ask.outcome ≡ Ok response → HasAskedTypes ask.question response.message) asks
@@ -181,21 +199,22 @@ module _ (keep : UpdatesKeepZones) (chains : (zone : ZoneContent) (q : Query) �
             each-ask (λ a. (response : DnsResponse) → meaning a.ask.outcome ≡ Ok response → HasAskedTypes a.ask.question response.message) now asks
             (asked-types chains origin (asks_of mid).link.history stays.faithful.history.versions (asked_at now asks) answered)
 
-    has-looked : HasLooked old mid (λ history. looks (ByStanding config origin history now))
+    has-looked : HasLooked old mid (λ history. looks (ByStanding config preserves origin history now))
     has-looked =
         let k = keeps (asks_of mid).link.history in
         let here = looked (asks_of mid).link.history stays.faithful.history.versions (λ moment rows past stand. stand) in
         record {
           has = record {
             faithful = stays.faithful;
-            cache = subst (λ (t : ℕ). CacheStands config origin (asks_of mid).link.history t mid.client.cache) (sym at-mid)
-                (subst (λ (c : TtlConfigContent). CacheStands c origin (asks_of mid).link.history now mid.client.cache) h.config_is here.0);
+            cache = subst (λ (t : ℕ). CacheStands config preserves origin (asks_of mid).link.history t mid.client.cache) (sym at-mid)
+                (by-run (λ c b. CacheStands c b origin (asks_of mid).link.history now mid.client.cache) old h here.0);
             config_is = k.config ∙ h.config_is;
             settings_is = same ∙ h.settings_is;
+            aliases_is = k.aliases ∙ h.aliases_is;
           };
           moment_is = stays.moment_is;
           stands = λ history zones on.
-              subst (λ (c : TtlConfigContent). looks (ByStanding c origin history now)) h.config_is
+              by-run (λ c b. looks (ByStanding c b origin history now)) old h
               (looked history zones (subst (λ (t : ℕ). GoesOn t (asks_of mid).link.history history) at-mid on)).1;
         }
 
@@ -217,15 +236,16 @@ module _ (keep : UpdatesKeepZones) (chains : (zone : ZoneContent) (q : Query) �
       → HasReplied (event.Lookup at name kind script) (replies.Lookup found) old mid
   looked-up at name kind script found old mid later h moment resolves memory once =
       let c : TtlConfigContent = old.client.cache.config in
+      let b : Bool = old.client.preserve_intermediates in
       let l = has-looked at old mid later h moment resolves.settings memory once
       (λ asks. LooksUp old.settings at asks (Ok name) kind tt found tt)
-      (λ history. name-keeps AsksServer at old mid (HasNoMinima c) (HasNoNegativeMinima c) _ _ (finds-outlast c history)
-      (lacks-outlast c origin history) (special-hold c origin history) (own-least c) round (Ok name) kind found resolves.lookup) in
+      (λ history. name-keeps AsksServer at old mid (HasNoMinima c) (HasNoNegativeMinima c) (longest_of c) _ _ _ (finds-outlast c b history)
+      (lacks-outlast c b origin history) (special-hold c b origin history) (own-least c) round (Ok name) kind found resolves.lookup) in
       record {
         has = l.has;
         moment_is = l.moment_is;
         stands = λ history zones on.
-            subst (λ (s : Settings). LooksUp s at (ByStanding config origin history at) (Ok name) kind tt found tt) h.settings_is
+            subst (λ (s : Settings). LooksUp s at (ByStanding config preserves origin history at) (Ok name) kind tt found tt) h.settings_is
             (l.stands history zones on);
       }
 
@@ -236,35 +256,36 @@ module _ (keep : UpdatesKeepZones) (chains : (zone : ZoneContent) (q : Query) �
       → HasReplied (event.LookupIp at host script) (replies.LookupIp found) old mid
   looked-up-host at host script found old mid later h moment resolves memory once =
       let c : TtlConfigContent = old.client.cache.config in
+      let b : Bool = old.client.preserve_intermediates in
       let name : Result DomainName ParseError = name_of_text (string_bytes host) in
       let l = has-looked at old mid later h moment resolves.settings memory once
       (λ asks. LooksUpHost old.settings at asks resolves.address name tt found tt)
-      (λ history. host-keeps AsksServer at old mid (HasNoMinima c) (HasNoNegativeMinima c) _ _ (finds-outlast c history)
-      (lacks-outlast c origin history) (special-hold c origin history) (own-least c) round resolves.address name found resolves.lookup) in
+      (λ history. host-keeps AsksServer at old mid (HasNoMinima c) (HasNoNegativeMinima c) (longest_of c) _ _ _ (finds-outlast c b history)
+      (lacks-outlast c b origin history) (special-hold c b origin history) (own-least c) round resolves.address name found resolves.lookup) in
       record {
         has = l.has;
         moment_is = l.moment_is;
         stands = λ history zones on. (
           resolves.address,
           resolves.is_address,
-          subst (λ (s : Settings). LooksUpHost s at (ByStanding config origin history at) resolves.address name tt found tt) h.settings_is
+          subst (λ (s : Settings). LooksUpHost s at (ByStanding config preserves origin history at) resolves.address name tt found tt) h.settings_is
               (l.stands history zones on),
         );
       }
 
   -- other entries in the cache
   has-cleared : (old mid : RunState) (cache : CacheContent) → Has old
-      → CacheStands config origin (asks_of old).link.history (asks_of old).link.moment cache → cache.config ≡ old.client.cache.config
+      → CacheStands config preserves origin (asks_of old).link.history (asks_of old).link.moment cache → cache.config ≡ old.client.cache.config
       → mid ≡ record old { client = record old.client { cache = cache } } → Has mid
   has-cleared old mid cache h stands same is =
       subst Has (sym is)
-      (record { faithful = h.faithful; cache = stands; config_is = same ∙ h.config_is; settings_is = h.settings_is })
+      (record { faithful = h.faithful; cache = stands; config_is = same ∙ h.config_is; settings_is = h.settings_is; aliases_is = h.aliases_is })
 
   cleared : (name : DomainName) (kind : RecordType) (done : Result (Unit {0}) NetError) (old mid : RunState) → Has old
       → Clears name kind old done mid → Has mid × ((asks_of mid).link.moment ≡ (asks_of old).link.moment)
   cleared name kind (Ok done) old mid h clears = (
     has-cleared old mid _ h
-        (held-cleared (HasNoMinima config) (HasNoNegativeMinima config) _ _ (asks_of old).link.moment old.client.cache old.settings (Ok name) kind
+        (held-cleared (HasNoMinima config) (HasNoNegativeMinima config) (longest_of config) _ _ (asks_of old).link.moment old.client.cache old.settings (Ok name) kind
         h.cache) refl clears,
     ap (λ (s : RunState). (asks_of s).link.moment) clears,
   )
@@ -298,7 +319,7 @@ module _ (keep : UpdatesKeepZones) (chains : (zone : ZoneContent) (q : Query) �
       record { has = c.0; moment_is = c.1; stands = λ history zones on. tt }
   replied (event.ClearAll at script) (replies.Cleared done) old mid later h moment r memory once = record {
     has = has-cleared old mid _ h
-        (held-empty (HasNoMinima config) (HasNoNegativeMinima config) _ _ (asks_of old).link.moment old.client.cache) refl r.1;
+        (held-empty (HasNoMinima config) (HasNoNegativeMinima config) (longest_of config) _ _ (asks_of old).link.moment old.client.cache) refl r.1;
     moment_is = ap (λ (s : RunState). (asks_of s).link.moment) r.1;
     stands = λ history zones on. tt;
   }
@@ -366,9 +387,10 @@ whole-run keep chains round content first last events reports states occasions z
     events-stand keep chains round origin ttls (settings_of content) (first_past content.zone) first last events reports states occasions
     (record {
       faithful = subst (IsFaithful origin) (sym begins.asks) (first-faithful content.zone content.limit content.ids zone);
-      cache = subst (λ (c : CacheContent). CacheStands ttls origin (asks_of first).link.history (asks_of first).link.moment c) (sym begins.cache)
-          (held-empty (HasNoMinima ttls) (HasNoNegativeMinima ttls) _ _ (asks_of first).link.moment (empty_cache content.options));
+      cache = subst (λ (c : CacheContent). CacheStands ttls content.options.preserve_intermediates origin (asks_of first).link.history (asks_of first).link.moment c) (sym begins.cache)
+          (held-empty (HasNoMinima ttls) (HasNoNegativeMinima ttls) (longest_of ttls) _ _ (asks_of first).link.moment (empty_cache content.options));
       config_is = ap (λ (c : CacheContent). c.config) begins.cache;
       settings_is = begins.settings;
+      aliases_is = begins.aliases;
     })
     (subst (λ (a : AskState). InOrder a.link.moment events) (sym begins.asks) order) runs once pasts

@@ -75,7 +75,8 @@ IsFreshBy ttls history q now r = IsFreshFor history (greatest_ttl ttls q.query_t
 abbrev pub HasChainBy : TtlConfigContent → HistoryClaim
 HasChainBy ttls history q now r = HasShortChains history → HasChainFor history (greatest_ttl ttls q.query_type) now q.name r
 
--- A claim holds of the reply to an event: of each answer of the asked type, if this is plain, and of each address of a host.
+-- A claim holds of the reply to an event: of each answer of the asked type, if this is plain, and of each address of a host. (Of the
+-- other types the claims on whole sets say the same: their links are not aliases alone.)
 -- Excepted are records of the hosts for the names and types at which they are asked, and literal addresses. It holds of no reply to
 -- another kind of event.
 abbrev pub HoldsOfEvent : RecordClaim → Settings → Event → EventReply → Type 0

@@ -11,4 +11,5 @@ pub mod ScriptedEvents
 pub mod World
 pub mod Questions
 pub mod Walked
+pub mod Steady
 pub mod Whole

@@ -5,6 +5,7 @@ use Rattle.stub_history.specs.Faithful.{HasNoReuse}
 use Rattle.stub_run.specs.Headline.{AreFresh, HasNoLeastTtl, HaveChainBounds, WorldContent}
 use Rattle.stub_run.specs.History.{AreOccasions, MakePasts}
 use Rattle.stub_run.specs.Run.{IsReportOf, RunState}
+use Rattle.stub_run.specs.Steady.{AreSteady}
 use Rattle.stub_run.specs.Walked.{AreWalked}
 use Rattle.stub_run.specs.Whole.{AreWhole}
 use Rattle.stub_run.specs.declared.event.Event.{Event}
@@ -21,5 +22,6 @@ pub record HasOneHistory (content : WorldContent) (first : RunState) (events : L
   pub chain_bound : HasNoReuse report.sent.items → HasNoLeastTtl content → content.options.preserve_intermediates ≡ false
       → HaveChainBounds content events report.events.items occasions
   pub whole : HasNoReuse report.sent.items → AreWhole content events report.events.items occasions
+  pub steady : HasNoReuse report.sent.items → AreSteady content events report.events.items occasions
   pub walked : HasNoReuse report.sent.items → content.options.preserve_intermediates ≡ false
       → AreWalked content events report.events.items occasions

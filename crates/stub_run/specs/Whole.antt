@@ -18,14 +18,15 @@ use Rattle.stub_run.specs.declared.report.EventReply.{EventReply}
 use Rattle.stub_run.specs.declared.report.EventReply.TheVariants as replies
 use Rattle.stub_run.specs.declared.report.EventReport.{EventReport}
 
--- A lookup, of a name or of a host, is one in which the reply to each question of a plain type stood: for each attempted name,
+-- A lookup, of a name or of a host, is one in which the reply to each question stood: for each attempted name,
 -- and each type of addresses. No reply to another kind of event is one.
 abbrev pub IsStandingReply : TtlConfigContent → DomainName → List Version → Settings → Event → EventReply → Type 0
 IsStandingReply ttls origin history settings (event.Lookup at name kind script) (replies.Lookup found) =
-    LooksUp settings at (ByStanding ttls origin history at) (Ok name) kind tt found tt
+    LooksUp settings at (ByStanding ttls settings.options.preserve_intermediates origin history at) (Ok name) kind tt found tt
 IsStandingReply ttls origin history settings (event.LookupIp at host script) (replies.LookupIp found) =
     (address : Option IpAddr) × IsTextOf (string_bytes host) address
-    × LooksUpHost settings at (ByStanding ttls origin history at) address (name_of_text (string_bytes host)) tt found tt
+    × LooksUpHost settings at (ByStanding ttls settings.options.preserve_intermediates origin history at) address
+    (name_of_text (string_bytes host)) tt found tt
 IsStandingReply ttls origin history settings (event.Clear at name kind script) (replies.Cleared done) = Unit {0}
 IsStandingReply ttls origin history settings (event.ClearAll at script) (replies.Cleared done) = Unit {0}
 IsStandingReply ttls origin history settings (event.Update at update script) (replies.Update reply) = Unit {0}

@@ -39,11 +39,12 @@ const MAX_MOMENT: u64 = 1 << 62;
 /// reorders, every record of a plain type (any type of data but CNAME, SOA, SIG, SRV and OPT) that was asked for stood in the
 /// zone, was reached by aliases that stood there, and its TTL counts from such a moment (`fresh`). Excepted are records of the hosts
 /// file, loopback records and literal addresses. If aliases are left out, the TTLs of these aliases bound it, too, where no chain of
-/// aliases passed seven links by then (`chain_bound`). What a lookup returns of a plain type for a name is a whole set that stood, with
-/// TTLs that count from one moment, or a negative answer that stood, no longer ago than its negative TTL (`whole`). And where nothing was updated since the last full clear, or the start, and the
-/// link met no fault in an event, its lookup of a plain type, or of a host, returns exactly what a walk over the zone comes to,
-/// whatever was cached and however large datagrams may be (`walked`). All of this also holds of the report of a run that stopped
-/// for memory.
+/// aliases passed seven links by then (`chain_bound`). What a lookup returns of any type for a name is a whole set that stood, with
+/// TTLs that count from one moment, or a negative answer that stood, no longer ago than its negative TTL and the maximum time for which
+/// one is kept allow (`whole`). Where nothing was updated since the last full clear, or the start, that is of the zone as it is
+/// (`steady`). And where also the link met no fault in an event, its lookup of a plain type, or of a host, returns exactly what a walk
+/// over the zone comes to, whatever was cached and however large datagrams may be (`walked`). All of this also holds of the report of a
+/// run that stopped for memory.
 ///
 /// An event asks at most eight questions for each name that its lookup attempts and each type of records, and drops at most
 /// sixteen datagrams for each; an update drops at most sixteen (`few`).

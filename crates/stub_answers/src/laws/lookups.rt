@@ -1,6 +1,6 @@
 //! What lookups keep of whole answers.
 
-ghost use Rattle.std.specs.Prelude.{◌≡◌, ◌≤◌, ℕ, List, [], All, Option, Result, Ok};
+ghost use Rattle.std.specs.Prelude.{◌≡◌, ◌≤◌, ℕ, Bool, List, [], All, Option, Result, Ok};
 ghost use Rattle.std.specs.declared.net.ip_addr.IpAddr.{IpAddr};
 ghost use Rattle.dns_codes.specs.declared.record_type.RecordType.{RecordType};
 ghost use Rattle.dns_names.specs.Name.{DomainName};
@@ -17,16 +17,17 @@ ghost use Rattle.stub_core.specs.declared.resolver.Resolver.{Resolver};
 ghost use Rattle.stub_core.specs.declared.resolver.settings.Settings.{Settings};
 ghost use Rattle.stub_link.specs.LinkState.{Version};
 ghost use Rattle.stub_history.specs.Answered.{AreZones, IsAnsweredBy};
-ghost use Rattle.stub_answers.specs.Claims.{AbsencesOutlast, AnswersOutlast, BearOut, HasNoNegativeMinima, HoldOfCache, HoldOfReply, HoldOfSpecialNames, IsNoMeaning};
+ghost use Rattle.stub_answers.specs.Claims.{AbsencesOutlast, AnswersOutlast, BearOut, HasNoNegativeMinima, HoldOfCache, HoldOfReply, HoldOfSpecialNames, IsNoMeaning, longest_of};
 ghost use Rattle.stub_answers.specs.Ends.{NameEnds};
 ghost use Rattle.stub_answers.specs.Lookups.{ByClaims, CacheStands, GoesOn, Stands};
-ghost use Rattle.stub_answers.specs.Standing.{FindsWhole, LacksIndeed};
+ghost use Rattle.stub_answers.specs.Standing.{FindsWhole, LacksIndeed, MissesIndeed};
 
 use dns_codes::laws::type_number_round_trips;
 use dns_zone::laws::answers_are_alias_chains;
 use stub_client::DnsHandle;
 
-/// A pair of claims: about all answers that are returned for a question at a moment, and about its negative answers.
+/// Claims about all answers that are returned for a question at a moment, and about its negative answers: as they are stored, and
+/// as they are returned.
 pub trait WholeClaim {
     ghost use Rattle.std.specs.Prelude.{ℕ, List};
     ghost use Rattle.dns_records.specs.Record.{Record};
@@ -35,6 +36,9 @@ pub trait WholeClaim {
 
     /// These answers may be returned for a question at a moment.
     ghost finds: { Query → ℕ → List Record → Type 0 };
+
+    /// This negative answer may be stored for a question at a moment.
+    ghost misses: { Query → ℕ → NoRecords → Type 0 };
 
     /// This negative answer may be returned for a question at a moment.
     ghost lacks: { Query → ℕ → NoRecords → Type 0 };
@@ -45,11 +49,14 @@ pub trait WholeClaim {
 /// The claims then hold of what the cache has, and of the reply.
 pub fn every_lookup_keeps_whole_answers<C: WholeClaim>()
     ensures { (config : TtlConfigContent) → AnswersOutlast (HasNoMinima config) C.finds
-        → AbsencesOutlast (HasNoNegativeMinima config) C.lacks → HoldOfSpecialNames C.finds C.lacks
+        → AbsencesOutlast (HasNoNegativeMinima config) (longest_of config) C.misses C.lacks
+        → HoldOfSpecialNames C.finds C.lacks
         → EveryLookup (λ settings now old q asks reply new. old.config ≡ config
-        → HoldOfCache (HasNoMinima config) (HasNoNegativeMinima config) C.finds C.lacks now old
-        → All (BearOut C.finds C.lacks settings config now) asks
-        → HoldOfCache (HasNoMinima config) (HasNoNegativeMinima config) C.finds C.lacks now new
+        → HoldOfCache (HasNoMinima config) (HasNoNegativeMinima config) (longest_of config) C.finds
+        C.misses now old
+        → All (BearOut C.finds C.misses C.lacks settings config now) asks
+        → HoldOfCache (HasNoMinima config) (HasNoNegativeMinima config) (longest_of config) C.finds
+        C.misses now new
         × HoldOfReply C.finds C.lacks q now reply) }
 {}
 
@@ -60,14 +67,17 @@ pub fn answers_that_stood_bear_out()
         (settings : LookupSettings) (now : ℕ) (ask : Ask) → AreZones origin history
         → IsAnsweredBy origin history (record { moment = now; ask = ask })
         → IsNoMeaning ask.outcome
-        → BearOut (λ q at records. FindsWhole config history q at records)
-        (λ q at answer. LacksIndeed config origin history q at answer) settings config now ask }
+        → BearOut
+        (λ q at records. FindsWhole config settings.preserve_intermediates history q at records)
+        (λ q at answer. MissesIndeed config settings.preserve_intermediates origin history q at
+        answer)
+        (λ q at answer. LacksIndeed config settings.preserve_intermediates origin history q at
+        answer) settings config now ask }
 {
     answers_are_alias_chains();
 }
 
-/// Where the outcomes of a lookup of a resolver bear it out, each question of a plain type has a reply that stood, and so has
-/// what is kept.
+/// Where the outcomes of a lookup of a resolver bear it out, each question has a reply that stood, and what is kept stood, too.
 pub fn every_resolver_lookup_stands<H: DnsHandle>()
     ensures name { (origin : DomainName) (history : List Version) (now : ℕ)
         (name : Result DomainName ParseError) (kind : RecordType) (old new : Resolver H)
@@ -101,21 +111,21 @@ pub fn names_end_at_a_question<C: WholeClaim>()
 
 /// What a cache has and what stood, still stood at later moments, in a history that goes on, and after entries are removed.
 pub fn caches_keep_what_stood()
-    ensures later { (config : TtlConfigContent) (origin : DomainName) (history : List Version)
+    ensures later { (config : TtlConfigContent) (preserves : Bool) (origin : DomainName) (history : List Version)
         (now later : ℕ) (cache : CacheContent) → now ≤ later
-        → CacheStands config origin history now cache
-        → CacheStands config origin history later cache }
-    ensures on { (config : TtlConfigContent) (origin : DomainName) (history other : List Version)
+        → CacheStands config preserves origin history now cache
+        → CacheStands config preserves origin history later cache }
+    ensures on { (config : TtlConfigContent) (preserves : Bool) (origin : DomainName) (history other : List Version)
         (now : ℕ) (cache : CacheContent) → GoesOn now history other
-        → CacheStands config origin history now cache
-        → CacheStands config origin other now cache }
-    ensures cleared { (config : TtlConfigContent) (origin : DomainName) (history : List Version)
+        → CacheStands config preserves origin history now cache
+        → CacheStands config preserves origin other now cache }
+    ensures cleared { (config : TtlConfigContent) (preserves : Bool) (origin : DomainName) (history : List Version)
         (now : ℕ) (cache : CacheContent) (settings : Settings)
         (name : Result DomainName ParseError) (kind : RecordType)
-        → CacheStands config origin history now cache
-        → CacheStands config origin history now
+        → CacheStands config preserves origin history now cache
+        → CacheStands config preserves origin history now
         (record cache { entries = cleared_lookup settings name kind cache.entries }) }
-    ensures empty { (config : TtlConfigContent) (origin : DomainName) (history : List Version)
+    ensures empty { (config : TtlConfigContent) (preserves : Bool) (origin : DomainName) (history : List Version)
         (now : ℕ) (cache : CacheContent)
-        → CacheStands config origin history now (record cache { entries = [] }) }
+        → CacheStands config preserves origin history now (record cache { entries = [] }) }
 {}

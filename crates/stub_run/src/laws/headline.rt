@@ -20,6 +20,7 @@ ghost use Rattle.stub_run.specs.Questions.{AreAskable};
 ghost use Rattle.stub_run.specs.History.{AreOccasions, MakePasts};
 ghost use Rattle.stub_run.specs.OneHistory.{HasOneHistory};
 ghost use Rattle.stub_run.specs.Run.{InOrder, IsReportOf, RunState, Runs, asks_of};
+ghost use Rattle.stub_run.specs.Steady.{AreSteady};
 ghost use Rattle.stub_run.specs.Walked.{AreAgreed, AreWalked, HasSentUpdate, IsWalkedReply, with_cache_size, with_sizes};
 ghost use Rattle.stub_run.specs.Whole.{AreWhole};
 ghost use Rattle.stub_run.specs.World.{IsFirst};
@@ -63,12 +64,13 @@ pub fn every_record_stood()
     updates_keep_zones_well_formed();
 }
 
-/// Each reply to a lookup of a run stood in the zone, for each name that it attempted and each type of addresses: the records of a
-/// plain type are a whole set of one version of the zone, and no TTL is more than what is left of its own since a moment at which this
-/// version stood; a negative answer is what the zone answered at such a moment, no longer ago than its negative TTL.
+/// Each reply to a lookup of a run stood in the zone, for each name that it attempted and each type of addresses: the records of the
+/// type are a whole set of one version of the zone, and no TTL is more than what is left of its own since a moment at which this
+/// version stood; a negative answer is what the zone answered at such a moment, no longer ago than its negative TTL, nor than negative
+/// answers are kept.
 ///
 /// No id serves two equal questions. The least TTL of positive answers is 0, or nothing is said of sets; and that of negative
-/// answers is 0, or nothing is said of these.
+/// answers is 0, or nothing is said of their own TTLs.
 pub fn every_answer_stood()
     ensures { (content : WorldContent) (first last : RunState) (events : List Event)
         (reports : List EventReport) (states : List RunState) (occasions : List Occasion)
@@ -79,6 +81,26 @@ pub fn every_answer_stood()
         → MakePasts (first_past content.zone) states occasions
         → HasNoReuse (asks_of last).sent
         → AreWhole content events reports occasions }
+{
+    type_number_round_trips();
+    answers_are_alias_chains();
+    updates_keep_zones_well_formed();
+}
+
+/// Where nothing was updated since the last full clear, or the start, the reply to each lookup stood in the zone as it is: of any type, along
+/// aliases of any number, and also where the link met faults.
+///
+/// No id serves two equal questions.
+pub fn unchanged_zones_are_steady()
+    ensures { (content : WorldContent) (first last : RunState) (events : List Event)
+        (reports : List EventReport) (states : List RunState) (occasions : List Occasion)
+        → IsZone content.zone
+        → IsFirst content.zone content.limit content.ids content.config content.options
+        content.hosts first
+        → InOrder 0 events → Runs first events reports states last
+        → MakePasts (first_past content.zone) states occasions
+        → HasNoReuse (asks_of last).sent
+        → AreSteady content events reports occasions }
 {
     type_number_round_trips();
     answers_are_alias_chains();
@@ -110,7 +132,8 @@ pub fn unchanged_zones_are_walked()
 }
 
 /// The headline: a report has one history, of states, of what the link sees of the events and of versions of the zone, and over it
-/// every record that a lookup returns stood, has the chain bound, is of a whole set, and is walked, each under its premises.
+/// every record that a lookup returns stood, has the chain bound, is of a whole set, is of the zone as it is, and is walked, each under its
+/// premises.
 pub fn runs_have_one_history()
     ensures { (content : WorldContent) (first : RunState) (events : List Event)
         (report : Report) → IsZone content.zone
@@ -121,6 +144,7 @@ pub fn runs_have_one_history()
 {
     every_record_stood();
     every_answer_stood();
+    unchanged_zones_are_steady();
     unchanged_zones_are_walked();
     events_decide_the_history();
 }
