@@ -11,7 +11,7 @@ from checks import Checker, Violation
 from history import MOST_LINKS, history_of
 from names import is_at_or_below, name_of, name_text
 from output import PrintedEvent, PrintedRecord, parse_output, write_output
-from records import A, AAAA, CNAME, SOA, Data, Record, data_text, is_plain, type_text
+from records import A, AAAA, CNAME, SOA, SRV, Data, Record, data_text, is_data_type, is_plain, type_text
 from walk import is_loopback_name, special_outcome
 from world import Lookup, LookupIp, World
 from zone import Message, Row, alias_of, has_short_chains, rows_of
@@ -30,10 +30,10 @@ def altered(output: Output, index: int, event: PrintedEvent) -> Output:
 
 
 def found_records(world: World, output: Output) -> Iterator[tuple[int, int, Lookup, Record]]:
-    """Each record of a lookup of a plain type whose name is not in the hosts file, by its event and its place."""
+    """Each record of a lookup whose name is not in the hosts file, by its event and its place."""
     for index, (event, line) in enumerate(zip(world.events, output)):
         action = event.action
-        if isinstance(action, Lookup) and is_plain(action.rtype) and not world.hosts_records(action.name, action.rtype):
+        if isinstance(action, Lookup) and not world.hosts_records(action.name, action.rtype):
             yield from ((index, at, action, printed.record) for at, printed in enumerate(line.records))
 
 
@@ -60,7 +60,8 @@ def ttl_above_alias(world: World, output: Output) -> Iterator[Output]:
     """The TTL that a record has in the zone, which never changes, although an alias with a lower one leads to it."""
     rows = rows_of(world.entries)
     for index, at, action, record in found_records(world, output):
-        if is_unchanging(world) and record.owner != action.name and not is_loopback_name(record.owner):
+        is_promised = is_plain(action.rtype) and not is_loopback_name(record.owner)
+        if is_unchanging(world) and record.owner != action.name and is_promised:
             alias, ttl = alias_of(rows, action.name), zone_ttl(world, record)
             if alias and alias.ttl < ttl:
                 yield altered(output, index, output[index].with_record(at, ttl=ttl))
@@ -83,7 +84,7 @@ def outdated_record(world: World, output: Output) -> Iterator[Output]:
 def unrelated_record(world: World, output: Output) -> Iterator[Output]:
     """A record of another name, to which no alias leads."""
     rows = rows_of(world.entries)
-    targets = {row.data[0] for (_, rtype), values in rows.items() if rtype == CNAME for row in values}
+    targets = {row.data[-1] for (_, rtype), values in rows.items() if rtype in (CNAME, SRV) for row in values}
     for index, at, action, record in found_records(world, output):
         for (owner, rtype), (row, *_) in rows.items():
             if is_unchanging(world) and rtype == action.rtype and owner != action.name and owner not in targets:
@@ -143,11 +144,50 @@ def mixed_set(world: World, output: Output) -> Iterator[Output]:
                 yield altered(output, index, replace(output[index], records=(*output[index].records, more)))
 
 
+def followed_alias(world: World, output: Output) -> Iterator[Output]:
+    """The next alias of a chain where one was looked up, as if a lookup of aliases followed them."""
+    rows = rows_of(world.entries)
+    for index, at, action, record in found_records(world, output):
+        target = record.data[0] if record.rtype == CNAME else None
+        following = alias_of(rows, target) if target and target != record.owner else None
+        if following and is_unchanging(world):
+            changes = {"owner": name_text(target), "ttl": 0, "data": data_text(CNAME, following.data)}
+            yield altered(output, index, output[index].with_record(at, **changes))
+
+
+def target_of_another_alias(world: World, output: Output) -> Iterator[Output]:
+    """An alias with the target of another alias, which its name never had."""
+    rows = rows_of(world.entries)
+    targets = {row.data for (_, rtype), values in rows.items() if rtype == CNAME for row in values}
+    for index, at, _, record in found_records(world, output):
+        for data in targets - {record.data} if record.rtype == CNAME and is_unchanging(world) else ():
+            yield altered(output, index, output[index].with_record(at, ttl=0, data=data_text(CNAME, data)))
+
+
+def services_of_target(world: World, output: Output) -> Iterator[Output]:
+    """The services of a service's target, or the same ones there, although no alias led to it."""
+    rows = rows_of(world.entries)
+    for index, at, action, record in found_records(world, output):
+        target = record.data[-1] if record.rtype == SRV else None
+        if target and target != record.owner == action.name and is_unchanging(world):
+            services = rows.get((target, SRV)) or rows[record.owner, SRV]
+            printed = [PrintedRecord(name_text(target), 0, "SRV", data_text(SRV, row.data)) for row in services]
+            yield altered(output, index, replace(output[index], records=tuple(printed)))
+
+
+def absence_of_other_type(world: World, output: Output) -> Iterator[Output]:
+    """A negative answer for a type of which no zone has records, which its server does not implement."""
+    for index, (event, line) in enumerate(zip(world.events, output)):
+        action = event.action
+        if isinstance(action, Lookup) and line.result == "code NotImp":
+            yield altered(output, index, replace(line, result=EMPTY))
+
+
 def absent_codes(world: World, index: int, action: Lookup) -> dict[str, int] | None:
     """The negative answers that the zone had so far for the name of a lookup, with the last moment at which each may be
     printed; None if an alias leads on from the name."""
     history, now = history_of(world), world.events[index].at
-    if history.reachable(action.name, index) != {action.name} or special_outcome(action.name, action.rtype):
+    if history.reachable(action.name, action.rtype, index) != {action.name} or special_outcome(action.name, action.rtype):
         return None
     ends: dict[str, int] = {}
     for standing in history.standings(index, now):
@@ -160,17 +200,17 @@ def absent_codes(world: World, index: int, action: Lookup) -> dict[str, int] | N
     return ends
 
 
-def plain_lookups(world: World, output: Output) -> Iterator[tuple[int, Lookup, PrintedEvent]]:
-    """The lookups of plain types, where the hosts file has nothing."""
+def data_lookups(world: World, output: Output) -> Iterator[tuple[int, Lookup, PrintedEvent]]:
+    """The lookups of types of which a zone can have records, where the hosts file has nothing."""
     for index, (event, line) in enumerate(zip(world.events, output)):
         action = event.action
-        if isinstance(action, Lookup) and is_plain(action.rtype) and not world.hosts_records(action.name, action.rtype):
+        if isinstance(action, Lookup) and is_data_type(action.rtype) and not world.hosts_records(action.name, action.rtype):
             yield index, action, line
 
 
 def old_absence(world: World, output: Output) -> Iterator[Output]:
     """A negative answer that the zone had, longer ago than it may be kept."""
-    for index, action, line in plain_lookups(world, output):
+    for index, action, line in data_lookups(world, output):
         for code, end in (absent_codes(world, index, action) or {}).items():
             if end < world.events[index].at:
                 yield altered(output, index, replace(line, result=code, records=()))
@@ -178,7 +218,7 @@ def old_absence(world: World, output: Output) -> Iterator[Output]:
 
 def code_of_another_moment(world: World, output: Output) -> Iterator[Output]:
     """A negative answer with the other code, which the zone never had for the name, or had too long ago."""
-    for index, action, line in plain_lookups(world, output):
+    for index, action, line in data_lookups(world, output):
         if line.result in (EMPTY, MISSING) and (ends := absent_codes(world, index, action)):
             other = MISSING if line.result == EMPTY else EMPTY
             if ends.get(other, -1) < world.events[index].at:
@@ -187,7 +227,7 @@ def code_of_another_moment(world: World, output: Output) -> Iterator[Output]:
 
 def absence_of_found(world: World, output: Output) -> Iterator[Output]:
     """A negative answer for a name that had the records all the time."""
-    for index, action, line in plain_lookups(world, output):
+    for index, action, line in data_lookups(world, output):
         if line.records and absent_codes(world, index, action) == {}:
             yield altered(output, index, replace(line, result=EMPTY, records=()))
 
@@ -197,7 +237,7 @@ def ttl_of_hosts(world: World, output: Output) -> Iterator[Output]:
     for index, (event, line) in enumerate(zip(world.events, output)):
         action = event.action
         for at, printed in enumerate(line.records):
-            if isinstance(action, Lookup) and is_plain(action.rtype):
+            if isinstance(action, Lookup):
                 is_exception = bool(world.hosts_records(action.name, action.rtype))
             else:
                 is_exception = isinstance(action, LookupIp) and not isinstance(action.host, tuple)
@@ -217,7 +257,7 @@ def compared_lookups(world: World, output: Output) -> Iterator[tuple[int, Printe
     """The lookups whose outcome is that of the walk: nothing changes, and the link is honest."""
     for index, (event, line) in enumerate(zip(world.events, output)):
         action = event.action
-        is_promised = is_plain(action.rtype) if isinstance(action, Lookup) else isinstance(action, LookupIp)
+        is_promised = is_data_type(action.rtype) if isinstance(action, Lookup) else isinstance(action, LookupIp)
         if is_unchanging(world) and is_promised and not event.words:
             yield index, line
 
@@ -273,6 +313,10 @@ ALTERATIONS: dict[str, Alteration] = {
     "a record is of another type": other_type,
     "a set is cut": cut_set,
     "a set is of two versions": mixed_set,
+    "an alias was followed where aliases are looked up": followed_alias,
+    "an alias has the target of another one": target_of_another_alias,
+    "services are those of a target": services_of_target,
+    "a negative answer is for a type without records": absence_of_other_type,
     "a negative answer is too old": old_absence,
     "a negative answer has the code of another moment": code_of_another_moment,
     "a negative answer never stood": absence_of_found,

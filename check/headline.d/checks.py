@@ -2,18 +2,21 @@
 
 - *Freshness.* A printed record stood in the zone: some rows that stood at a moment t up to now have its owner, type and
   data with a TTL r such that now plus the printed TTL is at most t plus the lesser of r and `--max-ttl`. Aliases, each
-  of which stood at some moment up to now, lead from the name of the lookup to the owner. Other records are from the
-  hosts file, of the local host at a name that was reached, or the address that was looked up.
-- *Chain bound.* If no chain of aliases had more than seven links, the aliases and the record stood in the same rows,
-  and the TTL counts from one such moment, by the least TTL of them all.
+  of which stood at some moment up to now, lead from the name of the lookup to the owner; none if aliases themselves are
+  looked up; and a lookup of services also goes on at the targets of those to which an alias leads. Other records are
+  from the hosts file, of the local host at a name that was reached, or the address that was looked up.
+- *Chain bound.* For a type other than CNAME, SOA and SRV: if no chain of aliases had more than seven links, the aliases
+  and the record stood in the same rows, and the TTL counts from one such moment, by the least TTL of them all.
 - *Whole sets.* The printed records of a type are all rows of one name and this type, in order, in rows that stood at one
   moment t up to now, and no TTL is more than what is left of the row's own from t. So a set is never cut, and never put
   together from two versions.
 - *Negative answers.* Where a lookup prints that there are no records, aliases lead to a name that had none of the type,
   and no alias, at a moment t up to now, the code says whether the name existed then, and now is at most t plus the
-  lesser of the TTL and the minimum of the SOA record. Other such names are special, or the aliases go on for too long.
+  lesser of the TTL and the minimum of the SOA record. Other such names are special, or have an alias now, at which a
+  lookup stopped.
 - *Equality.* If no update changed the rows since the cache was last emptied, no chain has more than seven links, and
-  the link met no fault, the outcome is that of a walk over the rows, TTLs aside.
+  the link met no fault, the outcome is that of a walk over the rows, TTLs aside: along aliases, for a CNAME record of
+  the name itself.
 
 Beside these, a fault has a cause among the link words of its line, and the response code of an update is one that the
 server answered.
@@ -23,7 +26,7 @@ from collections import Counter
 from history import MOST_LINKS, History, history_of
 from names import Name, is_at_or_below, name_text
 from output import PrintedEvent
-from records import A, AAAA, SOA, Record, data_text, is_plain, type_text
+from records import A, AAAA, CNAME, SOA, Record, data_text, is_data_type, is_plain, type_text
 from walk import LOOPBACK_DATA, LOOPBACK_TTL, Outcome, ip_outcome, is_loopback_name, literal_outcome, lookup_outcome, special_outcome
 from world import ClearAll, Event, Lookup, LookupIp, World
 from zone import Message, Row, Rows, alias_of, has_short_chains
@@ -90,11 +93,9 @@ class Checker:
         self.counts[f"updates that print {'a fault' if is_fault(line) else line.result}"] += 1
 
     def check_records(self, index: int, event: Event, line: PrintedEvent) -> None:
-        """Freshness and the chain bound, for each record of a lookup of a plain type or of addresses."""
+        """Freshness and the chain bound, for each record of a lookup."""
         action = event.action
         types = {action.rtype} if isinstance(action, Lookup) else {A, AAAA}
-        if not all(map(is_plain, types)):
-            return
         for printed in line.records:
             record = printed.record
             if record.rtype not in types:
@@ -117,8 +118,8 @@ class Checker:
 
     def check_record(self, index: int, now: int, name: Name, record: Record) -> None:
         """A record of the server is fresh and reached, and has the chain bound; one of the local host is reached."""
-        if record.owner not in self.history.reachable(name, index):
-            raise Violation(f"{text_of(record)}: no aliases lead there from {name_text(name)}")
+        if record.owner not in self.history.reachable(name, record.rtype, index):
+            raise Violation(f"{text_of(record)}: nothing leads there from {name_text(name)}")
         if record.ttl > (most := self.greatest_ttl(index, now, record)):
             if is_loopback(record):
                 self.counts["records of the local host"] += 1
@@ -127,10 +128,11 @@ class Checker:
         rows = self.history.versions_by(index)[-1].rows
         is_current = any(row.data == record.data for row in rows.get((record.owner, record.rtype), ()))
         self.counts["fresh records"] += 1
+        self.counts["fresh records of CNAME, SOA and SRV"] += not is_plain(record.rtype)
         self.counts["fresh records found along aliases"] += record.owner != name
         self.counts["fresh records that have left the zone"] += not is_current
         self.counts["fresh records with the greatest TTL possible"] += record.ttl == most
-        if not self.history.has_short_chains(index):
+        if not self.history.has_short_chains(index) or not is_plain(record.rtype):
             return
         if record.ttl > (most := self.greatest_chain_ttl(index, now, name, record)):
             reason = f"its TTL is at most {most}" if most >= 0 else "it is not fresh"
@@ -163,7 +165,7 @@ class Checker:
         """Whole sets: of the type of a lookup, or of each type of addresses."""
         action = event.action
         name = action.name if isinstance(action, Lookup) else action.host
-        if not isinstance(name, tuple) or (isinstance(action, Lookup) and not is_plain(action.rtype)):
+        if not isinstance(name, tuple):
             return
         for rtype in (action.rtype,) if isinstance(action, Lookup) else (AAAA, A):
             records = [printed.record for printed in line.records if printed.record.rtype == rtype]
@@ -192,9 +194,11 @@ class Checker:
         """Negative answers. For addresses the one that is printed is that of the first type, AAAA."""
         action = event.action
         name, rtype = (action.name, action.rtype) if isinstance(action, Lookup) else (action.host, AAAA)
-        if not isinstance(name, tuple) or not is_plain(rtype) or not (line.result or "").startswith(NO_RECORDS):
+        if not isinstance(name, tuple) or not (line.result or "").startswith(NO_RECORDS):
             return
-        reached = self.history.reachable(name, index)
+        if not is_data_type(rtype) and not special_outcome(name, rtype):
+            raise Violation(f"prints {line.result} for a type of no records")
+        reached = self.history.reachable(name, rtype, index)
         if any((special := special_outcome(it, rtype)) and special.failure == line.result for it in reached):
             self.counts["negative answers of special names"] += 1
             return
@@ -209,17 +213,19 @@ class Checker:
             self.counts["negative answers"] += 1
             is_old = all(it.rows is not self.history.versions_by(index)[-1].rows for it, _ in current)
             self.counts["negative answers that no longer hold"] += is_old
-        elif line.result != f"{NO_RECORDS} NoError" or not self.may_pass_aliases(index, reached):
+            self.counts["negative answers of CNAME, SOA and SRV"] += not is_plain(rtype)
+        elif line.result != f"{NO_RECORDS} NoError" or not self.may_stop(index, event.at, rtype, reached):
             reason = "is too old" if absences else "never stood"
             raise Violation(f"prints {line.result}, which {reason}")
         else:
-            self.counts["negative answers after too many aliases"] += 1
+            self.counts["negative answers where a lookup stops"] += 1
 
-    def may_pass_aliases(self, index: int, reached: set[Name]) -> bool:
-        """Whether some chain of aliases was too long, and one of these names had an alias."""
-        versions = self.history.versions_by(index)
-        has_alias = any(alias_of(version.rows, name) for version in versions for name in reached)
-        return has_alias and not self.history.has_short_chains(index)
+    def may_stop(self, index: int, now: int, rtype: int, reached: set[Name]) -> bool:
+        """Whether one of these names has an alias now, at which a lookup stops that has followed too many aliases, or
+        services that these lead to; and one of an SOA record also where an alias leads out of the zone."""
+        rows_now = [it.rows for it in self.history.standings(index, now) if it.moment == now]
+        has_link = rtype != CNAME and any(alias_of(rows, name) for rows in rows_now for name in reached)
+        return has_link and not (is_plain(rtype) and self.history.has_short_chains(index))
 
     def check_outcome(self, index: int, event: Event, line: PrintedEvent, emptied: int) -> None:
         """Equality. A lookup of one name and type that meets a fault prints it. With link words, a lookup of both types
@@ -236,14 +242,16 @@ class Checker:
         if got.failure != wanted.failure or contents[0] != contents[1]:
             raise Violation(f"the walk finds {described(wanted)}, but it prints {described(got)}")
         self.counts["outcomes compared"] += 1
+        if isinstance(event.action, Lookup) and not is_plain(event.action.rtype):
+            self.counts["outcomes compared of CNAME, SOA and SRV"] += 1
         self.counts["failures compared"] += not wanted.records
         self.counts["outcomes compared after updates"] += bool(len(self.history.versions_by(index)) > 1)
 
     def wanted_outcome(self, event: Event, rows: Rows) -> Outcome | None:
-        """The outcome over these rows, or None if nothing is promised for the type."""
+        """The outcome over these rows, or None if a zone has no records of the type."""
         action = event.action
         if isinstance(action, Lookup):
-            return lookup_outcome(self.world, rows, action.name, action.rtype) if is_plain(action.rtype) else None
+            return lookup_outcome(self.world, rows, action.name, action.rtype) if is_data_type(action.rtype) else None
         if isinstance(action.host, tuple):
             return ip_outcome(self.world, rows, action.host)
         return literal_outcome(action.host)

@@ -8,6 +8,7 @@ from collections.abc import Iterator
 from dataclasses import dataclass
 
 from names import Name
+from records import CNAME, SRV
 from world import Event, World
 from zone import Message, Rows, after_update, alias_of, has_short_chains, rows_of
 
@@ -65,16 +66,22 @@ class History:
         """Whether a delivery changes the rows in these events, both included."""
         return any(first <= it.event <= last and it.changes_rows for it in self.deliveries)
 
-    def reachable(self, start: Name, event: int) -> set[Name]:
-        """The names to which aliases lead from a name, each of which stood in some rows so far."""
-        found, pending = {start}, [start]
+    def reachable(self, start: Name, rtype: int, event: int) -> set[Name]:
+        """The names to which a lookup of a type leads from a name, along links each of which stood in some rows so far:
+        aliases, if it is not one of aliases (RFC 1034 section 3.6.2). A lookup of services that was led to them by an
+        alias goes on at their targets."""
+        found, pending = {(start, False)}, [(start, False)]
         while pending:
-            name = pending.pop()
-            aliases = [alias_of(version.rows, name) for version in self.versions_by(event)]
-            fresh = {alias.data[0] for alias in aliases if alias} - found
+            name, is_aliased = pending.pop()
+            fresh = set()
+            for version in self.versions_by(event):
+                if rtype != CNAME and (alias := alias_of(version.rows, name)):
+                    fresh.add((alias.data[0], True))
+                if rtype == SRV and is_aliased:
+                    fresh |= {(row.data[-1], False) for row in version.rows.get((name, SRV), ())}
+            pending += fresh - found
             found |= fresh
-            pending += fresh
-        return found
+        return {name for name, _ in found}
 
 
 def delivered_updates(event: Event, own: int | None) -> list[int]:

@@ -8,7 +8,7 @@ from records import Record, data_text, type_text
 from world import Action, Clear, ClearAll, Event, Lookup, LookupIp
 from zone import AddRecord, DeleteRecord, DeleteSet, Message, SetIsAbsent, SetIsExactly, after_update, rows_of
 
-ASKED_TYPES = [A] * 16 + [AAAA] * 6 + [TXT] * 4 + [MX] * 4 + [CNAME] * 2 + [NS, PTR, PTR, SOA, SRV]
+ASKED_TYPES = [A] * 16 + [AAAA] * 6 + [TXT] * 4 + [MX] * 4 + [CNAME] * 3 + [SRV] * 3 + [SOA] * 2 + [NS, PTR, PTR]
 RARE_TYPES = [ZERO, 10, 13, SIG, OPT, TSIG, AXFR, ANY, 257, 65_280]
 MOST_MOMENT = 2**62
 

@@ -45,9 +45,14 @@ def type_of(text: str) -> int:
     return TYPE_NUMBERS[text] if text in TYPE_NUMBERS else int(text.removeprefix("TYPE"))
 
 
+def is_data_type(rtype: int) -> bool:
+    """Whether a zone can have records of a type: of data types (RFC 6895 section 3.1) but SIG and OPT."""
+    return (1 <= rtype <= 127 or rtype > 255) and rtype not in (SIG, OPT)
+
+
 def is_plain(rtype: int) -> bool:
-    """Whether anything is promised of a type: of data types (RFC 6895 section 3.1) but CNAME, SOA, SIG, SRV and OPT."""
-    return (1 <= rtype <= 127 or rtype > 255) and rtype not in (CNAME, SOA, SIG, SRV, OPT)
+    """Whether a lookup of a type follows aliases, and nothing else, in every reply: of data types but CNAME, SOA and SRV."""
+    return is_data_type(rtype) and rtype not in (CNAME, SOA, SRV)
 
 
 def data_of(rtype: int, text: str) -> Data:

@@ -4,7 +4,7 @@ from dataclasses import dataclass
 
 from history import MOST_LINKS
 from names import ROOT, Name, is_at_or_below, name_of, name_text, reverse_name
-from records import A, AAAA, PTR, Record
+from records import A, AAAA, CNAME, PTR, SOA, SRV, Record
 from world import HOSTS_TTL, World
 from zone import Rows, alias_of
 
@@ -43,6 +43,14 @@ def special_outcome(name: Name, rtype: int) -> Outcome | None:
     return None
 
 
+def negative_outcome(rows: Rows, origin: Name, name: Name) -> Outcome:
+    """Why a name has no records: its server refuses it, or it exists without such records, or it does not exist."""
+    if not is_at_or_below(name, origin):
+        return Outcome(failure="code Refused")
+    has_rows = any(is_at_or_below(owner, name) for owner, _ in rows)
+    return Outcome(failure=f"no records {'NoError' if has_rows else 'NXDomain'}")
+
+
 def walk(rows: Rows, origin: Name, name: Name, rtype: int, links: int = MOST_LINKS) -> Outcome:
     """What a name leads to along at most so many aliases (RFC 1034 section 4.3.2)."""
     special = special_outcome(name, rtype)
@@ -54,16 +62,46 @@ def walk(rows: Rows, origin: Name, name: Name, rtype: int, links: int = MOST_LIN
     alias = alias_of(rows, name)
     if alias and links:
         return walk(rows, origin, alias.data[0], rtype, links - 1)
-    if not is_at_or_below(name, origin):
-        return Outcome(failure="code Refused")
-    has_rows = any(is_at_or_below(owner, name) for owner, _ in rows)
-    return Outcome(failure=f"no records {'NoError' if has_rows else 'NXDomain'}")
+    return negative_outcome(rows, origin, name)
+
+
+def soa_outcome(rows: Rows, origin: Name, name: Name) -> Outcome:
+    """The same of the SOA record, for which a reply without one is no answer: where an alias leads out of the zone, or
+    to a name of special use, the lookup ends there."""
+    alias, is_first = alias_of(rows, name), True
+    while alias and (name, SOA) not in rows and is_at_or_below(name, origin) and not special_outcome(name, SOA):
+        name, is_first = alias.data[0], False
+        alias = alias_of(rows, name)
+    if not is_first and (not is_at_or_below(name, origin) or special_outcome(name, SOA)):
+        return Outcome(failure="no records NoError")
+    return walk(rows, origin, name, SOA)
+
+
+def service_outcome(rows: Rows, origin: Name, name: Name, lookups: int = MOST_LINKS) -> Outcome:
+    """The same of services. If an alias leads to them, the lookup goes on at the target of the last one, so many times
+    at most, unless that is where they are."""
+    outcome = walk(rows, origin, name, SRV)
+    if not outcome.records or outcome.records[0].owner == name:
+        return outcome
+    target = outcome.records[-1].data[-1]
+    if target == outcome.records[0].owner:
+        return outcome
+    return service_outcome(rows, origin, target, lookups - 1) if lookups else Outcome(failure="no records NoError")
+
+
+def outcome_in(rows: Rows, origin: Name, name: Name, rtype: int) -> Outcome:
+    """What a lookup of a name and a type finds in these rows."""
+    if rtype == CNAME:
+        return walk(rows, origin, name, CNAME, 0)
+    if rtype == SOA:
+        return soa_outcome(rows, origin, name)
+    return service_outcome(rows, origin, name) if rtype == SRV else walk(rows, origin, name, rtype)
 
 
 def lookup_outcome(world: World, rows: Rows, name: Name, rtype: int) -> Outcome:
-    """The outcome of a lookup of a name and a type: what the hosts file has, or else the walk's."""
+    """The outcome of a lookup of a name and a type: what the hosts file has, or else the zone."""
     records = world.hosts_records(name, rtype)
-    return Outcome(records) if records else walk(rows, world.origin, name, rtype)
+    return Outcome(records) if records else outcome_in(rows, world.origin, name, rtype)
 
 
 def literal_outcome(address: ipaddress.IPv4Address | ipaddress.IPv6Address) -> Outcome:
