@@ -216,16 +216,20 @@ class PageRun:
             return
         self.count += 1
         (folder / "test_block.py").write_text(text, encoding="utf-8")
-        runner = "-m pytest -q -p no:cacheprovider" if "def test_" in block.text else ""
-        output = shell.run(f"{sys.executable} {runner} test_block.py && echo done", ["done"])
+        runner = f"{with_library('pytest')} -m pytest -q -p no:cacheprovider" if "def test_" in block.text else sys.executable
+        output = shell.run(f"{runner} test_block.py && echo done", ["done"])
         self.report.check(f"{self.title(block.line)}: in Python", "done", (output or [""])[-1])
 
 
 def given(name):
     """Whether a library for Python, or a variable of the environment, is there."""
-    if name.isupper():
-        return name in os.environ
-    return not subprocess.run([sys.executable, "-c", f"import {name}"], capture_output=True).returncode
+    return name in os.environ if name.isupper() else with_library(name) is not None
+
+
+def with_library(name):
+    """A Python that has a library, or nothing: this one, or that of the system."""
+    pythons = [sys.executable, "/usr/bin/python3"]
+    return next((it for it in pythons if not subprocess.run([it, "-c", f"import {name}"], capture_output=True).returncode), None)
 
 
 def has_command(program):
