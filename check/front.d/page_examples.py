@@ -15,11 +15,12 @@ ROOT = Path(__file__).resolve().parent.parent.parent
 # The languages of blocks that other checks read, and their checks.
 ELSEWHERE = {
     "rust": "check/examples",
-    "c": "check/c",
     "mermaid": "check/docs",
 }
 # Pages whose blocks belong to a check of their own.
 OWN_CHECKS = {"TUTORIAL.md": "check/tutorial", "READING_CONTRACTS.md": "check/docs references"}
+# What the language of a block says less well than its page.
+BY_PAGE = {("EMBEDDING.md", "rust"): "", ("LIBRARIES.md", "text"): "check/examples"}
 FENCE = re.compile(r"^```(\w*)(?: (\S+))?\n(.*?)^```$", re.M | re.S)
 # What the front of a program says before the program runs, and the shell of a job that was killed.
 FRONT = re.compile(r"^\w+: (?:this build is |compiling|compiled in |waiting for another start)|^bash: line \d+: +\d+ Killed ")
@@ -167,6 +168,8 @@ class PageRun:
             self.run_script(shell, folder, block)
         elif block.language == "python" and not block.name:
             self.run_python(shell, folder, block)
+        elif block.language == "c":
+            self.compile_c(block)
 
     def title(self, line):
         return f"{self.page.relative_to(ROOT)}:{line}"
@@ -192,6 +195,16 @@ class PageRun:
         output = shell.run("bash -eu block.sh && echo done", ["done"])
         self.report.check(f"{self.title(block.line)}: a script", "done", (output or [""])[-1])
 
+    def compile_c(self, block):
+        """Has the compiler look at a function in C, with the header of the library."""
+        words = ["cc", "-std=c11", "-Wall", "-Wextra", "-Werror", "-fsyntax-only", f"-I{ROOT / 'include'}", "-xc", "-"]
+        if not shutil.which("cc"):
+            self.skip(block.line, "there is no cc")
+            return
+        self.count += 1
+        ran = subprocess.run(words, input=block.text, capture_output=True, text=True, timeout=LIMIT)
+        self.report.check(f"{self.title(block.line)}: in C", (0, ""), (ran.returncode, ran.stderr))
+
     def run_python(self, shell, folder, block):
         """Runs a program in Python after those before it on the page, or a test by pytest."""
         self.python.append(block.text)
@@ -203,16 +216,20 @@ class PageRun:
             return
         self.count += 1
         (folder / "test_block.py").write_text(text, encoding="utf-8")
-        runner = "-m pytest -q -p no:cacheprovider" if "def test_" in block.text else ""
-        output = shell.run(f"{sys.executable} {runner} test_block.py && echo done", ["done"])
+        runner = f"{with_library('pytest')} -m pytest -q -p no:cacheprovider" if "def test_" in block.text else sys.executable
+        output = shell.run(f"{runner} test_block.py && echo done", ["done"])
         self.report.check(f"{self.title(block.line)}: in Python", "done", (output or [""])[-1])
 
 
 def given(name):
     """Whether a library for Python, or a variable of the environment, is there."""
-    if name.isupper():
-        return name in os.environ
-    return not subprocess.run([sys.executable, "-c", f"import {name}"], capture_output=True).returncode
+    return name in os.environ if name.isupper() else with_library(name) is not None
+
+
+def with_library(name):
+    """A Python that has a library, or nothing: this one, or that of the system."""
+    pythons = [sys.executable, "/usr/bin/python3"]
+    return next((it for it in pythons if not subprocess.run([it, "-c", f"import {name}"], capture_output=True).returncode), None)
 
 
 def has_command(program):
@@ -225,10 +242,12 @@ def other_blocks(page):
     for it in blocks_of(page):
         if page.name in OWN_CHECKS:
             yield it, OWN_CHECKS[page.name]
+        elif (page.name, it.language) in BY_PAGE:
+            yield it, BY_PAGE[page.name, it.language]
         elif it.language in ELSEWHERE:
             yield it, ELSEWHERE[it.language]
-        elif it.language not in ("console", "sh", "python") and not it.name:
-            yield it, "check/examples" if page.name == "LIBRARIES.md" else ""
+        elif it.language not in ("console", "sh", "python", "c") and not it.name:
+            yield it, ""
 
 
 def check_pages(report, names):
