@@ -1,6 +1,6 @@
 -- One event: how it begins, what it leads to on the states, how it ends, and that ids are only appended.
 use Rattle.std.proofs.Common.{◌≡◌, Bool, true, false, map, reverse, IsOk, ℕ, List, [], ◌∷◌, Option, Some, None, Result, Ok, Err, OnOk, OnErr, IfSome, is_err, length, take, slice_get, refl, sym, ap, subst, ◌∙◌, arith}
-use Rattle.std.specs.List.{fold}
+use Rattle.std.specs.List.{fold, list_any}
 use Rattle.std.specs.declared.alloc.AllocError.{AllocError}
 use Rattle.std.specs.Global.{Vec}
 use Rattle.std.proofs.lemmas.List.{reverse-reverse, take_all}
@@ -13,7 +13,7 @@ use Rattle.stub_core.specs.Resolver.{with_handle}
 use Rattle.stub_client.specs.declared.request.DnsRequest.{DnsRequest}
 use Rattle.stub_core.specs.declared.resolver.Resolver.{Resolver}
 use Rattle.stub_link.specs.AskState.{AskState, AskZone, UpdateZone, begin, begin_with_update, end}
-use Rattle.stub_link.specs.LinkState.{Course, Honest, Listed, LinkState, deliver, deliver_event, deliver_named, deliver_rest, begin_event as begin_link_event, begin_update as begin_link_update, end_event as end_link, named_update}
+use Rattle.stub_link.specs.LinkState.{Course, Honest, Listed, LinkState, deliver, deliver_event, deliver_named, deliver_rest, begin_event as begin_link_event, begin_update as begin_link_update, end_event as end_link, is_delivery, named_update}
 use Rattle.stub_link.specs.Link.{Calls, calls_of, wire}
 use Rattle.stub_link.specs.Request.{IsUpdate}
 use Rattle.stub_link.specs.ScriptedLink.{AreRelated, IsAt, IsBegun, IsCourse, IsDelivered as IsLinkDelivered, IsEnded, IsListed, IsRequest, Receives, Sends, Streams, bytes_of, is_out_of_memory}
@@ -244,15 +244,20 @@ none-mapped : {A B : Type 0} (f : A → B) (xs : List A) → map f xs ≡ [] →
 none-mapped f [] h = refl
 none-mapped f (x ∷ xs) h = absurd (cc h)
 
+-- no event delivers where there are none
+none-delivers : (events : List LinkEvent) → events ≡ [] → list_any is_delivery events ≡ false
+none-delivers events none = ap (λ (es : List LinkEvent). list_any is_delivery es) none
+
 -- where nothing is left of a course, nothing is left on the link
 course-delivered : (link : ScriptedLink) (course : Course) → IsCourse link course → IsDelivered course → IsLinkDelivered link
 course-delivered link (Honest under_way) is none = (
   none-mapped (λ (bytes : Vec ℕ). bytes.items) link.under_way.items
       (none-related IsRequest (bytes_of link.under_way) (subst (AreRelated IsRequest (bytes_of link.under_way)) none is.1)),
-  is.2,
+  none-delivers link.events.items is.2,
 )
 course-delivered link (Listed events) is none =
-    (is.1, sym (reverse-reverse link.events.items) ∙ ap (λ (es : List LinkEvent). reverse es) (is.2 ∙ none))
+    let empty : link.events.items ≡ [] = sym (reverse-reverse link.events.items) ∙ ap (λ (es : List LinkEvent). reverse es) (is.2 ∙ none) in
+    (is.1, none-delivers link.events.items empty)
 
 -- ---- what an event leads to
 
