@@ -1,5 +1,5 @@
 -- The token of a value is read as the bytes of the value.
-use Rattle.std.proofs.Common.{◌≡◌, ℕ, zero, suc, ◌+◌, ◌%◌, ◌<◌, ◌≤◌, ◌^◌, Bool, true, false, ◌&&◌, List, [], ◌∷◌, ◌++◌, length, take, get_or, Option, Some, None, option_map, Result, Ok, Err, refl, sym, ap, subst, ◌∙◌, append_assoc, arith, length-take, length-append}
+use Rattle.std.proofs.Common.{◌≡◌, ℕ, zero, suc, ◌+◌, ◌/◌, ◌%◌, ◌<◌, ◌≤◌, ◌^◌, Bool, true, false, ◌&&◌, List, [], ◌∷◌, ◌++◌, length, take, drop, get_or, Option, Some, None, option_map, Result, Ok, Err, refl, sym, ap, subst, ◌∙◌, append_assoc, arith, length-take, length-append}
 use Rattle.std.specs.Prelude.{◌==◌, ◌≢◌, nat_le, nat_lt, if◌then◌else◌, codes, is_some}
 use Rattle.std.specs.List.{AllByRecursion}
 use Rattle.std.specs.Fmt.{decimal}
@@ -55,6 +55,12 @@ use Rattle.dns_formats.proofs.WordLaws.{IsTame, IsPlainWord, tame_word, tag_word
 use Rattle.dns_formats.proofs.EncodingLaws.{hex_word, hex_first, hex_back, base64_word, base64_back}
 use Rattle.dns_formats.proofs.TypeLaws.{word_plain, word_parses, round_trips}
 use Rattle.dns_formats.proofs.ParameterLaws.{parameters_back, parameters_data}
+use Rattle.dns_location.specs.Wire.{number_at, is_location}
+use Rattle.dns_location.specs.Text.{distance, location_words}
+use Rattle.dns_location.proofs.LocationBackLaws.{location_back}
+use Rattle.dns_location.proofs.TameLaws.{north_small}
+use Rattle.dns_formats.specs.Location.{of_location}
+use Rattle.dns_formats.proofs.LocationLaws.{location_data}
 
 some_is : (a b : ℕ) → ◌≡◌ {A = Option ℕ} (Some a) (Some b) → a ≡ b
 some_is a b e = cc
@@ -543,6 +549,18 @@ service_back origin bytes n are e =
       read = parameters_back bytes are p.0 ∙ ap (λ (l : List ℕ). Ok l) (sym (take_all bytes n p.1));
     }
 
+location_field_back : (origin : Option DomainName) (bytes : List ℕ) (n : ℕ) → AreOctets bytes → value_len kind.Location bytes ≡ Some n → AreBack origin kind.Location (front_tokens kind.Location bytes) (take n bytes)
+location_field_back origin bytes n are e =
+    let p = if_bitmap (is_location bytes) (length bytes) n e in
+    let small = north_small bytes p.0 in
+    record {
+      each = location_data bytes are p.0;
+      special = λ _ more. number_special (distance (number_at 4 bytes) / 3600000) (omega (arith, small)) (drop 1 (word_tokens (location_words bytes)) ++ more);
+      present = refl;
+      few = λ no. absurd (cc);
+      read = ap of_location (location_back bytes are p.0) ∙ ap (λ (l : List ℕ). Ok l) (sym (take_all bytes n p.1));
+    }
+
 pub value_back : (origin : Option DomainName) (field : Field) (bytes : List ℕ) (n : ℕ) → AreOctets bytes → value_len field bytes ≡ Some n → AreBack origin field (front_tokens field bytes) (take n bytes)
 value_back origin kind.Number8 bytes n are e = one origin kind.Number8 _ _ (number8_back origin bytes n are e)
 value_back origin kind.Number16 bytes n are e = one origin kind.Number16 _ _ (number16_back origin bytes n are e)
@@ -561,3 +579,4 @@ value_back origin kind.Hex bytes n are e = one origin kind.Hex _ _ (hex_field_ba
 value_back origin kind.Base64 bytes n are e = one origin kind.Base64 _ _ (base64_field_back origin bytes n are e)
 value_back origin kind.Types bytes n are e = types_back origin bytes n are e
 value_back origin kind.Parameters bytes n are e = service_back origin bytes n are e
+value_back origin kind.Location bytes n are e = location_field_back origin bytes n are e

@@ -13,3 +13,4 @@ pub mod SetLaws
 pub mod ServiceLaws
 pub mod ParameterLaws
 pub mod SignLaws
+pub mod LocationLaws

@@ -11,11 +11,14 @@ use Rattle.dns_text.specs.Tokens.{datum_text, data_text}
 use Rattle.dns_formats.specs.Wire.{counted_octets, value_len, value_size, fits}
 use Rattle.dns_bitmaps.specs.TypeWord.{word_of_type}
 use Rattle.dns_bitmaps.specs.Bitmap.{types_of, spaced_types}
-use Rattle.dns_service.specs.Text.{parameter_texts, spaced_words}
+use Rattle.dns_service.specs.Text.{parameter_texts}
+use Rattle.dns_service.specs.Text as service
+use Rattle.dns_location.specs.Text.{location_words, spaced_words, joined_words}
 use Rattle.dns_formats.specs.Field.{may_be_empty, begins}
-use Rattle.dns_formats.specs.Print.{labels_at, front_token, type_tokens, word_tokens, list_tokens, front_tokens, data_tokens, lead, spaced, generic_text}
+use Rattle.dns_formats.specs.Print.{labels_at, front_token, type_tokens, word_tokens, list_tokens, some_tokens, front_tokens, data_tokens, lead, spaced, generic_text}
 use Rattle.dns_formats.specs.Value.{is_tag}
 use Rattle.dns_formats.specs.declared.field.Field.{Field}
+use Rattle.dns_formats.specs.declared.field.Field.TheVariants as kind
 use Rattle.dns_formats.specs.declared.field.Field.TheVariants.{Tag, Types, Parameters}
 use Rattle.dns_formats.proofs.ValueLaws.{at_place}
 use Rattle.dns_formats.proofs.ReadLaws.{none_left}
@@ -49,11 +52,30 @@ spaced_append is_first (t ∷ ts) more some =
     ap (λ (l : List ℕ). (lead is_first ++ datum_text t) ++ l) (spaced_append false ts more (λ q. absurd (cc)))
     ∙ sym (append_assoc (lead is_first ++ datum_text t) (spaced false ts) (spaced false more))
 
+some_there : (field : Field) (bytes : List ℕ) → 0 < length (some_tokens field bytes)
+some_there kind.Location bytes = omega arith
+some_there kind.Number8 bytes = omega arith
+some_there kind.Number16 bytes = omega arith
+some_there kind.Number32 bytes = omega arith
+some_there kind.Name bytes = omega arith
+some_there kind.CharacterString bytes = omega arith
+some_there kind.Tag bytes = omega arith
+some_there kind.Text bytes = omega arith
+some_there kind.Hex bytes = omega arith
+some_there kind.Base64 bytes = omega arith
+some_there kind.RecordType bytes = omega arith
+some_there kind.Time bytes = omega arith
+some_there kind.Salt bytes = omega arith
+some_there kind.Algorithm bytes = omega arith
+some_there kind.CertificateType bytes = omega arith
+some_there kind.Hash bytes = omega arith
+some_there kind.Types bytes = omega arith
+some_there kind.Parameters bytes = omega arith
+
 some_front : (field : Field) (bytes : List ℕ) → may_be_empty field ≡ false → 0 < length (front_tokens field bytes)
 some_front field bytes needs =
-    let one : front_tokens field bytes ≡ front_token field bytes ∷ [] = ap (λ (b : Bool). if b then list_tokens field bytes else front_token field bytes ∷ []) needs in
-    let len : length (front_tokens field bytes) ≡ 1 = ap (λ (l : List Lexeme). length l) one in
-    omega (arith, len)
+    let some : front_tokens field bytes ≡ some_tokens field bytes = ap (λ (b : Bool). if b then list_tokens field bytes else some_tokens field bytes) needs in
+    subst (λ (l : List Lexeme). 0 < length l) (sym some) (some_there field bytes)
 
 needs_one : (field : Field) (fields : List Field) → begins (field ∷ fields) ≡ true → may_be_empty field ≡ false
 needs_one field fields e = by (may_be_empty field) refl e
@@ -65,15 +87,45 @@ needs_one field fields e = by (may_be_empty field) refl e
 pub first_needed : (fields : List Field) (i : ℕ) (d : Field) → i < length fields → begins (drop i fields) ≡ true → may_be_empty (get_or fields i d) ≡ false
 first_needed fields i d here e = needs_one (get_or fields i d) (drop (i + 1) fields) (ap begins (sym (at_place fields i d here)) ∙ e)
 
--- the text of a value of one token
+words_joined : (words : List (List ℕ)) → spaced_words words ≡ spaced false (word_tokens words)
+words_joined [] = refl
+words_joined (w ∷ ws) = ap (λ (l : List ℕ). (32 ∷ w) ++ l) (words_joined ws)
+
+all_joined : (is_first : Bool) (words : List (List ℕ)) → 0 < length words → lead is_first ++ joined_words words ≡ spaced is_first (word_tokens words)
+all_joined is_first [] some = absurd (omega arith)
+all_joined is_first (w ∷ ws) some = sym (append_assoc (lead is_first) w (spaced_words ws)) ∙ ap (λ (l : List ℕ). (lead is_first ++ w) ++ l) (words_joined ws)
+
+one_alone : (is_first : Bool) (token : Lexeme) → lead is_first ++ datum_text token ≡ spaced is_first (token ∷ [])
+one_alone is_first token = sym (append-nil (lead is_first ++ datum_text token))
+
+some_written : (is_first : Bool) (field : Field) (bytes : List ℕ) → lead is_first ++ datum_text (front_token field bytes) ≡ spaced is_first (some_tokens field bytes)
+some_written is_first kind.Location bytes = all_joined is_first (location_words bytes) (omega arith)
+some_written is_first kind.Number8 bytes = one_alone is_first (front_token kind.Number8 bytes)
+some_written is_first kind.Number16 bytes = one_alone is_first (front_token kind.Number16 bytes)
+some_written is_first kind.Number32 bytes = one_alone is_first (front_token kind.Number32 bytes)
+some_written is_first kind.Name bytes = one_alone is_first (front_token kind.Name bytes)
+some_written is_first kind.CharacterString bytes = one_alone is_first (front_token kind.CharacterString bytes)
+some_written is_first kind.Tag bytes = one_alone is_first (front_token kind.Tag bytes)
+some_written is_first kind.Text bytes = one_alone is_first (front_token kind.Text bytes)
+some_written is_first kind.Hex bytes = one_alone is_first (front_token kind.Hex bytes)
+some_written is_first kind.Base64 bytes = one_alone is_first (front_token kind.Base64 bytes)
+some_written is_first kind.RecordType bytes = one_alone is_first (front_token kind.RecordType bytes)
+some_written is_first kind.Time bytes = one_alone is_first (front_token kind.Time bytes)
+some_written is_first kind.Salt bytes = one_alone is_first (front_token kind.Salt bytes)
+some_written is_first kind.Algorithm bytes = one_alone is_first (front_token kind.Algorithm bytes)
+some_written is_first kind.CertificateType bytes = one_alone is_first (front_token kind.CertificateType bytes)
+some_written is_first kind.Hash bytes = one_alone is_first (front_token kind.Hash bytes)
+some_written is_first kind.Types bytes = one_alone is_first (front_token kind.Types bytes)
+some_written is_first kind.Parameters bytes = one_alone is_first (front_token kind.Parameters bytes)
+
+-- the text of a value that is not empty
 pub one_written : (is_first : Bool) (field : Field) (bytes : List ℕ) → may_be_empty field ≡ false → lead is_first ++ datum_text (front_token field bytes) ≡ spaced is_first (front_tokens field bytes)
 one_written is_first field bytes needs =
-    sym (append-nil (lead is_first ++ datum_text (front_token field bytes)))
-    ∙ ap (λ (b : Bool). spaced is_first (if b then list_tokens field bytes else front_token field bytes ∷ [])) (sym needs)
+    some_written is_first field bytes ∙ ap (λ (b : Bool). spaced is_first (if b then list_tokens field bytes else some_tokens field bytes)) (sym needs)
 
 pub list_written : (is_first : Bool) (field : Field) (bytes : List ℕ) → may_be_empty field ≡ true → is_first ≡ false → spaced false (list_tokens field bytes) ≡ spaced is_first (front_tokens field bytes)
 list_written is_first field bytes empty later =
-    ap (λ (b : Bool). spaced b (list_tokens field bytes)) (sym later) ∙ ap (λ (b : Bool). spaced is_first (if b then list_tokens field bytes else front_token field bytes ∷ [])) (sym empty)
+    ap (λ (b : Bool). spaced b (list_tokens field bytes)) (sym later) ∙ ap (λ (b : Bool). spaced is_first (if b then list_tokens field bytes else some_tokens field bytes)) (sym empty)
 
 pub types_written : (types : List ℕ) → spaced_types types ≡ spaced false (type_tokens types)
 types_written [] = refl
@@ -82,11 +134,11 @@ types_written (t ∷ ts) = ap (λ (l : List ℕ). (32 ∷ word_of_type (t % 6553
 pub types_list : (field : Field) (bytes : List ℕ) → field ≡ Types → spaced_types (types_of 0 0 bytes) ≡ spaced false (list_tokens field bytes)
 types_list field bytes is = types_written (types_of 0 0 bytes) ∙ ap (λ (k : Field). spaced false (list_tokens k bytes)) (sym is)
 
-pub words_written : (words : List (List ℕ)) → spaced_words words ≡ spaced false (word_tokens words)
+pub words_written : (words : List (List ℕ)) → service.spaced_words words ≡ spaced false (word_tokens words)
 words_written [] = refl
 words_written (w ∷ ws) = ap (λ (l : List ℕ). (32 ∷ w) ++ l) (words_written ws)
 
-pub parameters_list : (field : Field) (bytes : List ℕ) → field ≡ Parameters → spaced_words (parameter_texts 0 bytes) ≡ spaced false (list_tokens field bytes)
+pub parameters_list : (field : Field) (bytes : List ℕ) → field ≡ Parameters → service.spaced_words (parameter_texts 0 bytes) ≡ spaced false (list_tokens field bytes)
 parameters_list field bytes is = words_written (parameter_texts 0 bytes) ∙ ap (λ (k : Field). spaced false (list_tokens k bytes)) (sym is)
 
 pub not_first : (is_first : Bool) (field : Field) → (is_first ≡ true → may_be_empty field ≡ false) → may_be_empty field ≡ true → is_first ≡ false

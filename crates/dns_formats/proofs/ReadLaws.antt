@@ -75,6 +75,7 @@ token_there field tokens place needs present = by (nat_lt place (length tokens))
 pub one_needed : (field : Field) → takes_rest field ≡ false → may_be_empty field ≡ false
 one_needed kind.Types e = absurd (cc)
 one_needed kind.Parameters e = absurd (cc)
+one_needed kind.Location e = refl
 one_needed kind.Hex e = refl
 one_needed kind.Base64 e = refl
 one_needed kind.Number8 e = refl

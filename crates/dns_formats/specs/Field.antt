@@ -1,7 +1,7 @@
 -- The fields of record data, by its type.
 use Rattle.std.specs.Prelude.{ℕ, ◌==◌, not, if◌then◌else◌, Bool, true, false, List, [], ◌∷◌, Option, Some, None, map}
 use Rattle.dns_formats.specs.declared.field.Field.{Field}
-use Rattle.dns_formats.specs.declared.field.Field.TheVariants.{Hex, Base64, Types, Parameters}
+use Rattle.dns_formats.specs.declared.field.Field.TheVariants.{Hex, Base64, Types, Parameters, Location}
 use Rattle.dns_formats.specs.declared.field.TheConstants.{FORMATS}
 
 -- whether a field takes all tokens that are left
@@ -10,6 +10,7 @@ takes_rest Hex = true
 takes_rest Base64 = true
 takes_rest Types = true
 takes_rest Parameters = true
+takes_rest Location = true
 takes_rest field = false
 
 -- whether a field may have no token at all

@@ -12,3 +12,4 @@ pub mod Counted
 pub mod Mnemonic
 pub mod Types
 pub mod Service
+pub mod Location

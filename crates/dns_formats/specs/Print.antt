@@ -13,6 +13,7 @@ use Rattle.dns_text.specs.Tokens.{datum_text, data_text}
 use Rattle.dns_bitmaps.specs.Bitmap.{types_of}
 use Rattle.dns_bitmaps.specs.Base32.{encoded}
 use Rattle.dns_service.specs.Text.{parameter_texts}
+use Rattle.dns_location.specs.Text.{location_words, joined_words}
 use Rattle.dns_formats.specs.Field.{may_be_empty}
 use Rattle.dns_formats.specs.Wire.{counted_octets, value_size, fits}
 use Rattle.dns_formats.specs.declared.field.Field.{Field}
@@ -48,6 +49,8 @@ front_token Base64 bytes = CharData (encode_of standard bytes)
 front_token kind.Algorithm bytes = CharData (decimal (slice_index bytes 0))
 front_token kind.CertificateType bytes = CharData (decimal (from_be_bytes w16 bytes))
 front_token kind.Hash bytes = CharData (encoded (counted_octets bytes))
+-- A location has several tokens, whose texts these are with a blank between each two.
+front_token kind.Location bytes = CharData (joined_words (location_words bytes))
 -- A list has no such token.
 front_token kind.Types bytes = CharData []
 front_token kind.Parameters bytes = CharData []
@@ -68,9 +71,14 @@ list_tokens kind.Types bytes = type_tokens (types_of 0 0 bytes)
 list_tokens kind.Parameters bytes = word_tokens (parameter_texts 0 bytes)
 list_tokens field bytes = []
 
+-- the tokens of the value of a field that is not empty
+abbrev pub some_tokens : Field → List ℕ → List Lexeme
+some_tokens kind.Location bytes = word_tokens (location_words bytes)
+some_tokens field bytes = front_token field bytes ∷ []
+
 -- the tokens of the value of a field at the front of bytes
 abbrev pub front_tokens : Field → List ℕ → List Lexeme
-front_tokens field bytes = if may_be_empty field then list_tokens field bytes else front_token field bytes ∷ []
+front_tokens field bytes = if may_be_empty field then list_tokens field bytes else some_tokens field bytes
 
 -- the tokens of fields whose values follow one another in bytes
 abbrev pub data_tokens : List Field → List ℕ → List Lexeme

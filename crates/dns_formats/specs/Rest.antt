@@ -7,6 +7,7 @@ use Rattle.hex.specs.Hex as hex
 use Rattle.hex.specs.declared.error.FromHexError.{FromHexError}
 use Rattle.dns_text.specs.Lexer.{Lexeme, CharData}
 use Rattle.dns_formats.specs.Service.{parameters_bytes}
+use Rattle.dns_formats.specs.Location.{token_bytes}
 use Rattle.dns_formats.specs.Types.{types_bytes}
 use Rattle.dns_formats.specs.declared.fault.TokenFault.{TokenFault}
 use Rattle.dns_formats.specs.declared.fault.TokenFault.TheVariants.{NotAWord, NotHex, NotBase64}
@@ -47,4 +48,5 @@ rest_bytes kind.Hex tokens = hex_words (joined tokens)
 rest_bytes kind.Base64 tokens = base64_words (joined tokens)
 rest_bytes kind.Types tokens = types_bytes tokens
 rest_bytes kind.Parameters tokens = parameters_bytes tokens
+rest_bytes kind.Location tokens = token_bytes tokens
 rest_bytes field tokens = Err NotAWord

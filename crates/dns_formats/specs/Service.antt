@@ -1,5 +1,5 @@
 -- The parameters of service bindings, from their tokens (RFC 9460 section 2.1).
-use Rattle.std.specs.Prelude.{ℕ, zero, suc, ◌+◌, ◌==◌, if◌then◌else◌, Bool, true, false, List, [], ◌∷◌, length, take, drop, Option, Some, None, unwrap_or, Result, Ok, Err}
+use Rattle.std.specs.Prelude.{ℕ, zero, suc, ◌+◌, ◌==◌, if◌then◌else◌, List, [], ◌∷◌, length, take, drop, Option, Some, None, unwrap_or, Result, Ok, Err}
 use Rattle.std.specs.List.{position_or_len}
 use Rattle.dns_text.specs.CharacterString.{unescaped}
 use Rattle.dns_text.specs.Lexer.{Lexeme, CharData, QuotedString}

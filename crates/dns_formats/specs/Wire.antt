@@ -2,6 +2,7 @@
 use Rattle.std.specs.Prelude.{ℕ, zero, suc, ◌+◌, ◌==◌, nat_le, nat_lt, if◌then◌else◌, Bool, true, false, List, [], ◌∷◌, length, take, drop, Option, Some, None, option_map, unwrap_or}
 use Rattle.dns_bitmaps.specs.Bitmap.{is_bitmap}
 use Rattle.dns_service.specs.Wire.{are_parameters}
+use Rattle.dns_location.specs.Wire.{is_location}
 use Rattle.dns_formats.specs.Value.{is_tag}
 use Rattle.dns_formats.specs.declared.field.Field.{Field}
 use Rattle.dns_formats.specs.declared.field.Field.TheVariants as kind
@@ -46,6 +47,10 @@ bitmap_len bytes = if is_bitmap 0 0 bytes then Some (length bytes) else None
 abbrev pub parameters_len : List ℕ → Option ℕ
 parameters_len bytes = if are_parameters bytes 0 0 bytes then Some (length bytes) else None
 
+-- all bytes, if they are a location
+abbrev pub location_len : List ℕ → Option ℕ
+location_len bytes = if is_location bytes then Some (length bytes) else None
+
 -- all bytes, of which there is at least one
 abbrev pub all_of : List ℕ → Option ℕ
 all_of [] = None
@@ -67,6 +72,7 @@ value_len kind.CertificateType bytes = at_least 2 bytes
 value_len kind.Hash bytes = some_counted_len bytes
 value_len kind.Types bytes = bitmap_len bytes
 value_len kind.Parameters bytes = parameters_len bytes
+value_len kind.Location bytes = location_len bytes
 value_len Text bytes = Some (length bytes)
 value_len Hex bytes = all_of bytes
 value_len Base64 bytes = all_of bytes

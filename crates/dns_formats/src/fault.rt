@@ -1,5 +1,6 @@
 //! Why the tokens of record data are refused.
 
+use dns_location::LocationFault;
 use dns_names::ParseError;
 use dns_service::ServiceFault;
 use std::alloc::{AllocError, AllocFailed};
@@ -63,6 +64,9 @@ pub enum TokenFault {
     /// `alpn`, or a value has not the form of its key (RFC 9460 sections 7 and 8).
     #[error("the parameters are not those of a service binding")]
     NotParameters,
+    /// The tokens are not a location (RFC 1876 section 3).
+    #[error("{0}")]
+    Location(LocationFault),
     /// Memory could not be allocated.
     #[error("out of memory")]
     Memory,

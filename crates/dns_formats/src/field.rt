@@ -43,6 +43,8 @@ pub enum Field {
     Types,
     /// Parameters of a service binding, perhaps none, which extend to the end of the data (RFC 9460 sections 2.1 and 2.2).
     Parameters,
+    /// A location in several tokens, which is all data of its type (RFC 1876 sections 2 and 3).
+    Location,
 }
 
 impl Field {
@@ -52,7 +54,7 @@ impl Field {
     {
         matches!(
             self,
-            Field::Hex | Field::Base64 | Field::Types | Field::Parameters
+            Field::Hex | Field::Base64 | Field::Types | Field::Parameters | Field::Location
         )
     }
 
@@ -65,8 +67,8 @@ impl Field {
 }
 
 use Field::{
-    Algorithm, Base64, CertificateType, CharacterString, Hash, Hex, Name, Number8, Number16,
-    Number32, Parameters, Salt, Tag, Text, Time, Types,
+    Algorithm, Base64, CertificateType, CharacterString, Hash, Hex, Location, Name, Number8,
+    Number16, Number32, Parameters, Salt, Tag, Text, Time, Types,
 };
 
 /// The fields of each type, by its number. A type of known kinds is one line here, and nothing else.
@@ -75,6 +77,12 @@ const FORMATS: &[(u16, &[Field])] = &[
     (13, &[CharacterString, CharacterString]),
     // RP (RFC 1183 section 2.2)
     (17, &[Name, Name]),
+    // AFSDB (RFC 1183 section 1)
+    (18, &[Number16, Name]),
+    // RT (RFC 1183 section 3.3)
+    (21, &[Number16, Name]),
+    // LOC (RFC 1876 section 3)
+    (29, &[Location]),
     // NAPTR (RFC 3403 section 4.1)
     (
         35,

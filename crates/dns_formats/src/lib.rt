@@ -7,7 +7,7 @@
 //! - `dnssec`: the fields of DNSSEC: types by their names, times, salts and hashes; `types`: sets of types
 //! - `mnemonic`: algorithms and types of certificates by their mnemonics
 //! - `value`: a token as the bytes of one field; `rest`: all tokens that are left, as one field
-//! - `service`: the parameters of service bindings
+//! - `service`: the parameters of service bindings; `location`: locations
 //! - `read`: the tokens of record data, read as its bytes
 #![tactic(auto)]
 
@@ -16,6 +16,7 @@ mod fault;
 mod field;
 mod generic;
 pub mod laws;
+mod location;
 mod mnemonic;
 mod print;
 mod read;
@@ -26,6 +27,7 @@ mod value;
 mod wire;
 
 pub use dns_bitmaps::{TypeWord, type_of_word};
+pub use dns_location::LocationFault;
 pub use dns_service::ServiceFault;
 pub use fault::{FormatFault, TokenFault};
 pub use field::{Field, format_of};

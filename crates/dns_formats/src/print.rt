@@ -15,6 +15,7 @@ ghost use Rattle.dns_codes.specs.RecordType.{type_number};
 ghost use Rattle.dns_bitmaps.specs.Bitmap.{types_of, spaced_types};
 ghost use Rattle.dns_bitmaps.specs.Base32.{encoded};
 ghost use Rattle.dns_service.specs.Text.{parameter_texts, spaced_words};
+ghost use Rattle.dns_location.specs.Text.{location_words, joined_words};
 ghost use Rattle.dns_formats.specs.Field.{may_be_empty, begins, fields_of};
 ghost use Rattle.dns_formats.specs.Wire.{value_len, fits};
 ghost use Rattle.dns_formats.specs.Print.{labels_at, front_token, list_tokens, front_tokens, data_tokens, lead, spaced, salt_text, generic_text, format_text};
@@ -25,6 +26,7 @@ use base64::display::Base64Display;
 use base64::engine::general_purpose::STANDARD;
 use dns_bitmaps::{Base32Text, BitmapText, TypeWord};
 use dns_codes::RecordType;
+use dns_location::LocationText;
 use dns_service::ParametersText;
 use dns_text::QuotedString;
 use std::fmt;
@@ -89,7 +91,7 @@ fn write_spaced<W: fmt::Write>(
     write_one(is_first, field, bytes, f)
 }
 
-/// Writes the value of a field of one token, after a blank unless it is the first.
+/// Writes the value of a field of one token, or a location, after a blank unless it is the first.
 fn write_one<W: fmt::Write>(
     is_first: bool,
     field: Field,
@@ -140,6 +142,7 @@ fn write_value<W: fmt::Write>(field: Field, bytes: &[u8], f: &mut fmt::Formatter
         Field::Text => write_quoted(bytes, f),
         Field::Hex => write_hex(bytes, f),
         Field::Base64 => write_base64(bytes, f),
+        Field::Location => write_location(bytes, f),
         // They are lists, which `write_list` writes.
         Field::Types | Field::Parameters => Ok(()),
     }
@@ -296,6 +299,17 @@ fn write_parameters<W: fmt::Write>(bytes: &[u8], f: &mut fmt::Formatter<W>) -> f
         (spaced_words (parameter_texts 0 bytes.now)) f.new }
 {
     let text = ParametersText { bytes };
+    write!(f, "{text}")
+}
+
+// ---- locations
+
+/// Writes a location, the parts of which blanks separate.
+fn write_location<W: fmt::Write>(bytes: &[u8], f: &mut fmt::Formatter<W>) -> fmt::Result
+    ensures { WritesOnOk W.write_str_gives f.old result
+        (joined_words (location_words bytes.now)) f.new }
+{
+    let text = LocationText { bytes };
     write!(f, "{text}")
 }
 

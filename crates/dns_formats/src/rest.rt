@@ -10,6 +10,7 @@ ghost use Rattle.dns_formats.specs.Rest.{joined, hex_outcome, base64_outcome, he
 
 use crate::fault::TokenFault;
 use crate::field::Field;
+use crate::location::push_location;
 use crate::service::push_parameters;
 use crate::types::push_types;
 use base64::DecodeAllocError;
@@ -33,6 +34,7 @@ pub(crate) fn push_rest(
         Field::Base64 => push_base64_words(alloc, tokens, out),
         Field::Types => push_types(alloc, tokens, out),
         Field::Parameters => push_parameters(alloc, tokens, out),
+        Field::Location => push_location(alloc, tokens, out),
         _ => Err(TokenFault::NotAWord),
     }
 }

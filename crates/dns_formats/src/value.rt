@@ -45,7 +45,7 @@ pub(crate) fn push_value(
         Field::Algorithm => push_algorithm(token, out),
         Field::CertificateType => push_certificate_type(token, out),
         Field::Hash => push_hash(alloc, token, out),
-        Field::Hex | Field::Base64 | Field::Types | Field::Parameters => {
+        Field::Hex | Field::Base64 | Field::Types | Field::Parameters | Field::Location => {
             Err(TokenFault::NotAWord)
         }
     }

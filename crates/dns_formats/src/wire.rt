@@ -1,11 +1,12 @@
 //! The value of a field at the front of bytes.
 
 ghost use Rattle.std.specs.Prelude.{◌≡◌, ◌≤◌, length, drop, IfSome, Option, unwrap_or};
-ghost use Rattle.dns_formats.specs.Wire.{at_least, name_end, short_name, counted_len, some_counted_len, bitmap_len, parameters_len, counted_octets, all_of, value_len, value_size, fits};
+ghost use Rattle.dns_formats.specs.Wire.{at_least, name_end, short_name, counted_len, some_counted_len, bitmap_len, parameters_len, location_len, counted_octets, all_of, value_len, value_size, fits};
 
 use crate::field::Field;
 use crate::value::is_tag;
 use dns_bitmaps::is_bitmap;
+use dns_location::is_location;
 use dns_service::are_parameters;
 
 /// The greatest length of a name, in bytes (RFC 1035 section 2.3.4).
@@ -53,6 +54,7 @@ pub(crate) fn value_len(field: Field, bytes: &[u8]) -> Option<usize>
         Field::Hash => some_counted_len(bytes),
         Field::Types => bitmap_len(bytes),
         Field::Parameters => parameters_len(bytes),
+        Field::Location => location_len(bytes),
         Field::Text => Some(bytes.len()),
         Field::Hex | Field::Base64 => all_of(bytes),
     }
@@ -142,6 +144,18 @@ fn parameters_len(bytes: &[u8]) -> Option<usize>
     ensures within { IfSome result (λ len. len ≤ length bytes.now) }
 {
     if are_parameters(bytes) {
+        Some(bytes.len())
+    } else {
+        None
+    }
+}
+
+/// Returns the number of all bytes, if they are a location.
+fn location_len(bytes: &[u8]) -> Option<usize>
+    ensures value { result ≡ location_len bytes.now }
+    ensures within { IfSome result (λ len. len ≤ length bytes.now) }
+{
+    if is_location(bytes) {
         Some(bytes.len())
     } else {
         None
