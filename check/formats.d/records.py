@@ -173,10 +173,30 @@ def priority(chance: random.Random) -> bytes:
     return struct.pack(">H", chance.randint(1, 65535))
 
 
+def angle(most: int) -> Callable[[random.Random], bytes]:
+    """An angle of at most some degrees, in thousandths of a second from 2 ** 31 (RFC 1876 section 2)."""
+    limit = most * 3600000
+    return lambda chance: struct.pack(">I", 2**31 + (chance.choice([-limit, limit, 0]) if chance.random() < 0.1 else chance.randint(-limit, limit)))
+
+
+def size(chance: random.Random) -> bytes:
+    """A size: a digit and a power of ten, in centimeters (RFC 1876 section 2)."""
+    return bytes([16 * chance.randint(1, 9) + chance.randint(0, 9)]) if chance.random() < 0.9 else b"\0"
+
+
+def expression(chance: random.Random) -> bytes:
+    """A substitution expression of NAPTR records, or a string that is none: BIND refuses such (RFC 3402 section 3.2)."""
+    text = chance.choice([b"", b"!^.*$!sip:info@example.com!", b"/(.*)/\\1.t/i"])
+    return bytes([len(text)]) + text if chance.random() < 0.8 else string(chance)
+
+
 TYPES = {
     "HINFO": Type(13, "HINFO", fields(string, string)),
     "RP": Type(17, "TYPE17", fields(name, name)),
-    "NAPTR": Type(35, "NAPTR", fields(numbers("HH"), string, string, string, name)),
+    "AFSDB": Type(18, "TYPE18", fields(numbers("H"), name)),
+    "RT": Type(21, "TYPE21", fields(numbers("H"), name)),
+    "LOC": Type(29, "TYPE29", fields(constant(b"\0"), size, size, size, angle(90), angle(180), numbers("I"))),
+    "NAPTR": Type(35, "NAPTR", fields(numbers("HH"), string, string, expression, name)),
     "CERT": Type(37, "CERT", fields(certificate_type, numbers("H"), algorithm, some(1, 60))),
     "KX": Type(36, "TYPE36", fields(numbers("H"), name)),
     "DNAME": Type(39, "DNAME", name),

@@ -1,4 +1,5 @@
 """dnspython, ldns and BIND: the text of data, and the data of a text."""
+import re
 import shutil
 import subprocess
 from pathlib import Path
@@ -7,7 +8,9 @@ from records import TYPES
 
 Record = tuple[str, bytes]
 
-# The word that the tools know a type by.
+# How many records a zone file has at most: a file is read again for each record in it that is refused.
+FILE = 2000
+
 HEAD = "$TTL 60\n@ SOA ns.t. h.t. 1 2 3 4 5\n@ NS ns.u.\n"
 
 
@@ -80,18 +83,27 @@ class Dnspython:
             return None
 
 
-def ldns(path: Path) -> list[str]:
-    """The lines of a zone file as ldns-read-zone writes them, or none if it refuses the file."""
+# The lines of a zone file as a tool writes them, or none if it refuses the file, and the numbers of lines that it refuses.
+Written = tuple[list[str], set[int]]
+
+
+def ldns(path: Path) -> Written:
+    """What ldns-read-zone writes. It names the first line that it refuses."""
     run = subprocess.run(["ldns-read-zone", path], capture_output=True, timeout=120, check=False)
-    return run.stdout.decode("latin-1").split("\n") if run.returncode == 0 else []
+    if run.returncode == 0:
+        return run.stdout.decode("latin-1").split("\n"), set()
+    return [], {int(number) for number in re.findall(r" at line (\d+)", run.stderr.decode("latin-1"))}
 
 
-def bind(path: Path) -> list[str]:
-    """The lines of a zone file as named-compilezone writes them, or none if it refuses the file."""
+def bind(path: Path) -> Written:
+    """What named-compilezone writes."""
     out = path.with_suffix(".out")
     arguments = ["-k", "ignore", "-n", "ignore", "-m", "ignore", "-i", "none", "-s", "full", "-o", str(out), "t.", str(path)]
     run = subprocess.run(["named-compilezone", *arguments], capture_output=True, timeout=120, check=False)
-    return out.read_text(encoding="latin-1").split("\n") if run.returncode == 0 else []
+    if run.returncode == 0:
+        return out.read_text(encoding="latin-1").split("\n"), set()
+    messages = (run.stdout + run.stderr).decode("latin-1")
+    return [], {int(number) for number in re.findall(re.escape(str(path)) + r":(\d+): ", messages)}
 
 
 class Zones:
@@ -101,15 +113,25 @@ class Zones:
         self.name, self.folder, self.run = name, folder, run
 
     def lines(self, entries: list[tuple[str, str]]) -> list[str | None]:
-        """What the program writes for each entry, a type and a text. An entry that it refuses is sought by halves."""
+        """What the program writes for each entry, a type and a text."""
+        return [line for start in range(0, len(entries), FILE) for line in self.file_lines(entries[start : start + FILE])]
+
+    def file_lines(self, entries: list[tuple[str, str]]) -> list[str | None]:
+        """What the program writes for the entries of one file, without those that it says it refuses; others are sought by halves."""
         path = self.folder / f"{self.name}.zone"
-        path.write_text("$ORIGIN t.\n" + HEAD + "".join(f"r{i} {kind} {text}\n" for i, (kind, text) in enumerate(entries)), encoding="latin-1")
-        written = self.run(path)
+        head = "$ORIGIN t.\n" + HEAD
+        path.write_text(head + "".join(f"r{i} {kind} {text}\n" for i, (kind, text) in enumerate(entries)), encoding="latin-1")
+        written, refused = self.run(path)
         if not written:
             if len(entries) < 2:
                 return [None] * len(entries)
+            first = head.count("\n") + 1
+            left = [entry for number, entry in enumerate(entries, first) if number not in refused]
+            if len(left) < len(entries):
+                lines = iter(self.file_lines(left) if left else [])
+                return [None if number in refused else next(lines) for number in range(first, first + len(entries))]
             middle = len(entries) // 2
-            return self.lines(entries[:middle]) + self.lines(entries[middle:])
+            return self.file_lines(entries[:middle]) + self.file_lines(entries[middle:])
         found = {}
         for line in written:
             words = line.split(None, 4)
