@@ -39,9 +39,15 @@ pub enum Refusal {
     /// A message has more than 65,535 bytes.
     #[error("a message of more than 65,535 bytes")]
     TooLong,
-    /// A text has not exactly one set of records.
-    #[error("not one set of records")]
-    Records,
+    /// An update has an item that no message can have.
+    #[error("an item that no message can have")]
+    Update,
+    /// No item of an update has this number.
+    #[error("no such item of an update")]
+    Item,
+    /// A text is no data of a type.
+    #[error("not data of the type")]
+    Data,
 }
 
 impl From<AllocError> for Refusal {

@@ -168,7 +168,9 @@ not_zero refusal.Name e = suc-ne-zero 7 (sym (ap nat_abs e))
 not_zero refusal.Zone e = suc-ne-zero 8 (sym (ap nat_abs e))
 not_zero refusal.Message e = suc-ne-zero 9 (sym (ap nat_abs e))
 not_zero refusal.TooLong e = suc-ne-zero 10 (sym (ap nat_abs e))
-not_zero refusal.Records e = suc-ne-zero 11 (sym (ap nat_abs e))
+not_zero refusal.Update e = suc-ne-zero 11 (sym (ap nat_abs e))
+not_zero refusal.Item e = suc-ne-zero 12 (sym (ap nat_abs e))
+not_zero refusal.Data e = suc-ne-zero 13 (sym (ap nat_abs e))
 
 module _ {M : Type 1} {𝓤 : Ura M} (𝓛 : Logic 𝓤) (alloc : Global.Denot) (origin text : List ℕ) where
   -- after a refusal the handle is null

@@ -1,5 +1,6 @@
 -- What the functions for C return.
-use Rattle.std.specs.Prelude.{ℤ, pos, Result, Ok, Err}
+use Rattle.std.specs.Prelude.{◌≡◌, ℤ, pos, List, ℕ, Result, Ok, Err}
+use Rattle.api_buffer.specs.Buffer.{Delivers}
 use Rattle.api_buffer.specs.declared.refusal.Refusal.{Refusal}
 use Rattle.api_buffer.specs.declared.refusal.Refusal.TheVariants as refusal
 
@@ -16,9 +17,24 @@ code_of refusal.Name = pos 8
 code_of refusal.Zone = pos 9
 code_of refusal.Message = pos 10
 code_of refusal.TooLong = pos 11
-code_of refusal.Records = pos 12
+code_of refusal.Update = pos 12
+code_of refusal.Item = pos 13
+code_of refusal.Data = pos 14
 
 -- the number of an outcome
 abbrev pub result_code : Result (Unit {0}) Refusal → ℤ
 result_code (Ok done) = pos 0
 result_code (Err refused) = code_of refused
+
+-- what a call finds: bytes, or the reason why there are none
+abbrev pub Finds : (List ℕ → Type 0) → (Refusal → Type 0) → Result (List ℕ) Refusal → Type 0
+Finds IsFound IsRefused (Ok bytes) = IsFound bytes
+Finds IsFound IsRefused (Err refusal) = IsRefused refusal
+
+-- What a call that makes bytes returns and leaves: they are found and delivered, and the code is that of the outcome.
+pub record Gives (IsFound : List ℕ → Type 0) (IsRefused : Refusal → Type 0) (code : ℤ) (buffer buffer' : List ℕ) (len len' : ℕ) : Type 0 where
+  pub found : Result (List ℕ) Refusal
+  pub outcome : Result (Unit {0}) Refusal
+  pub finds : Finds IsFound IsRefused found
+  pub delivered : Delivers found buffer len outcome buffer' len'
+  pub code_is : code ≡ result_code outcome

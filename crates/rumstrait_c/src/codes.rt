@@ -21,7 +21,9 @@ pub(crate) fn code_of(refusal: Refusal) -> i32
         Refusal::Zone => 9,
         Refusal::Message => 10,
         Refusal::TooLong => 11,
-        Refusal::Records => 12,
+        Refusal::Update => 12,
+        Refusal::Item => 13,
+        Refusal::Data => 14,
     }
 }
 

@@ -1,0 +1,3 @@
+mod DataLaws
+mod TokenLaws
+mod UpdateLaws
