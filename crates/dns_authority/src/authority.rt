@@ -1,22 +1,17 @@
 //! Authoritative servers of zones (RFC 1034 section 4.3.2).
 
 ghost use Rattle.std.specs.Prelude.{◌≡◌, ◌∷◌, ◌++◌, [], true, Ok, Err, IfOk, OnOk, OnErr};
-ghost use Rattle.dns_codes.specs.RecordType.{type_number};
 ghost use Rattle.dns_server.specs.Zones.{has_origin, AreServable};
 ghost use Rattle.dns_server.specs.declared.error.AddZoneError.{AddZoneError};
-ghost use Rattle.dns_zone.specs.Answer.{is_no_row_type, max_aliases};
-ghost use Rattle.dns_authority.specs.Additional.{with_additionals};
-ghost use Rattle.dns_authority.specs.Answer.{answer_at, authority_answer, is_unanswered};
+ghost use Rattle.dns_authority.specs.Answer.{authority_answer, is_unanswered};
 ghost use Rattle.dns_authority.specs.Step.{refusal};
 ghost use Rattle.dns_authority.specs.declared.asked.AnyAnswer.{AnyAnswer};
 
-use crate::additional::with_additionals;
 use crate::answer::AuthorityAnswer;
-use crate::asked::{AnyAnswer, Asked, is_any};
-use crate::chain::{MAX_ALIASES, answer_at};
+use crate::asked::AnyAnswer;
+use crate::view::AuthorityView;
 use dns_messages::{Query, ResponseCode};
 use dns_server::{AddZoneError, Server};
-use dns_wire::{DNSClass, RecordType};
 use dns_zone::Zone;
 use std::alloc::{AllocError, Global};
 
@@ -56,6 +51,17 @@ impl Authority {
         self.server.zones()
     }
 
+    /// Returns the zones, borrowed, with what questions for the type ANY are answered with.
+    pub fn view(&self) -> AuthorityView<'_>
+        ensures zones { result.zones.now ≡ self.now.server }
+        ensures any { result.any ≡ self.now.any }
+    {
+        AuthorityView {
+            zones: self.server.zones(),
+            any: self.any,
+        }
+    }
+
     /// Adds a zone. An error leaves the authority unchanged.
     ///
     /// # Errors
@@ -85,42 +91,6 @@ impl Authority {
         ensures unanswered { is_unanswered query.now.query_type ≡ true
             → result ≡ Ok (refusal ResponseCode.NotImp) }
     {
-        if is_unanswered(query.query_type) {
-            return Ok(AuthorityAnswer::refusal(self.alloc, ResponseCode::NotImp));
-        }
-        if !query.query_class.is_same(DNSClass::IN) {
-            return Ok(AuthorityAnswer::refusal(self.alloc, ResponseCode::Refused));
-        }
-        self.answer_along(query)
+        self.view().answer(self.alloc, query)
     }
-
-    /// Returns the answer to a question of the class `IN` for ANY, or for a type that records have.
-    fn answer_along(&self, query: &Query) -> Result<AuthorityAnswer, AllocError>
-        ensures { IfOk result (λ answer. answer ≡ with_additionals self.now.server
-            (answer_at max_aliases self.now.server
-            (record { record_type = query.now.query_type; any = self.now.any })
-            query.now.name)) }
-    {
-        let zones = self.zones();
-        let asked = Asked {
-            record_type: query.query_type,
-            any: self.any,
-        };
-        let answer = answer_at(self.alloc, MAX_ALIASES, zones, asked, &query.name)?;
-        with_additionals(self.alloc, zones, answer)
-    }
-}
-
-/// Returns `true` for a type that no row has, other than ANY.
-fn is_unanswered(record_type: RecordType) -> bool
-    ensures { result ≡ is_unanswered record_type }
-{
-    !is_any(record_type) && is_without_rows(record_type)
-}
-
-/// Returns `true` if no row has this type: it is 0, SIG, OPT, or one of 128 to 255 (RFC 6895 section 3.1).
-fn is_without_rows(record_type: RecordType) -> bool
-    ensures { result ≡ is_no_row_type (type_number record_type) }
-{
-    matches!(u16::from(record_type), 0 | 24 | 41 | 128..=255)
 }

@@ -4,7 +4,8 @@
 //! wildcard, along CNAME and DNAME records, with a referral at a zone cut, and with the addresses of the hosts that the answer
 //! names.
 //!
-//! - `authority`: zones, and the answers to questions; `answer`: what an answer is; `chain`: the answer along aliases;
+//! - `authority`: servers of zones; `view`: the answers of zones that are borrowed, as from any `dns_server::Server`; `answer`: what
+//!   an answer is; `chain`: the answer along aliases;
 //! - `step`: what a zone has at a name; `redirection`: what a DNAME record makes of it; `zones`: the zone of a name;
 //! - `asked`: the records of a type, or of ANY; `additional`: the additional section; `copies`: records of a zone, with an owner;
 //! - `laws`: theorems about the definitions of this crate.
@@ -19,8 +20,10 @@ mod copies;
 pub mod laws;
 mod redirection;
 mod step;
+mod view;
 mod zones;
 
 pub use answer::AuthorityAnswer;
 pub use asked::AnyAnswer;
 pub use authority::Authority;
+pub use view::AuthorityView;
