@@ -1,0 +1,4 @@
+pub mod RecordLaws
+pub mod BatchLaws
+pub mod MessageLaws
+pub mod SendingLaws

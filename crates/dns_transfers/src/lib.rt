@@ -1,0 +1,23 @@
+//! Transfers of zones (RFC 5936): records as a sequence of messages.
+//!
+//! A transfer takes its records from a source and makes one message after another, each with as many records as have room. The
+//! records of the messages, one after another, are those of the source.
+//!
+//! - `lent_record`: borrowed records; `records`: sources of records, and those that have room in a message;
+//! - `transfer`: the messages, one after another; `message`: one of them; `batch`: its records;
+//! - `error`: why there is no further message;
+//! - `laws`: theorems about the definitions of this crate.
+#![tactic(auto)]
+
+mod batch;
+mod error;
+pub mod laws;
+mod lent_record;
+mod message;
+mod records;
+mod transfer;
+
+pub use error::TransferError;
+pub use lent_record::LentRecord;
+pub use records::RecordSource;
+pub use transfer::Transfer;
