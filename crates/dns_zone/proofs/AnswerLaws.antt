@@ -44,7 +44,7 @@ sound_record owner row ttl f fits sound = record {
   has_data = ap not sound.rdata.has_data;
 }
 
-sound_records : (owner : DomainName) (rows : List Row) → owner.is_fqdn ≡ true → AreSoundRows rows → AreSoundRecords (map (record_of owner) rows)
+pub sound_records : (owner : DomainName) (rows : List Row) → owner.is_fqdn ≡ true → AreSoundRows rows → AreSoundRecords (map (record_of owner) rows)
 sound_records owner [] f all = tt
 sound_records owner (row ∷ rows) f all = (sound_record owner row row.ttl f all.0.ttl_fits all.0, sound_records owner rows f all.1)
 

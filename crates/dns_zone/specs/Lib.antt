@@ -3,6 +3,7 @@ pub mod Sets
 pub mod Answer
 pub mod Load
 pub mod Printed
+pub mod Lookup
 pub mod Section
 pub mod Serving
 pub mod Request

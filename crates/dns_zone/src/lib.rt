@@ -17,4 +17,5 @@ mod sets;
 mod zone;
 
 pub use road::{DatagramLimit, LimitTooSmall, Road};
+pub use sets::Sets;
 pub use zone::{Answer, Zone, ZoneFault, bare_reply_bytes, decode_request};

@@ -68,7 +68,7 @@ impl ZoneSets {
     }
 
     /// Proves that the sets are in order; nothing is computed.
-    fn order(&self)
+    pub(crate) fn order(&self)
         ensures { AreInOrder self.now }
     {
         self.map.len();

@@ -1,15 +1,40 @@
 //! The records of a zone by owner and type, for the answers of the crates above.
 
-ghost use Rattle.std.specs.Prelude.{◌≡◌};
+ghost use Rattle.std.specs.Prelude.{◌≡◌, map, List, IfOk};
+ghost use Rattle.std.specs.List.{filter};
+ghost use Rattle.dns_names.specs.Compare.{same_labels};
+ghost use Rattle.dns_records.specs.RecordSet.{RecordSetValue};
+ghost use Rattle.dns_zone.specs.Lookup.{AreSetsOf};
 ghost use Rattle.dns_zone.specs.Rows.{rows_at, rows_of, some_row_below, AreSoundRows};
 
 use crate::rows::{has_row_below, records_at};
+use crate::sets::Sets;
 use crate::zone::Zone;
 use dns_names::Name;
 use dns_records::Record;
 use dns_wire::RecordType;
+use std::alloc::AllocError;
 
 impl Zone {
+    /// Iterates over the record sets, in the canonical order of their owners (RFC 4034 section 6.1). That of the SOA record
+    /// comes first.
+    pub fn sets(&self) -> Sets<'_>
+        ensures { AreSetsOf self.now result }
+    {
+        self.sets.order();
+        self.sets.iter()
+    }
+
+    /// Returns the types of the records of a name, in the order of the sets.
+    pub fn types_at(&self, owner: &Name) -> Result<Vec<RecordType>, AllocError>
+        ensures { (sets : List RecordSetValue) × (AreSetsOf self.now sets × IfOk result (λ found.
+            found.items ≡ map (λ s. s.record_type)
+            (filter (λ s. same_labels owner.now.labels s.name.labels) sets))) }
+    {
+        self.sets.order();
+        self.sets.types_of(self.alloc, owner)
+    }
+
     /// Returns the records of a type at a name, in their order. Without such records it returns an empty slice.
     pub fn records_at(&self, owner: &Name, record_type: RecordType) -> &[Record]
         ensures rows { rows_of result.now
