@@ -23,6 +23,7 @@ pub record Disk : Type 0 where
 abbrev pub at_rest : List ℕ → List ℕ → Disk
 at_rest text journal = record { text = text; seen = journal; safe = length journal; reach = length journal; unsure = false }
 
+-- after an append: no byte of it is safe from a crash, and the journal may be left as long as it is now
 abbrev pub appended : Disk → List ℕ → Disk
 appended d bytes = record {
   text = d.text;
@@ -36,6 +37,7 @@ appended d bytes = record {
 abbrev pub synced : Disk → Disk
 synced d = if d.unsure then d else at_rest d.text d.seen
 
+-- after a sync that failed
 abbrev pub lost : Disk → Disk
 lost d = record { text = d.text; seen = d.seen; safe = d.safe; reach = d.reach; unsure = true }
 
@@ -43,6 +45,7 @@ lost d = record { text = d.text; seen = d.seen; safe = d.safe; reach = d.reach; 
 abbrev pub shortened : Disk → ℕ → Disk
 shortened d len = record { text = d.text; seen = take len d.seen; safe = min len d.safe; reach = d.reach; unsure = d.unsure }
 
+-- after the text was replaced
 abbrev pub with_text : Disk → List ℕ → Disk
 with_text d text = record { text = text; seen = d.seen; safe = d.safe; reach = d.reach; unsure = d.unsure }
 

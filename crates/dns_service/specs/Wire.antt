@@ -3,12 +3,15 @@ use Rattle.std.specs.Prelude.{ℕ, zero, suc, ◌+◌, ◌*◌, ◌%◌, ◌==�
 
 -- ---- the parameter at the front of bytes: a key and the length of its value, of two octets each, and the value
 
+-- the key of the parameter at the front: its first two octets
 abbrev pub key_at : List ℕ → ℕ
 key_at bytes = 256 * get_or bytes 0 0 + get_or bytes 1 0
 
+-- the length of its value in octets: the two octets after the key
 abbrev pub len_at : List ℕ → ℕ
 len_at bytes = 256 * get_or bytes 2 0 + get_or bytes 3 0
 
+-- its value: that many octets after these four
 abbrev pub front_value : List ℕ → List ℕ
 front_value bytes = take (len_at bytes) (drop 4 bytes)
 

@@ -76,7 +76,8 @@ pub fn handles_ask_few_questions<L: Link>()
         → AreFew 1 (asker_of old) (asker_of new) }
     ensures lookup { (options : DnsRequestOptions) (now : ℕ) (old new : CachingClient (WireHandle L))
         (q : Query) (reply : Reply)
-        → Answers (Asks L.sends L.receives L.streams L.failure_count) options now old q reply new
+        → Answers (Asks L.sends L.receives L.streams L.failure_count)
+        options now old q reply new
         → AreFew 8 (asker_of old.handle) (asker_of new.handle) }
     ensures name { (now : ℕ) (name : Result DomainName ParseError) (kind : RecordType)
         (old new : Resolver (WireHandle L)) (reply : Reply)

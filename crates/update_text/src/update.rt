@@ -68,7 +68,8 @@ pub fn read_update(
     origin: &Name,
     id: u16,
 ) -> Result<Option<UpdateEvent>, AllocError>
-    ensures update { IfOk result (IsUpdateOf origin.now id (map (λ word. word.items) arguments.now)) }
+    ensures update { IfOk result
+        (IsUpdateOf origin.now id (map (λ word. word.items) arguments.now)) }
     ensures short { length arguments.now < 2 → IsOk result }
 {
     match message_of(alloc, arguments, origin, id)? {

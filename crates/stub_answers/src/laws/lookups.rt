@@ -111,21 +111,21 @@ pub fn names_end_at_a_question<C: WholeClaim>()
 
 /// What a cache has and what stood, still stood at later moments, in a history that goes on, and after entries are removed.
 pub fn caches_keep_what_stood()
-    ensures later { (config : TtlConfigContent) (preserves : Bool) (origin : DomainName) (history : List Version)
-        (now later : ℕ) (cache : CacheContent) → now ≤ later
+    ensures later { (config : TtlConfigContent) (preserves : Bool) (origin : DomainName)
+        (history : List Version) (now later : ℕ) (cache : CacheContent) → now ≤ later
         → CacheStands config preserves origin history now cache
         → CacheStands config preserves origin history later cache }
-    ensures on { (config : TtlConfigContent) (preserves : Bool) (origin : DomainName) (history other : List Version)
-        (now : ℕ) (cache : CacheContent) → GoesOn now history other
+    ensures on { (config : TtlConfigContent) (preserves : Bool) (origin : DomainName)
+        (history other : List Version) (now : ℕ) (cache : CacheContent) → GoesOn now history other
         → CacheStands config preserves origin history now cache
         → CacheStands config preserves origin other now cache }
-    ensures cleared { (config : TtlConfigContent) (preserves : Bool) (origin : DomainName) (history : List Version)
-        (now : ℕ) (cache : CacheContent) (settings : Settings)
+    ensures cleared { (config : TtlConfigContent) (preserves : Bool) (origin : DomainName)
+        (history : List Version) (now : ℕ) (cache : CacheContent) (settings : Settings)
         (name : Result DomainName ParseError) (kind : RecordType)
         → CacheStands config preserves origin history now cache
         → CacheStands config preserves origin history now
         (record cache { entries = cleared_lookup settings name kind cache.entries }) }
-    ensures empty { (config : TtlConfigContent) (preserves : Bool) (origin : DomainName) (history : List Version)
-        (now : ℕ) (cache : CacheContent)
+    ensures empty { (config : TtlConfigContent) (preserves : Bool) (origin : DomainName)
+        (history : List Version) (now : ℕ) (cache : CacheContent)
         → CacheStands config preserves origin history now (record cache { entries = [] }) }
 {}
