@@ -1,0 +1,4 @@
+pub mod BlessLaws
+pub mod LineLaws
+pub mod PartLaws
+pub mod WritingLaws

@@ -1,0 +1,28 @@
+-- A script whose expectations are what its events printed.
+use Rattle.std.specs.Prelude.{◌++◌, if◌then◌else◌, List, [], ◌∷◌, ℕ, codes, flat_map, map}
+use Rattle.script_expectations.specs.Line.{is_event, is_expectation}
+use Rattle.script_expectations.specs.Printed.{event_lines, later_lines}
+
+-- the expectation of a line
+abbrev pub expectation : List ℕ → List ℕ
+expectation line = codes "#> " ++ line
+
+-- The lines of a script, in which each event is followed by what it printed, and no other expectation is left.
+abbrev pub blessed : List (List ℕ) → List (List ℕ) → List (List ℕ)
+blessed [] printed = []
+blessed (line ∷ lines) printed =
+    if is_event line then line ∷ (map expectation (event_lines printed) ++ blessed lines (later_lines printed))
+    else if is_expectation line then blessed lines printed
+    else line ∷ blessed lines printed
+
+-- the lines of an output that no event of a script printed
+abbrev pub left_over : List (List ℕ) → List (List ℕ) → List (List ℕ)
+left_over [] printed = printed
+left_over (line ∷ lines) printed = if is_event line then left_over lines (later_lines printed) else left_over lines printed
+
+-- lines as a text
+abbrev pub line_text : List ℕ → List ℕ
+line_text line = line ++ 10 ∷ []
+
+abbrev pub blessed_text : List (List ℕ) → List (List ℕ) → List ℕ
+blessed_text script printed = flat_map line_text (blessed script printed)

@@ -1,0 +1,4 @@
+pub mod Bless
+pub mod Differences
+pub mod Line
+pub mod Printed

@@ -1,0 +1,34 @@
+-- The lines of a script: events, expectations, and lines that are neither.
+use Rattle.std.specs.Prelude.{◌==◌, ◌||◌, if◌then◌else◌, Bool, true, false, List, [], ◌∷◌, ℕ, codes, drop, map, take}
+use Rattle.std.specs.Borrow.{Bor}
+use Rattle.std.specs.Str.{bytes_eq}
+
+-- the texts of lines
+abbrev pub texts : List (Bor (List ℕ)) → List (List ℕ)
+texts lines = map (λ line. line.now) lines
+
+-- a space or a tab
+abbrev pub is_blank : ℕ → Bool
+is_blank c = c == 32 || c == 9
+
+-- whether a line has an event: its first character that is not a blank begins no comment
+abbrev pub is_event : List ℕ → Bool
+is_event [] = false
+is_event (c ∷ cs) = if is_blank c then is_event cs else (if c == 35 then false else true)
+
+-- whether a line is an expectation
+abbrev pub is_expectation : List ℕ → Bool
+is_expectation line = bytes_eq (take 3 line) (codes "#> ")
+
+-- The lines that are expected of an event, from the script's lines after it: those of the expectations before the next event.
+abbrev pub expected_lines : List (List ℕ) → List (List ℕ)
+expected_lines [] = []
+expected_lines (line ∷ lines) =
+    if is_event line then []
+    else if is_expectation line then drop 3 line ∷ expected_lines lines
+    else expected_lines lines
+
+-- a script without its expectations
+abbrev pub without_expectations : List (List ℕ) → List (List ℕ)
+without_expectations [] = []
+without_expectations (line ∷ lines) = if is_expectation line then without_expectations lines else line ∷ without_expectations lines
