@@ -18,9 +18,13 @@ PACKAGES = {
     "dnsperf": "dnsperf",
     "faketime": "faketime",
     "pytest-3": "python3-pytest",
+    "/usr/bin/cargo": "cargo",
 }
 # The packages of Python, by what is imported.
 LIBRARIES = {"dns": "python3-dnspython"}
+# The packages of Rust's libraries, whose sources are in a folder.
+CRATES = {"trust-dns-proto-0.22.0": "librust-trust-dns-proto-dev", "trust-dns-resolver-0.22.0": "librust-trust-dns-resolver-dev"}
+CARGO_REGISTRY = "/usr/share/cargo/registry"
 # Debian's Python, which has its packages.
 PYTHON = "/usr/bin/python3"
 PATH = os.environ.get("PATH", "") + ":/usr/sbin:/sbin"
@@ -38,6 +42,8 @@ def has_library(name):
 
 
 def has(name):
+    if name in CRATES:
+        return os.path.isdir(f"{CARGO_REGISTRY}/{name}")
     return has_library(name) if name in LIBRARIES else find(name) is not None
 
 
@@ -47,7 +53,7 @@ def install(names):
     if missing and os.geteuid() == 0 and shutil.which("apt-get"):
         print("apt-get update", flush=True)
         run_apt("update", "-q")
-        for package in dict.fromkeys({**PACKAGES, **LIBRARIES}[it] for it in missing):
+        for package in dict.fromkeys({**PACKAGES, **LIBRARIES, **CRATES}[it] for it in missing):
             print(f"apt-get install {package}", flush=True)
             run_apt("install", "-y", "-q", "--no-install-recommends", package)
     return [it for it in missing if not has(it)]

@@ -1,6 +1,6 @@
 //! The end of an exchange that sends requests, and receives their replies.
 
-ghost use Rattle.std.specs.Prelude.{◌≡◌, Err, OnErr};
+ghost use Rattle.std.specs.Prelude.{◌≡◌, ◌≤◌, length, Err, IfOk, IfSome, OnErr};
 ghost use Rattle.dns_blocking.specs.declared.error.SocketError.TheVariants.{Failed};
 
 use crate::calls::{or_failed, patience, receive, send};
@@ -37,7 +37,9 @@ impl AskerEnd {
         alloc: Global,
         local: SocketAddr,
         server: SocketAddr,
-    ) -> Result<AskerEnd, SocketError> {
+    ) -> Result<AskerEnd, SocketError>
+        ensures { IfOk result (λ end. end.server ≡ server) }
+    {
         let buffer = vec![in alloc; 0u8; BUFFER_LEN]?;
         let (socket, address) = connected_socket(net, local, server)?;
         Ok(AskerEnd {
@@ -72,7 +74,13 @@ impl AskerEnd {
     ///
     /// - [`SocketError::Failed`] if the socket fails, as it does when the server's port is closed;
     /// - [`SocketError::Memory`] if the datagram cannot be allocated.
-    pub fn receive(&mut self) -> Result<Option<Vec<u8>>, SocketError> {
+    pub fn receive(&mut self) -> Result<Option<Vec<u8>>, SocketError>
+        ensures peer { self.new.server ≡ self.old.server }
+        ensures address { self.new.address ≡ self.old.address }
+        ensures room { length self.new.buffer.items ≡ length self.old.buffer.items }
+        ensures within { IfOk result (λ received. IfSome received
+            (λ bytes. length bytes.items ≤ length self.old.buffer.items)) }
+    {
         for _dropped in 0..MAX_FOREIGN {
             match receive(&self.socket, self.buffer.as_mut_slice())? {
                 Some((count, sender)) => {

@@ -2,7 +2,7 @@
 
 ghost use Rattle.std.specs.Prelude.{◌≡◌, ◌<◌, ◌≤◌, length, Ok, Err, IfOk, IfSome, OnErr, MatchResult};
 ghost use Rattle.std.specs.IoError.{error_kind};
-ghost use Rattle.dns_blocking.specs.Calls.{trouble_of};
+ghost use Rattle.dns_blocking.specs.Calls.{loopback, trouble_of};
 ghost use Rattle.dns_blocking.specs.declared.error.SocketError.TheVariants.{Failed};
 
 use crate::error::SocketError;
@@ -30,7 +30,9 @@ enum Trouble {
 
 /// Returns an address for a new socket: that of the loopback interface, 127.0.0.1, and port 0, for which the system chooses a
 /// port.
-pub fn loopback() -> SocketAddr {
+pub fn loopback() -> SocketAddr
+    ensures { result ≡ loopback }
+{
     SocketAddr::V4(SocketAddrV4::new(Ipv4Addr::LOCALHOST, 0))
 }
 

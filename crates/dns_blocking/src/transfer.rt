@@ -1,6 +1,6 @@
 //! Messages are carried over streams, as frames (RFC 1035 section 4.2.2, RFC 7766 section 8).
 
-ghost use Rattle.std.specs.Prelude.{◌≡◌, ◌≤◌, ◌++◌, List, ℕ, length, Err, IfOk, OnErr};
+ghost use Rattle.std.specs.Prelude.{◌≡◌, ◌<◌, ◌≤◌, ◌++◌, List, ℕ, length, Err, IfOk, OnErr};
 ghost use Rattle.dns_frames.specs.Frame.{frame};
 ghost use Rattle.dns_blocking.specs.declared.error.SocketError.TheVariants.{Failed};
 
@@ -29,7 +29,9 @@ pub fn transfer_message(
     from: &TcpStream,
     to: &TcpStream,
     message: &[u8],
-) -> Result<Vec<u8>, SocketError> {
+) -> Result<Vec<u8>, SocketError>
+    ensures { 65535 < length message.now → result ≡ Err Failed }
+{
     if message.len() > MAX_MESSAGE_LEN {
         return Err(SocketError::Failed);
     }

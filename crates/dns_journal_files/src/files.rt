@@ -1,5 +1,7 @@
 //! A storage in files.
 
+ghost use Rattle.std.specs.Prelude.{◌≡◌, None, IfOk, IsSomeAnd, is_some};
+
 use crate::replace::{replace_file, sync_folder};
 use dns_journal::{Storage, StorageError, StoredFiles};
 use std::alloc::{AllocError, Global};
@@ -48,7 +50,13 @@ impl<'a> FileStorage<'a> {
         rt: &'a HostRuntime,
         text: &str,
         journal: &str,
-    ) -> Result<FileStorage<'a>, AllocError> {
+    ) -> Result<FileStorage<'a>, AllocError>
+        ensures files { IfOk result (λ storage. IsSomeAnd storage.paths
+            (λ paths. (paths.text.bytes.items ≡ text.now)
+            × (paths.journal.bytes.items ≡ journal.now))) }
+        ensures closed { IfOk result (λ storage. storage.file ≡ None) }
+        ensures error { IfOk result (λ storage. storage.error ≡ None) }
+    {
         let text = String::from_str(rt.alloc(), text)?;
         let journal = String::from_str(rt.alloc(), journal)?;
         Ok(FileStorage {
@@ -60,7 +68,10 @@ impl<'a> FileStorage<'a> {
     }
 
     /// Creates a storage without files: it keeps nothing, and each of its calls succeeds.
-    pub fn without_files(rt: &'a HostRuntime) -> FileStorage<'a> {
+    pub fn without_files(rt: &'a HostRuntime) -> FileStorage<'a>
+        ensures files { result.paths ≡ None }
+        ensures error { result.error ≡ None }
+    {
         FileStorage {
             rt,
             paths: None,
@@ -70,12 +81,17 @@ impl<'a> FileStorage<'a> {
     }
 
     /// Returns `true` if there are files.
-    pub fn has_files(&self) -> bool {
+    pub fn has_files(&self) -> bool
+        ensures { result ≡ is_some self.now.paths }
+    {
         self.paths.is_some()
     }
 
     /// Takes the error of the last call that failed.
-    pub fn take_error(&mut self) -> Option<io::Error> {
+    pub fn take_error(&mut self) -> Option<io::Error>
+        ensures result { result ≡ self.old.error }
+        ensures after { self.new ≡ record self.old { error = None } }
+    {
         self.error.take()
     }
 

@@ -1,5 +1,9 @@
 //! What is looked up.
 
+ghost use Rattle.std.specs.Prelude.{◌≡◌, [], IfOk, IsNone, None, Ok};
+ghost use Rattle.std.specs.Str.{trim};
+ghost use Rattle.lookup_cli.specs.Item.{question_of_type};
+
 use dns_wire::RecordType;
 use std::alloc::{AllocError, Global};
 use std::fmt;
@@ -30,7 +34,10 @@ pub fn item_of_line(
     alloc: Global,
     line: &str,
     default: Question,
-) -> Result<Option<Item>, AllocError> {
+) -> Result<Option<Item>, AllocError>
+    ensures empty { trim line.now ≡ [] → result ≡ Ok None }
+    ensures item { IfOk result (λ found. found ≡ None → trim line.now ≡ []) }
+{
     let line = line.trim();
     if line.is_empty() {
         return Ok(None);
@@ -44,7 +51,9 @@ pub fn item_of_line(
 }
 
 /// Returns the question for the records of a type.
-fn question_of_type(text: &str) -> Question {
+fn question_of_type(text: &str) -> Question
+    ensures { result ≡ question_of_type text.now }
+{
     match RecordType::from_ascii_bytes(text.as_bytes()) {
         Some(record_type) => Question::Records(record_type),
         None => Question::Unknown,

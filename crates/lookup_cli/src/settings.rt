@@ -1,7 +1,9 @@
 //! The configuration and the options of the resolver.
 
-ghost use Rattle.std.specs.Prelude.{◌≡◌};
-ghost use Rattle.lookup_cli.specs.Settings.{options_by};
+ghost use Rattle.std.specs.Prelude.{◌≡◌, IfOk, map, is_none, is_empty, not};
+ghost use Rattle.stub_resolv_conf.specs.Conf.{IsConfOf};
+ghost use Rattle.stub_resolv_conf.specs.declared.conf.SystemConf.{SystemConf};
+ghost use Rattle.lookup_cli.specs.Settings.{at_port, config_by, options_by, server_at};
 
 use crate::arguments::Arguments;
 use std::alloc::{AllocError, Global};
@@ -15,7 +17,9 @@ use stub_resolv_conf::{SystemConf, parse_resolv_conf};
 const SYSTEM_CONF: &str = "/etc/resolv.conf";
 
 /// Returns the path of the configuration that is read if the arguments name none. With a server among the arguments it is none.
-pub fn default_conf_path(arguments: &Arguments) -> Option<&'static str> {
+pub fn default_conf_path(arguments: &Arguments) -> Option<&'static str>
+    ensures { is_none result ≡ not (is_empty arguments.now.servers.items) }
+{
     if arguments.servers.is_empty() {
         Some(SYSTEM_CONF)
     } else {
@@ -31,7 +35,11 @@ pub fn settings_of(
     alloc: Global,
     arguments: &Arguments,
     text: &[u8],
-) -> Result<SystemConf, AllocError> {
+) -> Result<SystemConf, AllocError>
+    ensures { IfOk result (λ conf. (read : SystemConf) × IsConfOf text.now read
+        × (conf.options ≡ options_by arguments.now read.options)
+        × (conf.config ≡ config_by arguments.now read.config)) }
+{
     let SystemConf {
         config,
         mut options,
@@ -65,7 +73,9 @@ fn config_of(
     alloc: Global,
     arguments: &Arguments,
     config: ResolverConfig,
-) -> Result<ResolverConfig, AllocError> {
+) -> Result<ResolverConfig, AllocError>
+    ensures { IfOk result (λ other. other ≡ config_by arguments.now config) }
+{
     let (domain, search, servers) = config.into_parts();
     let servers = if arguments.servers.is_empty() {
         servers
@@ -83,10 +93,9 @@ fn config_of(
 }
 
 /// Returns the servers at addresses.
-fn servers_at(
-    alloc: Global,
-    addresses: &[SocketAddr],
-) -> Result<Vec<NameServerConfig>, AllocError> {
+fn servers_at(alloc: Global, addresses: &[SocketAddr]) -> Result<Vec<NameServerConfig>, AllocError>
+    ensures { IfOk result (λ servers. servers.items ≡ map server_at addresses.now) }
+{
     let mut servers = Vec::new(alloc);
     for address in addresses {
         servers.push(server_at(alloc, *address)?)?;
@@ -95,11 +104,18 @@ fn servers_at(
 }
 
 /// Returns the server at an address, which is asked over UDP and then over TCP.
-fn server_at(alloc: Global, address: SocketAddr) -> Result<NameServerConfig, AllocError> {
+fn server_at(alloc: Global, address: SocketAddr) -> Result<NameServerConfig, AllocError>
+    ensures { IfOk result (λ server. server ≡ server_at address) }
+{
     let mut connections = Vec::with_capacity(alloc, 2)?;
-    for mut connection in [ConnectionConfig::udp(), ConnectionConfig::tcp()] {
-        connection.port = address.port();
-        connections.push(connection)?;
-    }
+    connections.push(at_port(address.port(), ConnectionConfig::udp()))?;
+    connections.push(at_port(address.port(), ConnectionConfig::tcp()))?;
     Ok(NameServerConfig::new(address.ip(), true, connections))
+}
+
+/// Returns a connection to another port.
+fn at_port(port: u16, connection: ConnectionConfig) -> ConnectionConfig
+    ensures { result ≡ at_port port connection }
+{
+    ConnectionConfig { port, ..connection }
 }

@@ -1,0 +1,42 @@
+//! `trust_dns_bench WHAT COUNT [SIZE]`: repeats an operation of `stub_bench` on the same inputs, by trust-dns, and prints the
+//! same checksum.
+
+mod cache;
+mod data;
+mod messages;
+mod names;
+
+use std::error::Error;
+
+fn main() -> Result<(), Box<dyn Error>> {
+    let words: Vec<String> = std::env::args().skip(1).collect();
+    let (what, count) = match words.as_slice() {
+        [what, count, ..] => (what.as_str(), count.parse()?),
+        _ => return Err("usage: trust_dns_bench WHAT COUNT [SIZE]".into()),
+    };
+    let size = words.get(2).map(|word| word.parse()).transpose()?;
+    let checksum = repeat(what, count, size)?;
+    println!("{what} {checksum}");
+    Ok(())
+}
+
+/// Repeats an operation so often, and returns its checksum.
+fn repeat(what: &str, count: u64, size: Option<u64>) -> Result<u64, Box<dyn Error>> {
+    match what {
+        "name-read" => names::read(count),
+        "name-write" => names::write(count),
+        "name-parse" => names::parse(count),
+        "name-print" => names::print(count),
+        "name-compare" => names::compare(count),
+        "data-read" => data::read(count),
+        "data-write" => data::write(count),
+        "data-print" => data::print(count),
+        "message-read" => messages::read(count),
+        "message-write" => messages::write(count),
+        "cache-insert" => cache::insert(count),
+        "cache-hit" => cache::get(count, size, 0),
+        "cache-miss" => cache::get(count, size, 1),
+        "cache-full" => cache::replace(count, size),
+        _ => Err("no such operation".into()),
+    }
+}
