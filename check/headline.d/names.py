@@ -1,6 +1,7 @@
 """Domain names (RFC 1035 sections 2.3.1 and 5.1): tuples of labels in lower case, as case is ignored (RFC 4343)."""
 import ipaddress
 import random
+from functools import lru_cache
 
 Name = tuple[bytes, ...]
 Address = ipaddress.IPv4Address | ipaddress.IPv6Address
@@ -13,6 +14,7 @@ class BadName(ValueError):
     """A text that is not a name."""
 
 
+@lru_cache(maxsize=4096)
 def name_of(text: str) -> tuple[Name, bool]:
     """The name that a text spells, and whether a dot at its end makes it fully qualified."""
     if text == ".":

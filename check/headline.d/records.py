@@ -4,6 +4,7 @@ import random
 import re
 from collections.abc import Callable
 from dataclasses import dataclass
+from functools import lru_cache
 
 from names import Name, name_of, name_text
 
@@ -55,6 +56,7 @@ def is_plain(rtype: int) -> bool:
     return is_data_type(rtype) and rtype not in (CNAME, SOA, SRV)
 
 
+@lru_cache(maxsize=4096)
 def data_of(rtype: int, text: str) -> Data:
     """The data that a text spells, in which names are fully qualified."""
     words = text.split(" ")

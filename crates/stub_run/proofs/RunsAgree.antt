@@ -35,8 +35,8 @@ one-address text (Some a) (Some b) h k = ap (λ (x : IpAddr). Some x) (IsIpText_
 
 agree-on : (zone : ZoneContent) (settings : Settings) (size : ℕ) (e : Event) (one other : EventReply) → IsWalkedReply zone settings e one
     → IsWalkedReply zone (with_cache_size size settings) e other → AgreeOn e one other
-agree-on zone settings size (event.Lookup at name kind script) (replies.Lookup one) (replies.Lookup two) h k = λ plain.
-    looks-up-agree zone at at settings tt tt one two tt tt (Ok name) kind (h plain) (k plain)
+agree-on zone settings size (event.Lookup at name kind script) (replies.Lookup one) (replies.Lookup two) h k = λ every.
+    looks-up-agree zone at at settings tt tt one two tt tt (Ok name) kind (h.everywhere every) (k.everywhere every)
 agree-on zone settings size (event.LookupIp at host script) (replies.LookupIp one) (replies.LookupIp two) h k =
     looks-up-host-agree zone at at settings tt tt one two tt tt h.0 (name_of_text (string_bytes host)) h.2
     (subst (λ (a : Option IpAddr). LooksUpHost settings at (ByWalk zone) a (name_of_text (string_bytes host)) tt two tt)

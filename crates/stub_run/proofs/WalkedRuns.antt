@@ -24,7 +24,7 @@ use Rattle.stub_client.specs.Handle.{Ask, Behavior, Led, Outcome}
 use Rattle.stub_client.specs.Looks.{Answers, Reply}
 use Rattle.stub_client.specs.declared.caching_client.CachingClient.{CachingClient}
 use Rattle.stub_core.specs.Attempts.{Lookups}
-use Rattle.stub_core.specs.Resolver.{LooksUp, LooksUpHost, ResolvesHost, ResolvesName, asks_of as asks_of_client, known_type, request_options, with_handle}
+use Rattle.stub_core.specs.Resolver.{LooksUp, LooksUpHost, ResolvesHost, ResolvesName, asks_of as asks_of_client, request_options, with_handle}
 use Rattle.stub_core.specs.declared.resolver.Resolver.{Resolver}
 use Rattle.stub_core.specs.declared.resolver.settings.Settings.{Settings}
 use Rattle.stub_core.proofs.ResolvesLaws.{all-cleared_lookup}
@@ -33,7 +33,7 @@ use Rattle.stub_link.specs.AskState.{AskState, AskZone, UpdateZone, begin, begin
 use Rattle.stub_link.specs.History.{Occasion, Past, first_past, past_of}
 use Rattle.stub_link.specs.LinkState.{LinkState, Version}
 use Rattle.stub_link.specs.Request.{IsUpdate}
-use Rattle.stub_history.specs.Answered.{IsAnsweredSince, is_plain}
+use Rattle.stub_history.specs.Answered.{IsAnsweredSince}
 use Rattle.stub_history.specs.Faithful.{HasNoReuse, IsCurrent, IsFaithful, StaysFaithful, StaysFaithfulUnlessOut}
 use Rattle.stub_history.specs.Stands.{Extends}
 use Rattle.stub_history.proofs.AskLaws.{more-faithful}
@@ -41,7 +41,7 @@ use Rattle.stub_history.proofs.EventLaws.{begin-faithful, begin-update-faithful,
 use Rattle.stub_history.proofs.FaithfulLaws.{ask-stays, update-stays}
 use Rattle.stub_history.proofs.LedLaws.{led-since, stays-then}
 use Rattle.stub_history.proofs.ServeLaws.{UpdatesKeepZones}
-use Rattle.stub_walk.specs.Answered.{ComesToWalk, HasShortAliases, IsAsked}
+use Rattle.stub_walk.specs.Answered.{ComesToWalk, HasShortAliases, IsAsked, IsWalkedLookup}
 use Rattle.stub_walk.specs.Walk.{AgreesWithWalk, ByWalk, CacheAgrees}
 use Rattle.stub_walk.proofs.ResolverLaws.{host-walks, name-walks}
 use Rattle.stub_run.specs.Event.{moment_of}
@@ -210,12 +210,12 @@ module _ (keep : UpdatesKeepZones) (round : (number : ℕ) → type_number (type
   Asking old request now outcome new = AsksZone old request now outcome new
 
   -- The questions of a lookup are answered by the zone of a past that has not changed since.
-  looked : (first : Past) (now : ℕ) (old mid : RunState) (looks : Lookups (Unit {0}) Query → Type 0) (later : List (ℕ × Query))
+  looked : (first : Past) (now : ℕ) (old mid : RunState) (looks : Type 0) (later : List (ℕ × Query))
       → HasWalked first old → (asks_of old).link.moment ≡ now → StaysFaithful origin (asks_of old) (asks_of mid)
       → (asks_of mid).link.out_of_memory ≡ false → HasNoReuse ((asks_of mid).sent ++ later)
       → ComesToWalk first.zone Asking now old mid looks → IsUnchanged first (asks_of mid).link.history
       → CacheAgrees first.zone old.client.cache
-      → CacheAgrees first.zone mid.client.cache × ((asks_of mid).faults ≡ 0 → looks (ByWalk first.zone))
+      → CacheAgrees first.zone mid.client.cache × ((asks_of mid).faults ≡ 0 → looks)
   looked first now old mid looks later h at s memory once c unchanged agrees =
       let options = request_options old.settings.options in
       let history : List Version = (asks_of mid).link.history in
@@ -239,13 +239,13 @@ module _ (keep : UpdatesKeepZones) (round : (number : ℕ) → type_number (type
         → IsWalkedReply first.zone settings e reply
 
   -- a lookup, of which it is known to what it comes
-  has-looked : (first : Past) (now : ℕ) (old mid : RunState) (looks : Settings → Lookups (Unit {0}) Query → Type 0)
+  has-looked : (first : Past) (now : ℕ) (old mid : RunState) (looks : Settings → Type 0)
       (later : List (ℕ × Query)) (e : Event) (reply : EventReply)
       → HasWalked first old → (asks_of old).link.moment ≡ now → StaysFaithful origin (asks_of old) (asks_of mid)
       → (asks_of mid).link.out_of_memory ≡ false → HasNoReuse ((asks_of mid).sent ++ later)
       → (HasShortAliases first.zone → ComesToWalk first.zone Asking now old mid (looks old.settings))
       → mid.settings ≡ old.settings → mid.client.preserve_intermediates ≡ old.client.preserve_intermediates
-      → (looks settings (ByWalk first.zone) → IsWalkedReply first.zone settings e reply) → HasReplied first e reply mid
+      → (looks settings → IsWalkedReply first.zone settings e reply) → HasReplied first e reply mid
   has-looked first now old mid looks later e reply h at s memory once comes same aliases gives =
       let before : IsUnchanged first (asks_of mid).link.history → HasShortAliases first.zone → CacheAgrees first.zone old.client.cache =
       λ unchanged short.
@@ -264,7 +264,7 @@ module _ (keep : UpdatesKeepZones) (round : (number : ℕ) → type_number (type
           aliases_is = aliases ∙ h.aliases_is;
         };
         walked = λ unchanged short none.
-            gives (subst (λ (t : Settings). looks t (ByWalk first.zone)) h.settings_is
+            gives (subst looks h.settings_is
             ((looked first now old mid (looks old.settings) later h at s memory once (comes short) unchanged (before unchanged short)).1 none));
       }
 
@@ -275,7 +275,7 @@ module _ (keep : UpdatesKeepZones) (round : (number : ℕ) → type_number (type
       → HasReplied first (event.Lookup at name kind script) (replies.Lookup found) mid
   looked-up first at name kind script found old mid later h moment resolves s memory once =
       has-looked first at old mid
-      (λ t asks. is_plain (known_type kind) ≡ true → LooksUp t at asks (Ok name) kind tt found tt) later
+      (λ t. IsWalkedLookup first.zone t at (Ok name) kind found) later
       (event.Lookup at name kind script) (replies.Lookup found) h moment s memory once
       (λ short. name-walks first.zone h.good short Asking at old mid h.aliases_is (Ok name) kind found resolves.lookup)
       resolves.settings (name-aliases Asking at old mid (Ok name) kind found resolves.lookup) (λ walked. walked)
@@ -289,7 +289,7 @@ module _ (keep : UpdatesKeepZones) (round : (number : ℕ) → type_number (type
   looked-up-host first at host script found old mid later h moment resolves s memory once =
       let name = name_of_text (string_bytes host) in
       has-looked first at old mid
-      (λ t asks. LooksUpHost t at asks resolves.address name tt found tt) later
+      (λ t. LooksUpHost t at (ByWalk first.zone) resolves.address name tt found tt) later
       (event.LookupIp at host script) (replies.LookupIp found) h moment s memory once
       (λ short. host-walks first.zone h.good short Asking at old mid h.aliases_is resolves.address name found resolves.lookup)
       resolves.settings (host-aliases Asking at old mid resolves.address name found resolves.lookup)

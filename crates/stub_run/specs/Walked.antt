@@ -6,14 +6,13 @@ use Rattle.dns_names.specs.Parse.{name_of_text}
 use Rattle.dns_text.specs.Address.{IsTextOf}
 use Rattle.dns_zone.specs.Rows.{ZoneContent}
 use Rattle.stub_lookup.specs.declared.error.NetError.TheVariants as net
-use Rattle.stub_core.specs.Resolver.{LooksUp, LooksUpHost, known_type}
+use Rattle.stub_core.specs.Resolver.{LooksUpHost, known_type}
 use Rattle.stub_core.specs.declared.resolver.settings.Settings.{Settings}
 use Rattle.stub_link.specs.History.{Occasion, Past, first_past, past_after_occasion}
 use Rattle.stub_link.specs.LinkState.{Version}
-use Rattle.stub_history.specs.Answered.{is_plain}
 use Rattle.stub_walk.specs.Agreement.{Agree}
-use Rattle.stub_walk.specs.Answered.{HasShortAliases}
-use Rattle.stub_walk.specs.Walk.{ByWalk}
+use Rattle.stub_walk.specs.Answered.{HasShortAliases, IsWalkedLookup}
+use Rattle.stub_walk.specs.Walk.{ByWalk, walks_everywhere}
 use Rattle.stub_run.specs.Headline.{WorldContent, settings_of}
 use Rattle.stub_run.specs.declared.event.Event.{Event}
 use Rattle.stub_run.specs.declared.event.Event.TheVariants as event
@@ -35,11 +34,11 @@ IsUnchanged first history =
 
 -- ---- replies
 
--- A lookup of a plain type, or of a host, is one in which each question is walked over the zone. A walk has neither a cache nor a
--- link. No reply to another kind of event is walked.
+-- A lookup of records, or of a host, is one in which questions are walked over the zone. A walk has neither a cache nor a link. No
+-- reply to another kind of event is walked.
 abbrev pub IsWalkedReply : ZoneContent → Settings → Event → EventReply → Type 0
 IsWalkedReply zone settings (event.Lookup at name kind script) (replies.Lookup found) =
-    is_plain (known_type kind) ≡ true → LooksUp settings at (ByWalk zone) (Ok name) kind tt found tt
+    IsWalkedLookup zone settings at (Ok name) kind found
 IsWalkedReply zone settings (event.LookupIp at host script) (replies.LookupIp found) =
     (address : Option IpAddr) × IsTextOf (string_bytes host) address
     × LooksUpHost settings at (ByWalk zone) address (name_of_text (string_bytes host)) tt found tt
@@ -84,11 +83,10 @@ with_sizes size limit ids content =
 
 -- ---- two runs of the same events
 
--- Two replies to a lookup of a plain type, or of a host, agree, TTLs aside. No replies to other kinds of events
--- do.
+-- Two replies to a lookup of a plain type or of aliases, or of a host, agree, TTLs aside. No replies to other kinds of events do.
 abbrev pub AgreeOn : Event → EventReply → EventReply → Type 0
 AgreeOn (event.Lookup at name kind script) (replies.Lookup one) (replies.Lookup other) =
-    is_plain (known_type kind) ≡ true → Agree one other
+    walks_everywhere (known_type kind) ≡ true → Agree one other
 AgreeOn (event.LookupIp at host script) (replies.LookupIp one) (replies.LookupIp other) = Agree one other
 AgreeOn (event.Clear at name kind script) (replies.Cleared one) (replies.Cleared other) = Unit {0}
 AgreeOn (event.ClearAll at script) (replies.Cleared one) (replies.Cleared other) = Unit {0}

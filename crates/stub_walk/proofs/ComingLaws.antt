@@ -10,6 +10,7 @@ use Rattle.dns_names.specs.Compare.{at_or_below, same_name}
 use Rattle.dns_records.specs.Record.{Record}
 use Rattle.dns_messages.specs.declared.query.Query.{Query}
 use Rattle.dns_messages.specs.declared.response.DnsResponse.{DnsResponse}
+use Rattle.dns_zone.specs.Answer.{is_no_row_type}
 use Rattle.dns_zone.specs.Rows.{IsZone, ZoneContent}
 use Rattle.stub_lookup.specs.Outcome.{error_in, unless_error}
 use Rattle.stub_lookup.specs.declared.error.DnsError.{DnsError}
@@ -33,17 +34,19 @@ use Rattle.stub_client.proofs.ConclusionLaws.{lookup-comes}
 use Rattle.stub_client.proofs.StepCases.{outcome-cases, reply-cases}
 use Rattle.stub_core.specs.Outcomes.{ErrorIsOutcome}
 use Rattle.stub_core.proofs.OrdinaryLaws.{ordinary-asks}
-use Rattle.stub_history.specs.Answered.{is_plain, is_plain_number}
+use Rattle.stub_history.specs.Answered.{is_plain}
 use Rattle.stub_history.proofs.AnswerRowLaws.{equal-numbers}
 use Rattle.stub_history.proofs.EndLaws.{is_followed}
 use Rattle.stub_history.proofs.FreshLaws.{same-names, same-numbers}
 use Rattle.stub_history.proofs.StandLaws.{both-true}
 use Rattle.stub_walk.specs.Answered.{HasShortAliases, HaveNoFault, IsAsked, IsOrdinary, IsPlainAsk, IsZoneOutcome, IsZoneReply}
-use Rattle.stub_walk.specs.Walk.{AgreesWithWalk, CacheAgrees, IsWalked}
+use Rattle.stub_walk.specs.Walk.{AgreesWithWalk, CacheAgrees, IsDirect, IsWalked}
 use Rattle.stub_walk.specs.Walk.Walk.{at_local_host, at_special_name}
 use Rattle.stub_walk.proofs.Spelling.{flags-of}
 use Rattle.stub_walk.proofs.StepLaws.{Bears, WithinWalk, answered-bears, both-inside, is_out, nothing-claimed, refused-bears, refused-step, special-question}
-use Rattle.stub_walk.proofs.WalkLaws.{followed-of, walk-respelled}
+use Rattle.stub_walk.proofs.CourseLaws.{plain-rows}
+use Rattle.stub_walk.proofs.DirectLaws.{direct-bears}
+use Rattle.stub_walk.proofs.WalkLaws.{direct-respelled, followed-of, walk-respelled}
 
 -- ---- claims about walks
 
@@ -55,15 +58,17 @@ same-classes p q same =
 
 module _ (zone : ZoneContent) where
   pub agreement-respells : Respells (AgreesWithWalk zone)
-  agreement-respells p q conclusion agrees same = λ plain in_internet.
+  agreement-respells p q conclusion agrees same = λ typed in_internet direct.
       let number : type_number p.query_type ≡ type_number q.query_type = same-numbers p q same in
-      walk-respelled zone p.query_type q.query_type number q.name (flags-of p.name q.name (both-true (same_name p.name q.name) _ same).0)
-      (same-names p q same) (agrees (ap is_plain_number number ∙ plain) (same-classes p q same ∙ in_internet))
+      let flag : p.name.is_fqdn ≡ q.name.is_fqdn = flags-of p.name q.name (both-true (same_name p.name q.name) _ same).0 in
+      walk-respelled zone p.query_type q.query_type number q.name flag (same-names p q same)
+      (agrees (ap is_no_row_type number ∙ typed) (same-classes p q same ∙ in_internet)
+      (direct-respelled zone q.query_type p.query_type (sym number) q.name p.name (sym flag) (sym (same-names p q same)) direct))
 
   pub special-names-agree : HasSpecialNames (AgreesWithWalk zone)
   special-names-agree = record {
-    loopback = λ q r e. λ plain in_internet. at_local_host 7 q.name r (sym (special-question q in_internet) ∙ e);
-    nothing = λ q code e. λ plain in_internet. at_special_name 7 q.name code (sym (special-question q in_internet) ∙ e);
+    loopback = λ q r e. λ typed in_internet direct. at_local_host 7 q.name r (sym (special-question q in_internet) ∙ e);
+    nothing = λ q code e. λ typed in_internet direct. at_special_name 7 q.name code (sym (special-question q in_internet) ∙ e);
   }
 
 -- ---- outcomes
@@ -77,22 +82,30 @@ module _ (zone : ZoneContent) (good : IsZone zone) (short : HasShortAliases zone
 
   response-bears : (depth : ℕ) (q : Query) (response : DnsResponse) → IsZoneReply zone q response.message → special_answer q ≡ Ordinary → WithinWalk zone depth q
       → Bears zone settings depth q (step_of settings q [] depth (Ok response))
-  response-bears depth q response reply ordinary within = by (is_plain q.query_type) refl
+  response-bears depth q response reply ordinary within = by-type (is_no_row_type (type_number q.query_type)) refl
     where
-      by-name : is_plain q.query_type ≡ true → (b : Bool) → is_out zone q ≡ b → Bears zone settings depth q (step_of settings q [] depth (Ok response))
-      by-name plain true out = refused-bears zone settings depth q plain response reply ordinary out
-      by-name plain false out =
+      by-plain : is_no_row_type (type_number q.query_type) ≡ false → class_number q.query_class ≡ 1 → is_followed zone.origin q.name ≡ true
+          → is_out zone q ≡ false → (b : Bool) → is_plain q.query_type ≡ b → Bears zone settings depth q (step_of settings q [] depth (Ok response))
+      by-plain typed in_internet followed out true plain =
+          elim (within plain in_internet) [
+            | inl first ↦ answered-bears zone settings depth q typed response reply plain good short off in_internet followed out first
+            | inr leaves ↦ absurd (true≢false (sym followed ∙ leaves))
+          ]
+      by-plain typed in_internet followed out false other =
+          direct-bears zone settings depth q good short off typed in_internet other response reply out followed
+
+      by-name : is_no_row_type (type_number q.query_type) ≡ false → (b : Bool) → is_out zone q ≡ b
+          → Bears zone settings depth q (step_of settings q [] depth (Ok response))
+      by-name typed true out = refused-bears zone settings depth q typed response reply ordinary out
+      by-name typed false out =
           let parts = both-inside (class_number q.query_class == 1) (at_or_below zone.origin.labels q.name.labels) out in
           let in_internet : class_number q.query_class ≡ 1 = equal-numbers (class_number q.query_class) 1 parts.0 in
           let followed : is_followed zone.origin q.name ≡ true = followed-there q ordinary in_internet parts.1 in
-          elim (within plain in_internet) [
-            | inl first ↦ answered-bears zone settings depth q plain response reply good short off in_internet followed out first
-            | inr leaves ↦ absurd (true≢false (sym followed ∙ leaves))
-          ]
+          by-plain typed in_internet followed out (is_plain q.query_type) refl
 
-      by : (b : Bool) → is_plain q.query_type ≡ b → Bears zone settings depth q (step_of settings q [] depth (Ok response))
-      by true plain = by-name plain (is_out zone q) refl
-      by false other = nothing-claimed zone settings depth q (λ plain. true≢false (sym plain ∙ other)) (meaning (Ok response))
+      by-type : (b : Bool) → is_no_row_type (type_number q.query_type) ≡ b → Bears zone settings depth q (step_of settings q [] depth (Ok response))
+      by-type true none = nothing-claimed zone settings depth q (λ typed. true≢false (sym none ∙ typed)) (meaning (Ok response))
+      by-type false typed = by-name typed (is_out zone q) refl
 
   outcome-bears : (depth : ℕ) (q : Query) (out : Outcome) → IsZoneOutcome zone q out → special_answer q ≡ Ordinary → WithinWalk zone depth q
       → Bears zone settings depth q (step_of settings q [] depth out)
@@ -172,7 +185,7 @@ module _ (zone : ZoneContent) (good : IsZone zone) (short : HasShortAliases zone
     off-stops q target kept (Ok response) reply ordinary plain in_internet leaves e = by (is_out zone q) refl
       where
         by : (b : Bool) → is_out zone q ≡ b → ⊥
-        by true out = stops-clash _ target kept (sym (refused-step zone settings 0 q plain response reply out) ∙ e)
+        by true out = stops-clash _ target kept (sym (refused-step zone settings 0 q (plain-rows (type_number q.query_type) plain) response reply out) ∙ e)
         by false out =
             let parts = both-inside (class_number q.query_class == 1) (at_or_below zone.origin.labels q.name.labels) out in
             true≢false (sym (followed-there q ordinary in_internet parts.1) ∙ leaves)
@@ -238,16 +251,17 @@ no-failure asks none error other memory failure from =
 
 -- a reply agrees with the walk if there was no fault
 pub reply-walked : (zone : ZoneContent) (asks : List Ask) (q : Query) (reply : Reply) → ReplyComesTo (AgreesWithWalk zone) q reply → ErrorIsOutcome asks reply
-    → HaveNoFault asks → is_plain q.query_type ≡ true → class_number q.query_class ≡ 1 → IsWalked zone q reply
-reply-walked zone asks q (Ok lookup) agrees from none plain in_internet = agrees plain in_internet
-reply-walked zone asks q (Err (errors.Dns (dns.NoRecordsFound answer))) agrees from none plain in_internet = agrees plain in_internet
-reply-walked zone asks q (Err (errors.Dns (dns.ResponseCode code))) agrees from none plain in_internet = agrees plain in_internet
-reply-walked zone asks q (Err (errors.Proto error)) agrees from none plain in_internet =
+    → HaveNoFault asks → is_no_row_type (type_number q.query_type) ≡ false → class_number q.query_class ≡ 1
+    → IsDirect zone q.query_type q.name → IsWalked zone q reply
+reply-walked zone asks q (Ok lookup) agrees from none typed in_internet direct = agrees typed in_internet direct
+reply-walked zone asks q (Err (errors.Dns (dns.NoRecordsFound answer))) agrees from none typed in_internet direct = agrees typed in_internet direct
+reply-walked zone asks q (Err (errors.Dns (dns.ResponseCode code))) agrees from none typed in_internet direct = agrees typed in_internet direct
+reply-walked zone asks q (Err (errors.Proto error)) agrees from none typed in_internet direct =
     no-failure asks none (errors.Proto error) refl (λ e. cc) refl from
-reply-walked zone asks q (Err (errors.Message text)) agrees from none plain in_internet =
+reply-walked zone asks q (Err (errors.Message text)) agrees from none typed in_internet direct =
     no-failure asks none (errors.Message text) refl (λ e. cc) refl from
-reply-walked zone asks q (Err (errors.Link fault)) agrees from none plain in_internet =
+reply-walked zone asks q (Err (errors.Link fault)) agrees from none typed in_internet direct =
     no-failure asks none (errors.Link fault) refl (λ e. cc) refl from
-reply-walked zone asks q (Err errors.Unsupported) agrees from none plain in_internet =
+reply-walked zone asks q (Err errors.Unsupported) agrees from none typed in_internet direct =
     no-failure asks none errors.Unsupported refl (λ e. cc) refl from
-reply-walked zone asks q (Err errors.Memory) agrees from none plain in_internet = tt
+reply-walked zone asks q (Err errors.Memory) agrees from none typed in_internet direct = tt

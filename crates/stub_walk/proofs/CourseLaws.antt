@@ -171,17 +171,13 @@ plain-rows n plain = by (n == 0) (n == 24) (n == 41) (nat_le 128 n && nat_le n 2
         (both-true ((nat_le 1 n && nat_le n 127) || nat_lt 255 n) _ plain).0)
     by false false false false e f g h = refl
 
-module _ (zone : ZoneContent) (q : Query) (plain : is_plain_number (type_number q.query_type) ≡ true) where
+module _ (zone : ZoneContent) (q : Query) (typed : is_no_row_type (type_number q.query_type) ≡ false) where
   pub refused-answer : not (class_number q.query_class == 1) || not (at_or_below zone.origin.labels q.name.labels) ≡ true → answer zone q ≡ bare Refused
-  refused-answer out =
-      let typed : is_no_row_type (type_number q.query_type) ≡ false = plain-rows (type_number q.query_type) plain in
-      λ i. cond (typed i) (bare NotImp) (cond (out i) (bare Refused) (answer_at max_aliases zone q.query_type q.name))
+  refused-answer out = λ i. cond (typed i) (bare NotImp) (cond (out i) (bare Refused) (answer_at max_aliases zone q.query_type q.name))
 
   inside-answer : not (class_number q.query_class == 1) || not (at_or_below zone.origin.labels q.name.labels) ≡ false
       → answer zone q ≡ answer_at max_aliases zone q.query_type q.name
-  inside-answer in_zone =
-      let typed : is_no_row_type (type_number q.query_type) ≡ false = plain-rows (type_number q.query_type) plain in
-      λ i. cond (typed i) (bare NotImp) (cond (in_zone i) (bare Refused) (answer_at max_aliases zone q.query_type q.name))
+  inside-answer in_zone = λ i. cond (typed i) (bare NotImp) (cond (in_zone i) (bare Refused) (answer_at max_aliases zone q.query_type q.name))
 
   -- the answer to a question for a name that is followed
   pub answer-course : IsZone zone → HasShortAliases zone

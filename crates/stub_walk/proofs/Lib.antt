@@ -4,6 +4,7 @@ pub mod WalkRows
 pub mod CourseLaws
 pub mod ReadLaws
 pub mod StepLaws
+pub mod DirectLaws
 pub mod ComingLaws
 pub mod MoreLaws
 pub mod ResolverLaws

@@ -44,18 +44,18 @@ other-test m n h = by (m == n) refl
     by true e = absurd (h (equal-numbers m n e))
     by false e = refl
 
-or-left : (a b : Bool) → a ≡ true → a || b ≡ true
+pub or-left : (a b : Bool) → a ≡ true → a || b ≡ true
 or-left true b h = refl
 or-left false b h = absurd (true≢false (sym h))
 
-or-right : (a b : Bool) → b ≡ true → a || b ≡ true
+pub or-right : (a b : Bool) → b ≡ true → a || b ≡ true
 or-right true b h = refl
 or-right false b h = h
 
-all-three : (a b c : Bool) → a ≡ true → b ≡ true → c ≡ true → a && (b && c) ≡ true
+pub all-three : (a b c : Bool) → a ≡ true → b ≡ true → c ≡ true → a && (b && c) ≡ true
 all-three a b c e f g = (λ i. e i && (f i && g i))
 
-not-second : (a b c : Bool) → b ≡ false → a && (b && c) ≡ false
+pub not-second : (a b c : Bool) → b ≡ false → a && (b && c) ≡ false
 not-second true b c e = λ i. e i && c
 not-second false b c e = refl
 
@@ -78,13 +78,13 @@ some-before : (xs ys : List Record) → is_empty xs ≡ false → is_empty (xs +
 some-before [] ys h = absurd (true≢false h)
 some-before (x ∷ xs) ys h = refl
 
-some-after : (xs : List Record) (y : Record) (ys : List Record) → is_empty (xs ++ y ∷ ys) ≡ false
+pub some-after : (xs : List Record) (y : Record) (ys : List Record) → is_empty (xs ++ y ∷ ys) ≡ false
 some-after [] y ys = refl
 some-after (x ∷ xs) y ys = refl
 
 -- ---- chains over an answer
 
-over-append : (c : Chain) (xs ys : List Record) → chain_over c (xs ++ ys) ≡ chain_over (chain_over c xs) ys
+pub over-append : (c : Chain) (xs ys : List Record) → chain_over c (xs ++ ys) ≡ chain_over (chain_over c xs) ys
 over-append c [] ys = refl
 over-append c (x ∷ xs) ys = over-append (extended c x.ttl (next_name c.name x x.rdata)) xs ys
 

@@ -4,10 +4,12 @@ use Rattle.std.specs.Prelude.{Bool, Contains, Option, Result}
 use Rattle.std.specs.declared.net.ip_addr.IpAddr.{IpAddr}
 use Rattle.std.proofs.lemmas.List.Elements.{All-append, All-contains, All-contains_itself, All-nil, All-weaker, Contains-append_left, Contains-append_right, Contains-push}
 use Rattle.dns_codes.specs.DNSClass.{class_number}
+use Rattle.dns_codes.specs.RecordType.{type_number}
 use Rattle.dns_codes.specs.declared.record_type.RecordType.{RecordType}
 use Rattle.dns_names.specs.Name.{DomainName}
 use Rattle.dns_names.specs.declared.error.ParseError.{ParseError}
 use Rattle.dns_messages.specs.declared.query.Query.{Query}
+use Rattle.dns_zone.specs.Answer.{is_no_row_type}
 use Rattle.dns_zone.specs.Rows.{IsZone, ZoneContent}
 use Rattle.stub_config.specs.declared.request_options.DnsRequestOptions.{DnsRequestOptions}
 use Rattle.stub_hosts.specs.Hosts.{question}
@@ -20,14 +22,14 @@ use Rattle.stub_client.specs.declared.caching_client.step.LookupSettings.{Lookup
 use Rattle.stub_client.proofs.ErrorsLaws.{error-ends}
 use Rattle.stub_core.specs.Attempts.{Lookups}
 use Rattle.stub_core.specs.Outcomes.{ErrorIsOutcome}
-use Rattle.stub_core.specs.Resolver.{LooksUp, LooksUpHost, asks_of, known_type, request_options}
+use Rattle.stub_core.specs.Resolver.{LooksUp, LooksUpHost, asks_of, request_options}
 use Rattle.stub_core.specs.declared.resolver.Resolver.{Resolver}
 use Rattle.stub_core.proofs.OrdinaryLaws.{ordinary-asks}
 use Rattle.stub_core.proofs.StatelessLaws.{EachExplained, Explained, looks_up-by, looks_up_host-by}
-use Rattle.stub_history.specs.Answered.{is_plain}
-use Rattle.stub_walk.specs.Answered.{ComesToWalk, HasShortAliases, HaveNoFault, IsAsked, IsOrdinary}
-use Rattle.stub_walk.specs.Walk.{AgreesWithWalk, ByWalk, CacheAgrees, IsWalked}
+use Rattle.stub_walk.specs.Answered.{ComesToWalk, HasShortAliases, HaveNoFault, IsAsked, IsOrdinary, IsWalkedLookup}
+use Rattle.stub_walk.specs.Walk.{AgreesWithWalk, ByDirectWalk, ByWalk, CacheAgrees, IsDirect, IsWalked, walks_everywhere}
 use Rattle.stub_walk.proofs.ComingLaws.{lookup-agrees, reply-walked}
+use Rattle.stub_walk.proofs.DirectLaws.{everywhere-direct, everywhere-rows}
 use Rattle.stub_walk.proofs.MoreLaws.{more-looks-up, more-looks-up-host}
 
 -- ---- errors
@@ -51,7 +53,8 @@ module _ (zone : ZoneContent) (good : IsZone zone) (short : HasShortAliases zone
   pub client-agrees : (settings : LookupSettings) → settings.preserve_intermediates ≡ false → (now : ℕ) (old : CacheContent) (q : Query) (asks : List Ask)
       (reply : Reply) (new : CacheContent) → All (IsAsked zone) asks → CacheAgrees zone old → Looks settings now 0 [] old q asks reply new
       → CacheAgrees zone new
-      × (HaveNoFault asks → is_plain q.query_type ≡ true → class_number q.query_class ≡ 1 → IsWalked zone q reply)
+      × (HaveNoFault asks → is_no_row_type (type_number q.query_type) ≡ false → class_number q.query_class ≡ 1
+      → IsDirect zone q.query_type q.name → IsWalked zone q reply)
   client-agrees settings off now old q asks reply new asked agrees looks =
       let whole = lookup-agrees zone good short settings off now old q asks reply new asked agrees looks in
       (whole.0, reply-walked zone asks q reply whole.1 (error-from asks settings now old q reply new looks))
@@ -139,10 +142,22 @@ module _ (zone : ZoneContent) (good : IsZone zone) (short : HasShortAliases zone
 
   -- ---- lookups of a resolver
 
-  -- a question of a plain type is walked
-  question-walked : (asks : List Ask) → HaveNoFault asks → (name : DomainName) (kind : RecordType) → is_plain kind ≡ true → (old : Unit {0}) (reply : Reply)
+  abbrev HasRows : RecordType → Type 0
+  HasRows kind = is_no_row_type (type_number kind) ≡ false
+
+  abbrev Everywhere : RecordType → Type 0
+  Everywhere kind = walks_everywhere kind ≡ true
+
+  -- a question is walked if a lookup of its type walks from the name
+  question-direct : (asks : List Ask) → HaveNoFault asks → (name : DomainName) (kind : RecordType) → HasRows kind → (old : Unit {0}) (reply : Reply)
+      (new : Unit {0}) → ByAgreement asks old (question name kind) reply new → ByDirectWalk zone old (question name kind) reply new
+  question-direct asks none name kind typed old reply new h = reply-walked zone asks (question name kind) reply h.agrees h.error none typed refl
+
+  -- so it is if a lookup of its type walks from every name
+  question-walked : (asks : List Ask) → HaveNoFault asks → (name : DomainName) (kind : RecordType) → Everywhere kind → (old : Unit {0}) (reply : Reply)
       (new : Unit {0}) → ByAgreement asks old (question name kind) reply new → ByWalk zone old (question name kind) reply new
-  question-walked asks none name kind plain old reply new h = reply-walked zone asks (question name kind) reply h.agrees h.error none plain refl
+  question-walked asks none name kind every old reply new h =
+      question-direct asks none name kind (everywhere-rows kind every) old reply new h (everywhere-direct zone kind name every)
 
   module _ {H : Type 0} (gives : Behavior H) (now : ℕ) (old new : Resolver H) (off : old.client.preserve_intermediates ≡ false) where
     abbrev options : DnsRequestOptions
@@ -151,14 +166,14 @@ module _ (zone : ZoneContent) (good : IsZone zone) (short : HasShortAliases zone
     abbrev told : LookupSettings
     told = lookup_settings old.client options
 
-    explained : (leads walks : Lookups (Unit {0}) Query → Type 0)
-        → ((asks : List Ask) → HaveNoFault asks → leads (ByAgreement asks) → walks (ByWalk zone))
+    explained : (leads : Lookups (Unit {0}) Query → Type 0) (walked : Type 0)
+        → ((asks : List Ask) → HaveNoFault asks → leads (ByAgreement asks) → walked)
         → Explained (Path gives options now told off refl) (Fits gives options now told off refl) (Good gives options now told off refl)
         (path-none gives options now told off refl) (path-both gives options now told off refl)
         (fits-left gives options now told off refl) (fits-right gives options now told off refl)
         old.client new.client (λ all. leads (ByAgreement all))
-        → ComesToWalk zone gives now old new walks
-    explained leads walks more h = record {
+        → ComesToWalk zone gives now old new walked
+    explained leads walked more h = record {
       asks = h.0;
       led = h.1.0;
       ordinary = h.1.2;
@@ -169,13 +184,15 @@ module _ (zone : ZoneContent) (good : IsZone zone) (short : HasShortAliases zone
 
     pub name-walks : (name : Result DomainName ParseError) (kind : RecordType) (reply : Reply)
         → LooksUp old.settings now (asks_of gives now old) name kind old.client reply new.client
-        → ComesToWalk zone gives now old new
-        (λ asks. is_plain (known_type kind) ≡ true → LooksUp old.settings now asks name kind tt reply tt)
+        → ComesToWalk zone gives now old new (IsWalkedLookup zone old.settings now name kind reply)
     name-walks name kind reply h =
-        explained (λ asks. LooksUp old.settings now asks name kind tt reply tt)
-        (λ asks. is_plain (known_type kind) ≡ true → LooksUp old.settings now asks name kind tt reply tt)
-        (λ asks none looks plain. more-looks-up now (ByAgreement asks) (ByWalk zone) (λ (k : RecordType). is_plain k ≡ true) (question-walked asks none)
-        old.settings name kind plain tt reply tt looks)
+        explained (λ asks. LooksUp old.settings now asks name kind tt reply tt) (IsWalkedLookup zone old.settings now name kind reply)
+        (λ asks none looks. record {
+          everywhere = λ every.
+              more-looks-up now (ByAgreement asks) (ByWalk zone) Everywhere (question-walked asks none) old.settings name kind every tt reply tt looks;
+          direct = λ typed.
+              more-looks-up now (ByAgreement asks) (ByDirectWalk zone) HasRows (question-direct asks none) old.settings name kind typed tt reply tt looks;
+        })
         (looks_up-by (Path gives options now told off refl) (Fits gives options now told off refl)
         (Good gives options now told off refl) (path-none gives options now told off refl) (path-both gives options now told off refl)
         (fits-left gives options now told off refl) (fits-right gives options now told off refl)
@@ -183,11 +200,11 @@ module _ (zone : ZoneContent) (good : IsZone zone) (short : HasShortAliases zone
 
     pub host-walks : (address : Option IpAddr) (name : Result DomainName ParseError) (reply : Reply)
         → LooksUpHost old.settings now (asks_of gives now old) address name old.client reply new.client
-        → ComesToWalk zone gives now old new (λ asks. LooksUpHost old.settings now asks address name tt reply tt)
+        → ComesToWalk zone gives now old new (LooksUpHost old.settings now (ByWalk zone) address name tt reply tt)
     host-walks address name reply h =
         explained (λ asks. LooksUpHost old.settings now asks address name tt reply tt)
-        (λ asks. LooksUpHost old.settings now asks address name tt reply tt)
-        (λ asks none looks. more-looks-up-host now (ByAgreement asks) (ByWalk zone) (λ (k : RecordType). is_plain k ≡ true) (question-walked asks none)
+        (LooksUpHost old.settings now (ByWalk zone) address name tt reply tt)
+        (λ asks none looks. more-looks-up-host now (ByAgreement asks) (ByWalk zone) Everywhere (question-walked asks none)
         old.settings refl refl address name tt reply tt looks)
         (looks_up_host-by (Path gives options now told off refl) (Fits gives options now told off refl)
         (Good gives options now told off refl) (path-none gives options now told off refl) (path-both gives options now told off refl)

@@ -15,7 +15,7 @@ use Rattle.dns_messages.specs.declared.query.Query.{Query}
 use Rattle.dns_messages.specs.declared.response.DnsResponse.{DnsResponse}
 use Rattle.dns_messages.specs.declared.response_code.ResponseCode.{ResponseCode}
 use Rattle.dns_messages.specs.declared.response_code.ResponseCode.TheVariants.{NoError, NXDomain, Refused}
-use Rattle.dns_zone.specs.Answer.{answer, bare, negative, positive, record_of}
+use Rattle.dns_zone.specs.Answer.{answer, bare, is_no_row_type, negative, positive, record_of}
 use Rattle.dns_zone.specs.Rows.{IsZone, ZoneContent}
 use Rattle.dns_zone.specs.declared.zone.answer.Answer.{Answer}
 use Rattle.stub_lookup.specs.Outcome.{error_by_code, error_in, error_without_answer, no_records_in, unless_error}
@@ -39,9 +39,9 @@ use Rattle.stub_history.proofs.StandLaws.{both-true}
 use Rattle.stub_walk.specs.Answered.{HasShortAliases, IsZoneReply}
 use Rattle.stub_walk.specs.Walk.{AgreesWithWalk, IsOfZone, Walk}
 use Rattle.stub_walk.specs.Walk.Walk.{at_foreign_name, at_nothing, at_rows}
-use Rattle.stub_walk.proofs.CourseLaws.{Ending, HasCourse, answer-course, ends_found, ends_negative, ends_off, refused-answer, walk-along}
+use Rattle.stub_walk.proofs.CourseLaws.{Ending, HasCourse, answer-course, ends_found, ends_negative, ends_off, plain-rows, refused-answer, walk-along}
 use Rattle.stub_walk.proofs.ReadLaws.{alias-off, answers-found, answers-off, chain-end, equal-test, given-values, has-answer, negative-end, not-given, rows-given, soa-missing, soa-there}
-use Rattle.stub_walk.proofs.WalkLaws.{walk-off}
+use Rattle.stub_walk.proofs.WalkLaws.{plain-direct, walk-off}
 
 -- ---- questions
 
@@ -81,22 +81,22 @@ module _ (zone : ZoneContent) (settings : LookupSettings) (depth : ℕ) (q : Que
   error-bears all errors.Unsupported = tt
   error-bears all errors.Memory = tt
 
-  -- of other types nothing is claimed
-  pub nothing-claimed : (is_plain q.query_type ≡ true → ⊥) → (out : Outcome) → Bears (step_on settings q [] depth out)
+  -- of types that no row has nothing is claimed
+  pub nothing-claimed : (is_no_row_type (type_number q.query_type) ≡ false → ⊥) → (out : Outcome) → Bears (step_on settings q [] depth out)
   nothing-claimed never out =
       outcome-cases settings q [] depth Bears out
       (λ response is. reply-cases settings q [] depth Bears response.message
-      (λ given. λ plain in_internet. absurd (never plain))
-      (λ none ends. λ plain in_internet. absurd (never plain))
+      (λ given. λ typed in_internet direct. absurd (never typed))
+      (λ none ends. λ typed in_internet direct. absurd (never typed))
       (λ none no_end alias above. (
-        (λ plain in_internet. absurd (never plain)),
-        λ conclusion comes. λ plain in_internet. absurd (never plain),
+        (λ plain in_internet. absurd (never (plain-rows (type_number q.query_type) plain))),
+        λ conclusion comes. λ typed in_internet direct. absurd (never typed),
       ))
-      (λ plain in_internet. absurd (never plain)))
-      (λ answer. λ plain in_internet. absurd (never plain))
-      (λ error failure is. error-bears (λ conclusion plain in_internet. absurd (never plain)) error)
+      (λ typed in_internet direct. absurd (never typed)))
+      (λ answer. λ typed in_internet direct. absurd (never typed))
+      (λ error failure is. error-bears (λ conclusion typed in_internet direct. absurd (never typed)) error)
 
-  module _ (plain : is_plain q.query_type ≡ true) (response : DnsResponse) (reply : IsZoneReply zone q response.message) where
+  module _ (typed : is_no_row_type (type_number q.query_type) ≡ false) (response : DnsResponse) (reply : IsZoneReply zone q response.message) where
     abbrev m : Message
     m = response.message
 
@@ -109,7 +109,7 @@ module _ (zone : ZoneContent) (settings : LookupSettings) (depth : ℕ) (q : Que
 
     refused-error : is_out zone q ≡ true → error_in m ≡ Some (dns.ResponseCode Refused)
     refused-error out =
-        ap (λ (code : ResponseCode). error_by_code code m) (reply.holds.code ∙ ap (λ (a : Answer). a.code) (refused-answer zone q plain out))
+        ap (λ (code : ResponseCode). error_by_code code m) (reply.holds.code ∙ ap (λ (a : Answer). a.code) (refused-answer zone q typed out))
 
     pub refused-step : is_out zone q ≡ true → step_of settings q [] depth (Ok response) ≡ Stops (errors.Dns (dns.ResponseCode Refused))
     refused-step out = ap (λ (x : Option DnsError). step_on settings q [] depth (unless_error response x)) (refused-error out)
@@ -117,7 +117,7 @@ module _ (zone : ZoneContent) (settings : LookupSettings) (depth : ℕ) (q : Que
     pub refused-bears : special_answer q ≡ Ordinary → is_out zone q ≡ true → Bears (step_of settings q [] depth (Ok response))
     refused-bears ordinary out =
         step-by (Some (dns.ResponseCode Refused)) (refused-error out)
-        (λ plain in_internet.
+        (λ typed in_internet direct.
         at_foreign_name 7 q.name (sym (special-question q in_internet) ∙ ordinary)
         (not-inside (class_number q.query_class == 1) (at_or_below zone.origin.labels q.name.labels)
         (equal-test (class_number q.query_class) 1 in_internet) out))
@@ -133,13 +133,14 @@ module _ (zone : ZoneContent) (settings : LookupSettings) (depth : ℕ) (q : Que
     error-by-existence true = refl
     error-by-existence false = refl
 
-    module _ (good : IsZone zone) (short : HasShortAliases zone) (off : settings.preserve_intermediates ≡ false) (in_internet : class_number q.query_class ≡ 1)
+    module _ (plain : is_plain q.query_type ≡ true) (good : IsZone zone) (short : HasShortAliases zone)
+        (off : settings.preserve_intermediates ≡ false) (in_internet : class_number q.query_class ≡ 1)
         (followed : is_followed zone.origin q.name ≡ true) (inside : is_out zone q ≡ false) (first : depth ≡ 0) where
       course : HasCourse zone q.query_type 0 q.name (answer zone q)
-      course = answer-course zone q plain good short inside followed
+      course = answer-course zone q typed good short inside followed
 
       walk-through : (conclusion : Conclusion) → ((left : ℕ) → Walk zone q.query_type left course.end conclusion) → AgreesWithWalk zone q conclusion
-      walk-through conclusion walk = λ plain in_internet. walk-along 7 course.links (omega (arith, course.few)) walk
+      walk-through conclusion walk = λ typed in_internet direct. walk-along 7 course.links (omega (arith, course.few)) walk
 
       found-bears : (row : Row) (more : List Row) → IsOfZone zone q.query_type course.end
           → rows_at zone.rows course.end.labels q.query_type ≡ row ∷ more → course.last ≡ positive course.end (row ∷ more)
@@ -209,7 +210,8 @@ module _ (zone : ZoneContent) (settings : LookupSettings) (depth : ℕ) (q : Que
           (λ both. (
             (λ plain in_internet. inr (ap (is_followed zone.origin) end-is ∙ leaves)),
             λ conclusion comes. walk-through conclusion (λ left. walk-off left leaves
-                (subst (λ (name : DomainName). Walk zone q.query_type 7 name conclusion) end-is (comes plain refl))),
+                (subst (λ (name : DomainName). Walk zone q.query_type 7 name conclusion) end-is
+                (comes typed refl (plain-direct zone q.query_type (chain_of q m).name plain)))),
           ))
           (λ neither. absurd (true≢false (sym ((λ i. alias i && nat_lt (first i) max_depth)) ∙ neither))))))
 

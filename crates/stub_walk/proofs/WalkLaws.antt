@@ -22,13 +22,15 @@ use Rattle.stub_client.specs.SpecialNames.{loopback_answer, loopback_data, speci
 use Rattle.stub_client.specs.declared.special_names.SpecialAnswer.{SpecialAnswer}
 use Rattle.stub_client.specs.declared.special_names.SpecialAnswer.TheVariants.{Ordinary, Loopback, Nothing}
 use Rattle.stub_history.specs.Stands.{AreSame}
-use Rattle.stub_history.proofs.AnswerRowLaws.{alias-there, sound-at, typed-at}
+use Rattle.stub_history.specs.Answered.{is_plain}
+use Rattle.stub_history.proofs.AnswerRowLaws.{alias-there, not-plain, sound-at, typed-at}
 use Rattle.stub_history.proofs.ChainLaws.{alias-data}
 use Rattle.stub_history.proofs.EndLaws.{is_followed, not-ordinary}
 use Rattle.stub_history.proofs.StandLaws.{both-true}
 use Rattle.std.proofs.lemmas.List.Elements.{All-contains}
 use Rattle.dns_data.specs.rdata.{data_type}
-use Rattle.stub_walk.specs.Walk.{HasNoRows, IsOfZone, Walk}
+use Rattle.stub_walk.specs.Walk.{HasNoRows, IsDirect, IsOfZone, LeadsAlong, Walk}
+use Rattle.stub_walk.specs.Walk.LeadsAlong.{past_target, to_target}
 use Rattle.stub_walk.specs.Walk.Walk.{at_alias, at_foreign_name, at_limit, at_local_host, at_nothing, at_rows, at_special_name}
 use Rattle.stub_walk.proofs.Spelling.{aliases-same, code-same, inside-same, loopback-values, owned, owner-is, rows-same, rows-values, special-same}
 
@@ -182,6 +184,38 @@ module _ (zone : ZoneContent) (one other : RecordType) (number : type_number one
   walk-respelled b flag low (at_limit a row more bare e) =
       subst (λ (code : _). Walk zone other 0 b (Lacks code)) (sym (code-same a b flag low zone))
       (at_limit b row more (no-rows-same a b flag low bare) (sym (aliases-same a b flag low zone types.CNAME) ∙ e))
+
+-- ---- names from which lookups walk
+
+module _ (zone : ZoneContent) (one other : RecordType) (number : type_number one ≡ type_number other) where
+  leads-respelled : {a end : DomainName} (b : DomainName) → a.is_fqdn ≡ b.is_fqdn → AreSame a b → LeadsAlong zone one a end → LeadsAlong zone other b end
+  leads-respelled b flag low (to_target a row more target bare e is) =
+      to_target b row more target (no-rows-same zone one other number a b flag low bare) (sym (aliases-same a b flag low zone types.CNAME) ∙ e) is
+  leads-respelled b flag low (past_target a row more target end bare e is rest) =
+      past_target b row more target end (no-rows-same zone one other number a b flag low bare) (sym (aliases-same a b flag low zone types.CNAME) ∙ e) is
+      (leads-respelled target.0 refl refl rest)
+
+pub direct-respelled : (zone : ZoneContent) (one other : RecordType) → type_number one ≡ type_number other → (a b : DomainName) → a.is_fqdn ≡ b.is_fqdn
+    → AreSame a b → IsDirect zone one a → IsDirect zone other b
+direct-respelled zone one other number a b flag low direct = record {
+  services = λ e end leads.
+      no-rows-same zone one other number end end refl refl
+      (direct.services (number ∙ e) end (leads-respelled zone other one (sym number) a (sym flag) (sym low) leads));
+  soa = λ e end leads.
+      of-zone-same zone one other number end end refl refl
+      (direct.soa (number ∙ e) end (leads-respelled zone other one (sym number) a (sym flag) (sym low) leads));
+}
+
+pub others-direct : (zone : ZoneContent) (kind : RecordType) (name : DomainName) → (type_number kind ≡ 6 → ⊥) → (type_number kind ≡ 33 → ⊥)
+    → IsDirect zone kind name
+others-direct zone kind name no_soa no_service = record {
+  services = λ e end leads. absurd (no_service e);
+  soa = λ e end leads. absurd (no_soa e);
+}
+
+pub plain-direct : (zone : ZoneContent) (kind : RecordType) (name : DomainName) → is_plain kind ≡ true → IsDirect zone kind name
+plain-direct zone kind name plain =
+    others-direct zone kind name (λ e. not-plain (type_number kind) 6 plain e refl) (λ e. not-plain (type_number kind) 33 plain e refl)
 
 -- ---- names at which a zone's aliases are followed
 

@@ -1,20 +1,26 @@
 -- Questions that a zone answers, and lookups that come to the walk over the zone.
-use Rattle.std.specs.Prelude.{◌≡◌, true, All, List, [], ◌∷◌, ℕ, Ok, Err}
+use Rattle.std.specs.Prelude.{◌≡◌, true, false, All, List, [], ◌∷◌, ℕ, Result, Ok, Err}
 use Rattle.dns_codes.specs.DNSClass.{class_number}
+use Rattle.dns_codes.specs.RecordType.{type_number}
+use Rattle.dns_codes.specs.declared.record_type.RecordType.{RecordType}
+use Rattle.dns_names.specs.Name.{DomainName}
+use Rattle.dns_names.specs.declared.error.ParseError.{ParseError}
 use Rattle.dns_messages.specs.declared.message.Message.{Message}
 use Rattle.dns_messages.specs.declared.query.Query.{Query}
+use Rattle.dns_zone.specs.Answer.{is_no_row_type}
 use Rattle.dns_zone.specs.Rows.{ZoneContent}
 use Rattle.stub_lookup.specs.declared.error.NetError.{NetError}
 use Rattle.stub_lookup.specs.declared.error.NetError.TheVariants as errors
 use Rattle.stub_client.specs.Handle.{Ask, Behavior, Led, Outcome}
+use Rattle.stub_client.specs.Looks.{Reply}
 use Rattle.stub_client.specs.SpecialNames.{special_answer}
 use Rattle.stub_client.specs.declared.special_names.SpecialAnswer.TheVariants.{Ordinary}
-use Rattle.stub_core.specs.Attempts.{Lookups}
-use Rattle.stub_core.specs.Resolver.{request_options}
+use Rattle.stub_core.specs.Resolver.{LooksUp, known_type, request_options}
 use Rattle.stub_core.specs.declared.resolver.Resolver.{Resolver}
+use Rattle.stub_core.specs.declared.resolver.settings.Settings.{Settings}
 use Rattle.stub_history.specs.Answered.{HoldsAnswer, is_plain}
 use Rattle.stub_history.specs.Stands.{HasShortLinks}
-use Rattle.stub_walk.specs.Walk.{ByWalk, CacheAgrees}
+use Rattle.stub_walk.specs.Walk.{ByDirectWalk, ByWalk, CacheAgrees, walks_everywhere}
 
 -- ---- zones
 
@@ -61,14 +67,20 @@ pub record IsPlainAsk (ask : Ask) : Type 0 where
 
 -- ---- lookups of a resolver
 
+-- A lookup of records of a name is one in which each question is walked: of a type whose lookups walk everywhere, and of each other
+-- type that rows may have, for the names from which its lookups walk.
+pub record IsWalkedLookup (zone : ZoneContent) (settings : Settings) (now : ℕ) (name : Result DomainName ParseError) (kind : RecordType)
+    (reply : Reply) : Type 0 where
+  pub everywhere : walks_everywhere (known_type kind) ≡ true → LooksUp settings now (ByWalk zone) name kind tt reply tt
+  pub direct : is_no_row_type (type_number (known_type kind)) ≡ false → LooksUp settings now (ByDirectWalk zone) name kind tt reply tt
+
 -- A lookup of a resolver asks these questions with these outcomes, none of them for a special-use name. If the zone answers them,
--- what is kept still agrees with walks over the zone; and if the link met no fault, the lookup is one in which each question is
--- walked.
-pub record ComesToWalk {H : Type 0} (zone : ZoneContent) (gives : Behavior H) (now : ℕ) (old new : Resolver H)
-    (looks : Lookups (Unit {0}) Query → Type 0) : Type 0 where
+-- what is kept still agrees with walks over the zone; and if the link met no fault, the lookup is one in which questions are walked.
+pub record ComesToWalk {H : Type 0} (zone : ZoneContent) (gives : Behavior H) (now : ℕ) (old new : Resolver H) (walked : Type 0)
+    : Type 0 where
   pub asks : List Ask
   pub led : Led gives (request_options old.settings.options) now old.client.handle asks new.client.handle
   pub ordinary : All IsOrdinary asks
   pub aliases : new.client.preserve_intermediates ≡ old.client.preserve_intermediates
   pub keeps : All (IsAsked zone) asks → CacheAgrees zone old.client.cache → CacheAgrees zone new.client.cache
-  pub walks : All (IsAsked zone) asks → HaveNoFault asks → CacheAgrees zone old.client.cache → looks (ByWalk zone)
+  pub walks : All (IsAsked zone) asks → HaveNoFault asks → CacheAgrees zone old.client.cache → walked

@@ -1,7 +1,8 @@
 -- Walks over a zone: what a name comes to for a type, by the rows of the zone alone (RFC 1034 section 4.3.2). A walk has neither
 -- a cache nor messages nor TTLs.
-use Rattle.std.specs.Prelude.{◌≡◌, true, false, suc, map, List, [], ◌∷◌, ℕ, Ok, Err}
+use Rattle.std.specs.Prelude.{◌≡◌, ◌==◌, ◌||◌, Bool, true, false, suc, map, List, [], ◌∷◌, ℕ, Ok, Err}
 use Rattle.dns_codes.specs.DNSClass.{class_number}
+use Rattle.dns_codes.specs.RecordType.{type_number}
 use Rattle.dns_codes.specs.declared.record_type.RecordType.{RecordType}
 use Rattle.dns_codes.specs.declared.record_type.RecordType.TheVariants as types
 use Rattle.dns_names.specs.Compare.{at_or_below}
@@ -14,7 +15,7 @@ use Rattle.dns_records.specs.declared.row.Row.{Row}
 use Rattle.dns_messages.specs.declared.query.Query.{Query}
 use Rattle.dns_messages.specs.declared.response_code.ResponseCode.{ResponseCode}
 use Rattle.dns_messages.specs.declared.response_code.ResponseCode.TheVariants.{Refused}
-use Rattle.dns_zone.specs.Answer.{negative, record_of}
+use Rattle.dns_zone.specs.Answer.{is_no_row_type, negative, record_of}
 use Rattle.dns_zone.specs.Rows.{ZoneContent}
 use Rattle.stub_lookup.specs.declared.error.DnsError.TheVariants as dns
 use Rattle.stub_lookup.specs.declared.error.NetError.TheVariants as errors
@@ -73,6 +74,27 @@ most_aliases = 7
 abbrev pub WalksTo : ZoneContent → Query → Conclusion → Type 0
 WalksTo zone q conclusion = Walk zone q.query_type most_aliases q.name conclusion
 
+-- ---- where a lookup walks
+
+-- aliases at names without rows of a type lead from a name to another one: one alias, or more
+pub data LeadsAlong (zone : ZoneContent) (kind : RecordType) : DomainName → DomainName → Type 0 where
+  to_target : (owner : DomainName) (row : Row) (more : List Row) (target : CNAME) → HasNoRows zone kind owner
+      → rows_at zone.rows owner.labels types.CNAME ≡ row ∷ more → row.rdata ≡ of.CNAME target → LeadsAlong zone kind owner target.0
+  past_target : (owner : DomainName) (row : Row) (more : List Row) (target : CNAME) (end : DomainName) → HasNoRows zone kind owner
+      → rows_at zone.rows owner.labels types.CNAME ≡ row ∷ more → row.rdata ≡ of.CNAME target → LeadsAlong zone kind target.0 end
+      → LeadsAlong zone kind owner end
+
+-- A lookup of services walks from a name unless an alias leads to services, from which it goes on to their targets (RFC 2782), or out
+-- of the zone; a lookup of an SOA record, unless an alias leads out of the zone, where it ends. Lookups of other types always walk.
+pub record IsDirect (zone : ZoneContent) (kind : RecordType) (name : DomainName) : Type 0 where
+  pub services : type_number kind ≡ 33 → (end : DomainName) → LeadsAlong zone kind name end → HasNoRows zone kind end
+  pub soa : type_number kind ≡ 6 → (end : DomainName) → LeadsAlong zone kind name end → IsOfZone zone kind end
+
+-- whether lookups of a type walk from every name: it is plain, or that of aliases, which a question for them does not follow (RFC
+-- 1034 section 3.6.2)
+abbrev pub walks_everywhere : RecordType → Bool
+walks_everywhere kind = is_plain kind || (type_number kind == 5)
+
 -- ---- lookups that agree with walks
 
 -- A reply is what the walk of a question comes to: records up to TTLs and ASCII case of owners, a negative answer, or an error by
@@ -88,11 +110,18 @@ IsWalked zone q (Err error) = ⊥
 abbrev pub ByWalk : ZoneContent → Lookups (Unit {0}) Query
 ByWalk zone old q reply new = IsWalked zone q reply
 
+-- the same of each question from whose name a lookup of its type walks
+abbrev pub ByDirectWalk : ZoneContent → Lookups (Unit {0}) Query
+ByDirectWalk zone old q reply new = IsDirect zone q.query_type q.name → IsWalked zone q reply
+
 -- ---- what is kept
 
--- A question of a plain type and the class of the Internet comes to what its walk comes to. Of others nothing is claimed.
+-- A question of a type that rows may have and of the class of the Internet, from whose name a lookup of the type walks, comes to what
+-- its walk comes to. Of others nothing is claimed.
 abbrev pub AgreesWithWalk : ZoneContent → Query → Conclusion → Type 0
-AgreesWithWalk zone q conclusion = is_plain q.query_type ≡ true → class_number q.query_class ≡ 1 → WalksTo zone q conclusion
+AgreesWithWalk zone q conclusion =
+    is_no_row_type (type_number q.query_type) ≡ false → class_number q.query_class ≡ 1 → IsDirect zone q.query_type q.name
+    → WalksTo zone q conclusion
 
 -- what a cache has for such questions is what their walks come to
 abbrev pub CacheAgrees : ZoneContent → CacheContent → Type 0

@@ -13,4 +13,4 @@ pub use outcomes::{
     alias_chains_of_answers_end, answers_of_steady_rows_are_of_a_zone,
     outcomes_of_answers_are_walks, questions_fail_by_faults,
 };
-pub use walks::{walks_are_functions, walks_ignore_spelling};
+pub use walks::{other_lookups_walk_everywhere, walks_are_functions, walks_ignore_spelling};

@@ -11,8 +11,8 @@ ghost use Rattle.stub_core.specs.Resolver.{known_type};
 ghost use Rattle.stub_core.specs.declared.resolver.settings.Settings.{Settings};
 ghost use Rattle.stub_link.specs.History.{Occasion, first_past};
 ghost use Rattle.stub_link.specs.declared.link.script.Script.{Script};
-ghost use Rattle.stub_history.specs.Answered.{is_plain};
 ghost use Rattle.stub_walk.specs.Agreement.{Agree};
+ghost use Rattle.stub_walk.specs.Walk.{walks_everywhere};
 ghost use Rattle.stub_history.specs.Faithful.{HasNoReuse};
 ghost use Rattle.stub_run.specs.Headline.{AreFresh, HasNoLeastTtl, HaveChainBounds, WorldContent, settings_of};
 ghost use Rattle.stub_run.specs.Ids.{AreDistinct};
@@ -107,9 +107,9 @@ pub fn unchanged_zones_are_steady()
     updates_keep_zones_well_formed();
 }
 
-/// Where nothing was updated since the last full clear, or the start, and the link met no fault in an event, its lookup of a plain type, or
-/// of a host, is one in which each question is walked over the zone: whatever was kept, however large datagrams may be, and whatever
-/// the link loses, repeats, delays or reorders in between.
+/// Where nothing was updated since the last full clear, or the start, and the link met no fault in an event, its lookup of a plain type, of
+/// aliases or of a host is one in which each question is walked over the zone, and so is one of SOA or SRV records where it goes along
+/// aliases alone: whatever was kept, however large datagrams may be, and whatever the link loses, repeats, delays or reorders in between.
 ///
 /// No id serves two equal questions, aliases are left out, and no chain of aliases in the zone passes seven links. Memory may run
 /// out for a lookup.
@@ -149,7 +149,7 @@ pub fn runs_have_one_history()
     events_decide_the_history();
 }
 
-/// Two such lookups of the same name and type, or of the same host, agree: they have the same records or the same failure, TTLs aside,
+/// Two such lookups of the same name and type, which is plain or that of aliases, or of the same host, agree: they have the same records or the same failure, TTLs aside,
 /// unless memory runs out. So a lookup that is repeated returns the same; and so do two runs over the same zone that differ in the size
 /// of the cache, the limit of datagrams or the ids.
 pub fn walked_replies_agree()
@@ -158,7 +158,7 @@ pub fn walked_replies_agree()
         → IsWalkedReply zone settings (Event.Lookup at name kind script) (EventReply.Lookup one)
         → IsWalkedReply zone (with_cache_size size settings) (Event.Lookup later name kind other)
         (EventReply.Lookup two)
-        → is_plain (known_type kind) ≡ true → Agree one two }
+        → walks_everywhere (known_type kind) ≡ true → Agree one two }
     ensures host { (zone : ZoneContent) (settings : Settings) (size at later : ℕ) (host : _)
         (script other : Script) (one two : Reply)
         → IsWalkedReply zone settings (Event.LookupIp at host script) (EventReply.LookupIp one)

@@ -24,7 +24,7 @@ ghost use Rattle.stub_walk.specs.Answered.{HasShortAliases, IsAskError, IsAsked,
 ghost use Rattle.stub_walk.specs.Walk.{AgreesWithWalk};
 
 /// Where a zone answers all questions, aliases are not preserved, and no chain of aliases in the zone passes seven links, a
-/// question of a plain type comes to what its walk comes to.
+/// question of a type that rows may have comes to what its walk comes to, if a lookup of this type walks from the name.
 pub fn outcomes_of_answers_are_walks()
     ensures { (zone : ZoneContent) (settings : LookupSettings) (asks : List Ask) (q : Query)
         (conclusion : Conclusion) → IsZone zone → HasShortAliases zone

@@ -7,7 +7,7 @@ ghost use Rattle.dns_names.specs.Compare.{same_name};
 ghost use Rattle.dns_names.specs.Name.{DomainName};
 ghost use Rattle.dns_zone.specs.Rows.{IsZone, ZoneContent};
 ghost use Rattle.stub_client.specs.Conclusions.{Conclusion};
-ghost use Rattle.stub_walk.specs.Walk.{Walk};
+ghost use Rattle.stub_walk.specs.Walk.{IsDirect, Walk, walks_everywhere};
 
 /// Each name of a zone comes to exactly one conclusion.
 pub fn walks_are_functions()
@@ -24,4 +24,10 @@ pub fn walks_ignore_spelling()
         (conclusion : Conclusion) → type_number one ≡ type_number other
         → same_name from to ≡ true → Walk zone one budget from conclusion
         → Walk zone other budget to conclusion }
+{}
+
+/// A lookup of a plain type, or of aliases, walks from every name.
+pub fn other_lookups_walk_everywhere()
+    ensures { (zone : ZoneContent) (kind : RecordType) (name : DomainName)
+        → walks_everywhere kind ≡ true → IsDirect zone kind name }
 {}

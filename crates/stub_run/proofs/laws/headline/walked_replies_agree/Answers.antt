@@ -9,8 +9,8 @@ use Rattle.stub_run.proofs.RunsAgree.{one-address}
 use Rattle.stub_run.proofs.laws.headline.walked_replies_agree.Goals as goal
 
 pub returns-clause-name : goal.returns-clause-name
-returns-clause-name c = λ zone settings size at later name kind script other one two h k plain.
-    looks-up-agree zone at later settings tt tt one two tt tt (Ok name) kind (h plain) (k plain)
+returns-clause-name c = λ zone settings size at later name kind script other one two h k every.
+    looks-up-agree zone at later settings tt tt one two tt tt (Ok name) kind (h.everywhere every) (k.everywhere every)
 
 pub returns-clause-host : goal.returns-clause-host
 returns-clause-host c = λ zone settings size at later host script other one two h k.
