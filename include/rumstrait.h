@@ -1,14 +1,17 @@
-/* Rumstrait: DNS zones for C.
+/* Rumstrait: DNS zones, messages and updates for C.
  *
  * What the functions do is proved up to this border; docs/EMBEDDING.md says what that means and what a caller owes:
  *
- * - a handle comes from a `_new` function, is used by one call at a time, and not after its `_free`; it is not null;
- * - a pointer is not null, even where its length is 0, and points to as many bytes as its length says;
+ * - a handle comes from a `_new` function, is used by one call at a time, and not after its `_free`; or it is null;
+ * - any other pointer is not null, even where its length is 0, and points to as many bytes as its length says;
  * - a buffer that a function writes overlaps no other argument;
  * - `malloc`, `realloc` and `free` belong to one allocator.
  *
  * Results. Each function but `_free` returns 0 (`RUMSTRAIT_OK`), or the code of a refusal. After a refusal nothing has
  * changed, but where the function says so.
+ *
+ * Handles. A function that is passed a null handle returns `RUMSTRAIT_NULL_HANDLE`, before anything else, and a `_free` function
+ * does nothing.
  *
  * Buffers. A function that makes bytes writes them to the front of `out`, which has room for `room` bytes, and their number
  * to `*len`. It writes no final 0. If they do not fit it returns `RUMSTRAIT_TOO_SMALL`, `*len` is the room that is needed,
@@ -17,8 +20,8 @@
  * Texts are UTF-8, with a length and without a final 0. A name is a text such as `www.example.com`, with or without its last
  * dot; characters that names rarely have are escaped as in a zone file (RFC 1035 section 5.1).
  *
- * Memory. Each function that takes memory returns it before it returns, but for a zone behind a handle, which
- * `rumstrait_zone_free` returns. Threads may call functions at once for different handles.
+ * Memory. Each function that takes memory returns it before it returns, but for what is behind a handle, which its `_free`
+ * function returns. Threads may call functions at once for different handles.
  */
 #ifndef RUMSTRAIT_H
 #define RUMSTRAIT_H
@@ -31,10 +34,11 @@
 extern "C" {
 #endif
 
+/* The parameters that are not null, by number. */
 #if defined(__GNUC__)
-#define RUMSTRAIT_NONNULL __attribute__((nonnull))
+#define RUMSTRAIT_NONNULL(...) __attribute__((nonnull(__VA_ARGS__)))
 #else
-#define RUMSTRAIT_NONNULL
+#define RUMSTRAIT_NONNULL(...)
 #endif
 
 /* What functions return. */
@@ -46,6 +50,8 @@ enum rumstrait_code {
     RUMSTRAIT_TOO_SMALL = 2,
     /* Memory was refused. */
     RUMSTRAIT_OUT_OF_MEMORY = 3,
+    /* The handle is null. */
+    RUMSTRAIT_NULL_HANDLE = 4,
     /* The transport is neither `RUMSTRAIT_DATAGRAM` nor `RUMSTRAIT_STREAM`. */
     RUMSTRAIT_INVALID_TRANSPORT = 5,
     /* The maximum size of a datagram is below 512 bytes (RFC 1035 section 4.2.1). */
@@ -55,7 +61,17 @@ enum rumstrait_code {
     /* A text is no domain name (RFC 1035 section 2.3.4). */
     RUMSTRAIT_INVALID_NAME = 8,
     /* A text is not the zone file of a zone; the program `zonecheck` says why, and on which line. */
-    RUMSTRAIT_INVALID_ZONE = 9
+    RUMSTRAIT_INVALID_ZONE = 9,
+    /* Bytes are no message. */
+    RUMSTRAIT_INVALID_MESSAGE = 10,
+    /* A message would have more than 65,535 bytes. */
+    RUMSTRAIT_TOO_LONG = 11,
+    /* An update has an item that no message can have, such as one of the type OPT. */
+    RUMSTRAIT_INVALID_UPDATE = 12,
+    /* No item of an update has this number. */
+    RUMSTRAIT_INVALID_ITEM = 13,
+    /* A text is not record data of the type. */
+    RUMSTRAIT_INVALID_DATA = 14
 };
 
 /* How a request arrived. */
@@ -73,25 +89,92 @@ typedef struct rumstrait_zone rumstrait_zone;
  * Refusals: RUMSTRAIT_INVALID_ENCODING, RUMSTRAIT_INVALID_NAME (the origin), RUMSTRAIT_INVALID_ZONE, RUMSTRAIT_OUT_OF_MEMORY.
  * Then `*out` is null. */
 int32_t rumstrait_zone_new(const uint8_t *text, size_t text_len, const uint8_t *origin, size_t origin_len,
-                           rumstrait_zone **out) RUMSTRAIT_NONNULL;
+                           rumstrait_zone **out) RUMSTRAIT_NONNULL(1, 3, 5);
 
 /* Serves a request, and writes the reply to `out`. `limit` is the maximum size of a reply in a datagram, at least 512; it is
  * ignored for a stream, whose messages come without the two bytes of their length. 65,535 bytes of room always suffice.
  *
  * An update with the response code NOERROR changes the zone (RFC 2136 section 3), unless this function returns a refusal.
  *
- * Refusals: RUMSTRAIT_INVALID_TRANSPORT, RUMSTRAIT_INVALID_LIMIT, RUMSTRAIT_NO_REPLY, RUMSTRAIT_TOO_SMALL,
- * RUMSTRAIT_OUT_OF_MEMORY. */
+ * Refusals: RUMSTRAIT_NULL_HANDLE, RUMSTRAIT_INVALID_TRANSPORT, RUMSTRAIT_INVALID_LIMIT, RUMSTRAIT_NO_REPLY,
+ * RUMSTRAIT_TOO_SMALL, RUMSTRAIT_OUT_OF_MEMORY. */
 int32_t rumstrait_zone_serve(rumstrait_zone *zone, uint32_t transport, uint16_t limit, const uint8_t *request,
-                             size_t request_len, uint8_t *out, size_t room, size_t *len) RUMSTRAIT_NONNULL;
+                             size_t request_len, uint8_t *out, size_t room, size_t *len) RUMSTRAIT_NONNULL(4, 6, 8);
 
 /* Writes a zone as a zone file, with each record on a line.
  *
- * Refusals: RUMSTRAIT_TOO_SMALL, RUMSTRAIT_OUT_OF_MEMORY. */
-int32_t rumstrait_zone_text(rumstrait_zone *zone, uint8_t *out, size_t room, size_t *len) RUMSTRAIT_NONNULL;
+ * Refusals: RUMSTRAIT_NULL_HANDLE, RUMSTRAIT_TOO_SMALL, RUMSTRAIT_OUT_OF_MEMORY. */
+int32_t rumstrait_zone_text(rumstrait_zone *zone, uint8_t *out, size_t room, size_t *len) RUMSTRAIT_NONNULL(2, 4);
 
-/* Frees a zone. */
-void rumstrait_zone_free(rumstrait_zone *zone) RUMSTRAIT_NONNULL;
+/* Frees a zone, unless the handle is null. */
+void rumstrait_zone_free(rumstrait_zone *zone);
+
+/* ---- messages (RFC 1035 section 4) */
+
+/* Writes a message as text, in the layout of dig: its header, its OPT record, and the records of its sections.
+ *
+ * Refusals: RUMSTRAIT_INVALID_MESSAGE, RUMSTRAIT_TOO_SMALL, RUMSTRAIT_OUT_OF_MEMORY. */
+int32_t rumstrait_message_text(const uint8_t *message, size_t message_len, uint8_t *out, size_t room,
+                               size_t *len) RUMSTRAIT_NONNULL(1, 3, 5);
+
+/* Decodes a message, and writes the bytes that it is encoded as, with names compressed (RFC 1035 section 4.1.4).
+ * Records that would pass 65,535 bytes are left out, and the message says that it is truncated.
+ *
+ * Refusals: RUMSTRAIT_INVALID_MESSAGE, RUMSTRAIT_TOO_LONG (the questions alone pass 65,535 bytes), RUMSTRAIT_TOO_SMALL,
+ * RUMSTRAIT_OUT_OF_MEMORY. */
+int32_t rumstrait_message_encode(const uint8_t *message, size_t message_len, uint8_t *out, size_t room,
+                                 size_t *len) RUMSTRAIT_NONNULL(1, 3, 5);
+
+/* Writes a query for the records of a name and a type, by its number, in the class IN. `recursion_desired` is the bit RD; with
+ * `use_edns` the query has an OPT record (RFC 6891) that offers 1,232 bytes.
+ *
+ * Refusals: RUMSTRAIT_INVALID_NAME, RUMSTRAIT_TOO_SMALL, RUMSTRAIT_OUT_OF_MEMORY. */
+int32_t rumstrait_question(uint16_t id, const uint8_t *name, size_t name_len, uint16_t query_type, bool recursion_desired,
+                           bool use_edns, uint8_t *out, size_t room, size_t *len) RUMSTRAIT_NONNULL(2, 7, 9);
+
+/* ---- updates (RFC 2136) */
+
+/* An update of a zone, to which prerequisites and changes are added. */
+typedef struct rumstrait_update rumstrait_update;
+
+/* What is added to an update. All prerequisites must hold, or nothing is changed; changes are made in their order. */
+enum rumstrait_item {
+    /* Prerequisites (RFC 2136 section 2.4). */
+    RUMSTRAIT_REQUIRE_SET = 1,    /* the name has records of the type, else NXRRSET */
+    RUMSTRAIT_REQUIRE_RECORD = 2, /* with data: the name has exactly the records of the type that are required, else NXRRSET */
+    RUMSTRAIT_FORBID_SET = 3,     /* the name has no records of the type, else YXRRSET */
+    RUMSTRAIT_REQUIRE_NAME = 4,   /* the name has records, else NXDOMAIN */
+    RUMSTRAIT_FORBID_NAME = 5,    /* the name has no records, else YXDOMAIN */
+    /* Changes (RFC 2136 section 2.5). */
+    RUMSTRAIT_ADD_RECORD = 11,    /* with data and TTL: a record is added */
+    RUMSTRAIT_DELETE_SET = 12,    /* the records of the name and the type are deleted */
+    RUMSTRAIT_DELETE_NAME = 13,   /* all records of the name are deleted */
+    RUMSTRAIT_DELETE_RECORD = 14  /* with data: a record is deleted */
+};
+
+/* Makes an update of the zone with a name, in the class IN, and writes its handle to `*out`, which the caller owns and frees.
+ *
+ * Refusals: RUMSTRAIT_INVALID_NAME, RUMSTRAIT_OUT_OF_MEMORY. Then `*out` is null. */
+int32_t rumstrait_update_new(const uint8_t *zone, size_t zone_len, rumstrait_update **out) RUMSTRAIT_NONNULL(1, 3);
+
+/* Adds a prerequisite or a change. An item without data ignores `data`, one of a name alone ignores `type`, and all but
+ * RUMSTRAIT_ADD_RECORD ignore `ttl`, in seconds. `data` is a text as in a zone file, such as `10 mail`, whose relative names end in
+ * the zone's name; data of a type that the library does not know is written in the generic form (RFC 3597 section 5). The name is
+ * not completed. Whether it is in the zone is for the server to say.
+ *
+ * Refusals: RUMSTRAIT_NULL_HANDLE, RUMSTRAIT_INVALID_ITEM, RUMSTRAIT_INVALID_NAME, RUMSTRAIT_INVALID_ENCODING,
+ * RUMSTRAIT_INVALID_DATA, RUMSTRAIT_OUT_OF_MEMORY. */
+int32_t rumstrait_update_item(rumstrait_update *update, uint32_t item, const uint8_t *name, size_t name_len, uint16_t type,
+                              uint32_t ttl, const uint8_t *data, size_t data_len) RUMSTRAIT_NONNULL(3, 7);
+
+/* Writes the message of an update. The update stays as it is, and more can be added.
+ *
+ * Refusals: RUMSTRAIT_NULL_HANDLE, RUMSTRAIT_TOO_LONG, RUMSTRAIT_INVALID_UPDATE, RUMSTRAIT_TOO_SMALL,
+ * RUMSTRAIT_OUT_OF_MEMORY. */
+int32_t rumstrait_update_bytes(rumstrait_update *update, uint16_t id, uint8_t *out, size_t room, size_t *len) RUMSTRAIT_NONNULL(3, 5);
+
+/* Frees an update, unless the handle is null. */
+void rumstrait_update_free(rumstrait_update *update);
 
 #ifdef __cplusplus
 }

@@ -30,7 +30,7 @@ fn main(rt: HostRuntime) {{
     let alloc = rt.alloc();
     let (mut number, mut line, mut bytes) = (0_usize, 0_usize, [0_u8; 4]);
     let text = b"text".as_slice();
-    let mut zone = std::ptr::null_mut();
+    let (mut zone, mut update) = (std::ptr::null_mut(), std::ptr::null_mut());
 {calls}
 }}
 """
@@ -48,6 +48,8 @@ VALUES = {
     "u64": "0",
     "*mut ZoneHandle": "zone",
     "&mut *mut ZoneHandle": "&mut zone",
+    "*mut UpdateHandle": "update",
+    "&mut *mut UpdateHandle": "&mut update",
 }
 
 

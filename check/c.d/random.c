@@ -1,4 +1,5 @@
-/* Random requests, by count: a code that the header names, a length within the room, and nothing written after it. */
+/* Random requests, by count, some of them to a null handle: a code that the header names, a length within the room, and
+ * nothing written after it. */
 #include "common.h"
 
 static uint64_t state = 0x9e3779b97f4a7c15u;
@@ -38,11 +39,16 @@ int main(int count, char **words) {
         uint32_t transport = next() % 3;
         uint16_t limit = (uint16_t)(next() % 2 ? 1232 : 500 + next() % 24);
         memset(reply + room, 0xee, 16);
-        int32_t code = rumstrait_zone_serve(zone, transport, limit, request, request_len, reply, room, &len);
+        rumstrait_zone *handle = next() % 64 ? zone : NULL;
+        int32_t code = rumstrait_zone_serve(handle, transport, limit, request, request_len, reply, room, &len);
         WANT(code >= 0 && code < 16);
         codes[code]++;
         for (size_t at = 0; at < 16; at++) WANT(reply[room + at] == 0xee);
+        WANT((code == RUMSTRAIT_NULL_HANDLE) == !handle);
         switch (code) {
+        case RUMSTRAIT_NULL_HANDLE:
+            WANT(len == 77);
+            break;
         case RUMSTRAIT_OK:
             WANT(len >= 12 && len <= room && reply[2] & 0x80);
             WANT(transport == RUMSTRAIT_STREAM || len <= limit);

@@ -21,6 +21,46 @@ static int fails(void) {
 void *__wrap_malloc(size_t size) { return fails() ? NULL : __real_malloc(size); }
 void *__wrap_realloc(void *block, size_t size) { return fails() ? NULL : __real_realloc(block, size); }
 
+/* Calls that make bytes of arguments alone. */
+static int32_t text_of_query(uint8_t *out, size_t room, size_t *len) { return rumstrait_message_text(QUERY, QUERY_LEN, out, room, len); }
+static int32_t query_again(uint8_t *out, size_t room, size_t *len) { return rumstrait_message_encode(UPDATE, UPDATE_LEN, out, room, len); }
+static int32_t question(uint8_t *out, size_t room, size_t *len) {
+    return rumstrait_question(1, BYTES("a-name-that-is-longer-than-what-is-inline.example.com."), 1, true, true, out, room, len);
+}
+static int32_t update(uint8_t *out, size_t room, size_t *len) {
+    rumstrait_update *made = NULL;
+    int32_t code = rumstrait_update_new(BYTES("a-name-that-is-longer-than-what-is-inline.example.com."), &made);
+    if (code) {
+        WANT(!made);
+        return code;
+    }
+    code = rumstrait_update_item(made, RUMSTRAIT_FORBID_NAME, BYTES("another-name-that-is-longer-than-what-is-inline.example.com"), 1, 0, BYTES(""));
+    if (!code) code = rumstrait_update_item(made, RUMSTRAIT_ADD_RECORD, BYTES("www.example.com"), 16, 60, BYTES("\"a text\" another"));
+    if (!code) code = rumstrait_update_item(made, RUMSTRAIT_ADD_RECORD, BYTES("www.example.com"), 257, 60, BYTES("0 issue a"));
+    if (!code) code = rumstrait_update_bytes(made, 1, out, room, len);
+    rumstrait_update_free(made);
+    return code;
+}
+
+/* A call with all allocations from the n-th on refused, for each n: a code, and nothing written, until it succeeds. */
+static void refuse_call(const char *name, int32_t (*call)(uint8_t *, size_t, size_t *)) {
+    static uint8_t out[4096];
+    for (long n = 0;; n++) {
+        size_t len = 77;
+        memset(out, 0xee, sizeof out);
+        left = n;
+        int32_t code = call(out, sizeof out, &len);
+        left = -1;
+        if (code == RUMSTRAIT_OK) {
+            WANT(n > 0);
+            printf("%s: %ld\n", name, n);
+            return;
+        }
+        WANT(code == RUMSTRAIT_OUT_OF_MEMORY && len == 77);
+        for (size_t at = 0; at < sizeof out; at++) WANT(out[at] == 0xee);
+    }
+}
+
 /* A zone, and its text. */
 static size_t text_of(rumstrait_zone *zone, uint8_t *text, size_t room) {
     size_t len = 0;
@@ -74,6 +114,10 @@ int main(void) {
     }
     printf("text: %ld\n", n);
     rumstrait_zone_free(zone);
+    refuse_call("message text", text_of_query);
+    refuse_call("message again", query_again);
+    refuse_call("question", question);
+    refuse_call("update", update);
     WANT(failed > 20);
     puts("ok");
     return 0;

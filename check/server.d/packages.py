@@ -7,6 +7,7 @@ import subprocess
 PACKAGES = {
     "dig": "bind9-dnsutils",
     "valgrind": "valgrind",
+    "go": "golang-go",
     "nsupdate": "bind9-dnsutils",
     "named": "bind9",
     "kdig": "knot-dnsutils",

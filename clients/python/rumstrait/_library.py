@@ -8,6 +8,7 @@ from typing import Callable, Optional
 Handle = ctypes.c_void_p
 Bytes, Room = ctypes.c_char_p, ctypes.c_void_p
 Size, SizePointer = ctypes.c_size_t, ctypes.POINTER(ctypes.c_size_t)
+Short, Number, Flag = ctypes.c_uint16, ctypes.c_uint32, ctypes.c_bool
 # The room of the first call: most replies and texts fit it, and the call is made again for those that do not.
 FIRST_ROOM = 4096
 
@@ -18,22 +19,34 @@ class Refusal(IntEnum):
     NO_REPLY = 1
     TOO_SMALL = 2
     OUT_OF_MEMORY = 3
+    NULL_HANDLE = 4
     INVALID_TRANSPORT = 5
     INVALID_LIMIT = 6
     INVALID_ENCODING = 7
     INVALID_NAME = 8
     INVALID_ZONE = 9
+    INVALID_MESSAGE = 10
+    TOO_LONG = 11
+    INVALID_UPDATE = 12
+    INVALID_ITEM = 13
+    INVALID_DATA = 14
 
 
 TEXTS = {
     Refusal.NO_REPLY: "no reply",
     Refusal.TOO_SMALL: "the buffer is too small",
     Refusal.OUT_OF_MEMORY: "out of memory",
+    Refusal.NULL_HANDLE: "the handle is null",
     Refusal.INVALID_TRANSPORT: "no such transport",
     Refusal.INVALID_LIMIT: "a limit of less than 512 bytes",
     Refusal.INVALID_ENCODING: "the text is not UTF-8",
     Refusal.INVALID_NAME: "no domain name",
     Refusal.INVALID_ZONE: "not the zone file of a zone",
+    Refusal.INVALID_MESSAGE: "not a message",
+    Refusal.TOO_LONG: "a message of more than 65,535 bytes",
+    Refusal.INVALID_UPDATE: "an item that no message can have",
+    Refusal.INVALID_ITEM: "no such item of an update",
+    Refusal.INVALID_DATA: "not record data of the type",
 }
 
 
@@ -59,10 +72,18 @@ def load() -> ctypes.CDLL:
     place = os.environ.get("RUMSTRAIT_LIBRARY") or (str(beside) if beside.exists() else "librumstrait.so")
     library = ctypes.CDLL(place)
     declare(library, "rumstrait_zone_new", Bytes, Size, Bytes, Size, ctypes.POINTER(Handle))
-    declare(library, "rumstrait_zone_serve", Handle, ctypes.c_uint32, ctypes.c_uint16, Bytes, Size, Room, Size, SizePointer)
+    declare(library, "rumstrait_zone_serve", Handle, Number, Short, Bytes, Size, Room, Size, SizePointer)
     declare(library, "rumstrait_zone_text", Handle, Room, Size, SizePointer)
     declare(library, "rumstrait_zone_free", Handle)
     library.rumstrait_zone_free.restype = None
+    declare(library, "rumstrait_message_text", Bytes, Size, Room, Size, SizePointer)
+    declare(library, "rumstrait_message_encode", Bytes, Size, Room, Size, SizePointer)
+    declare(library, "rumstrait_question", Short, Bytes, Size, Short, Flag, Flag, Room, Size, SizePointer)
+    declare(library, "rumstrait_update_new", Bytes, Size, ctypes.POINTER(Handle))
+    declare(library, "rumstrait_update_item", Handle, Number, Bytes, Size, Short, Number, Bytes, Size)
+    declare(library, "rumstrait_update_bytes", Handle, Short, Room, Size, SizePointer)
+    declare(library, "rumstrait_update_free", Handle)
+    library.rumstrait_update_free.restype = None
     return library
 
 

@@ -1,4 +1,4 @@
-//! DNS zones, served in process: bytes of a request in, bytes of its reply out.
+//! DNS zones, served in process: bytes of a request in, bytes of its reply out; and messages as text, queries and updates.
 //!
 //! Requests and replies are messages in wire format, as [`hickory_proto`](https://docs.rs/hickory-proto)'s
 //! `Message::to_vec` and `domain`'s builders make them, without the length that precedes a message in a stream.
@@ -22,6 +22,11 @@ use std::ptr::NonNull;
 mod ffi {
     #[repr(C)]
     pub struct Zone {
+        _opaque: [u8; 0],
+    }
+
+    #[repr(C)]
+    pub struct Update {
         _opaque: [u8; 0],
     }
 
@@ -50,6 +55,51 @@ mod ffi {
             len: *mut usize,
         ) -> i32;
         pub fn rumstrait_zone_free(zone: *mut Zone);
+        pub fn rumstrait_message_text(
+            message: *const u8,
+            message_len: usize,
+            out: *mut u8,
+            room: usize,
+            len: *mut usize,
+        ) -> i32;
+        pub fn rumstrait_message_encode(
+            message: *const u8,
+            message_len: usize,
+            out: *mut u8,
+            room: usize,
+            len: *mut usize,
+        ) -> i32;
+        pub fn rumstrait_question(
+            id: u16,
+            name: *const u8,
+            name_len: usize,
+            query_type: u16,
+            recursion_desired: bool,
+            use_edns: bool,
+            out: *mut u8,
+            room: usize,
+            len: *mut usize,
+        ) -> i32;
+        pub fn rumstrait_update_new(zone: *const u8, zone_len: usize, out: *mut *mut Update)
+            -> i32;
+        pub fn rumstrait_update_item(
+            update: *mut Update,
+            item: u32,
+            name: *const u8,
+            name_len: usize,
+            record_type: u16,
+            ttl: u32,
+            data: *const u8,
+            data_len: usize,
+        ) -> i32;
+        pub fn rumstrait_update_bytes(
+            update: *mut Update,
+            id: u16,
+            out: *mut u8,
+            room: usize,
+            len: *mut usize,
+        ) -> i32;
+        pub fn rumstrait_update_free(update: *mut Update);
     }
 }
 
@@ -67,6 +117,14 @@ pub enum Refusal {
     InvalidName,
     /// A text is not the zone file of a zone.
     InvalidZone,
+    /// Bytes are no message.
+    InvalidMessage,
+    /// A message would have more than 65,535 bytes.
+    TooLong,
+    /// An update has an item that no message can have, such as one of the type `OPT`.
+    InvalidUpdate,
+    /// A text is not record data of the type.
+    InvalidData,
     /// A code that this version of the wrapper does not know.
     Other(i32),
 }
@@ -79,6 +137,10 @@ impl Refusal {
             7 => Refusal::InvalidEncoding,
             8 => Refusal::InvalidName,
             9 => Refusal::InvalidZone,
+            10 => Refusal::InvalidMessage,
+            11 => Refusal::TooLong,
+            12 => Refusal::InvalidUpdate,
+            14 => Refusal::InvalidData,
             other => Refusal::Other(other),
         }
     }
@@ -92,6 +154,10 @@ impl fmt::Display for Refusal {
             Refusal::InvalidEncoding => f.write_str("the text is not UTF-8"),
             Refusal::InvalidName => f.write_str("no domain name"),
             Refusal::InvalidZone => f.write_str("not the zone file of a zone"),
+            Refusal::InvalidMessage => f.write_str("not a message"),
+            Refusal::TooLong => f.write_str("a message of more than 65,535 bytes"),
+            Refusal::InvalidUpdate => f.write_str("an item that no message can have"),
+            Refusal::InvalidData => f.write_str("not record data of the type"),
             Refusal::Other(code) => write!(f, "code {code}"),
         }
     }
@@ -188,6 +254,184 @@ impl Drop for Zone {
     fn drop(&mut self) {
         // SAFETY: the handle is live, and is not used after this.
         unsafe { ffi::rumstrait_zone_free(self.handle.as_ptr()) }
+    }
+}
+
+/// Returns a message in the layout of dig: its header, its OPT record, and the records of its sections.
+pub fn message_text(message: &[u8]) -> Result<String, Refusal> {
+    // SAFETY: the slices are valid and apart.
+    let text = bytes_of(|out, room, len| unsafe {
+        ffi::rumstrait_message_text(message.as_ptr(), message.len(), out, room, len)
+    })?;
+    String::from_utf8(text.unwrap_or_default()).map_err(|_| Refusal::InvalidEncoding)
+}
+
+/// Decodes a message, and returns the bytes that it is encoded as, with names compressed (RFC 1035 section 4.1.4). Records that
+/// would pass 65,535 bytes are left out.
+pub fn encode_again(message: &[u8]) -> Result<Vec<u8>, Refusal> {
+    // SAFETY: the slices are valid and apart.
+    let bytes = bytes_of(|out, room, len| unsafe {
+        ffi::rumstrait_message_encode(message.as_ptr(), message.len(), out, room, len)
+    })?;
+    Ok(bytes.unwrap_or_default())
+}
+
+/// What a query asks for beside its name and its type.
+#[derive(Clone, Copy, Debug, PartialEq, Eq)]
+pub struct QueryOptions {
+    /// The bit RD (RFC 1035 section 4.1.1).
+    pub recursion_desired: bool,
+    /// Whether the query has an OPT record (RFC 6891), which offers 1,232 bytes.
+    pub use_edns: bool,
+}
+
+/// Makes a query for the records of a name and a type, by its number, in the class `IN`.
+pub fn query(
+    id: u16,
+    name: &str,
+    query_type: u16,
+    options: QueryOptions,
+) -> Result<Vec<u8>, Refusal> {
+    // SAFETY: the slices are valid and apart.
+    let bytes = bytes_of(|out, room, len| unsafe {
+        ffi::rumstrait_question(
+            id,
+            name.as_ptr(),
+            name.len(),
+            query_type,
+            options.recursion_desired,
+            options.use_edns,
+            out,
+            room,
+            len,
+        )
+    })?;
+    Ok(bytes.unwrap_or_default())
+}
+
+/// A record with data: of an update, or that an update requires.
+#[derive(Clone, Copy, Debug, PartialEq, Eq)]
+pub struct Data<'a> {
+    /// The owner.
+    pub name: &'a str,
+    /// The number of the type.
+    pub record_type: u16,
+    /// The data as in a zone file, such as `10 mail`. Its relative names end in the zone's name.
+    pub text: &'a str,
+}
+
+/// A prerequisite (RFC 2136 section 2.4) or a change (section 2.5) of an update.
+#[derive(Clone, Copy, Debug, PartialEq, Eq)]
+pub enum Item<'a> {
+    /// The name has records of the type, else the server answers NXRRSET.
+    RequireSet(&'a str, u16),
+    /// The name has exactly the records of the type that are required, else the server answers NXRRSET.
+    RequireRecord(Data<'a>),
+    /// The name has no records of the type, else the server answers YXRRSET.
+    ForbidSet(&'a str, u16),
+    /// The name has records, else the server answers NXDOMAIN.
+    RequireName(&'a str),
+    /// The name has no records, else the server answers YXDOMAIN.
+    ForbidName(&'a str),
+    /// The record is added, with a TTL in seconds.
+    Add(Data<'a>, u32),
+    /// The records of the name and the type are deleted.
+    DeleteSet(&'a str, u16),
+    /// All records of the name are deleted.
+    DeleteName(&'a str),
+    /// The record is deleted.
+    DeleteRecord(Data<'a>),
+}
+
+impl<'a> Item<'a> {
+    /// The number of an item, and what it has: name, type, TTL and data.
+    fn parts(self) -> (u32, &'a str, u16, u32, &'a str) {
+        match self {
+            Item::RequireSet(name, record_type) => (1, name, record_type, 0, ""),
+            Item::RequireRecord(it) => (2, it.name, it.record_type, 0, it.text),
+            Item::ForbidSet(name, record_type) => (3, name, record_type, 0, ""),
+            Item::RequireName(name) => (4, name, ANY, 0, ""),
+            Item::ForbidName(name) => (5, name, ANY, 0, ""),
+            Item::Add(it, ttl) => (11, it.name, it.record_type, ttl, it.text),
+            Item::DeleteSet(name, record_type) => (12, name, record_type, 0, ""),
+            Item::DeleteName(name) => (13, name, ANY, 0, ""),
+            Item::DeleteRecord(it) => (14, it.name, it.record_type, 0, it.text),
+        }
+    }
+}
+
+/// The type that an item of a name alone has, and which the library ignores (RFC 1035 section 3.2.3).
+const ANY: u16 = 255;
+
+/// An update of a zone (RFC 2136): prerequisites, all of which must hold, and changes, which are made in their order.
+///
+/// ```
+/// use rumstrait::{Data, Item, Update};
+///
+/// let address = Data { name: "www.t.", record_type: 1, text: "10.0.0.1" };
+/// let mut update = Update::new("t.")?;
+/// update.add(Item::ForbidName("www.t."))?;
+/// update.add(Item::Add(address, 60))?;
+/// let request = update.to_bytes(7)?;
+/// # Ok::<(), rumstrait::Refusal>(())
+/// ```
+#[derive(Debug)]
+pub struct Update {
+    handle: NonNull<ffi::Update>,
+}
+
+// SAFETY: the update behind the handle is owned by it alone, and nothing in it belongs to a thread.
+unsafe impl Send for Update {}
+
+impl Update {
+    /// Makes an update of the zone with a name, of the class `IN`, without prerequisites and changes.
+    pub fn new(zone: &str) -> Result<Update, Refusal> {
+        let mut handle = std::ptr::null_mut();
+        // SAFETY: the slice is valid, and `handle` is written.
+        let code = unsafe { ffi::rumstrait_update_new(zone.as_ptr(), zone.len(), &mut handle) };
+        match NonNull::new(handle) {
+            Some(handle) if code == 0 => Ok(Update { handle }),
+            _ => Err(Refusal::of_code(code)),
+        }
+    }
+
+    /// Adds a prerequisite or a change. After a refusal the update is as it was.
+    pub fn add(&mut self, item: Item) -> Result<(), Refusal> {
+        let (number, name, record_type, ttl, text) = item.parts();
+        // SAFETY: the handle is live, `&mut self` gives it to this call alone, and the slices are valid.
+        let code = unsafe {
+            ffi::rumstrait_update_item(
+                self.handle.as_ptr(),
+                number,
+                name.as_ptr(),
+                name.len(),
+                record_type,
+                ttl,
+                text.as_ptr(),
+                text.len(),
+            )
+        };
+        if code == 0 {
+            Ok(())
+        } else {
+            Err(Refusal::of_code(code))
+        }
+    }
+
+    /// Returns the message of the update, with an id.
+    pub fn to_bytes(&mut self, id: u16) -> Result<Vec<u8>, Refusal> {
+        // SAFETY: as for `add`.
+        let bytes = bytes_of(|out, room, len| unsafe {
+            ffi::rumstrait_update_bytes(self.handle.as_ptr(), id, out, room, len)
+        })?;
+        Ok(bytes.unwrap_or_default())
+    }
+}
+
+impl Drop for Update {
+    fn drop(&mut self) {
+        // SAFETY: the handle is live, and is not used after this.
+        unsafe { ffi::rumstrait_update_free(self.handle.as_ptr()) }
     }
 }
 

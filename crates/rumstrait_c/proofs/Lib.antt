@@ -1,2 +1,5 @@
+mod GivingLaws
 pub mod HandleSteps
+pub mod NullSteps
 mod PrintLaws
+pub mod UpdateSteps

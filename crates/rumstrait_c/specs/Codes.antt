@@ -21,6 +21,16 @@ code_of refusal.Update = pos 12
 code_of refusal.Item = pos 13
 code_of refusal.Data = pos 14
 
+-- a call on a null handle returns its code
+abbrev pub IsNullCode : ℤ → Type 0
+IsNullCode code = code ≡ code_of refusal.NullHandle
+
+-- What a call on a null handle that makes bytes returns and leaves: the code, and buffer and number as they were.
+pub record RefusesNull (code : ℤ) (buffer buffer' : List ℕ) (len len' : ℕ) : Type 0 where
+  pub code_is : IsNullCode code
+  pub same_buffer : buffer' ≡ buffer
+  pub same_len : len' ≡ len
+
 -- the number of an outcome
 abbrev pub result_code : Result (Unit {0}) Refusal → ℤ
 result_code (Ok done) = pos 0

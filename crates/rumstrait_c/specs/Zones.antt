@@ -1,6 +1,6 @@
 -- Zones behind handles.
-use Rattle.std.specs.Prelude.{◌≡◌, ℤ, pos, negsuc, zero, suc, ℕ, List, length, Result, Ok, Err}
-use base.Fml.{Fml, feq, fex}
+use Rattle.std.specs.Prelude.{◌≡◌, ℤ, pos, negsuc, zero, suc, ℕ, List, length, Option, Some, None, Result, Ok, Err}
+use base.Fml.{Fml, feq, fex, ftrue}
 use denote.RawPtr.{Ptr, null_ptr}
 use Rattle.std.specs.Box.Ownership.{box_owns}
 use Rattle.std.specs.Global.{Global}
@@ -14,11 +14,16 @@ use Rattle.api_zones.specs.Zones as zones
 use Rattle.dns_zone.specs.Printed.{IsZoneText}
 use Rattle.dns_zone.specs.Rows.{ZoneContent}
 use Rattle.dns_zone.specs.contracts.zone.Zone.{the_row}
-use Rattle.rumstrait_c.specs.Codes.{code_of, result_code}
+use Rattle.rumstrait_c.specs.Codes.{RefusesNull, code_of, result_code}
 
 -- a zone on the heap, and the right to free it by the allocator
 abbrev pub zone_at : Global → Ptr → ZoneContent → Fml
 zone_at alloc p zone = box_owns (ghosts.dealloc_token alloc) the_row p zone
+
+-- a zone behind a handle, or none behind a null one
+abbrev pub handle_at : Global → Ptr → Option ZoneContent → Fml
+handle_at alloc p (Some zone) = zone_at alloc p zone
+handle_at alloc p None = feq Ptr p null_ptr
 
 -- ---- new
 
@@ -46,11 +51,13 @@ pub record Served (zone : ZoneContent) (transport limit : ℕ) (request : List �
   pub delivered : Delivers found buffer len outcome buffer' len'
   pub code_is : code ≡ result_code outcome
 
--- the zone that such a call leaves behind the handle
-abbrev pub served_at : Global → Ptr → ZoneContent → ℕ → ℕ → List ℕ → ℤ → List ℕ → List ℕ → ℕ → ℕ → Fml
-served_at alloc p zone transport limit request code buffer buffer' len len' =
+-- the zone that such a call leaves behind the handle; a null handle is refused
+abbrev pub served_at : Global → Ptr → Option ZoneContent → ℕ → ℕ → List ℕ → ℤ → List ℕ → List ℕ → ℕ → ℕ → Fml
+served_at alloc p (Some zone) transport limit request code buffer buffer' len len' =
     fex ZoneContent (λ after. fex (Served zone transport limit request code buffer buffer' len len' after)
     (λ _. zone_at alloc p after))
+served_at alloc p None transport limit request code buffer buffer' len len' =
+    fex (RefusesNull code buffer buffer' len len') (λ _. ftrue)
 
 -- ---- text
 
@@ -69,7 +76,8 @@ pub record Printed (zone : ZoneContent) (code : ℤ) (buffer buffer' : List ℕ)
   pub code_is : code ≡ result_code outcome
   pub same : after ≡ zone
 
--- the zone that such a call leaves behind the handle
-abbrev pub printed_at : Global → Ptr → ZoneContent → ℤ → List ℕ → List ℕ → ℕ → ℕ → Fml
-printed_at alloc p zone code buffer buffer' len len' =
+-- the zone that such a call leaves behind the handle; a null handle is refused
+abbrev pub printed_at : Global → Ptr → Option ZoneContent → ℤ → List ℕ → List ℕ → ℕ → ℕ → Fml
+printed_at alloc p (Some zone) code buffer buffer' len len' =
     fex ZoneContent (λ after. fex (Printed zone code buffer buffer' len len' after) (λ _. zone_at alloc p after))
+printed_at alloc p None code buffer buffer' len len' = fex (RefusesNull code buffer buffer' len len') (λ _. ftrue)

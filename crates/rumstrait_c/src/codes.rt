@@ -5,6 +5,9 @@ ghost use Rattle.rumstrait_c.specs.Codes.{code_of, result_code};
 
 use api_buffer::Refusal;
 
+/// The number of the refusal of a null handle.
+pub(crate) const NULL_HANDLE: i32 = 4;
+
 /// Returns the number of a refusal.
 pub(crate) fn code_of(refusal: Refusal) -> i32
     ensures { result ≡ code_of refusal }
@@ -13,7 +16,7 @@ pub(crate) fn code_of(refusal: Refusal) -> i32
         Refusal::NoReply => 1,
         Refusal::TooSmall => 2,
         Refusal::Memory => 3,
-        Refusal::NullHandle => 4,
+        Refusal::NullHandle => NULL_HANDLE,
         Refusal::Transport => 5,
         Refusal::Limit => 6,
         Refusal::Encoding => 7,

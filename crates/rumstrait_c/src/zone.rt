@@ -1,13 +1,13 @@
 //! Zones behind handles.
 
-ghost use Rattle.std.specs.Prelude.{IfErr, IfOk};
+ghost use Rattle.std.specs.Prelude.{IfErr, IfOk, Option};
 ghost use types.Logic.{sem};
 ghost use Rattle.dns_zone.specs.Rows.{ZoneContent};
 ghost use Rattle.api_zones.specs.Zones as zones;
 ghost use Rattle.api_zones.specs.Zones.{IsZoneOf};
-ghost use Rattle.rumstrait_c.specs.Zones.{IsRefused, Printed, Served, made_at, printed_at, served_at, zone_at};
+ghost use Rattle.rumstrait_c.specs.Zones.{IsRefused, Printed, Served, handle_at, made_at, printed_at, served_at};
 
-use crate::codes::{code_of, result_code};
+use crate::codes::{NULL_HANDLE, code_of, result_code};
 use api_buffer::{Refusal, deliver};
 use api_zones::{read_zone, serve_request, zone_text};
 use dns_zone::Zone;
@@ -42,7 +42,7 @@ pub extern "C" fn rumstrait_zone_new(
     }
 }
 
-/// Serves a request.
+/// Serves a request, unless the handle is null.
 #[unsafe(no_mangle)]
 pub unsafe extern "C" fn rumstrait_zone_serve(
     alloc: Global,
@@ -53,11 +53,14 @@ pub unsafe extern "C" fn rumstrait_zone_serve(
     reply: &mut [u8],
     len: &mut usize,
 ) -> i32
-    ghost content: { ZoneContent }
-    requires* { sem 𝓛 (zone_at alloc zone content) }
+    ghost content: { Option ZoneContent }
+    requires* { sem 𝓛 (handle_at alloc zone content) }
     ensures* { sem 𝓛 (served_at alloc zone content transport limit request.now result reply.old
         reply.new len.old len.new) }
 {
+    if zone.is_null() {
+        return NULL_HANDLE;
+    }
     serve(
         alloc,
         unsafe { &mut *(zone as *mut Zone) },
@@ -69,7 +72,7 @@ pub unsafe extern "C" fn rumstrait_zone_serve(
     )
 }
 
-/// Writes a zone as a zone file.
+/// Writes a zone as a zone file, unless the handle is null.
 #[unsafe(no_mangle)]
 pub unsafe extern "C" fn rumstrait_zone_text(
     alloc: Global,
@@ -77,19 +80,25 @@ pub unsafe extern "C" fn rumstrait_zone_text(
     text: &mut [u8],
     len: &mut usize,
 ) -> i32
-    ghost content: { ZoneContent }
-    requires* { sem 𝓛 (zone_at alloc zone content) }
+    ghost content: { Option ZoneContent }
+    requires* { sem 𝓛 (handle_at alloc zone content) }
     ensures* { sem 𝓛 (printed_at alloc zone content result text.old text.new len.old len.new) }
 {
+    if zone.is_null() {
+        return NULL_HANDLE;
+    }
     print(alloc, unsafe { &mut *(zone as *mut Zone) }, text, len)
 }
 
-/// Frees a zone.
+/// Frees a zone, unless the handle is null.
 #[unsafe(no_mangle)]
 pub unsafe extern "C" fn rumstrait_zone_free(alloc: Global, zone: *mut ZoneHandle)
-    ghost content: { ZoneContent }
-    requires* { sem 𝓛 (zone_at alloc zone content) }
+    ghost content: { Option ZoneContent }
+    requires* { sem 𝓛 (handle_at alloc zone content) }
 {
+    if zone.is_null() {
+        return;
+    }
     destroy(unsafe { Box::from_raw(alloc, zone as *mut Zone) });
 }
 

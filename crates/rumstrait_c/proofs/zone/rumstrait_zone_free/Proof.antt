@@ -1,5 +1,5 @@
 -- `rumstrait_zone_free` makes a box of the handle again, and drops it.
-use Rattle.std.proofs.Common.{◌≡◌, List, [], ◌∷◌, refl, sym, ap, subst}
+use Rattle.std.proofs.Common.{◌≡◌, List, [], ◌∷◌, refl, sym, ap, subst, Option, Some, None, lit<}
 use Rattle.std.proofs.raw_atomic.Walks.{proved, leaves}
 use base.Fml.{ftrue, flft}
 use base.Fraction.{full_share}
@@ -11,7 +11,7 @@ use denote.Builtin.{unit}
 use denote.Exit.{yes}
 use denote.Param.NoDrop.{glues}
 use denote.RattleType.{owns}
-use denote.RawPtr.{Ptr, RawPtr, block_ptr, rawptr_vals, rawptr_Tells}
+use denote.RawPtr.{Ptr, RawPtr, block_ptr, rawptr_vals, rawptr_Tells, null_ptr, tests_null}
 use denote.Signature.{types_at, plain}
 use denote.Steps.{nothing, only}
 use denote.Triple.Call.{calls_at, calls_at_last}
@@ -23,14 +23,16 @@ use mir.Val.{Val, vptr, vunit}
 use prog.Wp.{WpFn}
 use types.ByLocal.{alloc_all, pass_all, free_all, look_at, get, sets, lands_as, lands_last, env, is as is_value}
 use types.Kit.{‵, raw, ◌⊛◌, some, later, at_ret, ◌$◌, ◌∵◌, !, qed, by, move, keep, drop, use0, use1, use2, split, join, fsplit, fjoin, pick, feq_i, feq_l, await, regoal, prop}
-use types.Run.{enter, of_opd, unit_lit, no_more, and_then, first, blocks, exec, returns}
+use types.Run.{enter, of_opd, unit_lit, no_more, and_then, first, blocks, exec, returns, bin, lit, branches, skips, returns_within}
 use types.Tokens.{lft_new}
 use Rattle.std.proofs.BoxSteps.Form as box
 use Rattle.std.proofs.boxed.Box.from_raw.Met as make-met
 use Rattle.std.proofs.impls.GlobalAllocator.TheImpl.Met.{passed}
 use Rattle.std.specs.contracts.boxed.Box.from_raw as make
-use Rattle.rumstrait_c.specs.Zones.{zone_at}
-use Rattle.rumstrait_c.proofs.HandleSteps.{Global, boxed, within_zone, within_global, global_val, global_Tells, zone_out, box_val, BoxGood, box_good, box_form}
+use Rattle.rumstrait_c.specs.Zones.{handle_at}
+use Rattle.rumstrait_c.proofs.HandleSteps.{Global, boxed, within_zone, within_global, global_val, global_Tells, box_val, BoxGood, box_good, box_form}
+use Rattle.dns_zone.specs.Rows.{ZoneContent}
+use Rattle.rumstrait_c.proofs.NullSteps.{zone_cases}
 use Rattle.rumstrait_c.specs.contracts.zone.rumstrait_zone_free as f
 use Rattle.rumstrait_c.proofs.zone.rumstrait_zone_free.Statement.{statement}
 use Rattle.rumstrait_c.proofs.zone.rumstrait_zone_free.Code as code
@@ -50,17 +52,31 @@ rumstrait_zone_free_spec {M} 𝓤 𝓛 𝓜 𝓡 wired =
     (λ κs. ((λ _. global_val ∷ []), (rawptr_vals, tt))) (λ κs. (global_Tells, (rawptr_Tells, tt)))
     (λ κs qs bounds a content are.
     let p = a.1.0 in
-    let y : Ptr → W.Ghost = λ p'. ((κs, qs, bounds, (a.0, (p', tt)), (global_val ∷ [], (rawptr_vals p', tt))), content) in
-    qed 𝓛 ((‵ ftrue ⊛ ‵ (owns (types_at f.signature.params κs) a (y p).0.4)) ∷ ‵ (zone_at a.0 p content) ∷ []) ∵ move ! (1 ∷ []) $ zone_out ! a.0 p content (λ b o e.
-    let z = y (block_ptr b o) in
-    regoal ! (λ p'. prop (WpFn 𝓤 𝓛.H 𝓣.C 𝓣.Λ code.function (W.args (y p')) (W.post (y p')))) e refl $
+    let y : Ptr → Option ZoneContent → W.Ghost = λ p' content'. ((κs, qs, bounds, (a.0, (p', tt)), (global_val ∷ [], (rawptr_vals p', tt))), content') in
+    qed 𝓛 ((‵ ftrue ⊛ ‵ (owns (types_at f.signature.params κs) a (y p content).0.4)) ∷ ‵ (handle_at a.0 p content) ∷ []) ∵ move ! (1 ∷ []) $ zone_cases ! a.0 p content
+    (λ is_none e. let z = y null_ptr None in
+    regoal ! (λ p'. prop (WpFn 𝓤 𝓛.H 𝓣.C 𝓣.Λ code.function (W.args (y p' content)) (W.post (y p' content)))) e refl $
+    regoal ! (λ content'. prop (WpFn 𝓤 𝓛.H 𝓣.C 𝓣.Λ code.function (W.args (y null_ptr content')) (W.post (y null_ptr content')))) is_none refl $
+    drop ! $ enter ! _ _ _ _ _ $ alloc_all ! (λ l. pass_all ! refl ((tt, ((tt, tt), tt)), ((tt, record { fits = lit< tt }), tt)) $
+    sets ! (of_opd ! (get ! refl)) refl (tt, record { fits = lit< tt }) $ sets ! (bin ! (get ! refl) (lit ! tt) (tests_null null_ptr (lit< tt))) refl (tt, tt) $
+    first ! $ branches ! (get ! refl)
+    (λ _. sets ! (of_opd ! (unit_lit !)) refl (tt, tt) $ returns_within ! (W.post z) refl (look_at ! 0 refl) $ free_all ! refl $
+    nothing ! $ feq_i ! (List Val) (vunit ∷ []) (vunit ∷ []) refl $ nothing ! $ nothing ! $ fjoin ! $ nothing ! $ fjoin ! $ nothing ! $ keep ! (0 ∷ 1 ∷ 2 ∷ 3 ∷ []) $
+    by ! (leaves 𝓛 f.ended stayed c z vunit tt (tt, (tt, tt)) (tt, (tt, tt))))
+    (λ some. absurd some)))
+    (λ held b o is_held e may.
+    let z = y (block_ptr b o) (Some held) in
+    regoal ! (λ p'. prop (WpFn 𝓤 𝓛.H 𝓣.C 𝓣.Λ code.function (W.args (y p' content)) (W.post (y p' content)))) e refl $
+    regoal ! (λ content'. prop (WpFn 𝓤 𝓛.H 𝓣.C 𝓣.Λ code.function (W.args (y (block_ptr b o) content')) (W.post (y (block_ptr b o) content')))) is_held refl $
     fjoin ! $ move ! (1 ∷ []) $ split ! $ drop ! $ fsplit ! $ keep ! (2 ∷ 0 ∷ []) $
     -- [the zone with the right to free it; the allocator]
     enter ! _ _ _ _ _ $ alloc_all ! (λ l. pass_all ! refl ((tt, ((tt, tt), tt)), ((tt, tt), tt)) $
+    sets ! (of_opd ! (get ! refl)) refl (tt, tt) $ sets ! (bin ! (get ! refl) (lit ! tt) (tests_null (block_ptr b o) may)) refl (tt, tt) $
+    first ! $ branches ! (get ! refl) (λ none. absurd none) (λ _. skips ! $ exec ! 𝓣.C 𝓣.Λ (env code.Mir.locals l) code.Mir.t-4 (at_ret (env code.Mir.locals l) (W.post z)) $
     first ! $ blocks ! $ sets ! (of_opd ! (get ! refl)) refl (tt, ((tt, tt), tt)) $ sets ! (of_opd ! (get ! refl)) refl (tt, tt) $ sets ! (of_opd ! (get ! refl)) refl (tt, tt) $
     lft_new ! tt (λ α. lft_new ! tt (λ β.
     let Make = triple_of 𝓛 (make.signature E.row al.row al.g al.d al.drops) (make.spec E.row al.row al.g al.d al.drops 𝓛 𝓜.mem 𝓡.returns) in
-    let y₁ : Make.Ghost = (((α ∷ [], (β ∷ [], tt)), (full_share, (full_share, tt)), tt, (a.0, (block_ptr b o, tt)), (global_val ∷ [], (vptr b o ∷ [], tt))), content) in
+    let y₁ : Make.Ghost = (((α ∷ [], (β ∷ [], tt)), (full_share, (full_share, tt)), tt, (a.0, (block_ptr b o, tt)), (global_val ∷ [], (vptr b o ∷ [], tt))), held) in
     -- [β; α; the zone with the right to free it; the allocator]
     nothing ! $ move ! (1 ∷ 0 ∷ []) $ join ! $ move ! (1 ∷ 0 ∷ []) $ join ! $
     nothing ! $ feq_i ! (List Val) (vptr b o ∷ []) (vptr b o ∷ []) refl $ fjoin ! $ move ! (3 ∷ 0 ∷ []) $ fjoin ! $ move ! (1 ∷ 0 ∷ []) $ join ! $ move ! (1 ∷ []) $
@@ -73,9 +89,9 @@ rumstrait_zone_free_spec {M} 𝓤 𝓛 𝓜 𝓡 wired =
     (glues "rumstrait_c::Destruct++none::drop" 𝓡.env (code.calls-rumstrait_c::Destruct++none::drop 𝓡.env wired) al.row al.laws M 𝓤 𝓛 𝓜 𝓡))
     y₁ (and_then ! (get ! refl) (and_then ! (get ! refl) (no_more !))) (λ u.
     use1 𝓛 (later (some (λ (r : box.D E). ((‵ (flft (α ∷ []) full_share) ⊛ ‵ (flft (β ∷ []) full_share) ⊛ ‵ ftrue) ⊛ ‵ ((box.B E).own_val r (u ∷ []))) ⊛ some (λ (ls : Lasts (make.ended E.row al.row al.g al.d al.drops) y₁.0.0 y₁.0.3).
-    ‵ (lasts (make.ended E.row al.row al.g al.d al.drops) y₁.0.0 y₁.0.3 ls) ⊛ raw (fact 𝓤 (r.value ≡ content)) ⊛ raw (fact 𝓤 (r.alloc ≡ a.0)))))) (id⊢ 𝓤 _) $
+    ‵ (lasts (make.ended E.row al.row al.g al.d al.drops) y₁.0.0 y₁.0.3 ls) ⊛ raw (fact 𝓤 (r.value ≡ held)) ⊛ raw (fact 𝓤 (r.alloc ≡ a.0)))))) (id⊢ 𝓤 _) $
     await ! tt $ pick ! (λ r. split ! $ split ! $ drop ! $ box_form ! r (u ∷ []) (λ b' o' at is. let same : u ≡ box_val b' o' = ap only is in
-    lands_last ! refl (subst BoxGood (sym same) (box_good b' o')) $ exec ! 𝓣.C 𝓣.Λ (env code.Mir.locals l) code.Mir.t-2 (at_ret _ (W.post z)) $
+    lands_last ! refl (subst BoxGood (sym same) (box_good b' o')) $ exec ! 𝓣.C 𝓣.Λ (env code.Mir.locals l) code.Mir.t-5 (at_ret _ (W.post z)) $
     sets ! (is_value ! (of_opd ! (get ! refl)) same) refl (box_good b' o') $
     let G = triple_of 𝓛 g.signature (g.spec 𝓛 𝓜.mem 𝓡.returns) in
     let z' : G.Ghost = ((tt, tt, tt, (r, tt), (box_val b' o' ∷ [], tt)), tt) in
@@ -85,4 +101,4 @@ rumstrait_zone_free_spec {M} 𝓤 𝓛 𝓜 𝓡 wired =
     await ! tt $ pick ! (λ r'. split ! $ split ! $ drop ! $ feq_l ! (λ is_unit. drop ! $ lands_as ! (ap only is_unit) refl (tt, tt) $
     sets ! (of_opd ! (unit_lit !)) refl (tt, tt) $ returns ! (look_at ! 0 refl) $ free_all ! refl $
     nothing ! $ feq_i ! (List Val) (vunit ∷ []) (vunit ∷ []) refl $ nothing ! $ nothing ! $ fjoin ! $ nothing ! $ fjoin ! $ nothing ! $ keep ! (0 ∷ 1 ∷ 2 ∷ 3 ∷ []) $
-    by ! (leaves 𝓛 f.ended stayed c z vunit tt (tt, (tt, tt)) (tt, (tt, tt))))))))))))))
+    by ! (leaves 𝓛 f.ended stayed c z vunit tt (tt, (tt, tt)) (tt, (tt, tt)))))))))))))))

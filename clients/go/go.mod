@@ -1,0 +1,3 @@
+module rumstrait
+
+go 1.19
