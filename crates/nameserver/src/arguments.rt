@@ -300,7 +300,7 @@ fn answering_in(alloc: Global, matches: &ArgMatches<'_>) -> Result<Answering, En
     let is_minimal = matches.get_str("minimal-any") == Some("true");
     match (is_plain, is_minimal) {
         (false, false) => Ok(Answering::Whole(AnyAnswer::AllSets)),
-        (false, true) => Ok(Answering::Whole(AnyAnswer::LeastSet)),
+        (false, true) => Ok(Answering::Whole(AnyAnswer::FirstSet)),
         (true, false) => Ok(Answering::Plain),
         (true, true) => {
             let reason = "a server that answers by each zone alone does not answer ANY";
