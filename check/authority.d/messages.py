@@ -83,6 +83,29 @@ def response(message: bytes) -> tuple:
 
 def ask(port: int, message: bytes) -> tuple:
     """The response of a server on the loopback interface, over TCP, or None."""
+    received = ask_stream(port, message)
+    return received and response(received)
+
+
+def ask_datagram(port: int, message: bytes) -> bytes | None:
+    """The bytes of the response of a server on the loopback interface, over UDP, or None."""
+    with socket.socket(socket.AF_INET, socket.SOCK_DGRAM) as datagrams:
+        datagrams.settimeout(5)
+        datagrams.connect(("127.0.0.1", port))
+        datagrams.send(message)
+        try:
+            return datagrams.recv(65536)
+        except OSError:
+            return None
+
+
+def is_truncated(message: bytes) -> bool:
+    """Whether TC is set."""
+    return bool(message[2] & 2)
+
+
+def ask_stream(port: int, message: bytes) -> bytes | None:
+    """The bytes of the response of a server on the loopback interface, over TCP, or None."""
     try:
         with socket.create_connection(("127.0.0.1", port), timeout=5) as stream:
             stream.sendall(struct.pack("!H", len(message)) + message)
@@ -92,6 +115,6 @@ def ask(port: int, message: bytes) -> tuple:
                 if not more:
                     return None
                 received += more
-            return response(received[2:])
+            return received[2:]
     except OSError:
         return None

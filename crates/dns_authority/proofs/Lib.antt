@@ -1,5 +1,7 @@
 pub mod AdditionalLaws
 pub mod AskedLaws
+pub mod OrderLaws
+pub mod TypesLaws
 pub mod ChainLaws
 pub mod CopyLaws
 pub mod ExistenceLaws

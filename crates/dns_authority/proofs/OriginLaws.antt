@@ -22,7 +22,7 @@ use Rattle.dns_authority.specs.declared.answer.AuthorityAnswer.{AuthorityAnswer}
 use Rattle.dns_authority.specs.declared.additional.HostKind.{HostKind}
 use Rattle.dns_authority.specs.declared.additional.HostKind.TheVariants as kinds
 use Rattle.dns_authority.specs.declared.asked.AnyAnswer.{AnyAnswer}
-use Rattle.dns_authority.specs.declared.asked.AnyAnswer.TheVariants.{AllSets, LeastSet}
+use Rattle.dns_authority.specs.declared.asked.AnyAnswer.TheVariants.{AllSets, FirstSet}
 use Rattle.dns_authority.specs.declared.asked.Asked.{Asked}
 use Rattle.dns_authority.specs.declared.step.Step.{Step}
 use Rattle.dns_authority.specs.declared.step.Step.TheVariants.{End, Links}
@@ -75,7 +75,7 @@ module _ (P : Record → Type 0) (f : Row → Record) (rows : Rows) (labels : Li
 
   of_any : (any : AnyAnswer) → AllByRecursion P (map f (any_rows any rows labels))
   of_any AllSets = of_all any_numbers
-  of_any LeastSet = of_first any_numbers
+  of_any FirstSet = of_first any_numbers
 
   of_asked : (asked : Asked) → AllByRecursion P (map f (asked_rows asked rows labels))
   of_asked asked = by (is_any asked.record_type)

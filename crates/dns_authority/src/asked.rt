@@ -2,27 +2,25 @@
 
 ghost use Rattle.std.specs.Prelude.{◌≡◌, map, IfOk};
 ghost use Rattle.std.specs.List.{flat_map};
-ghost use Rattle.dns_zone.specs.Rows.{rows_of};
+ghost use Rattle.dns_zone.specs.Rows.{rows_at, rows_of};
 ghost use Rattle.dns_zone.specs.Answer.{record_of};
-ghost use Rattle.dns_authority.specs.Asked.{any_numbers, asked_rows, first_filled, is_any, rows_by_number};
+ghost use Rattle.dns_authority.specs.Asked.{any_numbers, asked_rows, filled, first_filled, is_any, rows_by_number};
 
 use crate::copies::{copies, push_copies};
+use dns_codes::laws::type_number_round_trips;
 use dns_names::Name;
 use dns_records::{Record, Sequence};
 use dns_wire::RecordType;
 use dns_zone::Zone;
 use std::alloc::{AllocError, Global};
 
-/// One more than the greatest number of a type that ANY stands for.
-const TYPES_END: u16 = 512;
-
-/// The records that a question for the type ANY is answered with. The types are those with numbers from 1 to 511.
+/// The records that a question for the type ANY is answered with.
 #[derive(Clone, Copy, Debug, PartialEq, Eq)]
 pub enum AnyAnswer {
-    /// Those of all sets of the name (RFC 1034 section 3.7.1).
+    /// Those of all sets of the name, in the order of their types, but SOA first (RFC 1034 section 3.7.1).
     AllSets,
-    /// Those of the set with the least type (RFC 8482 section 4.1).
-    LeastSet,
+    /// Those of the first of these sets (RFC 8482 section 4.1).
+    FirstSet,
 }
 
 /// The type that a question asks for, and how a question for ANY is answered.
@@ -48,7 +46,7 @@ pub(crate) fn asked_records(
     }
     match asked.any {
         AnyAnswer::AllSets => all_sets(alloc, zone, owner, source),
-        AnyAnswer::LeastSet => copies(alloc, owner, least_set(zone, source)),
+        AnyAnswer::FirstSet => copies(alloc, owner, first_set(zone, source)?),
     }
 }
 
@@ -69,24 +67,47 @@ fn all_sets(
     ensures { IfOk result (λ records. records ≡ map (record_of owner.now)
         (flat_map (rows_by_number zone.now.rows source.now.labels) any_numbers)) }
 {
+    let types = types_of(zone, source)?;
+    sets_of_types(alloc, zone, owner, source, types.as_slice())
+}
+
+/// Copies the records of these types of a name, with an owner.
+fn sets_of_types(
+    alloc: Global,
+    zone: &Zone,
+    owner: &Name,
+    source: &Name,
+    types: &[RecordType],
+) -> Result<Sequence<Record>, AllocError>
+    ensures { IfOk result (λ records. records ≡ map (record_of owner.now)
+        (flat_map (rows_at zone.now.rows source.now.labels) types.now)) }
+{
     let mut records = Sequence::new(alloc);
-    for number in 1..TYPES_END {
-        let stored = zone.records_at(source, RecordType::from(number));
+    for record_type in types {
+        let stored = zone.records_at(source, *record_type);
         records = push_copies(alloc, records, owner, stored)?;
     }
     Ok(records)
 }
 
-/// Returns the records of the set of a name with the least type.
-fn least_set<'a>(zone: &'a Zone, source: &Name) -> &'a [Record]
-    ensures { rows_of result.now
-        ≡ first_filled (map (rows_by_number zone.now.rows source.now.labels) any_numbers) }
+/// Returns the records of the first set of a name.
+fn first_set<'a>(zone: &'a Zone, source: &Name) -> Result<&'a [Record], AllocError>
+    ensures { IfOk result (λ stored. rows_of stored.now ≡ first_filled
+        (map (rows_by_number zone.now.rows source.now.labels) any_numbers)) }
 {
-    for number in 1..TYPES_END {
-        let stored = zone.records_at(source, RecordType::from(number));
-        if !stored.is_empty() {
-            return stored;
-        }
+    let types = types_of(zone, source)?;
+    match types.as_slice().first() {
+        Some(record_type) => Ok(zone.records_at(source, *record_type)),
+        None => Ok(&[]),
     }
-    &[]
+}
+
+/// Returns the types of the sets of a name, in the order of the zone.
+fn types_of(zone: &Zone, source: &Name) -> Result<Vec<RecordType>, AllocError>
+    ensures { IfOk result (λ types.
+        map (rows_at zone.now.rows source.now.labels) types.items
+        ≡ filled (map (rows_by_number zone.now.rows source.now.labels) any_numbers)) }
+{
+    type_number_round_trips();
+    zone.types_at(source)
 }

@@ -1,3 +1,4 @@
 pub mod Reply
+pub mod WholeSets
 pub mod Sending
 pub mod Responding

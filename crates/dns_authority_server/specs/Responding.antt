@@ -14,13 +14,24 @@ use Rattle.dns_authority.specs.declared.asked.AnyAnswer.{AnyAnswer}
 use Rattle.dns_authority_server.specs.Reply.{malformed_reply, reply}
 use Rattle.dns_authority_server.specs.Sending.{sent}
 
+-- the reply to the header of a query that bytes begin with: FormErr
+pub record IsFormErr (bytes out : List ℕ) : Type 0 where
+  pub metadata : Metadata
+  pub peeked : peeked_metadata bytes ≡ Some metadata
+  pub asks : metadata.message_type ≡ kinds.Query
+  pub encodes : Encodes 512 (malformed_reply metadata) out
+
+-- What is sent for bytes that are not a request: FormErr if they begin with the header of a query, or else nothing.
+abbrev pub IsSentForOther : List ℕ → Option (List ℕ) → Type 0
+IsSentForOther bytes None = has_query_header bytes ≡ false
+IsSentForOther bytes (Some out) = IsFormErr bytes out
+
 -- The bytes that are sent for bytes with the header of a query: those of the reply to the request that these are, or, if they do
 -- not decode, those of the reply to their header.
 pub data IsSentFor (any : AnyAnswer) (zones : List ZoneContent) (road : Road) (bytes out : List ℕ) : Type 0 where
   replied : (m : Message) → IsRequest bytes m → Encodes (reply_limit road m) (sent (reply_limit road m) (reply any zones m)) out
       → IsSentFor any zones road bytes out
-  malformed : (metadata : Metadata) → peeked_metadata bytes ≡ Some metadata → metadata.message_type ≡ kinds.Query
-      → ((m : Message) → ReadsMessage bytes m → ⊥) → Encodes 512 (malformed_reply metadata) out → IsSentFor any zones road bytes out
+  malformed : ((m : Message) → ReadsMessage bytes m → ⊥) → IsFormErr bytes out → IsSentFor any zones road bytes out
 
 -- Each request has a reply. Only bytes that do not begin with the header of a query have none.
 abbrev pub Responds : AnyAnswer → List ZoneContent → Road → List ℕ → Option (List ℕ) → Type 0

@@ -1,16 +1,21 @@
 //! Messages whose questions and records are borrowed, and their bytes (RFC 1035 section 4.2.1).
 
-ghost use Rattle.std.specs.Prelude.{◌≡◌, ◌≤◌, IfOk, OnOk, Err, option_map};
+ghost use Rattle.std.specs.Prelude.{◌≡◌, ◌≤◌, ◌+◌, IfOk, OnOk, Err, option_map};
 ghost use Rattle.dns_wire.specs.Encoder.{state_of};
-ghost use Rattle.dns_messages.specs.Cut.{cut, front_reach, IsFresh};
+ghost use Rattle.dns_messages.specs.Cut.{front_reach, IsFresh};
+ghost use Rattle.dns_messages.specs.Emit.{header_at};
 ghost use Rattle.dns_messages.specs.Encoding.{Encodes, IsTooLong};
 ghost use Rattle.dns_messages.specs.Message.{truncated};
-ghost use Rattle.dns_authority_server.specs.Sending.{borrowed_message, is_referral, without_additionals, IsWhole};
+ghost use Rattle.dns_authority_server.specs.Sending.{borrowed_message, fitting_count, is_referral, with_fitting, without_additionals, IsWhole};
 
-use dns_messages::{Edns, Metadata, Query, emit_message_parts};
+use crate::whole_sets::set_start;
+use dns_messages::{Edns, Header, Metadata, Query, emit_message_parts};
 use dns_records::Record;
 use dns_wire::{BinEncoder, EncodeError, RecordType};
 use std::alloc::{AllocError, Global};
+
+/// The number of bytes of the OPT record of a reply, which has no options (RFC 6891 section 6.1.2).
+const EDNS_LEN: u16 = 11;
 
 /// A message whose questions, records and OPT record are borrowed.
 #[derive(Clone, Copy)]
@@ -27,18 +32,18 @@ pub(crate) struct ReplyRef<'a> {
 #[derive(Drop)]
 pub(crate) struct Encoded {
     bytes: Vec<u8>,
-    /// Whether some of the message did not fit, or TC was set before.
-    is_cut: bool,
+    /// The header: TC is set if some of the message did not fit, or if it was set before.
+    header: Header,
 }
 
 impl<'a> ReplyRef<'a> {
-    /// Writes the message at the start of an encoder, as much of it as fits, and returns its TC.
-    fn emit(&self, encoder: &mut BinEncoder<'_>) -> Result<bool, EncodeError>
+    /// Writes the message at the start of an encoder, as much of it as fits, and returns its header.
+    fn emit(&self, encoder: &mut BinEncoder<'_>) -> Result<Header, EncodeError>
         requires fresh { IsFresh (state_of encoder.old) }
         ensures encodes { OnOk result (Encodes (state_of encoder.old).limit
             (borrowed_message self.now) (state_of encoder.new).bytes) }
-        ensures cut { IfOk result (λ is_cut. is_cut
-            ≡ (cut (state_of encoder.old).limit (borrowed_message self.now)).metadata.truncation) }
+        ensures header { IfOk result (λ header. header
+            ≡ header_at (state_of encoder.old).limit (borrowed_message self.now)) }
         ensures full { result ≡ Err EncodeError.MaxBufferSizeExceeded
             → IsTooLong (state_of encoder.old).limit (borrowed_message self.now) }
         ensures lender { (state_of encoder.new).lender ≡ (state_of encoder.old).lender }
@@ -57,24 +62,24 @@ impl<'a> ReplyRef<'a> {
             None,
             encoder,
         )?;
-        Ok(header.metadata.truncation)
+        Ok(header)
     }
 
     /// Encodes the message, as much of it as fits `limit` bytes.
     fn to_vec_within(&self, alloc: Global, limit: u16) -> Result<Encoded, EncodeError>
         ensures encodes { IfOk result (λ encoded.
             Encodes limit (borrowed_message self.now) encoded.bytes.items) }
-        ensures cut { IfOk result (λ encoded. encoded.is_cut
-            ≡ (cut limit (borrowed_message self.now)).metadata.truncation) }
+        ensures header { IfOk result (λ encoded. encoded.header
+            ≡ header_at limit (borrowed_message self.now)) }
         ensures full { result ≡ Err EncodeError.MaxBufferSizeExceeded
             → IsTooLong limit (borrowed_message self.now) }
     {
         let mut bytes = Vec::new(alloc);
         let mut encoder = BinEncoder::new(alloc, &mut bytes);
         encoder.set_max_size(limit);
-        let is_cut = self.emit(&mut encoder)?;
+        let header = self.emit(&mut encoder)?;
         encoder.into_bytes();
-        Ok(Encoded { bytes, is_cut })
+        Ok(Encoded { bytes, header })
     }
 
     /// Encodes the message, as much of it as fits `limit` bytes. Its header and its questions fit.
@@ -82,8 +87,8 @@ impl<'a> ReplyRef<'a> {
         requires { front_reach (borrowed_message self.now) ≤ limit }
         ensures encodes { IfOk result (λ encoded.
             Encodes limit (borrowed_message self.now) encoded.bytes.items) }
-        ensures cut { IfOk result (λ encoded. encoded.is_cut
-            ≡ (cut limit (borrowed_message self.now)).metadata.truncation) }
+        ensures header { IfOk result (λ encoded. encoded.header
+            ≡ header_at limit (borrowed_message self.now)) }
     {
         match self.to_vec_within(alloc, limit) {
             Ok(encoded) => Ok(encoded),
@@ -100,7 +105,7 @@ impl<'a> ReplyRef<'a> {
             (option_map (λ bytes. bytes.items) found)) }
     {
         let encoded = self.encode(alloc, limit)?;
-        if encoded.is_cut {
+        if encoded.header.metadata.truncation {
             return Ok(None);
         }
         Ok(Some(encoded.into_bytes()))
@@ -132,6 +137,35 @@ impl<'a> ReplyRef<'a> {
         }
     }
 
+    /// Returns how many of the additional records fit `limit` bytes beside an OPT record.
+    fn fitting_count(&self, alloc: Global, limit: u16) -> Result<usize, AllocError>
+        requires { front_reach (borrowed_message self.now) + 11 ≤ limit }
+        ensures { IfOk result (λ count. count
+            ≡ fitting_count limit (borrowed_message self.now)) }
+    {
+        let bare = ReplyRef {
+            edns: None,
+            ..*self
+        };
+        let encoded = bare.encode(alloc, limit - EDNS_LEN)?;
+        Ok(usize::from(encoded.header.counts.additionals))
+    }
+
+    /// Returns the message with as many sets of its additional records as fit `limit` bytes beside an OPT record.
+    #[tactic(auto, using(crate::proofs::WholeSetsLaws::fitting_few))]
+    pub(crate) fn with_fitting(self, alloc: Global, limit: u16) -> Result<ReplyRef<'a>, AllocError>
+        requires { front_reach (borrowed_message self) + 11 ≤ limit }
+        ensures { IfOk result (λ reply. borrowed_message reply
+            ≡ with_fitting limit (borrowed_message self.entry)) }
+    {
+        let count = self.fitting_count(alloc, limit)?;
+        let end = set_start(self.additionals, count);
+        Ok(ReplyRef {
+            additionals: &self.additionals[..end],
+            ..self
+        })
+    }
+
     /// Returns the message with TC, and without records but the OPT record (RFC 2181 section 9).
     pub(crate) fn truncated(self) -> ReplyRef<'a>
         ensures { borrowed_message result ≡ truncated (borrowed_message self.entry) }
@@ -156,7 +190,7 @@ impl Encoded {
     {
         let Encoded {
             bytes,
-            is_cut: _is_cut,
+            header: _header,
         } = self;
         bytes
     }

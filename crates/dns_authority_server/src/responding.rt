@@ -6,11 +6,11 @@ ghost use Rattle.dns_messages.specs.Header.{peeked_metadata};
 ghost use Rattle.dns_messages.specs.declared.message_type.MessageType.TheVariants as kinds;
 ghost use Rattle.dns_zone.specs.Serving.{has_query_header, reply_limit};
 ghost use Rattle.dns_authority_server.specs.Reply.{answer_to, answer_to_queries, reply};
-ghost use Rattle.dns_authority_server.specs.Responding.{Responds};
+ghost use Rattle.dns_authority_server.specs.Responding.{IsSentForOther, Responds};
 ghost use Rattle.dns_authority_server.specs.Sending.{sent};
 
 use crate::reply::{malformed_bytes, reply_bytes};
-use dns_authority::{Authority, AuthorityAnswer};
+use dns_authority::{AuthorityAnswer, AuthorityView};
 use dns_messages::{Message, MessageType, Metadata, OpCode, Query, ResponseCode};
 use dns_zone::{Road, decode_request};
 use std::alloc::{AllocError, Global};
@@ -21,11 +21,11 @@ use std::alloc::{AllocError, Global};
 /// reply is within the limit of its transport.
 pub fn respond(
     alloc: Global,
-    authority: &Authority,
+    authority: &AuthorityView<'_>,
     request: &[u8],
     road: Road,
 ) -> Result<Option<Vec<u8>>, AllocError>
-    ensures reply { IfOk result (λ found. Responds authority.now.any authority.now.server
+    ensures reply { IfOk result (λ found. Responds authority.now.any authority.now.zones.now
         road request.now (option_map (λ out. out.items) found)) }
     ensures header { has_query_header request.now ≡ false → result ≡ Ok None }
 {
@@ -41,26 +41,39 @@ pub fn respond(
 /// Returns the reply to a request that is decoded.
 pub fn respond_to(
     alloc: Global,
-    authority: &Authority,
+    authority: &AuthorityView<'_>,
     request: &Message,
     road: Road,
 ) -> Result<Vec<u8>, AllocError>
     ensures { IfOk result (λ out. Encodes (reply_limit road request.now)
         (sent (reply_limit road request.now)
-        (reply authority.now.any authority.now.server request.now)) out.items) }
+        (reply authority.now.any authority.now.zones.now request.now)) out.items) }
 {
     let answer = answer_to(alloc, authority, request)?;
     reply_bytes(alloc, request, &answer, road)
 }
 
+/// Returns the reply to bytes that are not a request: `FormErr` for those that begin with the header of a query (RFC 1035 section
+/// 4.1.1). Others have none, which is decided before memory is taken.
+pub fn respond_to_other(alloc: Global, bytes: &[u8]) -> Result<Option<Vec<u8>>, AllocError>
+    ensures reply { IfOk result (λ found. IsSentForOther bytes.now
+        (option_map (λ out. out.items) found)) }
+    ensures decided { has_query_header bytes.now ≡ false → result ≡ Ok None }
+{
+    match query_metadata(bytes) {
+        Some(metadata) => Ok(Some(malformed_bytes(alloc, &metadata)?)),
+        None => Ok(None),
+    }
+}
+
 /// Returns the answer to a request, or its fault: a version of EDNS above 0, or another opcode than that of a query.
 fn answer_to(
     alloc: Global,
-    authority: &Authority,
+    authority: &AuthorityView<'_>,
     request: &Message,
 ) -> Result<AuthorityAnswer, AllocError>
     ensures { IfOk result (λ answer. answer
-        ≡ answer_to authority.now.any authority.now.server request.now) }
+        ≡ answer_to authority.now.any authority.now.zones.now request.now) }
 {
     if request.version() > 0 {
         return Ok(AuthorityAnswer::refusal(alloc, ResponseCode::BADVERS));
@@ -74,16 +87,16 @@ fn answer_to(
 /// Returns the answer to the question of a query, or the fault of a query without one or with several.
 fn answer_to_queries(
     alloc: Global,
-    authority: &Authority,
+    authority: &AuthorityView<'_>,
     queries: &[Query],
 ) -> Result<AuthorityAnswer, AllocError>
     ensures { IfOk result (λ answer. answer
-        ≡ answer_to_queries authority.now.any authority.now.server queries.now) }
+        ≡ answer_to_queries authority.now.any authority.now.zones.now queries.now) }
 {
     let [query] = queries else {
         return Ok(AuthorityAnswer::refusal(alloc, ResponseCode::FormErr));
     };
-    authority.answer(query)
+    authority.answer(alloc, query)
 }
 
 /// Returns the header that bytes begin with, if it is that of a query.

@@ -8,16 +8,20 @@ use Rattle.dns_messages.specs.declared.op_code.OpCode.TheVariants as ops
 use Rattle.dns_messages.specs.declared.query.Query.{Query}
 use Rattle.dns_server.specs.declared.updates.Updates.{Updates}
 use Rattle.dns_server.specs.declared.updates.Updates.TheVariants as may
-use Rattle.dns_server.specs.Server.{IsReplyBy, route, route_by_code, route_by_name, route_to, zones_after, zones_by, zones_with}
+use Rattle.dns_server.specs.Server.{route_by_code, route_by_name, route_to, zones_after, zones_by, zones_with}
 use Rattle.dns_server.specs.Zones.{closest}
 use Rattle.dns_zone.specs.Rows.{ZoneContent}
 use Rattle.dns_zone.specs.Serving.{zone_after, zone_by_op}
+use Rattle.dns_zone_service.specs.Answering.{IsServiceReply}
+use Rattle.dns_zone_service.specs.declared.answering.Answering.{Answering}
 use Rattle.dns_durable.specs.Durable.{Takes, TakesFront}
 use Rattle.dns_durable.specs.Durable.Takes.{no_frame, a_frame}
 use Rattle.dns_durable.specs.Incoming.{AreJudged, IsJudged, IsJudgedIfAny, change_of, changes_in, is_change}
 use Rattle.dns_durable.specs.Reply.{AnswersAll, AnswersOne, IsPlainReply, IsReplyBut, IsReplyOf, is_unstored, makes_change, zones_left}
 use Rattle.dns_durable.specs.Reply.AnswersAll.{no_request, a_request}
 use Rattle.dns_durable.specs.declared.incoming.Admitted.{Admitted}
+use Rattle.dns_durable.specs.declared.incoming.Arrived.{Arrived}
+use Rattle.dns_durable.specs.declared.incoming.Arrived.TheVariants.{Request, Other}
 use Rattle.dns_durable.specs.declared.policy.Admission.{Admission}
 use Rattle.dns_durable.specs.declared.policy.Admission.TheVariants.{Serve, Malformed, NotAuthentic}
 use Rattle.dns_durable.specs.declared.policy.Policy.{Policy}
@@ -74,7 +78,7 @@ left_as false updates zones a by is =
 
 -- a request that is served leaves what it may
 pub served_left : (stored : Bool) (updates : Updates) (zones : List ZoneContent) (a : Admitted) → a.admission ≡ Serve updates → is_unstored stored a ≡ false
-    → zones_after updates zones a.message ≡ zones_left stored zones (Some a)
+    → zones_after updates zones a.message ≡ zones_left stored zones (Request a)
 served_left true updates zones a by is = left_as (makes_change a) updates zones a by refl
 served_left false updates zones a by is = no_change updates zones a.message (subst (λ (x : Admission). is_change x a.message.metadata.op_code ≡ false) by is)
 
@@ -83,21 +87,20 @@ idle_left true zones others is = absurd cc
 idle_left false zones others is = refl
 
 -- a request that is refused leaves the zones unchanged
-pub refused_left : (stored : Bool) (zones : List ZoneContent) (a : Admitted) → makes_change a ≡ false → zones_left stored zones (Some a) ≡ zones
+pub refused_left : (stored : Bool) (zones : List ZoneContent) (a : Admitted) → makes_change a ≡ false → zones_left stored zones (Request a) ≡ zones
 refused_left true zones a is = idle_left (makes_change a) zones (zones_after may.Allowed zones a.message) is
 refused_left false zones a is = refl
 
 -- what is not on the disk changes nothing
-pub unstored_left : (zones : List ZoneContent) (a : Option Admitted) → zones_left false zones a ≡ zones
+pub unstored_left : (zones : List ZoneContent) (a : Arrived) → zones_left false zones a ≡ zones
 unstored_left zones a = refl
 
-pub left_by_one : (policy : Policy) (stored : Bool) (zones mid : List ZoneContent) (a : Option Admitted) (reply : Option (List ℕ)) → AnswersOne policy stored zones mid a reply
+pub left_by_one : (policy : Policy) (stored : Bool) (zones mid : List ZoneContent) (a : Arrived) (reply : Option (List ℕ)) → AnswersOne policy stored zones mid a reply
     → mid ≡ zones_left stored zones a
-left_by_one policy stored zones mid (Some a) (Some out) answers = answers.replied.after_is
-left_by_one policy true zones mid None None answers = answers
-left_by_one policy false zones mid None None answers = answers
-left_by_one policy stored zones mid (Some a) None answers = absurd answers
-left_by_one policy stored zones mid None (Some out) answers = absurd answers
+left_by_one policy stored zones mid (Request a) (Some out) answers = answers.replied.after_is
+left_by_one policy stored zones mid (Request a) None answers = absurd answers
+left_by_one policy true zones mid (Other bytes) found answers = answers.0
+left_by_one policy false zones mid (Other bytes) found answers = answers.0
 
 -- ---- the zones after several requests
 
@@ -109,19 +112,19 @@ takes_change true policy zones mid after a messages judged is takes =
 takes_change false policy zones mid after a messages judged is takes = subst (λ (z : List ZoneContent). Takes z (stream_of messages) after) is takes
 
 -- a request, and then others
-pub takes_one_more : (policy : Policy) (zones mid after : List ZoneContent) (a : Option Admitted) (messages : List (List ℕ)) → IsJudgedIfAny policy a
+pub takes_one_more : (policy : Policy) (zones mid after : List ZoneContent) (a : Arrived) (messages : List (List ℕ)) → IsJudgedIfAny policy a
     → mid ≡ zones_left true zones a → Takes mid (stream_of messages) after → Takes zones (stream_of (change_of a ++ messages)) after
-takes_one_more policy zones mid after (Some a) messages judged is takes = takes_change (makes_change a) policy zones mid after a messages judged is takes
-takes_one_more policy zones mid after None messages judged is takes = subst (λ (z : List ZoneContent). Takes z (stream_of messages) after) is takes
+takes_one_more policy zones mid after (Request a) messages judged is takes = takes_change (makes_change a) policy zones mid after a messages judged is takes
+takes_one_more policy zones mid after (Other bytes) messages judged is takes = subst (λ (z : List ZoneContent). Takes z (stream_of messages) after) is takes
 
-pub answers_take : (policy : Policy) (zones after : List ZoneContent) (admitted : List (Option Admitted)) (replies : List (Option (List ℕ))) → AreJudged policy admitted
+pub answers_take : (policy : Policy) (zones after : List ZoneContent) (admitted : List Arrived) (replies : List (Option (List ℕ))) → AreJudged policy admitted
     → AnswersAll policy true zones admitted replies after → Takes zones (stream_of (changes_in admitted)) after
 answers_take policy zones after admitted replies judged no_request = no_frame
 answers_take policy zones after admitted replies judged (a_request {mid = mid} {a = a} {more = more} {reply = reply} {replies = others} one answers) =
     takes_one_more policy zones mid after a (changes_in more) judged.0 (left_by_one policy true zones mid a reply one)
     (answers_take policy mid after more others judged.1 answers)
 
-pub answers_unstored : (policy : Policy) (zones after : List ZoneContent) (admitted : List (Option Admitted)) (replies : List (Option (List ℕ)))
+pub answers_unstored : (policy : Policy) (zones after : List ZoneContent) (admitted : List Arrived) (replies : List (Option (List ℕ)))
     → AnswersAll policy false zones admitted replies after → after ≡ zones
 answers_unstored policy zones after admitted replies no_request = refl
 answers_unstored policy zones after admitted replies (a_request {mid = mid} {a = a} {more = more} {reply = reply} {replies = others} one answers) =
@@ -143,23 +146,23 @@ front_change true policy zones mid after a messages judged is takes = record {
 }
 front_change false policy zones mid after a messages judged is takes = subst (λ (z : List ZoneContent). TakesFront z (stream_of messages) after) is takes
 
-pub front_one_more : (policy : Policy) (zones mid after : List ZoneContent) (a : Option Admitted) (messages : List (List ℕ)) → IsJudgedIfAny policy a
+pub front_one_more : (policy : Policy) (zones mid after : List ZoneContent) (a : Arrived) (messages : List (List ℕ)) → IsJudgedIfAny policy a
     → mid ≡ zones_left true zones a → TakesFront mid (stream_of messages) after → TakesFront zones (stream_of (change_of a ++ messages)) after
-front_one_more policy zones mid after (Some a) messages judged is takes = front_change (makes_change a) policy zones mid after a messages judged is takes
-front_one_more policy zones mid after None messages judged is takes = subst (λ (z : List ZoneContent). TakesFront z (stream_of messages) after) is takes
+front_one_more policy zones mid after (Request a) messages judged is takes = front_change (makes_change a) policy zones mid after a messages judged is takes
+front_one_more policy zones mid after (Other bytes) messages judged is takes = subst (λ (z : List ZoneContent). TakesFront z (stream_of messages) after) is takes
 
 -- ---- the reply to one request
 
 -- the reply to a request that is served
-pub plain_served : {T E : Type 0} (result : Result T E) (out_of : T → List ℕ) (stored : Bool) (updates : Updates) (zones after : List ZoneContent) (a : Admitted) → a.admission ≡ Serve updates
-    → is_unstored stored a ≡ false → IfOk result (λ x. IsReplyBy zones (route updates zones a.message) a.incoming.terms.now.road a.message (out_of x))
-    → OnOk result (after ≡ zones_after updates zones a.message) → IfOk result (λ x. IsPlainReply stored zones after a (out_of x))
-plain_served (Ok x) out_of stored updates zones after a by un replied left = record {
+pub plain_served : {T E : Type 0} (result : Result T E) (out_of : T → List ℕ) (answering : Answering) (stored : Bool) (updates : Updates) (zones after : List ZoneContent) (a : Admitted) → a.admission ≡ Serve updates
+    → is_unstored stored a ≡ false → IfOk result (λ x. IsServiceReply answering updates zones a.incoming.terms.now.road a.message (out_of x))
+    → OnOk result (after ≡ zones_after updates zones a.message) → IfOk result (λ x. IsPlainReply answering stored zones after a (out_of x))
+plain_served (Ok x) out_of answering stored updates zones after a by un replied left = record {
   after_is = left ∙ served_left stored updates zones a by un;
-  replied = subst (λ (b : Bool). IsReplyBut b a.admission zones a.incoming.terms.now.road a.message (out_of x)) (sym un)
-      (subst (λ (y : Admission). IsReplyOf y zones a.incoming.terms.now.road a.message (out_of x)) (sym by) replied);
+  replied = subst (λ (b : Bool). IsReplyBut b answering a.admission zones a.incoming.terms.now.road a.message (out_of x)) (sym un)
+      (subst (λ (y : Admission). IsReplyOf answering y zones a.incoming.terms.now.road a.message (out_of x)) (sym by) replied);
 }
-plain_served (Err e) out_of stored updates zones after a by un replied left = tt
+plain_served (Err e) out_of answering stored updates zones after a by un replied left = tt
 
 -- what is on the disk, or changes nothing, is not missing there
 pub is_on_disk : (stored : Bool) (a : Admitted) → stored ≡ true → is_unstored stored a ≡ false

@@ -9,23 +9,24 @@ use Rattle.dns_durable.specs.Incoming.{AreAdmitted, AreJudged, IsAdmitted, IsJud
 use Rattle.dns_durable.specs.Incoming.AreAdmitted.{no_request, a_request}
 use Rattle.dns_durable.specs.Reply.{AnswersAll, AnswersOne, zones_left}
 use Rattle.dns_durable.specs.Reply.AnswersAll.{no_request as no_reply, a_request as a_reply}
-use Rattle.dns_durable.specs.declared.incoming.Admitted.{Admitted}
+use Rattle.dns_durable.specs.declared.incoming.Arrived.{Arrived}
+use Rattle.dns_durable.specs.declared.incoming.Arrived.TheVariants.{Request, Other}
 use Rattle.dns_durable.specs.declared.incoming.Incoming.{Incoming}
 use Rattle.dns_durable.specs.declared.policy.Policy.{Policy}
 use Rattle.dns_durable.proofs.AnsweringLaws.{front_one_more, left_by_one, no_front}
 
 -- ---- requests
 
-pub short_if_any : (policy : Policy) (incoming : Incoming) (a : Option Admitted) → IsAdmitted policy incoming a → IsShortIfAny a
-short_if_any policy incoming (Some a) is = is.1.short
-short_if_any policy incoming None is = tt
+pub short_if_any : (policy : Policy) (incoming : Incoming) (a : Arrived) → IsAdmitted policy incoming a → IsShortIfAny a
+short_if_any policy incoming (Request a) is = is.1.short
+short_if_any policy incoming (Other bytes) is = tt
 
 -- requests that are decoded and verified are judged
-judged_if_any : (policy : Policy) (incoming : Incoming) (a : Option Admitted) → IsAdmitted policy incoming a → IsJudgedIfAny policy a
-judged_if_any policy incoming (Some a) is = is.1
-judged_if_any policy incoming None is = tt
+judged_if_any : (policy : Policy) (incoming : Incoming) (a : Arrived) → IsAdmitted policy incoming a → IsJudgedIfAny policy a
+judged_if_any policy incoming (Request a) is = is.1
+judged_if_any policy incoming (Other bytes) is = tt
 
-pub all_judged : (policy : Policy) (requests : List Incoming) (admitted : List (Option Admitted)) → AreAdmitted policy requests admitted → AreJudged policy admitted
+pub all_judged : (policy : Policy) (requests : List Incoming) (admitted : List Arrived) → AreAdmitted policy requests admitted → AreJudged policy admitted
 all_judged policy requests admitted no_request = tt
 all_judged policy requests admitted (a_request {incoming = incoming} {more = more} {a = a} {others = others} is rest) = (judged_if_any policy incoming a is, all_judged policy more others rest)
 
@@ -33,47 +34,47 @@ stream_append : (l m : List (List ℕ)) → stream_of (l ++ m) ≡ stream_of l +
 stream_append [] m = refl
 stream_append (message ∷ l) m = ap (λ (rest : List ℕ). frame message ++ rest) (stream_append l m) ∙ sym (append_assoc (frame message) (stream_of l) (stream_of m))
 
-changes_append : (l : List (Option Admitted)) (a : Option Admitted) → changes_in (l ++ a ∷ []) ≡ changes_in l ++ change_of a
+changes_append : (l : List Arrived) (a : Arrived) → changes_in (l ++ a ∷ []) ≡ changes_in l ++ change_of a
 changes_append [] a = append-nil (change_of a)
 changes_append (b ∷ l) a = ap (λ (rest : List (List ℕ)). change_of b ++ rest) (changes_append l a) ∙ sym (append_assoc (change_of b) (changes_in l) (change_of a))
 
 -- the frames of a batch with one request more
-pub frames_added : (old : List (Option Admitted)) (a : Option Admitted) (frames new : List ℕ) (items : List (Option Admitted)) → frames ≡ stream_of (changes_in old)
+pub frames_added : (old : List Arrived) (a : Arrived) (frames new : List ℕ) (items : List Arrived) → frames ≡ stream_of (changes_in old)
     → items ≡ old ++ a ∷ [] → new ≡ frames ++ stream_of (change_of a) → new ≡ stream_of (changes_in items)
 frames_added old a frames new items are items_are new_is =
     new_is ∙ ap (λ (l : List ℕ). l ++ stream_of (change_of a)) are ∙ sym (stream_append (changes_in old) (change_of a))
-    ∙ sym (ap stream_of (changes_append old a)) ∙ sym (ap (λ (l : List (Option Admitted)). stream_of (changes_in l)) items_are)
+    ∙ sym (ap stream_of (changes_append old a)) ∙ sym (ap (λ (l : List Arrived). stream_of (changes_in l)) items_are)
 
 -- one request more of those that are left
-pub admitted_go_on : (policy : Policy) (xs : List Incoming) (d : Incoming) (old items : List (Option Admitted)) (a : Option Admitted) (all : List Incoming) → 1 ≤ length xs
-    → ((more : List (Option Admitted)) → AreAdmitted policy xs more → AreAdmitted policy all (old ++ more)) → IsAdmitted policy (get_or xs 0 d) a → items ≡ old ++ a ∷ []
-    → (more : List (Option Admitted)) → AreAdmitted policy (take (length xs - 1) (drop 1 xs)) more → AreAdmitted policy all (items ++ more)
+pub admitted_go_on : (policy : Policy) (xs : List Incoming) (d : Incoming) (old items : List Arrived) (a : Arrived) (all : List Incoming) → 1 ≤ length xs
+    → ((more : List Arrived) → AreAdmitted policy xs more → AreAdmitted policy all (old ++ more)) → IsAdmitted policy (get_or xs 0 d) a → items ≡ old ++ a ∷ []
+    → (more : List Arrived) → AreAdmitted policy (take (length xs - 1) (drop 1 xs)) more → AreAdmitted policy all (items ++ more)
 admitted_go_on policy [] d old items a all some completes is items_are more rest = absurd (omega (arith, some))
 admitted_go_on policy (x ∷ xs) d old items a all some completes is items_are more rest =
     let same : take (suc (length xs) - 1) xs ≡ xs = take_all (suc (length xs) - 1) xs (omega arith) in
-    subst (λ (l : List (Option Admitted)). AreAdmitted policy all l) (sym (append_assoc old (a ∷ []) more) ∙ sym (ap (λ (l : List (Option Admitted)). l ++ more) items_are))
+    subst (λ (l : List Arrived). AreAdmitted policy all l) (sym (append_assoc old (a ∷ []) more) ∙ sym (ap (λ (l : List Arrived). l ++ more) items_are))
     (completes (a ∷ more) (a_request is (subst (λ (l : List Incoming). AreAdmitted policy l more) same rest)))
 
 -- no request is left
-pub admitted_end : (policy : Policy) (xs : List Incoming) (items : List (Option Admitted)) (all : List Incoming) → length xs < 1
-    → ((more : List (Option Admitted)) → AreAdmitted policy xs more → AreAdmitted policy all (items ++ more)) → AreAdmitted policy all items
-admitted_end policy [] items all none completes = subst (λ (l : List (Option Admitted)). AreAdmitted policy all l) (append-nil items) (completes [] no_request)
+pub admitted_end : (policy : Policy) (xs : List Incoming) (items : List Arrived) (all : List Incoming) → length xs < 1
+    → ((more : List Arrived) → AreAdmitted policy xs more → AreAdmitted policy all (items ++ more)) → AreAdmitted policy all items
+admitted_end policy [] items all none completes = subst (λ (l : List Arrived). AreAdmitted policy all l) (append-nil items) (completes [] no_request)
 admitted_end policy (x ∷ xs) items all none completes = absurd (omega (arith, none))
 
 -- ---- replies
 
 -- a request of those that are left is judged, and so are the others
-pub first_judged : (policy : Policy) (xs : List (Option Admitted)) (d : Option Admitted) → 1 ≤ length xs → AreJudged policy xs → IsJudgedIfAny policy (get_or xs 0 d)
+pub first_judged : (policy : Policy) (xs : List Arrived) (d : Arrived) → 1 ≤ length xs → AreJudged policy xs → IsJudgedIfAny policy (get_or xs 0 d)
 first_judged policy [] d some judged = absurd (omega (arith, some))
 first_judged policy (x ∷ xs) d some judged = judged.0
 
-pub others_judged : (policy : Policy) (xs : List (Option Admitted)) → 1 ≤ length xs → AreJudged policy xs → AreJudged policy (take (length xs - 1) (drop 1 xs))
+pub others_judged : (policy : Policy) (xs : List Arrived) → 1 ≤ length xs → AreJudged policy xs → AreJudged policy (take (length xs - 1) (drop 1 xs))
 others_judged policy [] some judged = absurd (omega (arith, some))
 others_judged policy (x ∷ xs) some judged =
     let same : take (suc (length xs) - 1) xs ≡ xs = take_all (suc (length xs) - 1) xs (omega arith) in
-    subst (λ (l : List (Option Admitted)). AreJudged policy l) (sym same) judged.1
+    subst (λ (l : List Arrived). AreJudged policy l) (sym same) judged.1
 
-pub replies_go_on : (policy : Policy) (stored : Bool) (xs : List (Option Admitted)) (d : Option Admitted) (start now mid : List ZoneContent) (all : List (Option Admitted))
+pub replies_go_on : (policy : Policy) (stored : Bool) (xs : List Arrived) (d : Arrived) (start now mid : List ZoneContent) (all : List Arrived)
     (old items : List (Option (List ℕ))) (reply : Option (List ℕ)) → 1 ≤ length xs
     → ((more : List (Option (List ℕ))) (end : List ZoneContent) → AnswersAll policy stored now xs more end → AnswersAll policy stored start all (old ++ more) end)
     → AnswersOne policy stored now mid (get_or xs 0 d) reply → items ≡ old ++ reply ∷ []
@@ -84,9 +85,9 @@ replies_go_on policy stored (x ∷ xs) d start now mid all old items reply some 
     let same : take (suc (length xs) - 1) xs ≡ xs = take_all (suc (length xs) - 1) xs (omega arith) in
     subst (λ (l : List (Option (List ℕ))). AnswersAll policy stored start all l end)
     (sym (append_assoc old (reply ∷ []) more) ∙ sym (ap (λ (l : List (Option (List ℕ))). l ++ more) items_are))
-    (completes (reply ∷ more) end (a_reply one (subst (λ (l : List (Option Admitted)). AnswersAll policy stored mid l more end) same rest)))
+    (completes (reply ∷ more) end (a_reply one (subst (λ (l : List Arrived). AnswersAll policy stored mid l more end) same rest)))
 
-pub replies_end : (policy : Policy) (stored : Bool) (xs : List (Option Admitted)) (start now : List ZoneContent) (all : List (Option Admitted)) (items : List (Option (List ℕ))) → length xs < 1
+pub replies_end : (policy : Policy) (stored : Bool) (xs : List Arrived) (start now : List ZoneContent) (all : List Arrived) (items : List (Option (List ℕ))) → length xs < 1
     → ((more : List (Option (List ℕ))) (end : List ZoneContent) → AnswersAll policy stored now xs more end → AnswersAll policy stored start all (items ++ more) end)
     → AnswersAll policy stored start all items now
 replies_end policy stored [] start now all items none completes =
@@ -94,14 +95,14 @@ replies_end policy stored [] start now all items none completes =
 replies_end policy stored (x ∷ xs) start now all items none completes = absurd (omega (arith, none))
 
 -- a front of those that are left is one of all
-pub front_go_on : (policy : Policy) (xs : List (Option Admitted)) (d : Option Admitted) (start now mid end : List ZoneContent) (all : List (Option Admitted)) → 1 ≤ length xs
+pub front_go_on : (policy : Policy) (xs : List Arrived) (d : Arrived) (start now mid end : List ZoneContent) (all : List Arrived) → 1 ≤ length xs
     → ((last : List ZoneContent) → TakesFront now (stream_of (changes_in xs)) last → TakesFront start (stream_of (changes_in all)) last)
     → IsJudgedIfAny policy (get_or xs 0 d) → mid ≡ zones_left true now (get_or xs 0 d)
     → TakesFront mid (stream_of (changes_in (take (length xs - 1) (drop 1 xs)))) end → TakesFront start (stream_of (changes_in all)) end
 front_go_on policy [] d start now mid end all some completes judged left front = absurd (omega (arith, some))
 front_go_on policy (x ∷ xs) d start now mid end all some completes judged left front =
     let same : take (suc (length xs) - 1) xs ≡ xs = take_all (suc (length xs) - 1) xs (omega arith) in
-    completes end (front_one_more policy now mid end x (changes_in xs) judged left (subst (λ (l : List (Option Admitted)). TakesFront mid (stream_of (changes_in l)) end) same front))
+    completes end (front_one_more policy now mid end x (changes_in xs) judged left (subst (λ (l : List Arrived). TakesFront mid (stream_of (changes_in l)) end) same front))
 
 -- the map of replies with one more
 pub mapped_more : {T U : Type 0} (f : T → U) (l : List T) (x : T) (m : List T) → m ≡ l ++ x ∷ [] → map f m ≡ map f l ++ f x ∷ []
@@ -118,7 +119,7 @@ on_error (Ok x) P holds = tt
 on_error (Err e) P holds = holds
 
 -- the zones after a request that failed, or that was the last one, are those after a front of the updates
-pub front_stop : (policy : Policy) (xs : List (Option Admitted)) (d : Option Admitted) (stored : Bool) (start now mid : List ZoneContent) (all : List (Option Admitted)) → stored ≡ true → 1 ≤ length xs
+pub front_stop : (policy : Policy) (xs : List Arrived) (d : Arrived) (stored : Bool) (start now mid : List ZoneContent) (all : List Arrived) → stored ≡ true → 1 ≤ length xs
     → (stored ≡ true → (last : List ZoneContent) → TakesFront now (stream_of (changes_in xs)) last → TakesFront start (stream_of (changes_in all)) last) → AreJudged policy xs
     → (mid ≡ now) ⊎ (mid ≡ zones_left stored now (get_or xs 0 d)) → TakesFront start (stream_of (changes_in all)) mid
 front_stop policy xs d false start now mid all is some completes judged left = absurd cc
@@ -128,7 +129,7 @@ front_stop policy xs d true start now mid all is some completes judged left = �
     (no_front mid (stream_of (changes_in (take (length xs - 1) (drop 1 xs)))))) left
 
 -- an answered request leaves what it may
-pub answered_left : (policy : Policy) (stored : Bool) (b : Bool) (now mid : List ZoneContent) (a : Option Admitted) (reply : Option (List ℕ)) → stored ≡ b → AnswersOne policy stored now mid a reply
+pub answered_left : (policy : Policy) (stored : Bool) (b : Bool) (now mid : List ZoneContent) (a : Arrived) (reply : Option (List ℕ)) → stored ≡ b → AnswersOne policy stored now mid a reply
     → mid ≡ zones_left b now a
 answered_left policy stored b now mid a reply is one = left_by_one policy stored now mid a reply one ∙ ap (λ (x : Bool). zones_left x now a) is
 

@@ -17,7 +17,7 @@ use Rattle.dns_durable.specs.Incoming.{AreAdmitted, changes_in}
 use Rattle.dns_durable.specs.Reply.{AnswersAll}
 use Rattle.dns_durable.specs.Storing.{IsLeft, IsWithOrWithout, entries_of}
 use Rattle.dns_durable.specs.declared.durable_server.Replies.{Replies}
-use Rattle.dns_durable.specs.declared.incoming.Admitted.{Admitted}
+use Rattle.dns_durable.specs.declared.incoming.Arrived.{Arrived}
 use Rattle.dns_durable.specs.declared.incoming.Incoming.{Incoming}
 use Rattle.dns_durable.specs.declared.policy.Policy.{Policy}
 
@@ -97,7 +97,7 @@ pub record Keeps (frames : List ℕ) (outcome : Result Replies AllocError) (old 
   pub idle : old.state ≢ states.Ready → IsLeft frames (is_acknowledged outcome) old new es × (after ≡ zones)
 
 -- the replies to requests that are decoded and verified
-abbrev pub AnswersRequests : Policy → List (Option Admitted) → List ZoneContent → List ZoneContent
+abbrev pub AnswersRequests : Policy → List Arrived → List ZoneContent → List ZoneContent
     → Result Replies AllocError → Type 0
 AnswersRequests policy admitted zones after (Ok r) =
     AnswersAll policy r.is_stored zones admitted
@@ -105,7 +105,7 @@ AnswersRequests policy admitted zones after (Ok r) =
 AnswersRequests policy admitted zones after (Err error) = Unit {0}
 
 -- what requests that are decoded and verified ask of a storage, and what their replies are
-pub record Answers (policy : Policy) (admitted : List (Option Admitted)) (outcome : Result Replies AllocError)
+pub record Answers (policy : Policy) (admitted : List Arrived) (outcome : Result Replies AllocError)
     (old new : Position) (zones after : List ZoneContent) (es : List Event) : Type 0 where
   pub keeps : Keeps (stream_of (changes_in admitted)) outcome old new zones after es
   pub answered : AnswersRequests policy admitted zones after outcome
@@ -121,7 +121,7 @@ pub record IsGivenUp (outcome : Result Replies AllocError) (old new : Position)
 -- requests are decoded and verified, and then answered
 pub record AnswersAdmitted (policy : Policy) (requests : List Incoming) (outcome : Result Replies AllocError) (old new : Position)
     (zones after : List ZoneContent) (es : List Event) : Type 0 where
-  pub admitted : List (Option Admitted)
+  pub admitted : List Arrived
   pub are_admitted : AreAdmitted policy requests admitted
   pub answers : Answers policy admitted outcome old new zones after es
 

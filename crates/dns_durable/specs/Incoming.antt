@@ -10,6 +10,8 @@ use Rattle.dns_tsig.specs.Verify.{verdict_of}
 use Rattle.dns_zone.specs.Request.{DecodesRequest, IsRequest}
 use Rattle.dns_durable.specs.Policy.{admission}
 use Rattle.dns_durable.specs.declared.incoming.Admitted.{Admitted}
+use Rattle.dns_durable.specs.declared.incoming.Arrived.{Arrived}
+use Rattle.dns_durable.specs.declared.incoming.Arrived.TheVariants.{Request, Other}
 use Rattle.dns_durable.specs.declared.incoming.Incoming.{Incoming}
 use Rattle.dns_durable.specs.declared.policy.Admission.{Admission}
 use Rattle.dns_durable.specs.declared.policy.Admission.TheVariants.{Serve, Malformed, NotAuthentic}
@@ -39,37 +41,38 @@ pub record IsJudged (policy : Policy) (a : Admitted) : Type 0 where
   pub admission_is : a.admission ≡ admission policy a.checked.verdict a.message a.incoming.terms.now.local
 
 -- Only bytes that do not decode, responses, and what is too long for a message are no request.
-abbrev pub IsAdmitted : Policy → Incoming → Option Admitted → Type 0
-IsAdmitted policy incoming (Some a) = (a.incoming ≡ incoming) × IsJudged policy a
-IsAdmitted policy incoming None = DecodesRequest incoming.bytes.now None ⊎ (65535 < length incoming.bytes.now)
+abbrev pub IsAdmitted : Policy → Incoming → Arrived → Type 0
+IsAdmitted policy incoming (Request a) = (a.incoming ≡ incoming) × IsJudged policy a
+IsAdmitted policy incoming (Other bytes) =
+    (bytes ≡ incoming) × (DecodesRequest incoming.bytes.now None ⊎ (65535 < length incoming.bytes.now))
 
 -- requests that are decoded and verified, in order
-pub data AreAdmitted (policy : Policy) : List Incoming → List (Option Admitted) → Type 0 where
+pub data AreAdmitted (policy : Policy) : List Incoming → List Arrived → Type 0 where
   no_request : AreAdmitted policy [] []
-  a_request : {incoming : Incoming} {more : List Incoming} {a : Option Admitted} {others : List (Option Admitted)}
+  a_request : {incoming : Incoming} {more : List Incoming} {a : Arrived} {others : List Arrived}
       → IsAdmitted policy incoming a → AreAdmitted policy more others → AreAdmitted policy (incoming ∷ more) (a ∷ others)
 
 -- the message of a request if that is an update which may be made
-abbrev pub change_of : Option Admitted → List (List ℕ)
-change_of (Some a) = if is_change a.admission a.message.metadata.op_code then a.incoming.bytes.now ∷ [] else []
-change_of None = []
+abbrev pub change_of : Arrived → List (List ℕ)
+change_of (Request a) = if is_change a.admission a.message.metadata.op_code then a.incoming.bytes.now ∷ [] else []
+change_of (Other bytes) = []
 
 -- the messages of the updates that may be made, in order
-abbrev pub changes_in : List (Option Admitted) → List (List ℕ)
+abbrev pub changes_in : List Arrived → List (List ℕ)
 changes_in [] = []
 changes_in (a ∷ more) = change_of a ++ changes_in more
 
 -- the message of a request is short enough for a frame
-abbrev pub IsShortIfAny : Option Admitted → Type 0
-IsShortIfAny (Some a) = length a.incoming.bytes.now ≤ 65535
-IsShortIfAny None = Unit {0}
+abbrev pub IsShortIfAny : Arrived → Type 0
+IsShortIfAny (Request a) = length a.incoming.bytes.now ≤ 65535
+IsShortIfAny (Other bytes) = Unit {0}
 
 -- a request, if it is one, is decoded and verified
-abbrev pub IsJudgedIfAny : Policy → Option Admitted → Type 0
-IsJudgedIfAny policy (Some a) = IsJudged policy a
-IsJudgedIfAny policy None = Unit {0}
+abbrev pub IsJudgedIfAny : Policy → Arrived → Type 0
+IsJudgedIfAny policy (Request a) = IsJudged policy a
+IsJudgedIfAny policy (Other bytes) = Unit {0}
 
 -- requests that are decoded and verified
-abbrev pub AreJudged : Policy → List (Option Admitted) → Type 0
+abbrev pub AreJudged : Policy → List Arrived → Type 0
 AreJudged policy [] = Unit {0}
 AreJudged policy (a ∷ more) = IsJudgedIfAny policy a × AreJudged policy more

@@ -4,13 +4,17 @@ use Rattle.dns_messages.specs.declared.message.Message.{Message}
 use Rattle.dns_messages.specs.declared.response_code.ResponseCode.{ResponseCode}
 use Rattle.dns_messages.specs.declared.response_code.ResponseCode.TheVariants as codes
 use Rattle.dns_server.specs.declared.updates.Updates.TheVariants as may
-use Rattle.dns_server.specs.Server.{IsReplyBy, route, zones_after}
+use Rattle.dns_server.specs.Server.{zones_after}
 use Rattle.dns_tsig.specs.Reply.{IsReply}
 use Rattle.dns_zone.specs.declared.road.Road.{Road}
 use Rattle.dns_zone.specs.Request.{IsEncodedReply, reply_without_zone}
 use Rattle.dns_zone.specs.Rows.{ZoneContent}
+use Rattle.dns_zone_service.specs.Answering.{IsReplyToOther, IsServiceReply}
+use Rattle.dns_zone_service.specs.declared.answering.Answering.{Answering}
 use Rattle.dns_durable.specs.Incoming.{is_change}
 use Rattle.dns_durable.specs.declared.incoming.Admitted.{Admitted}
+use Rattle.dns_durable.specs.declared.incoming.Arrived.{Arrived}
+use Rattle.dns_durable.specs.declared.incoming.Arrived.TheVariants.{Request, Other}
 use Rattle.dns_durable.specs.declared.policy.Admission.{Admission}
 use Rattle.dns_durable.specs.declared.policy.Admission.TheVariants.{Serve, Malformed, NotAuthentic}
 use Rattle.dns_durable.specs.declared.policy.Policy.{Policy}
@@ -20,9 +24,9 @@ abbrev pub makes_change : Admitted → Bool
 makes_change a = is_change a.admission a.message.metadata.op_code
 
 -- the zones after a request: only an update that may be made changes them, and only if it is on the disk
-abbrev pub zones_left : Bool → List ZoneContent → Option Admitted → List ZoneContent
-zones_left true zones (Some a) = if makes_change a then zones_after may.Allowed zones a.message else zones
-zones_left true zones None = zones
+abbrev pub zones_left : Bool → List ZoneContent → Arrived → List ZoneContent
+zones_left true zones (Request a) = if makes_change a then zones_after may.Allowed zones a.message else zones
+zones_left true zones (Other bytes) = zones
 zones_left false zones a = zones
 
 -- a reply with a response code and without a zone
@@ -30,15 +34,15 @@ abbrev pub IsBareReply : ResponseCode → Road → Message → List ℕ → Type
 IsBareReply code road m out = IsEncodedReply (reply_without_zone m code) road m out
 
 -- the reply to a request that is served, or refused
-abbrev pub IsReplyOf : Admission → List ZoneContent → Road → Message → List ℕ → Type 0
-IsReplyOf (Serve updates) zones road m out = IsReplyBy zones (route updates zones m) road m out
-IsReplyOf Malformed zones road m out = IsBareReply codes.FormErr road m out
-IsReplyOf NotAuthentic zones road m out = IsBareReply codes.NotAuth road m out
+abbrev pub IsReplyOf : Answering → Admission → List ZoneContent → Road → Message → List ℕ → Type 0
+IsReplyOf answering (Serve updates) zones road m out = IsServiceReply answering updates zones road m out
+IsReplyOf answering Malformed zones road m out = IsBareReply codes.FormErr road m out
+IsReplyOf answering NotAuthentic zones road m out = IsBareReply codes.NotAuth road m out
 
 -- the reply to a request, by whether it is an update that may be made and is not on the disk: ServFail (RFC 2136 section 3.5)
-abbrev pub IsReplyBut : Bool → Admission → List ZoneContent → Road → Message → List ℕ → Type 0
-IsReplyBut true admission zones road m out = IsBareReply codes.ServFail road m out
-IsReplyBut false admission zones road m out = IsReplyOf admission zones road m out
+abbrev pub IsReplyBut : Bool → Answering → Admission → List ZoneContent → Road → Message → List ℕ → Type 0
+IsReplyBut true answering admission zones road m out = IsBareReply codes.ServFail road m out
+IsReplyBut false answering admission zones road m out = IsReplyOf answering admission zones road m out
 
 -- whether a request is an update that may be made, and is not on the disk
 abbrev pub is_unstored : Bool → Admitted → Bool
@@ -46,30 +50,31 @@ is_unstored true a = false
 is_unstored false a = makes_change a
 
 -- the reply to a request, before it is signed, and the zones after it
-pub record IsPlainReply (stored : Bool) (zones after : List ZoneContent) (a : Admitted) (out : List ℕ) : Type 0 where
-  pub after_is : after ≡ zones_left stored zones (Some a)
-  pub replied : IsReplyBut (is_unstored stored a) a.admission zones a.incoming.terms.now.road a.message out
+pub record IsPlainReply (answering : Answering) (stored : Bool) (zones after : List ZoneContent) (a : Admitted)
+    (out : List ℕ) : Type 0 where
+  pub after_is : after ≡ zones_left stored zones (Request a)
+  pub replied : IsReplyBut (is_unstored stored a) answering a.admission zones a.incoming.terms.now.road a.message out
 
 -- the reply to a request, which is signed if the request is
 pub record IsSignedReply (policy : Policy) (stored : Bool) (zones after : List ZoneContent) (a : Admitted)
     (out : List ℕ) : Type 0 where
   pub plain : List ℕ
   pub code : List ℕ
-  pub replied : IsPlainReply stored zones after a plain
+  pub replied : IsPlainReply policy.answering stored zones after a plain
   pub signed : IsReply policy.keys.items a.checked.found a.checked.verdict a.incoming.terms.now.time plain code out
 
--- only what is not a request has no reply
-abbrev pub AnswersOne : Policy → Bool → List ZoneContent → List ZoneContent → Option Admitted → Option (List ℕ) → Type 0
-AnswersOne policy stored zones after (Some a) (Some out) = IsSignedReply policy stored zones after a out
-AnswersOne policy stored zones after None None = after ≡ zones
-AnswersOne policy stored zones after (Some a) None = ⊥
-AnswersOne policy stored zones after None (Some out) = ⊥
+-- each request has a reply; bytes that are not one have none, or FormErr, and change nothing
+abbrev pub AnswersOne : Policy → Bool → List ZoneContent → List ZoneContent → Arrived → Option (List ℕ) → Type 0
+AnswersOne policy stored zones after (Request a) (Some out) = IsSignedReply policy stored zones after a out
+AnswersOne policy stored zones after (Request a) None = ⊥
+AnswersOne policy stored zones after (Other bytes) found =
+    (after ≡ zones) × IsReplyToOther policy.answering bytes.bytes.now found
 
 -- the replies to requests that are answered one after another, by whether their updates are on the disk
 pub data AnswersAll (policy : Policy) (stored : Bool)
-    : List ZoneContent → List (Option Admitted) → List (Option (List ℕ)) → List ZoneContent → Type 0 where
+    : List ZoneContent → List Arrived → List (Option (List ℕ)) → List ZoneContent → Type 0 where
   no_request : {zones : List ZoneContent} → AnswersAll policy stored zones [] [] zones
-  a_request : {zones mid after : List ZoneContent} {a : Option Admitted} {more : List (Option Admitted)}
+  a_request : {zones mid after : List ZoneContent} {a : Arrived} {more : List Arrived}
       {reply : Option (List ℕ)} {replies : List (Option (List ℕ))}
       → AnswersOne policy stored zones mid a reply → AnswersAll policy stored mid more replies after
       → AnswersAll policy stored zones (a ∷ more) (reply ∷ replies) after

@@ -1,21 +1,22 @@
 //! Requests are answered, once their updates are on the disk.
 
-ghost use Rattle.std.specs.Prelude.{◌≡◌, ◌⊎◌, true, false, map, option_map, Some, IfOk, OnErr};
+ghost use Rattle.std.specs.Prelude.{◌≡◌, ◌⊎◌, true, false, map, option_map, IfOk, OnErr};
 ghost use Rattle.dns_frames.specs.Frame.{stream_of};
 ghost use Rattle.dns_messages.specs.Sound.{IsSound};
 ghost use Rattle.dns_durable.specs.Durable.{TakesFront};
 ghost use Rattle.dns_durable.specs.Incoming.{AreJudged, IsJudged, IsJudgedIfAny, changes_in};
 ghost use Rattle.dns_durable.specs.Reply.{AnswersAll, AnswersOne, IsPlainReply, IsSignedReply, zones_left};
 
-use crate::incoming::Admitted;
+use crate::incoming::{Admitted, Arrived};
 use crate::policy::{Admission, Policy};
 use dns_messages::ResponseCode;
 use dns_server::Server;
 use dns_tsig::sign_reply;
 use dns_zone::bare_reply_bytes;
+use dns_zone_service::Answering;
 use std::alloc::{AllocError, Global};
 
-/// Answers requests, in order. If their updates are not on the disk, each of these is answered with `ServFail`, and changes nothing.
+/// Answers what has arrived, in order. If the updates of the requests are not on the disk, each of these is answered with `ServFail`, and changes nothing.
 ///
 /// An error is want of memory. Some of the updates may have been served.
 pub(crate) fn answer_all(
@@ -23,7 +24,7 @@ pub(crate) fn answer_all(
     alloc: Global,
     policy: &Policy,
     is_stored: bool,
-    admitted: &[Option<Admitted<'_>>],
+    admitted: &[Arrived<'_>],
 ) -> Result<Vec<Option<Vec<u8>>>, AllocError>
     requires { AreJudged policy.now admitted.now }
     ensures answered { IfOk result (λ replies. AnswersAll policy.now is_stored server.old
@@ -43,26 +44,29 @@ pub(crate) fn answer_all(
     Ok(replies)
 }
 
-/// Answers a request, if it is one.
+/// Answers a request, or bytes that are not one.
 fn answer(
     server: &mut Server,
     alloc: Global,
     policy: &Policy,
     is_stored: bool,
-    admitted: &Option<Admitted<'_>>,
+    arrived: &Arrived<'_>,
 ) -> Result<Option<Vec<u8>>, AllocError>
-    requires { IsJudgedIfAny policy.now admitted.now }
+    requires { IsJudgedIfAny policy.now arrived.now }
     ensures answered { IfOk result (λ reply. AnswersOne policy.now is_stored server.old server.new
-        admitted.now (option_map (λ out. out.items) reply)) }
+        arrived.now (option_map (λ out. out.items) reply)) }
     ensures failed { OnErr result ((server.new ≡ server.old)
-        ⊎ (server.new ≡ zones_left is_stored server.old admitted.now)) }
+        ⊎ (server.new ≡ zones_left is_stored server.old arrived.now)) }
 {
-    match admitted {
-        Some(admitted) => {
+    match arrived {
+        Arrived::Request(admitted) => {
             let reply = signed_reply(server, alloc, policy, is_stored, admitted)?;
             Ok(Some(reply))
         }
-        None => Ok(None),
+        Arrived::Other(incoming) => {
+            let reply = policy.answering.respond_to_other(alloc, incoming.bytes)?;
+            Ok(reply)
+        }
     }
 }
 
@@ -78,9 +82,9 @@ fn signed_reply(
     ensures replied { IfOk result (λ out. IsSignedReply policy.now is_stored server.old server.new
         admitted.now out.items) }
     ensures failed { OnErr result ((server.new ≡ server.old)
-        ⊎ (server.new ≡ zones_left is_stored server.old (Some admitted.now))) }
+        ⊎ (server.new ≡ zones_left is_stored server.old (Arrived.Request admitted.now))) }
 {
-    let mut reply = plain_reply(server, alloc, is_stored, admitted)?;
+    let mut reply = plain_reply(server, alloc, policy.answering, is_stored, admitted)?;
     match sign_reply(
         alloc,
         policy.keys.as_slice(),
@@ -98,11 +102,12 @@ fn signed_reply(
 fn plain_reply(
     server: &mut Server,
     alloc: Global,
+    answering: Answering,
     is_stored: bool,
     admitted: &Admitted<'_>,
 ) -> Result<Vec<u8>, AllocError>
     requires { IsSound admitted.now.message }
-    ensures replied { IfOk result (λ out. IsPlainReply is_stored server.old server.new
+    ensures replied { IfOk result (λ out. IsPlainReply answering is_stored server.old server.new
         admitted.now out.items) }
     ensures failed { OnErr result (server.new ≡ server.old) }
 {
@@ -112,7 +117,7 @@ fn plain_reply(
         return bare_reply_bytes(alloc, message, ResponseCode::ServFail, road);
     }
     match admitted.admission {
-        Admission::Serve(updates) => server.respond_to(message, road, updates),
+        Admission::Serve(updates) => answering.respond_to(alloc, server, message, road, updates),
         Admission::Malformed => bare_reply_bytes(alloc, message, ResponseCode::FormErr, road),
         Admission::NotAuthentic => bare_reply_bytes(alloc, message, ResponseCode::NotAuth, road),
     }

@@ -18,7 +18,7 @@ use std::alloc::{AllocError, Global};
 /// The replies to requests that arrived together.
 #[derive(Drop)]
 pub struct Replies {
-    /// The replies, in the order of the requests. What is not a request has none.
+    /// The replies, in the order of the requests. What is not a request has none, or one that says so.
     pub replies: Vec<Option<Vec<u8>>>,
     /// Whether the updates of the requests are on the disk, if there are any.
     pub is_stored: bool,

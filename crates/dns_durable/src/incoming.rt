@@ -62,6 +62,15 @@ pub struct Admitted<'a> {
     pub admission: Admission,
 }
 
+/// Bytes that have arrived.
+#[derive(Drop)]
+pub enum Arrived<'a> {
+    /// They are a request.
+    Request(Admitted<'a>),
+    /// They do not decode, are a response, or are too long for a message.
+    Other(Incoming<'a>),
+}
+
 impl Admitted<'_> {
     /// Returns `true` for an update that may be made.
     pub(crate) fn is_change(&self) -> bool
@@ -90,8 +99,8 @@ pub fn is_update(bytes: &[u8]) -> bool
 /// Requests that are decoded and verified, and the frames of the updates that may be made.
 #[derive(Drop)]
 pub(crate) struct Batch<'a> {
-    /// The requests, in order. What is not a request is `None`.
-    pub(crate) admitted: Vec<Option<Admitted<'a>>>,
+    /// What has arrived, in order.
+    pub(crate) admitted: Vec<Arrived<'a>>,
     /// The frames.
     pub(crate) frames: Vec<u8>,
 }
@@ -122,31 +131,34 @@ impl<'a> Batch<'a> {
 }
 
 /// Adds the frame of an update that may be made.
-fn push_change(frames: &mut Vec<u8>, admitted: &Option<Admitted<'_>>) -> Result<(), AllocError>
-    requires { IsShortIfAny admitted.now }
+fn push_change(frames: &mut Vec<u8>, arrived: &Arrived<'_>) -> Result<(), AllocError>
+    requires { IsShortIfAny arrived.now }
     ensures { OnOk result (frames.new.items
-        ≡ frames.old.items ++ stream_of (change_of admitted.now)) }
+        ≡ frames.old.items ++ stream_of (change_of arrived.now)) }
 {
-    match admitted {
-        Some(admitted) if admitted.is_change() => write_frame(frames, admitted.incoming.bytes),
+    match arrived {
+        Arrived::Request(admitted) if admitted.is_change() => write_frame(
+            frames,
+            admitted.incoming.bytes,
+        ),
         _ => Ok(()),
     }
 }
 
-/// Decodes and verifies a request, or returns `None` if the bytes are not one.
+/// Decodes and verifies a request, if the bytes are one.
 fn admit<'a>(
     alloc: Global,
     policy: &Policy,
     incoming: Incoming<'a>,
-) -> Result<Option<Admitted<'a>>, AllocError>
-    ensures { IfOk result (λ admitted. IsAdmitted policy.now incoming.entry admitted) }
+) -> Result<Arrived<'a>, AllocError>
+    ensures { IfOk result (λ arrived. IsAdmitted policy.now incoming.entry arrived) }
 {
     if incoming.bytes.len() > MAX_REQUEST_LEN {
-        return Ok(None);
+        return Ok(Arrived::Other(incoming));
     }
     match decode_request(alloc, incoming.bytes)? {
-        Some(message) => Ok(Some(judge(alloc, policy, incoming, message)?)),
-        None => Ok(None),
+        Some(message) => Ok(Arrived::Request(judge(alloc, policy, incoming, message)?)),
+        None => Ok(Arrived::Other(incoming)),
     }
 }
 

@@ -25,6 +25,6 @@ mod storing;
 pub use durable_server::{DurableServer, Replies};
 pub use error::{CompactError, GrantError, ReplayError};
 pub use grant_text::parse_grant;
-pub use incoming::{Admitted, Incoming, Terms, is_update};
+pub use incoming::{Admitted, Arrived, Incoming, Terms, is_update};
 pub use policy::{Admission, Policy, admission_of};
 pub use replaying::replay;

@@ -7,14 +7,17 @@ use dns_grants::{Grant, permits};
 use dns_messages::Message;
 use dns_server::Updates;
 use dns_tsig::{Key, Verdict};
+use dns_zone_service::Answering;
 
-/// Who may update the zones of a server.
+/// Who may update the zones of a server, and how other requests are answered.
 #[derive(Drop)]
 pub struct Policy {
     /// The keys that are shared with requestors.
     pub keys: Vec<Key>,
     /// What the holders of these keys may change.
     pub grants: Vec<Grant>,
+    /// How requests are answered that are not updates.
+    pub answering: Answering,
 }
 
 /// What is done with a request.

@@ -4,12 +4,14 @@ use Rattle.dns_messages.specs.declared.op_code.OpCode.TheVariants as ops
 use Rattle.dns_messages.specs.declared.message.Message.{Message}
 use Rattle.dns_zone.specs.declared.road.Road.{Road}
 use Rattle.dns_zone.specs.declared.road.Road.TheVariants as roads
-use Rattle.dns_server.specs.Server.{IsReplyBy, route, zones_after}
+use Rattle.dns_server.specs.Server.{zones_after}
 use Rattle.dns_server.specs.declared.updates.Updates.{Updates}
 use Rattle.dns_server.specs.declared.updates.Updates.TheVariants as may
+use Rattle.dns_zone_service.specs.Answering.{IsReplyToOther, IsServiceReply}
+use Rattle.dns_zone_service.specs.declared.answering.Answering.{Answering}
 use Rattle.dns_fault_rules.specs.declared.fault.Transport.{Transport}
 use Rattle.dns_fault_rules.specs.declared.fault.Transport.TheVariants as transports
-use Rattle.dns_faults.specs.Delivery.{Sending}
+use Rattle.dns_faults.specs.Delivery.{Sending, plain_sending}
 use Rattle.dns_faults.specs.Step.{Responds}
 use Rattle.std.specs.Net.Addr.{IsIpv4Mapped, ipv4_octets, ipv6_octets, ipv6_segments, low_octets}
 use Rattle.std.specs.declared.net.ip_addr.IpAddr.{IpAddr}
@@ -27,17 +29,19 @@ formers_after updated f m = option_map (λ f. former_after updated f m) f
 
 -- A request is served by the zone that it is for, and remembered as an update that was applied if it was one.
 pub record Serves (old : ZoneServer) (context : Context) (m : Message) (reply : List ℕ) (new : ZoneServer) : Type 0 where
-  pub replied : IsReplyBy old.server (route context.updates old.server m) context.road m reply
+  pub replied : IsServiceReply old.answering context.updates old.server context.road m reply
   pub zones : new.server ≡ zones_after context.updates old.server m
   pub updated : new.has_updated ≡ is_accepted reply
   pub formers : new.former ≡ formers_after (is_accepted reply) old.former m
+  pub way : new.answering ≡ old.answering
 
 -- A request is served by these zones from before the last update. No update is allowed.
 pub record ServesBy (f : Former) (old : ZoneServer) (context : Context) (m : Message) (reply : List ℕ) (new : ZoneServer) : Type 0 where
-  pub replied : IsReplyBy f.zones (route may.Refused f.zones m) context.road m reply
+  pub replied : IsServiceReply old.answering may.Refused f.zones context.road m reply
   pub zones : new.server ≡ old.server
   pub updated : new.has_updated ≡ false
   pub formers : new.former ≡ Some (record f { zones = zones_after may.Refused f.zones m })
+  pub way : new.answering ≡ old.answering
 
 -- A request is served by the rows from before the last update. An update, and any request if these rows are not kept, is served
 -- by the current ones.
@@ -67,13 +71,30 @@ IsCoverageOf list (V6 a) covered =
     (IsIpv4Mapped (ipv6_segments a) → covered ≡ is_covered list (low_octets a))
     × (¬ (IsIpv4Mapped (ipv6_segments a)) → covered ≡ is_covered list (ipv6_octets a))
 
+-- What is sent for bytes that are not a request, once and at once.
+pub record IsSentForOther (answering : Answering) (bytes : List ℕ) (sent : Sending) : Type 0 where
+  pub replied : IsReplyToOther answering bytes sent.reply
+  pub plainly : sent ≡ plain_sending sent.reply
+
+-- what is sent where there is no reply, by the line of the rule that wants none, if there is one
+abbrev pub IsSentForNone : Answering → List ℕ → Option ℕ → Sending → Sending → Type 0
+IsSentForNone answering bytes (Some line) served sent = sent ≡ served
+IsSentForNone answering bytes None served sent = IsSentForOther answering bytes sent
+
+-- What is sent, given what zones and faults make of a request. Only bytes that are not one have no reply by no rule.
+abbrev pub IsSentIf : Option (List ℕ) → Answering → List ℕ → Option ℕ → Sending → Sending → Type 0
+IsSentIf (Some reply) answering bytes line served sent = sent ≡ served
+IsSentIf None answering bytes line served sent = IsSentForNone answering bytes line served sent
+
 -- What a request leads to: a reply and how it is sent, the line of the rule that made a fault, whether an update was applied,
 -- and the zones and rules after it. Only requestors whose address is covered may update.
 pub record AnswersRequest (old : NameServer) (request : List ℕ) (address : IpAddr) (transport : Transport) (sent : Sending) (line : Option ℕ) (updated : Bool) (new : NameServer) : Type 0 where
   pub covered : Bool
   pub coverage : IsCoverageOf old.updaters address covered
+  pub served : Sending
   pub responds : Responds Serves ServesStale (forgetful old.zones) old.faults request transport
-      (record { road = road_of transport old.limit; updates = updates_of covered }) sent line new.zones new.faults
+      (record { road = road_of transport old.limit; updates = updates_of covered }) served line new.zones new.faults
+  pub sent_is : IsSentIf served.reply old.zones.answering request line served sent
   pub updated_is : updated ≡ new.zones.has_updated
   pub limit_kept : new.limit ≡ old.limit
   pub updaters_kept : new.updaters ≡ old.updaters

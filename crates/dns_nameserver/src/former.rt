@@ -2,14 +2,16 @@
 
 ghost use Rattle.std.specs.Prelude.{◌≡◌, None, IfOk, OnOk, OnErr};
 ghost use Rattle.dns_messages.specs.Sound.{IsSound};
-ghost use Rattle.dns_server.specs.Server.{IsReplyBy, route, zones_after};
+ghost use Rattle.dns_server.specs.Server.{zones_after};
 ghost use Rattle.dns_server.specs.declared.updates.Updates.TheVariants as may;
+ghost use Rattle.dns_zone_service.specs.Answering.{IsServiceReply};
 ghost use Rattle.dns_nameserver.specs.Former.{former_after, is_accepted};
 
 use dns_messages::{Message, Metadata, OpCode, ResponseCode};
 use dns_server::{Server, Updates};
 use dns_zone::Road;
-use std::alloc::AllocError;
+use dns_zone_service::Answering;
+use std::alloc::{AllocError, Global};
 use std::marker::Model;
 
 /// The zones of a server from before the last update that it applied. They follow one update behind.
@@ -53,14 +55,16 @@ impl FormerZones {
     /// Serves a request by the current zones, and follows if it is an update that is applied. An error leaves both unchanged.
     pub fn follow(
         &mut self,
+        alloc: Global,
+        answering: Answering,
         current: &mut Server,
         request: &Message,
         road: Road,
         updates: Updates,
     ) -> Result<Vec<u8>, AllocError>
         requires { IsSound request.now }
-        ensures reply { IfOk result (λ out. IsReplyBy current.old
-            (route updates current.old request.now) road request.now out.items) }
+        ensures reply { IfOk result (λ out.
+            IsServiceReply answering updates current.old road request.now out.items) }
         ensures current { OnOk result (current.new ≡ zones_after updates current.old request.now) }
         ensures former { IfOk result (λ out.
             self.new ≡ former_after (is_accepted out.items) self.old request.now) }
@@ -74,7 +78,7 @@ impl FormerZones {
         }
         self.missing = None;
         let update = request.clone()?;
-        let reply = current.respond_to(request, road, updates)?;
+        let reply = answering.respond_to(alloc, current, request, road, updates)?;
         if is_accepted(reply.as_slice()) {
             self.missing = self.last.take();
             self.last = Some(update);
@@ -83,10 +87,16 @@ impl FormerZones {
     }
 
     /// Serves a request by the zones from before the last update. No update is allowed. An error leaves them unchanged.
-    pub fn serve(&mut self, request: &Message, road: Road) -> Result<Vec<u8>, AllocError>
+    pub fn serve(
+        &mut self,
+        alloc: Global,
+        answering: Answering,
+        request: &Message,
+        road: Road,
+    ) -> Result<Vec<u8>, AllocError>
         requires { IsSound request.now }
-        ensures reply { IfOk result (λ out. IsReplyBy self.old.zones
-            (route may.Refused self.old.zones request.now) road request.now out.items) }
+        ensures reply { IfOk result (λ out.
+            IsServiceReply answering may.Refused self.old.zones road request.now out.items) }
         ensures ok { OnOk result (self.new
             ≡ record self.old { zones = zones_after may.Refused self.old.zones request.now }) }
         ensures err { OnErr result (self.new ≡ self.old) }
@@ -97,7 +107,7 @@ impl FormerZones {
                 .respond_to(update, Road::Stream, Updates::Allowed)?;
         }
         self.missing = None;
-        self.server.respond_to(request, road, Updates::Refused)
+        answering.respond_to(alloc, &mut self.server, request, road, Updates::Refused)
     }
 }
 

@@ -1,14 +1,15 @@
 //! One request to a name server for tests.
 
-ghost use Rattle.std.specs.Prelude.{◌≡◌, IfOk, OnErr};
+ghost use Rattle.std.specs.Prelude.{◌≡◌, None, IfOk, OnErr};
 ghost use Rattle.dns_faults.specs.Delivery.{sending};
-ghost use Rattle.dns_nameserver.specs.NameServer.{AnswersRequest, road_of, updates_of};
+ghost use Rattle.dns_nameserver.specs.NameServer.{AnswersRequest, IsSentIf, road_of, updates_of};
 
 use crate::zone_server::{Context, ZoneServer};
 use dns_fault_rules::{FaultTable, Transport};
 use dns_faults::{Delivery, Outcome, respond};
 use dns_server::{AddressList, Updates};
 use dns_zone::{DatagramLimit, Road};
+use dns_zone_service::Answering;
 use std::alloc::{AllocError, Global};
 use std::net::IpAddr;
 
@@ -37,11 +38,12 @@ pub struct Answered {
 }
 
 impl NameServer {
-    /// Answers a request from an address: by the zone that is closest to its question, as a fault table allows. Updates are
-    /// refused to addresses that are not listed.
+    /// Answers a request from an address by the zones, as a fault table allows. Updates are refused to addresses that are not
+    /// listed.
     ///
     /// An error is want of memory. It leaves the fault table unchanged; an update may have been applied, if memory was refused
     /// for a fault of its reply.
+    #[tactic(auto, using(crate::proofs::UndecidedLaws::uncounted))]
     pub fn answer(
         &mut self,
         alloc: Global,
@@ -57,6 +59,7 @@ impl NameServer {
             road: road_of(transport, self.limit),
             updates: updates_of(self.updaters.contains(address)),
         };
+        let answering = self.zones.answering;
         self.zones.has_updated = false;
         let Outcome { delivery, line } = respond(
             alloc,
@@ -66,12 +69,33 @@ impl NameServer {
             transport,
             context,
         )?;
+        let delivery = finished(alloc, answering, request, line, delivery)?;
         Ok(Answered {
             delivery,
             line,
             has_updated: self.zones.has_updated,
         })
     }
+}
+
+/// Returns what is sent, given what the zones and the faults make of bytes, and the line of the rule that made a fault. Bytes that
+/// are not a request have no reply by no rule.
+fn finished(
+    alloc: Global,
+    answering: Answering,
+    request: &[u8],
+    line: Option<usize>,
+    delivery: Delivery,
+) -> Result<Delivery, AllocError>
+    ensures ok { IfOk result (λ sent. IsSentIf (sending delivery).reply answering request.now line
+        (sending delivery) (sending sent)) }
+    ensures err { OnErr result (line ≡ None) }
+{
+    if line.is_some() || delivery.reply.is_some() {
+        return Ok(delivery);
+    }
+    let reply = answering.respond_to_other(alloc, request)?;
+    Ok(Delivery::plain(reply))
 }
 
 /// Returns whether the requestors of an address may update, given whether the list has it.

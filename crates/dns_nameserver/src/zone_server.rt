@@ -5,7 +5,8 @@ use dns_faults::FaultServer;
 use dns_messages::{Message, OpCode};
 use dns_server::{Server, Updates};
 use dns_zone::Road;
-use std::alloc::AllocError;
+use dns_zone_service::Answering;
+use std::alloc::{AllocError, Global};
 
 /// What decides on the reply to a request, beside its bytes.
 #[derive(Clone, Copy, Debug, PartialEq, Eq)]
@@ -19,6 +20,10 @@ pub struct Context {
 /// A server of zones, which remembers whether its last reply was to an update that it applied.
 #[derive(Drop)]
 pub struct ZoneServer {
+    /// What memory for replies is taken from.
+    pub alloc: Global,
+    /// How requests other than updates are answered.
+    pub answering: Answering,
     /// The zones.
     pub server: Server,
     /// The zones from before the last update, if they are kept.
@@ -43,9 +48,11 @@ impl FaultServer for ZoneServer {
         context: Context,
     ) -> Result<Vec<u8>, AllocError> {
         let Context { road, updates } = context;
+        let (alloc, answering) = (self.alloc, self.answering);
+        let server = &mut self.server;
         let reply = match &mut self.former {
-            Some(former) => former.follow(&mut self.server, request, road, updates)?,
-            None => self.server.respond_to(request, road, updates)?,
+            Some(former) => former.follow(alloc, answering, server, request, road, updates)?,
+            None => answering.respond_to(alloc, server, request, road, updates)?,
         };
         self.has_updated = is_accepted(reply.as_slice());
         Ok(reply)
@@ -62,7 +69,7 @@ impl FaultServer for ZoneServer {
         }
         match &mut self.former {
             Some(former) => {
-                let reply = former.serve(request, context.road)?;
+                let reply = former.serve(self.alloc, self.answering, request, context.road)?;
                 self.has_updated = false;
                 Ok(reply)
             }

@@ -4,10 +4,12 @@ use crate::durable_arguments::{DurableArguments, durable_in, with_durable_option
 use crate::ending::Ending;
 use clap::error::ErrorKind;
 use clap::{Arg, ArgAction, ArgMatches, Command, value_parser};
+use dns_authority::AnyAnswer;
 use dns_names::{AddrPrefix, Name, ParseError};
 use dns_server::{AddressList, parse_prefix};
 use dns_sockets::Until;
 use dns_zone::DatagramLimit;
+use dns_zone_service::Answering;
 use std::alloc::{AllocError, Global};
 use std::net::{Ipv4Addr, SocketAddr, SocketAddrV4};
 use zone_includes::Reach;
@@ -26,6 +28,8 @@ pub(crate) struct Arguments {
     pub(crate) addresses: Vec<SocketAddr>,
     /// The addresses from which updates are taken.
     pub(crate) updaters: AddressList,
+    /// How requests are answered that are not updates.
+    pub(crate) answering: Answering,
     /// The maximum size of datagrams.
     pub(crate) limit: DatagramLimit,
     /// Which files the zone files may include.
@@ -48,6 +52,7 @@ impl Drop for Arguments {
             files,
             addresses,
             updaters,
+            answering: _answering,
             limit: _limit,
             reach: _reach,
             until: _until,
@@ -73,6 +78,7 @@ impl Arguments {
             files,
             addresses,
             updaters,
+            answering: _answering,
             limit: _limit,
             reach: _reach,
             until: _until,
@@ -107,6 +113,7 @@ pub(crate) fn read_arguments(alloc: Global, words: &[&str]) -> Result<Arguments,
 /// Returns what the words stand for.
 fn arguments_of(alloc: Global, matches: &ArgMatches<'_>) -> Result<Arguments, Ending> {
     let limit = limit_in(alloc, matches)?;
+    let answering = answering_in(alloc, matches)?;
     let files = texts_in(alloc, matches, "FILE")?;
     let addresses = addresses_in(alloc, matches)?;
     let updaters = updaters_in(alloc, matches)?;
@@ -116,6 +123,7 @@ fn arguments_of(alloc: Global, matches: &ArgMatches<'_>) -> Result<Arguments, En
         files,
         addresses,
         updaters,
+        answering,
         limit,
         reach: reach_in(matches),
         until: until_in(matches),
@@ -147,6 +155,16 @@ fn command<'a>(alloc: Global) -> Result<Command<'a>, AllocError> {
         .arg(flag(alloc, "include-anywhere", "Let zone files include any file"))?
         .arg(listen_option(alloc))?
         .arg(limit_option(alloc))?
+        .arg(flag(
+            alloc,
+            "plain",
+            "Answer each question by its zone alone: no wildcards, referrals, DNAME records and ANY",
+        ))?
+        .arg(flag(
+            alloc,
+            "minimal-any",
+            "Answer a question for ANY with one record set of the name (RFC 8482)",
+        ))?
         .arg(option(alloc, "faults", "FILE", "The fault table"))?
         .arg(option(
             alloc,
@@ -273,6 +291,21 @@ fn reach_in(matches: &ArgMatches<'_>) -> Reach {
         Reach::Anywhere
     } else {
         Reach::Folder
+    }
+}
+
+/// Returns how requests are answered that are not updates.
+fn answering_in(alloc: Global, matches: &ArgMatches<'_>) -> Result<Answering, Ending> {
+    let is_plain = matches.get_str("plain") == Some("true");
+    let is_minimal = matches.get_str("minimal-any") == Some("true");
+    match (is_plain, is_minimal) {
+        (false, false) => Ok(Answering::Whole(AnyAnswer::AllSets)),
+        (false, true) => Ok(Answering::Whole(AnyAnswer::FirstSet)),
+        (true, false) => Ok(Answering::Plain),
+        (true, true) => {
+            let reason = "a server that answers by each zone alone does not answer ANY";
+            Err(Ending::invalid(alloc, "minimal-any", "true", reason))
+        }
     }
 }
 

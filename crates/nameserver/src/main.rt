@@ -142,6 +142,8 @@ fn zone_server(
         None
     };
     Ok(ZoneServer {
+        alloc: rt.alloc(),
+        answering: arguments.answering,
         server,
         former,
         has_updated: false,

@@ -9,7 +9,7 @@ use dns_keys::{KeyFileError, parse_keys};
 use dns_tsig::Key;
 use std::alloc::Global;
 
-/// Reads the keys and the grants that the arguments name.
+/// Reads the keys and the grants that the arguments name. They say, too, how requests are answered that are not updates.
 pub(crate) fn read_policy(rt: &HostRuntime, arguments: &Arguments) -> Result<Policy, Ending> {
     let keys = read_keys(rt, arguments.durable.keys.as_slice())?;
     let grants = grants_of(
@@ -17,7 +17,11 @@ pub(crate) fn read_policy(rt: &HostRuntime, arguments: &Arguments) -> Result<Pol
         arguments.durable.grants.as_slice(),
         keys.as_slice(),
     )?;
-    Ok(Policy { keys, grants })
+    Ok(Policy {
+        keys,
+        grants,
+        answering: arguments.answering,
+    })
 }
 
 /// Reads key files.

@@ -14,9 +14,9 @@ pub(crate) fn answered(alloc: Global, input: &str) -> Answer {
     answers_with(alloc, input, AnyAnswer::AllSets)
 }
 
-/// `least QUESTION, .. || TEXT || TEXT ..`: the same of a server that answers questions for ANY with one set.
-pub(crate) fn least_answered(alloc: Global, input: &str) -> Answer {
-    answers_with(alloc, input, AnyAnswer::LeastSet)
+/// `first QUESTION, .. || TEXT || TEXT ..`: the same of a server that answers questions for ANY with one set.
+pub(crate) fn first_answered(alloc: Global, input: &str) -> Answer {
+    answers_with(alloc, input, AnyAnswer::FirstSet)
 }
 
 /// The answers of a server that answers questions for ANY in a way.

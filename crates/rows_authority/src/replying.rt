@@ -38,7 +38,7 @@ fn replied(alloc: Global, input: &str) -> Result<Option<Vec<u8>>, RowFault> {
     };
     let request = bytes_of(alloc, digits)?;
     let authority = authority_of(alloc, texts)?;
-    Ok(respond(alloc, &authority, request.as_slice(), road)?)
+    Ok(respond(alloc, &authority.view(), request.as_slice(), road)?)
 }
 
 /// The road that a word means.

@@ -13,7 +13,12 @@ returns-in_ok-respond_to-in-Some-2-clause-reply c =
 
 pub returns-in_ok-malformed_bytes-in-None-clause-reply : goal.returns-in_ok-malformed_bytes-in-None-clause-reply
 returns-in_ok-malformed_bytes-in-None-clause-reply c =
-    malformed c.in-Some.metadata c.in-Some.ensures.some.0 c.in-Some.ensures.some.1
+    malformed
     (undecodable c.args.request.now c.in-Some.metadata c.in-Some.ensures.some.0 c.in-Some.ensures.some.1
     (subst (λ (o : Option Message). DecodesRequest c.args.request.now o) c.in-None.is c.in_ok-message.ensures.request))
-    c.in_ok-malformed_bytes-in-None.ensures
+    (record {
+      metadata = c.in-Some.metadata;
+      peeked = c.in-Some.ensures.some.0;
+      asks = c.in-Some.ensures.some.1;
+      encodes = c.in_ok-malformed_bytes-in-None.ensures;
+    })

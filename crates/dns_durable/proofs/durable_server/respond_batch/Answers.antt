@@ -7,7 +7,7 @@ use Rattle.dns_durable.specs.Durable.{Answers, TakesFront}
 use Rattle.dns_durable.specs.Incoming.{changes_in}
 use Rattle.dns_durable.specs.Reply.{AnswersAll}
 use Rattle.dns_durable.specs.Storing.{Asks}
-use Rattle.dns_durable.specs.declared.incoming.Admitted.{Admitted}
+use Rattle.dns_durable.specs.declared.incoming.Arrived.{Arrived}
 use Rattle.dns_durable.proofs.AnsweringLaws.{answers_take}
 use Rattle.dns_durable.proofs.KeepingLaws.{keeps_answered, keeps_behind, keeps_refused}
 use Rattle.dns_durable.proofs.durable_server.respond_batch.Goals.{then-is_stored, else-is_stored}
@@ -23,7 +23,7 @@ returns-in-Ok g c =
     let policy = c.args.policy.now in
     let frames_are : c.as_slice.result.now ≡ frames = c.as_slice.ensures.value ∙ c.requires.frames in
     let asks = subst (λ (l : List ℕ). Asks l c.store-is_stored.result p q es) frames_are c.store-is_stored.ensures.holds in
-    let answered = subst (λ (l : List (Option Admitted)). AnswersAll policy c.store-is_stored.result c.args.server.now l
+    let answered = subst (λ (l : List Arrived). AnswersAll policy c.store-is_stored.result c.args.server.now l
     (map (λ reply. option_map (λ out. out.items) reply) c.in-Ok.replies.items) after) c.as_slice-2.ensures.value c.in-Ok.ensures.answered in
     record {
       events = es;
@@ -56,7 +56,7 @@ returns-after-is_stored g c =
       | then-is_stored w ↦
           let new = w.suspend.new.journal in
           let given : w.as_slice-then-is_stored.result.now ≡ frames = w.as_slice-then-is_stored.ensures.value ∙ c.requires.frames in
-          let front = subst (λ (l : List (Option Admitted)). TakesFront z (stream_of (changes_in l)) after) c.as_slice-2.ensures.value (c.in-Err.ensures.failed w.if-is_stored.true) in
+          let front = subst (λ (l : List Arrived). TakesFront z (stream_of (changes_in l)) after) c.as_slice-2.ensures.value (c.in-Err.ensures.failed w.if-is_stored.true) in
           subst Goal (sym w.journal-is) (record {
             events = es;
             led = subst (λ (s : g.row.S.Denot). Led g.S.Storage.performs c.args.journal.now.storage es s) (sym w.suspend.ensures.storage) c.store-is_stored.ensures.led;
