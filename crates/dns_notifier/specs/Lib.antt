@@ -1,0 +1,3 @@
+pub mod Notification
+pub mod Response
+pub mod Notifier

@@ -1,0 +1,2 @@
+pub mod SecondaryLaws
+pub mod NotificationLaws

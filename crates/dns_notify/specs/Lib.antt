@@ -1,0 +1,3 @@
+pub mod Retries
+pub mod Secondary
+pub mod Notifications

@@ -1,0 +1,3 @@
+pub mod ZoneRecords
+pub mod Request
+pub mod Reply

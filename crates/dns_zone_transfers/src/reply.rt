@@ -1,0 +1,135 @@
+//! Replies to requests for transfers of zones (RFC 5936 section 2.2).
+
+ghost use Rattle.std.specs.Prelude.{◌≡◌, ◌<◌, true, is_some, map, Some, None, IfOk, option_copied, option_map};
+ghost use Rattle.dns_messages.specs.Header.{code_number, code_of};
+ghost use Rattle.dns_messages.specs.Sound.{IsSound};
+ghost use Rattle.dns_zone_transfers.specs.Reply.{IsReply, IsReplyBy, IsRefusal, Transfers, TransfersOrFails, TransfersTo};
+ghost use Rattle.dns_zone_transfers.specs.Request.{is_transfer, refusal};
+
+use crate::request::{asked_by, is_transfer, refusal, zone_at};
+use crate::zone_records::ZoneRecords;
+use dns_messages::laws::messages_decode_unambiguously;
+use dns_messages::{Message, ResponseCode};
+use dns_transfers::{Transfer, TransferError};
+use dns_zone::{Road, Zone, bare_reply_bytes, decode_request};
+use std::alloc::{AllocError, Global};
+
+/// Returns the messages of the reply to bytes that are a request for a transfer, or `None` for any others.
+pub fn transfer(
+    alloc: Global,
+    zones: &[Zone],
+    bytes: &[u8],
+    road: Road,
+    is_permitted: bool,
+) -> Result<Option<Vec<Vec<u8>>>, AllocError>
+    ensures { IfOk result (λ found. Transfers zones.now road is_permitted bytes.now
+        (option_map (λ messages. map (λ message. message.items) messages.items) found)) }
+{
+    messages_decode_unambiguously();
+    match decode_request(alloc, bytes)? {
+        Some(request) => transfer_to(alloc, zones, &request, road, is_permitted),
+        None => Ok(None),
+    }
+}
+
+/// Returns the messages of the reply to a request if it is for a transfer.
+fn transfer_to(
+    alloc: Global,
+    zones: &[Zone],
+    request: &Message,
+    road: Road,
+    is_permitted: bool,
+) -> Result<Option<Vec<Vec<u8>>>, AllocError>
+    requires { IsSound request.now }
+    ensures { IfOk result (λ found. TransfersTo zones.now road is_permitted request.now
+        (option_map (λ messages. map (λ message. message.items) messages.items) found)) }
+{
+    if !is_transfer(request) {
+        return Ok(None);
+    }
+    let messages = reply_to_transfer(alloc, zones, request, road, is_permitted)?;
+    Ok(Some(messages))
+}
+
+/// Returns the messages of the reply to a request for a transfer. A transfer that is refused, or whose records have no room in
+/// messages, has one message with a response code.
+pub fn reply_to_transfer(
+    alloc: Global,
+    zones: &[Zone],
+    request: &Message,
+    road: Road,
+    is_permitted: bool,
+) -> Result<Vec<Vec<u8>>, AllocError>
+    requires sound { IsSound request.now }
+    requires asks { is_transfer request.now ≡ true }
+    ensures { IfOk result (λ messages. IsReply zones.now road is_permitted request.now
+        (map (λ bytes. bytes.items) messages.items)) }
+{
+    match asked_by(request) {
+        Some(query) => reply_for(alloc, zone_at(zones, query), request, road, is_permitted),
+        None => unreachable!(),
+    }
+}
+
+/// Returns the messages of the reply to a request for a transfer of a zone that was found, or not.
+fn reply_for(
+    alloc: Global,
+    zone: Option<&Zone>,
+    request: &Message,
+    road: Road,
+    is_permitted: bool,
+) -> Result<Vec<Vec<u8>>, AllocError>
+    requires sound { IsSound request.now }
+    requires asks { is_transfer request.now ≡ true }
+    ensures { IfOk result (λ messages. IsReplyBy
+        (refusal road is_permitted (is_some (option_copied zone.entry)))
+        (option_copied zone.entry) road request.now
+        (map (λ bytes. bytes.items) messages.items)) }
+{
+    match refusal(&road, is_permitted, zone.is_some()) {
+        Some(code) => refused(alloc, request, road, code),
+        None => match zone {
+            Some(zone) => transferred(alloc, zone, request, road),
+            None => unreachable!(),
+        },
+    }
+}
+
+/// Returns the messages with the records of a zone, or the one that says that they have no room.
+fn transferred(
+    alloc: Global,
+    zone: &Zone,
+    request: &Message,
+    road: Road,
+) -> Result<Vec<Vec<u8>>, AllocError>
+    requires sound { IsSound request.now }
+    requires asks { is_transfer request.now ≡ true }
+    ensures { IfOk result (λ messages. TransfersOrFails zone.now road request.now
+        (map (λ bytes. bytes.items) messages.items)) }
+{
+    let transfer = Transfer::new(alloc, request, ZoneRecords::new(zone));
+    match transfer.into_messages() {
+        Ok(messages) => Ok(messages),
+        Err(TransferError::TooLong) => refused(alloc, request, road, ResponseCode::ServFail),
+        Err(TransferError::Memory) => Err(AllocError),
+    }
+}
+
+/// Returns the message with a response code and no records.
+fn refused(
+    alloc: Global,
+    request: &Message,
+    road: Road,
+    code: ResponseCode,
+) -> Result<Vec<Vec<u8>>, AllocError>
+    requires sound { IsSound request.now }
+    requires fits { code_number code < 16 }
+    requires named { code_of (code_number code) ≡ code }
+    ensures { IfOk result (λ messages. IsRefusal request.now road code
+        (map (λ bytes. bytes.items) messages.items)) }
+{
+    let bytes = bare_reply_bytes(alloc, request, code, road)?;
+    let mut messages = Vec::new(alloc);
+    messages.push(bytes)?;
+    Ok(messages)
+}
