@@ -1,5 +1,5 @@
 -- Blessed scripts, line by line.
-use Rattle.std.proofs.Common.{◌≡◌, ℕ, ◌+◌, ◌<◌, ◌&&◌, ◌++◌, ◌==◌, Option, length, take, Bool, true, false, List, [], ◌∷◌, drop, flat_map, map, sym, ap, ◌∙◌, refl, subst, eqb-true}
+use Rattle.std.proofs.Common.{◌≡◌, ℕ, ◌+◌, ◌<◌, ◌++◌, ◌==◌, Option, length, take, Bool, true, false, List, [], ◌∷◌, drop, flat_map, map, sym, ap, ◌∙◌, refl, subst, eqb-true}
 use Rattle.std.proofs.lemmas.Bool.{false≢true}
 use Rattle.std.proofs.lemmas.List.{append-nil, append_assoc}
 use Rattle.std.proofs.lemmas.List.Concat.{flat_map-append}
@@ -9,7 +9,7 @@ use Rattle.std.specs.Cmp.Lexicographic.{pointwise}
 use Rattle.std.specs.Io.KnownBytes.{Appends}
 use Rattle.std.specs.Str.{bytes_eq}
 use Rattle.script_expectations.specs.Bless.{blessed, blessed_text, expectation, left_over, line_text}
-use Rattle.script_expectations.specs.Differences.{are_met, events_from, is_met, part}
+use Rattle.script_expectations.specs.Differences.{are_met, events_from}
 use Rattle.script_expectations.specs.Line.{expected_lines, is_event, is_expectation, texts, without_expectations}
 use Rattle.script_expectations.specs.Printed.{event_len, event_lines, later_lines}
 use Rattle.script_expectations.proofs.LineLaws.{first_lines, lines_after, lines_from, text_at}

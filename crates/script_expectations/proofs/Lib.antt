@@ -1,4 +1,5 @@
 pub mod BlessLaws
 pub mod LineLaws
 pub mod PartLaws
+pub mod TextLaws
 pub mod WritingLaws

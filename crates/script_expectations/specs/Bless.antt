@@ -1,5 +1,5 @@
 -- A script whose expectations are what its events printed.
-use Rattle.std.specs.Prelude.{◌++◌, if◌then◌else◌, List, [], ◌∷◌, ℕ, codes, flat_map, map}
+use Rattle.std.specs.Prelude.{◌≡◌, ◌==◌, ◌-◌, ◌++◌, if◌then◌else◌, All, List, [], ◌∷◌, ℕ, codes, false, flat_map, length, map, slice_index}
 use Rattle.script_expectations.specs.Line.{is_event, is_expectation}
 use Rattle.script_expectations.specs.Printed.{event_lines, later_lines}
 
@@ -24,5 +24,11 @@ left_over (line ∷ lines) printed = if is_event line then left_over lines (late
 abbrev pub line_text : List ℕ → List ℕ
 line_text line = line ++ 10 ∷ []
 
+-- a blessed script as a text
 abbrev pub blessed_text : List (List ℕ) → List (List ℕ) → List ℕ
 blessed_text script printed = flat_map line_text (blessed script printed)
+
+-- a line that a text can have: it has no line feed, and no carriage return at its end
+pub record IsPlainLine (line : List ℕ) : Type 0 where
+  pub no_line_feed : All (λ c. (c == 10) ≡ false) line
+  pub no_return : (slice_index line (length line - 1) == 13) ≡ false

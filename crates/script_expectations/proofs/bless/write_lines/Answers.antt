@@ -1,4 +1,4 @@
-use Rattle.std.proofs.Common.{◌≡◌, ◌+◌, ◌∙◌, true, false, arith, drop, sym, take, ap}
+use Rattle.std.proofs.Common.{◌≡◌, ◌∙◌, true, false, arith, drop, sym, take, ap}
 use Rattle.script_expectations.specs.Line.{is_event, is_expectation, texts}
 use Rattle.script_expectations.specs.Printed.{event_len}
 use Rattle.script_expectations.proofs.BlessLaws.{event_is_written, expectation_is_left_out, other_is_written}
