@@ -152,7 +152,6 @@ impl<'a> ReplyRef<'a> {
     }
 
     /// Returns the message with as many sets of its additional records as fit `limit` bytes beside an OPT record.
-    #[tactic(auto, using(crate::proofs::WholeSetsLaws::fitting_few))]
     pub(crate) fn with_fitting(self, alloc: Global, limit: u16) -> Result<ReplyRef<'a>, AllocError>
         requires { front_reach (borrowed_message self) + 11 ≤ limit }
         ensures { IfOk result (λ reply. borrowed_message reply

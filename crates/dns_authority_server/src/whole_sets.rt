@@ -6,7 +6,6 @@ ghost use Rattle.dns_authority_server.specs.WholeSets.{are_one_set, continues_se
 use dns_records::Record;
 
 /// Returns the place of the first record of the set that is at a place, or the place if there is none.
-#[tactic(auto, using(crate::proofs::WholeSetsLaws::start_before, crate::proofs::WholeSetsLaws::start_here))]
 pub(crate) fn set_start(records: &[Record], place: usize) -> usize
     ensures value { result ≡ set_start records.now place }
     ensures within { result ≤ place }
