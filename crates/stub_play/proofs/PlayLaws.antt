@@ -372,6 +372,7 @@ module _ (input : PlayInput) (loaded : Loaded) (is : IsLoaded input loaded) wher
           fresh = history.fresh once (λ kind. refl);
           chain_bound = history.chain_bound once (λ kind. refl) refl;
           whole = history.whole once;
+          steady = history.steady once;
           walked = history.walked once refl;
         }
 

@@ -22,6 +22,7 @@ use Rattle.stub_run.specs.OneHistory.{HasOneHistory}
 use Rattle.stub_run.specs.Run.{InOrder, RunState}
 use Rattle.stub_run.specs.Headline.{AreFresh, HaveChainBounds, WorldContent}
 use Rattle.stub_run.specs.RunOver.{IsReportOver}
+use Rattle.stub_run.specs.Steady.{AreSteady}
 use Rattle.stub_run.specs.Walked.{AreWalked}
 use Rattle.stub_run.specs.Whole.{AreWhole}
 use Rattle.stub_run.specs.World.{IsFirst, IsFirstOver}
@@ -190,9 +191,9 @@ content_of input zone ids hosts = record {
   hosts = hosts;
 }
 
--- The text of the report of a run of these events, with its one history. What it says of plain types is fresh, has the chain bound where
--- no chain of aliases has passed seven links, is of whole sets and of negative answers that stood, and is what walks over the zone come to
--- where nothing was updated and the link met no fault.
+-- The text of the report of a run of these events, with its one history. What it says of plain types is fresh, and has the chain bound
+-- where no chain of aliases has passed seven links. What it says of any type is of whole sets and of negative answers that stood. Where
+-- nothing was updated, these are of the zone as it is, and if the link met no fault either, they are what walks over the zone come to.
 pub record Tells (input : PlayInput) (zone : ZoneContent) (events : List Event) (text : List ℕ) : Type 0 where
   pub hosts : HostsContent
   pub state : RunState
@@ -205,6 +206,7 @@ pub record Tells (input : PlayInput) (zone : ZoneContent) (events : List Event) 
   pub fresh : AreFresh (content_of input zone start.ids hosts) events report.events.items history.occasions
   pub chain_bound : HaveChainBounds (content_of input zone start.ids hosts) events report.events.items history.occasions
   pub whole : AreWhole (content_of input zone start.ids hosts) events report.events.items history.occasions
+  pub steady : AreSteady (content_of input zone start.ids hosts) events report.events.items history.occasions
   pub walked : AreWalked (content_of input zone start.ids hosts) events report.events.items history.occasions
 
 -- of all events of the script
