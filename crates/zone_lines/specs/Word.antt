@@ -5,7 +5,10 @@ use Rattle.std.specs.Str.{IsUtf8, str_eq_ignore_ascii_case}
 use Rattle.dns_data.specs.declared.error.RDataParseError.TheVariants.{MissingToken}
 use Rattle.dns_formats.specs.declared.fault.FormatFault.{FormatFault}
 use Rattle.dns_formats.specs.declared.fault.FormatFault.TheVariants as format
-use Rattle.dns_formats.specs.declared.fault.TokenFault.TheVariants.{NotHex, NotBase64, NotParameters}
+use Rattle.dns_formats.specs.declared.fault.TokenFault.{TokenFault}
+use Rattle.dns_formats.specs.declared.fault.TokenFault.TheVariants.{NotHex, NotBase64, NotParameters, Location}
+use Rattle.dns_location.specs.declared.fault.LocationFault.{LocationFault}
+use Rattle.dns_location.specs.declared.fault.LocationFault.TheVariants.{InvalidLatitude, InvalidLongitude, InvalidAltitude}
 use Rattle.dns_text.specs.Lexer.{Lexeme, Blank, CharData, QuotedString, At, Include, Origin, Ttl, EOL}
 use Rattle.dns_records.specs.Record.{Record}
 use Rattle.dns_zone_file.specs.declared.error.EntryFault.{EntryFault}
@@ -24,14 +27,26 @@ IsTokenText Ttl found = found ≡ Some (codes "$TTL")
 IsTokenText Blank found = found ≡ None
 IsTokenText EOL found = found ≡ None
 
--- Whether a fault of data that is read as bytes stays, whatever tokens follow: not if a token is missing at the end, or digits
--- or parameters of a field that takes all tokens.
+-- Whether the fault of a location stays, whatever tokens follow: not if one of the fields that it must have may be unfinished.
+abbrev pub is_final_location : LocationFault → Bool
+is_final_location InvalidLatitude = false
+is_final_location InvalidLongitude = false
+is_final_location InvalidAltitude = false
+is_final_location other = true
+
+-- Whether the fault of a field stays, whatever tokens follow: not if it takes all tokens, as digits, parameters and locations do.
+abbrev pub is_final_token : TokenFault → Bool
+is_final_token NotHex = false
+is_final_token NotBase64 = false
+is_final_token NotParameters = false
+is_final_token (Location refusal) = is_final_location refusal
+is_final_token other = true
+
+-- Whether a fault of data that is read as bytes stays, whatever tokens follow: not if a token is missing at the end.
 abbrev pub is_final_format : FormatFault → Bool
 is_final_format (format.MissingToken token) = false
 is_final_format format.WrongLength = false
-is_final_format (format.InvalidToken token NotHex) = false
-is_final_format (format.InvalidToken token NotBase64) = false
-is_final_format (format.InvalidToken token NotParameters) = false
+is_final_format (format.InvalidToken token refusal) = is_final_token refusal
 is_final_format other = true
 
 -- Whether a fault stays, whatever tokens follow: not if a token is missing at the end, or if it is not one of the tokens.

@@ -2,11 +2,11 @@
 
 ghost use Rattle.std.specs.Prelude.{◌≡◌, ◌<◌, IfOk, length, map, option_copied};
 ghost use Rattle.dns_text.specs.Token.{lexeme};
-ghost use Rattle.zone_lines.specs.Word.{HasFaultyToken, IsRefused, IsTokenText, is_final, is_final_format, is_start_word, names_start};
+ghost use Rattle.zone_lines.specs.Word.{HasFaultyToken, IsRefused, IsTokenText, is_final, is_final_format, is_final_location, is_final_token, is_start_word, names_start};
 ghost use Rattle.zone_lines.specs.internal.Word.{HasIndexAtFault, IsIndexAtFault, Stands, standing_of};
 
 use dns_data::RDataParseError;
-use dns_formats::{FormatFault, TokenFault};
+use dns_formats::{FormatFault, LocationFault, TokenFault};
 use dns_text::Token;
 use dns_zone_file::{Context, EntryError, EntryFault};
 use std::alloc::{AllocError, Global};
@@ -116,14 +116,33 @@ fn is_final(fault: &EntryFault) -> bool
 fn is_final_format(fault: &FormatFault) -> bool
     ensures { result ≡ is_final_format fault.now }
 {
+    match fault {
+        FormatFault::MissingToken(_) | FormatFault::WrongLength => false,
+        FormatFault::InvalidToken(_, fault) => is_final_token(*fault),
+        _ => true,
+    }
+}
+
+/// Returns `true` if further tokens do not mend a field.
+fn is_final_token(fault: TokenFault) -> bool
+    ensures { result ≡ is_final_token fault }
+{
+    match fault {
+        TokenFault::NotHex | TokenFault::NotBase64 | TokenFault::NotParameters => false,
+        TokenFault::Location(fault) => is_final_location(fault),
+        _ => true,
+    }
+}
+
+/// Returns `true` if further tokens do not mend a location.
+fn is_final_location(fault: LocationFault) -> bool
+    ensures { result ≡ is_final_location fault }
+{
     !matches!(
         fault,
-        FormatFault::MissingToken(_)
-            | FormatFault::WrongLength
-            | FormatFault::InvalidToken(
-                _,
-                TokenFault::NotHex | TokenFault::NotBase64 | TokenFault::NotParameters,
-            )
+        LocationFault::InvalidLatitude
+            | LocationFault::InvalidLongitude
+            | LocationFault::InvalidAltitude
     )
 }
 
