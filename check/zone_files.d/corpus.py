@@ -34,11 +34,20 @@ def unpack(room, packages):
     tree.mkdir()
     for package in packages:
         done = subprocess.run(["apt-get", "source", "-q", *options, package], cwd=tree, capture_output=True, check=False)
-        if done.returncode:
+        if done.returncode and not unpack_original(tree, options, package):
             print(f"skipped: the sources of {package} cannot be had")
     for archive in tree.glob("*.tar.*"):
         archive.unlink()
     return tree
+
+
+def unpack_original(tree, options, package):
+    """Downloads and unpacks the archive that the authors of a package published, without Debian's changes."""
+    words = ["apt-get", "source", "-q", "--tar-only", *options, package]
+    if subprocess.run(words, cwd=tree, capture_output=True, check=False).returncode:
+        return False
+    archives = list(tree.glob(f"{package}_*.orig.tar.*[!c]"))
+    return bool(archives) and all(subprocess.run(["tar", "-xf", it.name], cwd=tree, check=False).returncode == 0 for it in archives)
 
 
 def configured(folder):
