@@ -175,6 +175,8 @@ class Ours:
             return None
         if theirs.unread or unread:
             return Cause("not understood", (theirs.unread + unread)[0][:200], True)
+        if peer.name == Ldns.name and without_ttls(theirs) == without_ttls(found) and all(ttl == 0 for _owner, ttl, _number, _data in extra):
+            return Cause("a $TTL of 0", f"{sorted(missing)[:1]} as {sorted(extra)[:1]}", True)
         if without_ttls(theirs) == without_ttls(found):
             return Cause(OMITTED, f"{sorted(missing)[:1]} as {sorted(extra)[:1]}", omits_ttls(file))
         aliases = {owner for owner, _ttl, number, _data in theirs if number == dns.rdatatype.CNAME}

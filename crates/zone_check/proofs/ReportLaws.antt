@@ -1,18 +1,20 @@
 -- Reports, finding by finding.
-use Rattle.std.proofs.Common.{◌≡◌, ℕ, ◌+◌, ◌<◌, Bool, true, false, cond, List, [], ◌∷◌, ◌++◌, map, length, take, get_or, Option, Some, None, Result, Ok, Err, refl, sym, ap, subst, ◌∙◌, append_assoc, append-nil}
+use Rattle.std.proofs.Common.{◌≡◌, ℕ, ◌+◌, ◌<◌, Bool, true, false, cond, List, [], ◌∷◌, ◌++◌, map, length, take, get_or, Option, Some, None, Result, Ok, Err, refl, sym, ap, ◌∙◌, append_assoc, append-nil}
 use Rattle.std.proofs.lemmas.List.{map-append}
 use Rattle.std.proofs.lemmas.Grind.{take_at_read, flat_map-append}
 use Rattle.std.specs.Option.{option_to_list}
-use Rattle.std.specs.Prelude.{IsOk, ◌↔◌, flat_map}
+use Rattle.std.specs.Prelude.{IsOk, ◌↔◌, codes, flat_map}
 use Rattle.dns_zone.specs.Rows.{ZoneContent}
 use Rattle.dns_zone.specs.declared.zone.ZoneFault.{ZoneFault}
+use Rattle.dns_zone.specs.declared.zone.ZoneFault.TheVariants as fault
 use Rattle.zone_check.specs.Apex.{some_starts}
 use Rattle.zone_check.specs.Fault.{Start, entry_said}
 use Rattle.zone_check.specs.Files.{ShownFiles, file_lines, file_name, finding_in, report_text}
-use Rattle.zone_check.specs.Report.{check_said, entries_said, faults_said, or_file, outcome_said, said_of_warning, said_of_warnings, start_of_check, warnings_said, whole_said, zone_report}
+use Rattle.zone_check.specs.Report.{check_said, entries_said, faults_said, file_said, or_file, outcome_said, said_of_warning, said_of_warnings, start_of_check, warnings_said, whole_said, zone_report}
 use Rattle.zone_check.specs.declared.check.ZoneCheck.{ZoneCheck}
 use Rattle.dns_zone_file.specs.declared.types.Types.{Types}
-use Rattle.zone_findings.specs.Finding.{Said, finding_text, said_by}
+use Rattle.zone_findings.specs.Finding.{Said, finding_text, number_part, said_by, severity_name, word_part}
+use Rattle.zone_findings.specs.Shown.{shown}
 use Rattle.zone_findings.specs.declared.finding.Finding.{Finding}
 use Rattle.zone_findings.specs.declared.format.ReportFormat.{ReportFormat}
 use Rattle.zone_findings.specs.declared.format.ReportFormat.TheVariants.{Text, Json}
@@ -98,10 +100,19 @@ right_empty : {X : Type 0} (xs ys : List X) → xs ++ ys ≡ [] → ys ≡ []
 right_empty [] ys empty = empty
 right_empty (x ∷ xs) ys empty = absurd (let no : ⊥ = cc in no)
 
+cons_empty : {X : Type 0} (x : X) (xs : List X) → x ∷ xs ≡ [] → ⊥
+cons_empty x xs e = cc
+
+-- an object without its end
+abbrev json_front : List ℕ → Said → List ℕ
+json_front file s =
+    codes "{\"file\":\"" ++ shown Json file ++ codes "\",\"line\":" ++ number_part s.line ++ codes ",\"kind\":\""
+    ++ severity_name s.severity ++ codes "\",\"message\":\"" ++ shown Json s.advice.reason ++ word_part Json s.word
+    ++ codes "\",\"hint\":\"" ++ shown Json s.advice.hint
+
 some_text : (format : ReportFormat) (file : List ℕ) (lines : List (List ℕ)) (s : Said) → finding_text format file lines s ≡ [] → ⊥
-some_text Text file lines s empty =
-    let end : 10 ∷ [] ≡ [] = right_empty _ (10 ∷ []) (left_empty _ _ (left_empty _ _ empty)) in let no : ⊥ = cc in no
-some_text Json file lines s empty = let end : 34 ∷ 125 ∷ 10 ∷ [] ≡ [] = right_empty _ (34 ∷ 125 ∷ 10 ∷ []) empty in let no : ⊥ = cc in no
+some_text Text file lines s empty = cons_empty 10 [] (right_empty _ (10 ∷ []) (left_empty _ _ (left_empty _ _ empty)))
+some_text Json file lines s empty = cons_empty 34 (125 ∷ 10 ∷ []) (right_empty (json_front file s) (34 ∷ 125 ∷ 10 ∷ []) empty)
 
 nothing_said : (format : ReportFormat) (files : ShownFiles) (said : List Said) → report_text format files said ≡ [] → said ≡ []
 nothing_said format files [] empty = refl
@@ -115,9 +126,12 @@ or_file_some types refusal (s ∷ said) empty = cc
 whole_some : (types : Types) (refusal : ZoneFault) (entries : List EntryLine) (said : List Said) (b : Bool) → some_starts entries ≡ b
     → whole_said types refusal entries said ≡ [] → ⊥
 whole_some types refusal entries said true is empty =
-    or_file_some types refusal said (sym (ap (λ (b : Bool). cond b (or_file types refusal said) _) is) ∙ empty)
+    or_file_some types refusal said
+    (sym (ap (λ (b : Bool). cond b (or_file types refusal said) (said ++ file_said types fault.NoSoa ∷ [])) is) ∙ empty)
 whole_some types refusal entries said false is empty =
-    let none = right_empty said _ (sym (ap (λ (b : Bool). cond b (or_file types refusal said) _) is) ∙ empty) in let no : ⊥ = cc in no
+    cons_empty (file_said types fault.NoSoa) []
+    (right_empty said (file_said types fault.NoSoa ∷ [])
+    (sym (ap (λ (b : Bool). cond b (or_file types refusal said) (said ++ file_said types fault.NoSoa ∷ [])) is) ∙ empty))
 
 accepted_by : (z : Start) (entries : List EntryLine) (outcome : Result ZoneContent ZoneFault) → (outcome_said z entries outcome ≡ []) ↔ IsOk outcome
 accepted_by z entries (Ok zone) = (λ none. let yes : true ≡ true = refl in yes, λ ok. refl)

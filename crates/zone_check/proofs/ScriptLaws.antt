@@ -7,7 +7,7 @@ use Rattle.std.specs.Str.Iter.{HasSubslice}
 use Rattle.std.specs.Str.Lines.{lines}
 use Rattle.zone_findings.specs.Finding.{Said, Sentences, finding_text, line_text}
 use Rattle.zone_check.specs.Fault.{fault_said}
-use Rattle.zone_check.specs.ScriptReport.{IsLineReport}
+use Rattle.zone_check.specs.ScriptText.{IsLineReport}
 use Rattle.zone_findings.specs.declared.format.ReportFormat.{ReportFormat}
 use Rattle.zone_check.specs.ScriptLine.{IsWordOf}
 

@@ -4,6 +4,6 @@ pub mod Fault
 pub mod Files
 pub mod Report
 pub mod ScriptLine
-pub mod ScriptReport
+pub mod ScriptText
 pub mod Encoding
 pub mod Summary

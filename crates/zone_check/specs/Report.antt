@@ -1,6 +1,6 @@
 -- What is said of a zone file: its faults, and then its warnings, in the order of its lines.
-use Rattle.std.specs.Prelude.{if◌then◌else◌, is_some, ℕ, Bool, true, false, List, [], ◌∷◌, ◌++◌, flat_map, slice_get, Option, Some, None, option_map, option_and_then, Result, Ok, Err}
-use Rattle.std.specs.List.{option_to_list}
+use Rattle.std.specs.Prelude.{if◌then◌else◌, is_some, ℕ, List, [], ◌∷◌, ◌++◌, flat_map, slice_get, Option, Some, None, option_map, option_and_then, Result, Ok, Err}
+use Rattle.std.specs.Option.{option_to_list}
 use Rattle.dns_names.specs.Name.{DomainName}
 use Rattle.dns_names.specs.Print.{text_of_name}
 use Rattle.dns_zone.specs.Rows.{ZoneContent}

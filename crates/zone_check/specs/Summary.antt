@@ -1,5 +1,5 @@
 -- The line about a zone file of which there is nothing to say.
-use Rattle.std.specs.Prelude.{ℕ, Bool, true, false, List, [], ◌∷◌, ◌++◌, codes, count_by, Option, Some, None, Result, Ok, Err}
+use Rattle.std.specs.Prelude.{ℕ, Bool, true, false, List, [], ◌++◌, codes, count_by, Some, None, Result, Ok}
 use Rattle.std.specs.Fmt.{decimal}
 use Rattle.dns_data.specs.declared.rdata.RData.{RData}
 use Rattle.dns_data.specs.declared.rdata.RData.TheVariants as of
@@ -17,7 +17,7 @@ use Rattle.zone_lines.specs.declared.record_line.RecordLine.{RecordLine}
 use Rattle.zone_warnings.specs.declared.kind.Warning.{Warning}
 
 -- whether an entry is a record
-abbrev pub is_record : EntryLine → Bool
+unfoldable pub is_record : EntryLine → Bool
 is_record (entry.Record r) = true
 is_record (entry.Fault f) = false
 
@@ -30,11 +30,18 @@ abbrev pub serial_of : RData → ℕ
 serial_of (of.SOA soa) = soa.serial
 serial_of other = 0
 
+-- `: zone NAME`
+abbrev pub zone_part : DomainName → List ℕ
+zone_part origin = codes ": zone " ++ text_of_name origin
+
+-- `, N records, serial S`
+abbrev pub counts_part : ℕ → ℕ → List ℕ
+counts_part count serial = codes ", " ++ decimal count ++ codes " records, serial " ++ decimal serial ++ codes "\n"
+
 -- `FILE: zone NAME, N records, serial S`
 abbrev pub summary_line : List ℕ → DomainName → ℕ → RecordLine → List ℕ
 summary_line file origin count start =
-    shown Text file ++ codes ": zone " ++ text_of_name origin ++ codes ", " ++ decimal count ++ codes " records, serial "
-    ++ decimal (serial_of start.rdata) ++ codes "\n"
+    shown Text file ++ zone_part origin ++ counts_part count (serial_of start.rdata)
 
 -- the line about a zone without a warning
 abbrev pub summary_of : List ℕ → Result ZoneContent ZoneFault → List EntryLine → List Warning → List ℕ

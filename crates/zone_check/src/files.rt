@@ -9,14 +9,14 @@ use zone_findings::{Finding, ReportFormat};
 
 /// The files of a check, in the order of their texts.
 #[derive(Clone, Copy)]
-pub(crate) struct Files<'a> {
+pub(crate) struct Files<'names, 'name, 'text> {
     /// Their names.
-    pub(crate) names: &'a [&'a str],
+    pub(crate) names: &'names [&'name str],
     /// Their lines.
-    pub(crate) texts: &'a [Vec<&'a str>],
+    pub(crate) texts: &'text [Vec<&'text str>],
 }
 
-impl<'a> Files<'a> {
+impl<'names, 'name, 'text> Files<'names, 'name, 'text> {
     /// Appends what is said of a file to a report.
     pub(crate) fn push(
         self,
@@ -34,7 +34,7 @@ impl<'a> Files<'a> {
     }
 
     /// Returns the name of the file of a text.
-    fn name(self, source: usize) -> &'a str
+    fn name(self, source: usize) -> &'name str
         ensures { result.now ≡ file_name (files_view self.entry) source }
     {
         match self.names.get(source) {
@@ -44,7 +44,7 @@ impl<'a> Files<'a> {
     }
 
     /// Returns the lines of a text.
-    fn lines(self, source: usize) -> &'a [&'a str]
+    fn lines(self, source: usize) -> &'text [&'text str]
         ensures { map (λ line. line.now) result.now ≡ file_lines (files_view self.entry) source }
     {
         match self.texts.get(source) {

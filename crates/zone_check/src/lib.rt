@@ -4,7 +4,7 @@
 //!   `fault`: the faults of entries;
 //! - `report`: the text of a whole check; `files`: the files that it shows; `summary`: the line about a file of which there is
 //!   nothing to say;
-//! - `script_report`: the text of the check of a script; `script_line`: the word at fault in a line of a script;
+//! - `script_text`: the text of the check of a script; `script_line`: the word at fault in a line of a script;
 //! - `encoding`: a file that is not UTF-8; `laws`: theorems.
 #![tactic(auto)]
 
@@ -16,13 +16,13 @@ mod files;
 pub mod laws;
 mod report;
 mod script_line;
-mod script_report;
+mod script_text;
 mod summary;
 
 pub use check::{ZoneCheck, check_zone};
 pub use encoding::encoding_report;
 pub use report::zone_report;
-pub use script_report::{moment_report, script_report};
+pub use script_text::{moment_report, script_report};
 pub use summary::zone_summary;
 pub use zone_findings::ReportFormat;
 pub use zone_lines::ZoneText;

@@ -50,7 +50,7 @@ fn push_findings(
     alloc: Global,
     format: ReportFormat,
     report: &mut String,
-    files: Files<'_>,
+    files: Files<'_, '_, '_>,
     findings: &[Finding<'_>],
 ) -> Result<(), AllocError>
     ensures { OnOk result (string_bytes report.new ≡ string_bytes report.old
@@ -108,7 +108,7 @@ fn with_whole<'a>(
     entries: &[EntryLine],
 ) -> Result<Vec<Finding<'a>>, AllocError>
     ensures { IfOk result (λ all. map said_by all.items
-        ≡ whole_said start.entry.now.types fault.now entries.now (map said_by found.items)) }
+        ≡ whole_said start.entry.now.types fault.now entries.now (map said_by found.entry.items)) }
 {
     let mut found = found;
     if !some_starts(entries) {
@@ -131,7 +131,7 @@ fn push_warnings(
     alloc: Global,
     format: ReportFormat,
     report: &mut String,
-    files: Files<'_>,
+    files: Files<'_, '_, '_>,
     start: &ZoneStart<'_>,
     check: &ZoneCheck,
 ) -> Result<(), AllocError>
@@ -151,7 +151,7 @@ fn push_warning(
     alloc: Global,
     format: ReportFormat,
     report: &mut String,
-    files: Files<'_>,
+    files: Files<'_, '_, '_>,
     start: &ZoneStart<'_>,
     entries: &[EntryLine],
     warning: Warning,
@@ -171,7 +171,7 @@ fn push_entry_warning(
     alloc: Global,
     format: ReportFormat,
     report: &mut String,
-    files: Files<'_>,
+    files: Files<'_, '_, '_>,
     start: &ZoneStart<'_>,
     entry: &EntryLine,
     warning: Warning,
@@ -203,7 +203,7 @@ fn push_named_warning(
     alloc: Global,
     format: ReportFormat,
     report: &mut String,
-    files: Files<'_>,
+    files: Files<'_, '_, '_>,
     name: Option<&Name>,
     warning: Warning,
 ) -> Result<(), AllocError>

@@ -1,7 +1,7 @@
 //! The line about a zone file of which there is nothing to say.
 
 ghost use Rattle.std.specs.Prelude.{◌≡◌, ◌++◌, IfOk, OnOk, string_bytes};
-ghost use Rattle.zone_check.specs.Summary.{count_records, is_record, serial_of, summary_line, zone_summary};
+ghost use Rattle.zone_check.specs.Summary.{count_records, counts_part, is_record, serial_of, summary_line, zone_part, zone_summary};
 
 use crate::apex::first_start;
 use crate::check::ZoneCheck;
@@ -39,9 +39,29 @@ fn push_summary(
         ++ summary_line file.now origin.now count start.now) }
 {
     push_shown(alloc, ReportFormat::Text, line, file)?;
+    push_zone(line, origin)?;
+    push_counts(alloc, line, count, serial_of(&start.rdata))
+}
+
+/// Appends the name of the zone.
+fn push_zone(line: &mut String, origin: &Name) -> Result<(), AllocError>
+    ensures { OnOk result (string_bytes line.new ≡ string_bytes line.old ++ zone_part origin.now) }
+{
+    let name = origin.to_ascii()?;
     line.push_str(": zone ")?;
-    line.push_str(origin.to_ascii()?.as_str())?;
-    let serial = serial_of(&start.rdata);
+    line.push_str(name.as_str())
+}
+
+/// Appends the number of its records and its serial number.
+fn push_counts(
+    alloc: Global,
+    line: &mut String,
+    count: usize,
+    serial: u32,
+) -> Result<(), AllocError>
+    ensures { OnOk result (string_bytes line.new ≡ string_bytes line.old
+        ++ counts_part count serial) }
+{
     line.push_str(format!(in alloc; ", {count} records, serial {serial}\n")?.as_str())
 }
 
@@ -63,6 +83,7 @@ fn count_records(entries: &[EntryLine]) -> usize
 }
 
 /// Returns `true` if an entry is a record.
+#[tactic(auto, unfolding(crate::specs::Summary::is_record))]
 fn is_record(entry: &EntryLine) -> bool
     ensures { result ≡ is_record entry.now }
 {

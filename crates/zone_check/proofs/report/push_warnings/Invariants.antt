@@ -1,4 +1,4 @@
-use Rattle.std.proofs.Common.{◌≡◌, ◌++◌, map, take, string_bytes}
+use Rattle.std.proofs.Common.{◌≡◌, ◌++◌, take, string_bytes}
 use Rattle.zone_check.specs.Fault.{start_view}
 use Rattle.zone_check.specs.Report.{said_of_warnings}
 use Rattle.zone_check.specs.Files.{files_view, report_text}

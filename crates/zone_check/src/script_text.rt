@@ -3,7 +3,7 @@
 ghost use Rattle.std.specs.Prelude.{◌≡◌, IfOk, IfSome, option_copied, string_bytes};
 ghost use Rattle.std.specs.Str.Lines.{lines};
 ghost use Rattle.zone_check.specs.ScriptLine.{IsWordOf};
-ghost use Rattle.zone_check.specs.ScriptReport.{IsLineReport, moment_said};
+ghost use Rattle.zone_check.specs.ScriptText.{IsLineReport, moment_said};
 ghost use Rattle.zone_findings.specs.Finding.{finding_text};
 
 use crate::fault::{begins_with_mark, finding_on, mark_text};

@@ -1,7 +1,7 @@
 use Rattle.std.proofs.Common.{List, ℕ, Bor, map, ap, ◌∙◌}
 use Rattle.zone_findings.specs.Finding.{sentences}
 use Rattle.zone_check.proofs.ScriptLaws.{line_reported}
-use Rattle.zone_check.proofs.script_report.script_report.Goals as goal
+use Rattle.zone_check.proofs.script_text.script_report.Goals as goal
 
 pub returns : goal.returns
 returns c =
