@@ -6,7 +6,7 @@ use std::fs::File;
 use std::io::Read;
 use std::os::unix::fs::PermissionsExt;
 use std::{fs, io};
-use zone_check::encoding_report;
+use zone_check::{ReportFormat, encoding_report};
 
 /// Reads a file.
 pub(crate) fn read_file(rt: &HostRuntime, path: &str) -> Result<Vec<u8>, Ending> {
@@ -63,7 +63,7 @@ fn is_exposed(mode: u32) -> bool {
 
 /// Returns the text of a file, or where it is not UTF-8.
 pub(crate) fn text_of(alloc: Global, path: &str, bytes: Vec<u8>) -> Result<String, Ending> {
-    let report = encoding_report(alloc, path, bytes.as_slice())?;
+    let report = encoding_report(alloc, ReportFormat::Text, path, bytes.as_slice())?;
     match String::from_utf8(bytes) {
         Ok(text) => Ok(text),
         Err(_) => Err(Ending::Refused(report)),

@@ -13,7 +13,7 @@ use std::alloc::{AllocError, Global};
 use std::fmt::{self, Write};
 use std::io;
 use std::time::Instant;
-use zone_check::{check_zone, zone_report};
+use zone_check::{ReportFormat, ZoneText, check_zone, zone_report};
 
 /// Reads the zone files, and returns a server of their zones. Standard error has a line for each.
 pub(crate) fn read_zones(rt: &HostRuntime, arguments: &Arguments) -> Result<Server, Ending> {
@@ -99,28 +99,30 @@ pub(crate) fn zone_of(
         Ok(zone) => Ok(zone),
         // Memory was refused while the zone was read.
         Err(ZoneFault::Memory) => Err(Ending::Memory),
-        Err(fault) => Err(Ending::Refused(refusal(rt.alloc(), path, text, origin, &fault)?)),
+        Err(_) => Err(Ending::Refused(refusal(rt.alloc(), path, text, includes, origin)?)),
     }
 }
 
-/// Returns what is said of a fault: as `zonecheck` explains it, if that finds the same one, or else the fault alone.
+/// Returns what is wrong in a zone file, as `zonecheck` explains it. Included files have the names that `$INCLUDE` states.
 fn refusal(
     alloc: Global,
     path: &str,
     text: &str,
+    includes: &[(String, String)],
     origin: Option<&Name>,
-    fault: &ZoneFault,
 ) -> Result<String, AllocError> {
-    let said = format!(in alloc; "{fault}")?;
-    let check = check_zone(alloc, text, origin)?;
-    let found = match &check.outcome {
-        Ok(_) => String::new(alloc),
-        Err(other) => format!(in alloc; "{other}")?,
+    let file = ZoneText {
+        text,
+        includes,
+        types: Types::All,
     };
-    if said == found {
-        return zone_report(alloc, path, text, origin, &check);
+    let mut names = Vec::new(alloc);
+    names.push(path)?;
+    for (name, _) in includes {
+        names.push(name.as_str())?;
     }
-    Ok(format!(in alloc; "{path}: {said}\n")?)
+    let check = check_zone(alloc, &file, origin, None)?;
+    zone_report(alloc, ReportFormat::Text, names.as_slice(), &file, &check)
 }
 
 /// Counts the lines that are written to it.

@@ -1,4 +1,3 @@
 pub mod EncodingLaws
 pub mod ReportLaws
-pub mod ResultLaws
 pub mod ScriptLaws

@@ -1,148 +1,176 @@
 -- Reports, finding by finding.
-use Rattle.std.proofs.Common.{◌≡◌, ℕ, ◌+◌, ◌<◌, List, [], ◌∷◌, ◌++◌, map, length, take, get_or, Option, None, Result, Ok, Err, true, false, refl, rules, sym, ap, subst, ◌∙◌, append_assoc, append-nil}
+use Rattle.std.proofs.Common.{◌≡◌, ℕ, ◌+◌, ◌<◌, Bool, true, false, cond, List, [], ◌∷◌, ◌++◌, map, length, take, get_or, Option, Some, None, Result, Ok, Err, refl, sym, ap, ◌∙◌, append_assoc, append-nil}
 use Rattle.std.proofs.lemmas.List.{map-append}
 use Rattle.std.proofs.lemmas.Grind.{take_at_read, flat_map-append}
-use Rattle.std.specs.Prelude.{IsOk, ◌↔◌}
-use Rattle.std.specs.Str.Lines.{lines}
-use Rattle.dns_names.specs.Name.{DomainName}
+use Rattle.std.specs.Option.{option_to_list}
+use Rattle.std.specs.Prelude.{IsOk, ◌↔◌, codes, flat_map}
 use Rattle.dns_zone.specs.Rows.{ZoneContent}
 use Rattle.dns_zone.specs.declared.zone.ZoneFault.{ZoneFault}
-use Rattle.zone_check.specs.Culprit.{line_of_fault}
-use Rattle.zone_check.specs.FaultText.{advice_on}
-use Rattle.zone_check.specs.Finding.{Said, finding_text, line_part, report_text}
-use Rattle.zone_check.specs.MissingDot.{soa_without_dot}
-use Rattle.zone_check.specs.Report.{AppendsOutcome, IsZoneReport, SaysFault, SaysOnLine, SaysOutcome, doubled_if_zone, fault_said, of_file}
+use Rattle.dns_zone.specs.declared.zone.ZoneFault.TheVariants as fault
+use Rattle.zone_check.specs.Apex.{some_starts}
+use Rattle.zone_check.specs.Fault.{Start, entry_said}
+use Rattle.zone_check.specs.Files.{ShownFiles, file_lines, file_name, finding_in, report_text}
+use Rattle.zone_check.specs.Report.{check_said, entries_said, faults_said, file_said, or_file, outcome_said, said_of_warning, said_of_warnings, start_of_check, warnings_said, whole_said, zone_report}
 use Rattle.zone_check.specs.declared.check.ZoneCheck.{ZoneCheck}
-use Rattle.zone_check.specs.WarningText.{shown_name, said_of_warning, warning_said}
-use Rattle.zone_lines.specs.declared.record_line.RecordLine.{RecordLine}
-use Rattle.zone_lines.specs.declared.warning.Warning.{Warning}
+use Rattle.dns_zone_file.specs.declared.types.Types.{Types}
+use Rattle.zone_findings.specs.Finding.{Said, finding_text, number_part, said_by, severity_name, word_part}
+use Rattle.zone_findings.specs.Shown.{shown}
+use Rattle.zone_findings.specs.declared.finding.Finding.{Finding}
+use Rattle.zone_findings.specs.declared.format.ReportFormat.{ReportFormat}
+use Rattle.zone_findings.specs.declared.format.ReportFormat.TheVariants.{Text, Json}
+use Rattle.zone_lines.specs.Line.{lines_of_file}
+use Rattle.zone_lines.specs.Source.{FileText}
+use Rattle.zone_lines.specs.declared.record_line.EntryLine.{EntryLine}
+use Rattle.zone_warnings.specs.declared.kind.Warning.{Warning}
 
-module _ (file : List ℕ) (lines : List (List ℕ)) (doubled : Option DomainName) (records : List RecordLine) (warnings : List Warning) where
-  -- what is said of the first warnings
-  first_text : ℕ → List ℕ
-  first_text i = report_text file lines (map (warning_said doubled records) (take i warnings))
+-- ---- one more element
 
-  one_more : (i : ℕ) (w : Warning) → i < length warnings → first_text (i + 1)
-      ≡ first_text i ++ finding_text file lines (warning_said doubled records (get_or warnings i w))
-  unfolding first_text
-  one_more i w within =
-      let said : Warning → Said = warning_said doubled records in
-      let f : Said → List ℕ = finding_text file lines in
-      let here : Warning = get_or warnings i w in
-      ap (λ (l : List Warning). report_text file lines (map said l)) (take_at_read warnings i w within).1
-      ∙ ap (λ (l : List Said). report_text file lines l) (map-append said (take i warnings) (here ∷ []))
-      ∙ flat_map-append f (map said (take i warnings)) (said here ∷ [])
-      ∙ ap (λ (l : List ℕ). report_text file lines (map said (take i warnings)) ++ l) (append-nil (f (said here)))
+flat_next : {X Y : Type 0} (f : X → List Y) (xs : List X) (i : ℕ) (d : X) → i < length xs
+    → flat_map f (take (i + 1) xs) ≡ flat_map f (take i xs) ++ f (get_or xs i d)
+flat_next f xs i d within =
+    ap (flat_map f) (take_at_read xs i d within).1
+    ∙ flat_map-append f (take i xs) (get_or xs i d ∷ [])
+    ∙ ap (λ l. flat_map f (take i xs) ++ l) (append-nil (f (get_or xs i d)))
 
-  pub warning_pushed : (i : ℕ) (w : Warning) (before found after : List ℕ) (name : Option DomainName) → i < length warnings
-      → found ≡ before ++ report_text file lines (map (warning_said doubled records) (take i warnings))
-      → name ≡ shown_name doubled records (get_or warnings i w)
-      → after ≡ found ++ finding_text file lines (said_of_warning name (get_or warnings i w))
-      → after ≡ before ++ report_text file lines (map (warning_said doubled records) (take (i + 1) warnings))
-  unfolding first_text
-  warning_pushed i w before found after name within so_far is pushed =
-      let f : Said → List ℕ = finding_text file lines in
-      let here : Warning = get_or warnings i w in
+map_next : {X Y : Type 0} (f : X → Y) (xs : List X) (i : ℕ) (d : X) → i < length xs
+    → map f (take (i + 1) xs) ≡ map f (take i xs) ++ f (get_or xs i d) ∷ []
+map_next f xs i d within = ap (map f) (take_at_read xs i d within).1 ∙ map-append f (take i xs) (get_or xs i d ∷ [])
+
+module _ (format : ReportFormat) (files : ShownFiles) where
+  -- a text with more said
+  report_more : (said more : List Said) → report_text format files (said ++ more) ≡ report_text format files said ++ report_text format files more
+  report_more said more = flat_map-append (finding_in format files) said more
+
+  pub finding_pushed : (findings : List Finding) (i : ℕ) (f : Finding) (before found after : List ℕ) → i < length findings
+      → f ≡ get_or findings i f → found ≡ before ++ report_text format files (map said_by (take i findings))
+      → after ≡ found ++ finding_in format files (said_by f)
+      → after ≡ before ++ report_text format files (map said_by (take (i + 1) findings))
+  finding_pushed findings i f before found after within is so_far pushed =
+      let one : List ℕ = finding_in format files (said_by f) in
+      let front : List ℕ = report_text format files (map said_by (take i findings)) in
       pushed
-      ∙ ap (λ (l : List ℕ). l ++ f (said_of_warning name here)) so_far
-      ∙ append_assoc before (first_text i) (f (said_of_warning name here))
-      ∙ ap (λ (n : Option DomainName). before ++ (first_text i ++ f (said_of_warning n here))) is
-      ∙ ap (λ (l : List ℕ). before ++ l) (sym (one_more i w within))
+      ∙ ap (λ (l : List ℕ). l ++ one) so_far
+      ∙ append_assoc before front one
+      ∙ ap (λ (l : List ℕ). before ++ (front ++ l)) (sym (append-nil one))
+      ∙ ap (λ (l : List ℕ). before ++ l) (sym (report_more (map said_by (take i findings)) (said_by f ∷ [])))
+      ∙ ap (λ (g : Finding). before ++ report_text format files (map said_by (take i findings) ++ said_by g ∷ [])) is
+      ∙ ap (λ (l : List Said). before ++ report_text format files l) (sym (map_next said_by findings i f within))
 
--- what is said of a fault that has no line
-pub said_of_file : (text : List ℕ) (origin : Option DomainName) (records : List RecordLine) (refusal : ZoneFault) (said : Said)
-    → soa_without_dot refusal origin records ≡ None → line_of_fault refusal origin records ≡ None
-    → said ≡ fault_said None None (advice_on refusal None)
-    → SaysFault text origin records refusal (soa_without_dot refusal origin records) said
-said_of_file text origin records refusal said no_dotless no_line is =
-    subst (λ (o : Option ℕ). SaysFault text origin records refusal o said) (sym no_dotless)
-    (subst (λ (o : Option ℕ). SaysOnLine text origin refusal o said) (sym no_line)
-    (subst (λ (s : Said). SaysOnLine text origin refusal None s) (sym is) of_file))
+  pub warning_pushed : (z : Start) (entries : List EntryLine) (warnings : List Warning) (i : ℕ) (w : Warning) (before found after : List ℕ)
+      → i < length warnings → w ≡ get_or warnings i w
+      → found ≡ before ++ report_text format files (said_of_warnings z entries (take i warnings))
+      → after ≡ found ++ report_text format files (said_of_warning z entries w)
+      → after ≡ before ++ report_text format files (said_of_warnings z entries (take (i + 1) warnings))
+  warning_pushed z entries warnings i w before found after within is so_far pushed =
+      let one : List ℕ = report_text format files (said_of_warning z entries w) in
+      let front : List ℕ = report_text format files (said_of_warnings z entries (take i warnings)) in
+      pushed
+      ∙ ap (λ (l : List ℕ). l ++ one) so_far
+      ∙ append_assoc before front one
+      ∙ ap (λ (l : List ℕ). before ++ l) (sym (report_more (said_of_warnings z entries (take i warnings)) (said_of_warning z entries w)))
+      ∙ ap (λ (v : Warning). before ++ report_text format files (said_of_warnings z entries (take i warnings) ++ said_of_warning z entries v)) is
+      ∙ ap (λ (l : List Said). before ++ report_text format files l) (sym (flat_next (said_of_warning z entries) warnings i w within))
 
--- what is said of the outcome, and what is said of the warnings
-abbrev joined : List ℕ → List (List ℕ) → List Said → List (List ℕ) → Option DomainName → List RecordLine → List Warning → List ℕ
-joined file lines said others doubled records warnings =
-    report_text file lines said ++ report_text file others (map (warning_said doubled records) warnings)
+-- ---- faults of entries
 
-module _ (file text : List ℕ) (origin : Option DomainName) (check : ZoneCheck) (start between report : List ℕ)
-    (before after : List (List ℕ)) (doubled : Option DomainName) (records : List RecordLine) (warnings : List Warning) where
-  pub zone_reported : start ≡ [] → before ≡ lines text → after ≡ lines text → doubled ≡ doubled_if_zone check.outcome
-      → records ≡ check.records.items → warnings ≡ check.warnings.items → AppendsOutcome file text before origin check start between
-      → report ≡ between ++ report_text file after (map (warning_said doubled records) warnings)
-      → IsZoneReport file text origin check report
-  zone_reported none before_is after_is doubled_is records_are warnings_are a pushed =
-      let twice : Option DomainName = doubled_if_zone check.outcome in
-      let said_of : List Said = map (warning_said twice check.records.items) check.warnings.items in
-      record {
-        said = a.said;
-        outcome = a.outcome;
-        report_is =
-            pushed
-            ∙ ap (λ (l : List ℕ). l ++ report_text file after (map (warning_said doubled records) warnings)) a.new_is
-            ∙ ap (λ (l : List ℕ). (l ++ report_text file before a.said) ++ report_text file after (map (warning_said doubled records) warnings)) none
-            ∙ ap (λ (l : List (List ℕ)). joined file l a.said after doubled records warnings) before_is
-            ∙ ap (λ (l : List (List ℕ)). joined file (lines text) a.said l doubled records warnings) after_is
-            ∙ ap (λ (o : Option DomainName). joined file (lines text) a.said (lines text) o records warnings) doubled_is
-            ∙ ap (λ (rs : List RecordLine). joined file (lines text) a.said (lines text) twice rs warnings) records_are
-            ∙ ap (λ (ws : List Warning). joined file (lines text) a.said (lines text) twice check.records.items ws) warnings_are
-            ∙ sym (flat_map-append (finding_text file (lines text)) a.said said_of);
-      }
+module _ (z : Start) (entries : List EntryLine) (i : ℕ) (e : EntryLine) (within : i < length entries) (is : e ≡ get_or entries i e)
+    (found : List Finding) (so_far : map said_by found ≡ entries_said z (take i entries)) where
+  with_entry : (said : Option Said) → said ≡ entry_said z e → map said_by found ++ option_to_list said ≡ entries_said z (take (i + 1) entries)
+  with_entry said same =
+      ap (λ (l : List Said). l ++ option_to_list said) so_far
+      ∙ ap (λ (o : Option Said). entries_said z (take i entries) ++ option_to_list o) same
+      ∙ ap (λ (x : EntryLine). entries_said z (take i entries) ++ option_to_list (entry_said z x)) is
+      ∙ sym (flat_next (λ x. option_to_list (entry_said z x)) entries i e within)
 
--- what is said of a fault, after a report
-pub fault_appended : (file text : List ℕ) (lines : List (List ℕ)) (origin : Option DomainName) (check : ZoneCheck) (old new : List ℕ)
-    (refusal : ZoneFault) (records : List RecordLine) (said : Said) → check.outcome ≡ Err refusal → records ≡ check.records.items
-    → SaysFault text origin records refusal (soa_without_dot refusal origin records) said → new ≡ old ++ finding_text file lines said
-    → AppendsOutcome file text lines origin check old new
-fault_appended file text lines origin check old new refusal records said is records_are says pushed = record {
-  said = said ∷ [];
-  outcome =
-      subst (λ (o : Result ZoneContent ZoneFault). SaysOutcome text origin check.records.items o (said ∷ [])) (sym is)
-      (said, refl, subst (λ (rs : List RecordLine). SaysFault text origin rs refusal (soa_without_dot refusal origin rs) said) records_are says);
-  new_is = pushed ∙ ap (λ (l : List ℕ). old ++ l) (sym (append-nil (finding_text file lines said)));
-}
+  pub entry_found : (f : Finding) (after : List Finding) → Some (said_by f) ≡ entry_said z e → after ≡ found ++ f ∷ []
+      → map said_by after ≡ entries_said z (take (i + 1) entries)
+  entry_found f after same pushed =
+      ap (map said_by) pushed ∙ map-append said_by found (f ∷ []) ∙ with_entry (Some (said_by f)) same
 
--- ---- empty reports
+  pub entry_passed : None ≡ entry_said z e → map said_by found ≡ entries_said z (take (i + 1) entries)
+  entry_passed same = sym (append-nil (map said_by found)) ∙ with_entry None same
 
--- what has an element is not empty
-around_one : (before : List ℕ) (x : ℕ) (after more rest : List ℕ) → ((before ++ x ∷ after) ++ more) ++ rest ≡ [] → ⊥
-around_one [] x after more rest empty = cc
-around_one (y ∷ ys) x after more rest empty = cc
+-- ---- nothing said
 
-append_empty : {X : Type 0} (xs ys : List X) → xs ++ ys ≡ [] → (xs ≡ []) × (ys ≡ [])
-append_empty [] ys empty = (refl, empty)
-append_empty (x ∷ xs) ys empty = absurd (let no : ⊥ = cc in no)
+left_empty : {X : Type 0} (xs ys : List X) → xs ++ ys ≡ [] → xs ≡ []
+left_empty [] ys empty = refl
+left_empty (x ∷ xs) ys empty = absurd (let no : ⊥ = cc in no)
 
-map_empty : {X Y : Type 0} (f : X → Y) (xs : List X) → map f xs ≡ [] → xs ≡ []
-map_empty f [] empty = refl
-map_empty f (x ∷ xs) empty = absurd (let no : ⊥ = cc in no)
+right_empty : {X : Type 0} (xs ys : List X) → xs ++ ys ≡ [] → ys ≡ []
+right_empty [] ys empty = empty
+right_empty (x ∷ xs) ys empty = absurd (let no : ⊥ = cc in no)
 
--- a report in which nothing stands says nothing
-nothing_said : (file : List ℕ) (lines : List (List ℕ)) (said : List Said) → report_text file lines said ≡ [] → said ≡ []
-nothing_said file lines [] empty = refl
-nothing_said file lines (s ∷ said) empty =
-    absurd (around_one (file ++ line_part s.line) 58 _ _ _ (append_empty (finding_text file lines s) (report_text file lines said) empty).0)
+cons_empty : {X : Type 0} (x : X) (xs : List X) → x ∷ xs ≡ [] → ⊥
+cons_empty x xs e = cc
 
-module _ (text : List ℕ) (origin : Option DomainName) (records : List RecordLine) where
-  ok_if_nothing : (outcome : Result ZoneContent ZoneFault) (said : List Said) → SaysOutcome text origin records outcome said → said ≡ []
-      → IsOk outcome
-  ok_if_nothing (Ok zone) said says none = search rules
-  ok_if_nothing (Err refusal) said says none = absurd (let one : says.0 ∷ [] ≡ [] = sym says.1 ∙ none in let no : ⊥ = cc in no)
+-- an object without its end
+abbrev json_front : List ℕ → Said → List ℕ
+json_front file s =
+    codes "{\"file\":\"" ++ shown Json file ++ codes "\",\"line\":" ++ number_part s.line ++ codes ",\"kind\":\""
+    ++ severity_name s.severity ++ codes "\",\"message\":\"" ++ shown Json s.advice.reason ++ word_part Json s.word
+    ++ codes "\",\"hint\":\"" ++ shown Json s.advice.hint
 
-  nothing_if_ok : (outcome : Result ZoneContent ZoneFault) (said : List Said) → SaysOutcome text origin records outcome said → IsOk outcome
-      → said ≡ []
-  nothing_if_ok (Ok zone) said says ok = says
-  nothing_if_ok (Err refusal) said says ok = absurd (let wrong : false ≡ true = ok in let no : ⊥ = cc in no)
+some_text : (format : ReportFormat) (file : List ℕ) (lines : List (List ℕ)) (s : Said) → finding_text format file lines s ≡ [] → ⊥
+some_text Text file lines s empty = cons_empty 10 [] (right_empty _ (10 ∷ []) (left_empty _ _ (left_empty _ _ empty)))
+some_text Json file lines s empty = cons_empty 34 (125 ∷ 10 ∷ []) (right_empty (json_front file s) (34 ∷ 125 ∷ 10 ∷ []) empty)
 
--- a report is empty exactly if the zone is accepted without a warning
-pub empty_report : (file text : List ℕ) (origin : Option DomainName) (check : ZoneCheck) (report : List ℕ)
-    → IsZoneReport file text origin check report → (report ≡ []) ↔ (IsOk check.outcome × (check.warnings.items ≡ []))
-empty_report file text origin check report is =
-    let said_of : Warning → Said = warning_said (doubled_if_zone check.outcome) check.records.items in (
+nothing_said : (format : ReportFormat) (files : ShownFiles) (said : List Said) → report_text format files said ≡ [] → said ≡ []
+nothing_said format files [] empty = refl
+nothing_said format files (s ∷ said) empty =
+    absurd (some_text format (file_name files s.source) (file_lines files s.source) s (left_empty (finding_in format files s) (report_text format files said) empty))
+
+or_file_some : (types : Types) (refusal : ZoneFault) (said : List Said) → or_file types refusal said ≡ [] → ⊥
+or_file_some types refusal [] empty = cc
+or_file_some types refusal (s ∷ said) empty = cc
+
+whole_some : (types : Types) (refusal : ZoneFault) (entries : List EntryLine) (said : List Said) (b : Bool) → some_starts entries ≡ b
+    → whole_said types refusal entries said ≡ [] → ⊥
+whole_some types refusal entries said true is empty =
+    or_file_some types refusal said
+    (sym (ap (λ (b : Bool). cond b (or_file types refusal said) (said ++ file_said types fault.NoSoa ∷ [])) is) ∙ empty)
+whole_some types refusal entries said false is empty =
+    cons_empty (file_said types fault.NoSoa) []
+    (right_empty said (file_said types fault.NoSoa ∷ [])
+    (sym (ap (λ (b : Bool). cond b (or_file types refusal said) (said ++ file_said types fault.NoSoa ∷ [])) is) ∙ empty))
+
+accepted_by : (z : Start) (entries : List EntryLine) (outcome : Result ZoneContent ZoneFault) → (outcome_said z entries outcome ≡ []) ↔ IsOk outcome
+accepted_by z entries (Ok zone) = (λ none. let yes : true ≡ true = refl in yes, λ ok. refl)
+accepted_by z entries (Err refusal) = (
+  λ none. absurd (whole_some z.types refusal entries (entries_said z entries) (some_starts entries) refl none),
+  λ ok. absurd (let wrong : false ≡ true = ok in let no : ⊥ = cc in no),
+)
+
+-- nothing is said of the faults exactly if there is a zone
+pub accepted : (file : FileText) (check : ZoneCheck) → (faults_said file check ≡ []) ↔ IsOk check.outcome
+accepted file check = accepted_by (start_of_check file check) check.entries.items check.outcome
+
+-- a report is empty exactly if there is a zone without a warning that is said
+pub empty_report : (format : ReportFormat) (names : List (List ℕ)) (file : FileText) (check : ZoneCheck) (report : List ℕ)
+    → report ≡ zone_report format names file check → (report ≡ []) ↔ (IsOk check.outcome × (warnings_said file check ≡ []))
+empty_report format names file check report is =
+    let files : ShownFiles = record { names = names; texts = lines_of_file file } in (
       λ empty.
-          let parts = append_empty is.said (map said_of check.warnings.items) (nothing_said file (lines text) _ (sym is.report_is ∙ empty)) in
-          (ok_if_nothing text origin check.records.items check.outcome is.said is.outcome parts.0, map_empty said_of check.warnings.items parts.1),
+          let none = nothing_said format files (check_said file check) (sym is ∙ empty) in
+          ((accepted file check).0 (left_empty (faults_said file check) (warnings_said file check) none), right_empty (faults_said file check) (warnings_said file check) none),
       λ both.
-          is.report_is
-          ∙ ap (λ (l : List Said). report_text file (lines text) (l ++ map said_of check.warnings.items)) (nothing_if_ok text origin check.records.items check.outcome is.said is.outcome both.0)
-          ∙ ap (λ (ws : List Warning). report_text file (lines text) (map said_of ws)) both.1,
+          is
+          ∙ ap (λ (l : List Said). report_text format files (l ++ warnings_said file check)) ((accepted file check).1 both.0)
+          ∙ ap (λ (l : List Said). report_text format files l) both.1,
     )
+
+-- the whole report, by its parts
+pub reported : (format : ReportFormat) (names : List (List ℕ)) (file : FileText) (check : ZoneCheck) (start between report : List ℕ)
+    (files : ShownFiles) (z : Start) (findings : List Finding) → start ≡ [] → files ≡ record { names = names; texts = lines_of_file file }
+    → z ≡ start_of_check file check → map said_by findings ≡ outcome_said z check.entries.items check.outcome
+    → between ≡ start ++ report_text format files (map said_by findings)
+    → report ≡ between ++ report_text format files (said_of_warnings z check.entries.items check.warnings.items)
+    → report ≡ zone_report format names file check
+reported format names file check start between report files z findings none files_is z_is found first then =
+    let there : ShownFiles = record { names = names; texts = lines_of_file file } in
+    then
+    ∙ ap (λ (l : List ℕ). l ++ report_text format files (said_of_warnings z check.entries.items check.warnings.items)) first
+    ∙ ap (λ (l : List ℕ). (l ++ report_text format files (map said_by findings)) ++ report_text format files (said_of_warnings z check.entries.items check.warnings.items)) none
+    ∙ ap (λ (f : ShownFiles). report_text format f (map said_by findings) ++ report_text format f (said_of_warnings z check.entries.items check.warnings.items)) files_is
+    ∙ ap (λ (l : List Said). report_text format there l ++ report_text format there (said_of_warnings z check.entries.items check.warnings.items)) found
+    ∙ ap (λ (y : Start). report_text format there (outcome_said y check.entries.items check.outcome) ++ report_text format there (said_of_warnings y check.entries.items check.warnings.items)) z_is
+    ∙ sym (report_more format there (faults_said file check) (warnings_said file check))

@@ -1,10 +1,9 @@
-pub mod Line
-pub mod Culprit
+pub mod Apex
 pub mod Check
-pub mod Finding
-pub mod FaultText
-pub mod MissingDot
-pub mod WarningText
+pub mod Fault
+pub mod Files
 pub mod Report
 pub mod ScriptLine
+pub mod ScriptText
 pub mod Encoding
+pub mod Summary

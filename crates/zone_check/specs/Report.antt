@@ -1,99 +1,114 @@
--- What is said of a zone file.
-use Rattle.std.specs.Prelude.{◌≡◌, ◌==◌, ◌&&◌, nat_eq, if◌then◌else◌, ℕ, Bool, List, [], ◌∷◌, ◌++◌, map, codes, IfSome, Option, Some, None, Result, Ok, Err}
-use Rattle.std.specs.List.{starts_with}
-use Rattle.std.specs.Str.Lines.{lines}
+-- What is said of a zone file: its faults, and then its warnings, in the order of its lines.
+use Rattle.std.specs.Prelude.{if◌then◌else◌, is_some, ℕ, List, [], ◌∷◌, ◌++◌, flat_map, slice_get, Option, Some, None, option_map, option_and_then, Result, Ok, Err}
+use Rattle.std.specs.Option.{option_to_list}
 use Rattle.dns_names.specs.Name.{DomainName}
-use Rattle.dns_text.specs.Lexer.{start}
+use Rattle.dns_names.specs.Print.{text_of_name}
 use Rattle.dns_zone.specs.Rows.{ZoneContent}
 use Rattle.dns_zone.specs.declared.zone.ZoneFault.{ZoneFault}
-use Rattle.zone_check.specs.Culprit.{line_of_fault}
-use Rattle.zone_check.specs.FaultText.{advice_on}
-use Rattle.zone_check.specs.Finding.{Said, Sentences, finding_text, line_text, report_text}
-use Rattle.zone_check.specs.MissingDot.{soa_without_dot}
-use Rattle.zone_check.specs.ScriptLine.{IsWordOf}
-use Rattle.zone_check.specs.WarningText.{warning_said, warning_sentences}
+use Rattle.dns_zone.specs.declared.zone.ZoneFault.TheVariants as fault
+use Rattle.zone_check.specs.Apex.{some_starts}
+use Rattle.dns_zone_file.specs.declared.types.Types.{Types}
+use Rattle.zone_check.specs.Fault.{Start, entry_said, fault_said, zone_of}
+use Rattle.zone_check.specs.Files.{report_text}
 use Rattle.zone_check.specs.declared.check.ZoneCheck.{ZoneCheck}
-use Rattle.zone_check.specs.declared.finding.Severity.TheVariants as severity
-use Rattle.zone_lines.specs.RecordLine.{start_place}
-use Rattle.zone_lines.specs.Token.{FindsToken}
-use Rattle.zone_lines.specs.Warning.{doubled_origin}
-use Rattle.zone_lines.specs.declared.record_line.RecordLine.{RecordLine}
-use Rattle.zone_lines.specs.declared.warning.WarningKind.TheVariants as about
+use Rattle.zone_findings.specs.FaultText.{fault_sentences}
+use Rattle.zone_findings.specs.Finding.{Said}
+use Rattle.zone_findings.specs.declared.format.ReportFormat.{ReportFormat}
+use Rattle.zone_findings.specs.WarningText.{warning_sentences}
+use Rattle.zone_findings.specs.declared.finding.Severity.TheVariants as severity
+use Rattle.zone_lines.specs.Line.{lines_of_file}
+use Rattle.zone_lines.specs.Source.{FileText}
+use Rattle.zone_lines.specs.declared.record_line.EntryLine.{EntryLine}
+use Rattle.zone_lines.specs.declared.record_line.EntryLine.TheVariants as entry
+use Rattle.zone_warnings.specs.Names.{doubled_origin, name_below}
+use Rattle.zone_warnings.specs.declared.kind.Warning.{Warning}
+use Rattle.zone_warnings.specs.declared.kind.WarningKind.{WarningKind}
+use Rattle.zone_warnings.specs.declared.kind.WarningKind.TheVariants as about
 
 -- ---- faults
 
--- what is said of a fault on a line, or of one that has none
-abbrev pub fault_said : Option ℕ → Option (List ℕ) → Sentences → Said
-fault_said line word advice = record { line = line; severity = severity.Fault; word = word; advice = advice }
+-- what is said of entries: at most one thing of each, in order
+abbrev pub entries_said : Start → List EntryLine → List Said
+entries_said z entries = flat_map (λ e. option_to_list (entry_said z e)) entries
 
--- whether a text begins with a byte-order mark, and the line is its first
-abbrev pub has_mark : List ℕ → ℕ → Bool
-has_mark text line = line == 1 && starts_with nat_eq text (0xEF ∷ 0xBB ∷ 0xBF ∷ [])
+-- what is said of a whole file
+abbrev pub file_said : Types → ZoneFault → Said
+file_said types refusal = fault_said 0 None None (fault_sentences types refusal)
 
--- the sentences of a byte-order mark
-abbrev pub mark_said : Sentences
-mark_said = record {
-  reason = codes "a byte-order mark at the start of the file";
-  hint = codes "save the file as UTF-8 without a byte-order mark";
+-- the fault of a whole file, if nothing is said of its entries
+abbrev pub or_file : Types → ZoneFault → List Said → List Said
+or_file types refusal [] = file_said types refusal ∷ []
+or_file types refusal (s ∷ said) = s ∷ said
+
+-- What is said of a file that is refused: of its entries, and that no SOA record is there, unless some entry is one or may be
+-- meant as one; or at least of the whole file.
+abbrev pub whole_said : Types → ZoneFault → List EntryLine → List Said → List Said
+whole_said types refusal entries said =
+    if some_starts entries then or_file types refusal said else said ++ file_said types fault.NoSoa ∷ []
+
+-- what is said of the faults of a file: nothing of a zone
+abbrev pub outcome_said : Start → List EntryLine → Result ZoneContent ZoneFault → List Said
+outcome_said z entries (Ok zone) = []
+outcome_said z entries (Err refusal) = whole_said z.types refusal entries (entries_said z entries)
+
+-- what decides on the records of a check
+abbrev pub start_of_check : FileText → ZoneCheck → Start
+start_of_check file check = zone_of file check.origin check.entries.items
+
+-- what is said of the faults of a check
+abbrev pub faults_said : FileText → ZoneCheck → List Said
+faults_said file check = outcome_said (start_of_check file check) check.entries.items check.outcome
+
+-- ---- warnings
+
+-- what is said of a warning that shows a word, if there is one
+abbrev pub word_said : Option (List ℕ) → Warning → Said
+word_said word w = record {
+  source = w.at.source;
+  line = Some w.at.line;
+  severity = severity.Warning;
+  word = word;
+  advice = warning_sentences w.kind;
 }
 
--- the sentences of a fault on a line, with the word at fault, if it is known
-abbrev pub advice_at : List ℕ → ℕ → ZoneFault → Option (List ℕ) → Sentences
-advice_at text line refusal word = if has_mark text line then mark_said else advice_on refusal word
+-- what is said of a warning that shows a name, if there is one
+abbrev pub warning_said : Option DomainName → Warning → Said
+warning_said name w = word_said (option_map text_of_name name) w
 
--- What is said of a fault: on a line, with the word at fault of the entry that begins there, or of the file.
-pub data SaysOnLine (text : List ℕ) (origin : Option DomainName) (refusal : ZoneFault) : Option ℕ → Said → Type 0 where
-  of_line : {line : ℕ} {word : Option (List ℕ)} → FindsToken line (start_place origin) (start text) word
-      → SaysOnLine text origin refusal (Some line) (fault_said (Some line) word (advice_at text line refusal word))
-  of_file : SaysOnLine text origin refusal None (fault_said None None (advice_on refusal None))
+-- the name that a kind of warning about an entry shows: of a missing dot, the one that ends in the origin twice, as it is
+-- completed
+abbrev pub shown_name : Option DomainName → EntryLine → WarningKind → Option DomainName
+shown_name (Some doubled) (entry.Record r) about.MissingDot = name_below doubled r
+shown_name doubled e kind = None
 
--- What is said of the fault of a zone with these records: that the owner of its SOA record lacks a dot, or else the fault, on
--- its line.
-abbrev pub SaysFault : List ℕ → Option DomainName → List RecordLine → ZoneFault → Option ℕ → Said → Type 0
-SaysFault text origin records refusal (Some line) said =
-    said ≡ fault_said (Some line) None (warning_sentences about.MissingDot)
-SaysFault text origin records refusal None said = SaysOnLine text origin refusal (line_of_fault refusal origin records) said
+-- the origin with its labels once more, if it is known
+abbrev pub doubled_apex : Start → Option DomainName
+doubled_apex z = option_and_then doubled_origin z.apex
 
--- ---- zone files
+-- what is said of a warning about an entry: nothing if the entry has a fault
+abbrev pub entry_warned : Start → Warning → EntryLine → List Said
+entry_warned z w e =
+    if is_some (entry_said z e) then [] else warning_said (shown_name (doubled_apex z) e w.kind) w ∷ []
 
--- what is said of the outcome: nothing of a zone, and one thing of a fault
-abbrev pub SaysOutcome : List ℕ → Option DomainName → List RecordLine → Result ZoneContent ZoneFault → List Said → Type 0
-SaysOutcome text origin records (Ok zone) said = said ≡ []
-SaysOutcome text origin records (Err refusal) said = (fault : Said)
-    × (said ≡ fault ∷ []) × SaysFault text origin records refusal (soa_without_dot refusal origin records) fault
+-- what is said of warnings about entries
+abbrev pub said_of_warning : Start → List EntryLine → Warning → List Said
+said_of_warning z entries w = elim (slice_get entries w.place) [ Some e ↦ entry_warned z w e | None ↦ [] ]
 
--- the new report is the old one and what is said of the outcome
-pub record AppendsOutcome (file text : List ℕ) (lines : List (List ℕ)) (origin : Option DomainName) (check : ZoneCheck)
-    (old new : List ℕ) : Type 0 where
-  pub said : List Said
-  pub outcome : SaysOutcome text origin check.records.items check.outcome said
-  pub new_is : new ≡ old ++ report_text file lines said
+-- what is said of all warnings about entries
+abbrev pub said_of_warnings : Start → List EntryLine → List Warning → List Said
+said_of_warnings z entries warnings = flat_map (said_of_warning z entries) warnings
 
--- the origin of a zone, with its labels once more
-abbrev pub doubled_if_zone : Result ZoneContent ZoneFault → Option DomainName
-doubled_if_zone (Ok zone) = doubled_origin zone.origin
-doubled_if_zone (Err refusal) = None
+-- what is said of the warnings of a check
+abbrev pub warnings_said : FileText → ZoneCheck → List Said
+warnings_said file check = said_of_warnings (start_of_check file check) check.entries.items check.warnings.items
 
--- the report of a check: what is said of the outcome, and of each warning in order
-pub record IsZoneReport (file text : List ℕ) (origin : Option DomainName) (check : ZoneCheck) (report : List ℕ) : Type 0 where
-  pub said : List Said
-  pub outcome : SaysOutcome text origin check.records.items check.outcome said
-  pub report_is : report
-      ≡ report_text file (lines text)
-      (said ++ map (warning_said (doubled_if_zone check.outcome) check.records.items) check.warnings.items)
+-- ---- a whole check
 
--- ---- scripts
+-- all that is said of a check
+abbrev pub check_said : FileText → ZoneCheck → List Said
+check_said file check = faults_said file check ++ warnings_said file check
 
--- what is said of a moment that is out of order
-abbrev pub moment_said : ℕ → Said
-moment_said line = fault_said (Some line) None (record {
-  reason = codes "a moment before that of an event above, or after 2^62";
-  hint = codes "write events in the order of their moments, and none after 2^62";
-})
-
--- The report of a line of a script that cannot be read: one fault of that line, which may show a word of the line.
-pub record IsLineReport (file text : List ℕ) (line : ℕ) (report : List ℕ) : Type 0 where
-  pub word : Option (List ℕ)
-  pub advice : Sentences
-  pub word_of_line : IfSome word (IsWordOf (line_text (lines text) (Some line)))
-  pub report_is : report ≡ finding_text file (lines text) (fault_said (Some line) word advice)
+-- the report of a check of a file, whose names are those of the file and of those of the texts to include
+abbrev pub zone_report : ReportFormat → List (List ℕ) → FileText → ZoneCheck → List ℕ
+zone_report format names file check =
+    report_text format (record { names = names; texts = lines_of_file file }) (check_said file check)

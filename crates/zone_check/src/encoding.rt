@@ -3,37 +3,47 @@
 ghost use Rattle.std.specs.Prelude.{◌≡◌, ◌==◌, ◌+◌, [], count_by, IfOk, IsOk, string_bytes};
 ghost use Rattle.std.specs.Str.{IsUtf8};
 ghost use Rattle.zone_check.specs.Encoding.{IsEncodingReport, encoding_said};
-ghost use Rattle.zone_check.specs.Finding.{finding_text};
+ghost use Rattle.zone_findings.specs.Finding.{finding_text};
 
-use crate::finding::Advice;
-use crate::report::finding_on;
+use crate::fault::finding_on;
 use std::alloc::{AllocError, Global};
+use zone_findings::{Advice, ReportFormat};
 
 /// Returns what is to be said of a file by its bytes: the line of the first byte that is not UTF-8, or nothing if there is
 /// none, which takes no memory.
-pub fn encoding_report(alloc: Global, file: &str, bytes: &[u8]) -> Result<String, AllocError>
+pub fn encoding_report(
+    alloc: Global,
+    format: ReportFormat,
+    file: &str,
+    bytes: &[u8],
+) -> Result<String, AllocError>
     ensures report { IfOk result (λ report.
-        IsEncodingReport file.now bytes.now (string_bytes report)) }
+        IsEncodingReport format file.now bytes.now (string_bytes report)) }
     ensures decided { IsUtf8 bytes.now → IsOk result }
 {
     match str::from_utf8(bytes) {
         Ok(_) => Ok(String::new(alloc)),
-        Err(error) => invalid_report(alloc, file, &bytes[..error.valid_up_to()]),
+        Err(error) => invalid_report(alloc, format, file, &bytes[..error.valid_up_to()]),
     }
 }
 
 /// Returns what is to be said of a byte that is not UTF-8, after these.
-fn invalid_report(alloc: Global, file: &str, before: &[u8]) -> Result<String, AllocError>
+fn invalid_report(
+    alloc: Global,
+    format: ReportFormat,
+    file: &str,
+    before: &[u8],
+) -> Result<String, AllocError>
     ensures { IfOk result (λ report. string_bytes report
-        ≡ finding_text file.now [] (encoding_said before.now)) }
+        ≡ finding_text format file.now [] (encoding_said before.now)) }
 {
     let advice = Advice {
         reason: "a byte that is not UTF-8",
         hint: "save the file as UTF-8; it may be in Latin-1",
     };
-    let finding = finding_on(Some(line_after(before)), None, advice);
+    let finding = finding_on(0, Some(line_after(before)), None, advice);
     let mut report = String::new(alloc);
-    finding.push_to(alloc, &mut report, file, &[])?;
+    finding.push_to(alloc, format, &mut report, file, &[])?;
     Ok(report)
 }
 

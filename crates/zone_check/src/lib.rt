@@ -1,25 +1,28 @@
 //! The check of a zone file or a script that a person wrote: what is wrong, on which line, and what to write instead.
 //!
-//! - `check`: the zone of a file, or its fault, with the warnings; `culprit`: the line of a fault;
-//! - `missing_dot`: an SOA record without its last dot; `script_line`: the word at fault in a line of a script; `encoding`: a
-//!   file that is not UTF-8;
-//! - `finding`: the text of a finding; `fault_text`, `warning_text`: the sentences; `report`: the text of a whole check;
-//! - `line`: the lines of a text.
+//! - `check`: the zone of a file, or its faults, with the warnings; `apex`: the origin of a file, also of one with faults;
+//!   `fault`: the faults of entries;
+//! - `report`: the text of a whole check; `files`: the files that it shows; `summary`: the line about a file of which there is
+//!   nothing to say;
+//! - `script_text`: the text of the check of a script; `script_line`: the word at fault in a line of a script;
+//! - `encoding`: a file that is not UTF-8; `laws`: theorems.
 #![tactic(auto)]
 
+mod apex;
 mod check;
-mod culprit;
 mod encoding;
-mod fault_text;
-mod finding;
-mod line;
-mod missing_dot;
+mod fault;
+mod files;
+pub mod laws;
 mod report;
 mod script_line;
-mod warning_text;
+mod script_text;
+mod summary;
 
 pub use check::{ZoneCheck, check_zone};
-pub use culprit::fault_line;
 pub use encoding::encoding_report;
-pub use line::{line_at, lines_of};
-pub use report::{moment_report, script_report, zone_report};
+pub use report::zone_report;
+pub use script_text::{moment_report, script_report};
+pub use summary::zone_summary;
+pub use zone_findings::ReportFormat;
+pub use zone_lines::ZoneText;

@@ -1,193 +1,252 @@
-//! The text of a check.
+//! The text of the check of a zone file.
 
-ghost use Rattle.std.specs.Prelude.{◌≡◌, ◌↔◌, [], IfOk, IsOk, OnOk, Some, map, option_copied, string_bytes};
-ghost use Rattle.std.specs.Str.Lines.{lines};
-ghost use Rattle.zone_check.specs.Finding.{finding_text, said_by, sentences};
-ghost use Rattle.zone_check.specs.Report.{AppendsOutcome, IsLineReport, IsZoneReport, SaysFault, SaysOnLine, advice_at, doubled_if_zone, fault_said, moment_said};
-ghost use Rattle.zone_check.specs.MissingDot.{soa_without_dot};
+ghost use Rattle.std.specs.Prelude.{◌≡◌, ◌↔◌, ◌++◌, [], IfOk, IsOk, OnOk, map, option_copied, string_bytes};
+ghost use Rattle.zone_check.specs.Fault.{start_view};
+ghost use Rattle.zone_check.specs.Files.{files_view, finding_in, names_view, report_text};
+ghost use Rattle.zone_check.specs.Report.{doubled_apex, entries_said, entry_warned, file_said, outcome_said, said_of_warning, said_of_warnings, shown_name, warning_said, warnings_said, whole_said, word_said, zone_report};
+ghost use Rattle.zone_findings.specs.Finding.{said_by};
+ghost use Rattle.zone_lines.specs.Source.{text_view};
 
+use crate::apex::some_starts;
 use crate::check::ZoneCheck;
-use crate::culprit::fault_line;
-use crate::fault_text::advice_on;
-use crate::finding::{Advice, Finding, Severity, text_at};
-use crate::line::lines_of;
-use crate::missing_dot::soa_without_dot;
-use crate::script_line::mistake_in;
-use crate::warning_text::{missing_dot_text, push_warnings};
+use crate::fault::{ZoneStart, entry_finding, finding_on, zone_start};
+use crate::files::Files;
 use dns_names::Name;
 use dns_zone::ZoneFault;
 use std::alloc::{AllocError, Global};
-use zone_lines::{RecordLine, doubled_origin, faulty_token};
+use zone_findings::{Finding, ReportFormat, Severity, fault_advice, warning_advice};
+use zone_lines::{EntryLine, ZoneText, lines_of_file};
+use zone_warnings::{Warning, WarningKind, doubled_origin, name_below};
 
-/// The bytes of a byte-order mark, which the server takes for the start of the first word.
-const BYTE_ORDER_MARK: [u8; 3] = [0xEF, 0xBB, 0xBF];
-
-/// Returns what is to be said of a zone file, a fault or each warning. It is empty if there is nothing to say.
+/// Returns what is to be said of a zone file, each fault and then each warning, in the order of its lines. It is empty if there
+/// is nothing to say. The names are those of the file, and of the files of the texts to include.
 pub fn zone_report(
     alloc: Global,
-    file: &str,
-    text: &str,
-    origin: Option<&Name>,
+    format: ReportFormat,
+    names: &[&str],
+    file: &ZoneText<'_>,
     check: &ZoneCheck,
 ) -> Result<String, AllocError>
-    ensures report { IfOk result (λ report. IsZoneReport file.now text.now
-        (option_copied origin.entry) check.now (string_bytes report)) }
+    ensures report { IfOk result (λ report. string_bytes report
+        ≡ zone_report format (names_view names.now) (text_view file.entry.now) check.now) }
     ensures empty { IfOk result (λ report. string_bytes report ≡ []
-        ↔ (IsOk check.now.outcome × (check.now.warnings.items ≡ []))) }
+        ↔ (IsOk check.now.outcome × (warnings_said (text_view file.entry.now) check.now ≡ []))) }
 {
-    let lines = lines_of(alloc, text)?;
+    let texts = lines_of_file(alloc, file)?;
+    let files = Files {
+        names,
+        texts: texts.as_slice(),
+    };
+    let start = zone_start(file, check.origin.as_ref(), check.entries.as_slice());
+    let faults = faults(alloc, &start, check)?;
     let mut report = String::new(alloc);
-    push_outcome(
-        alloc,
-        &mut report,
-        file,
-        text,
-        lines.as_slice(),
-        origin,
-        check,
-    )?;
-    let doubled = doubled_if_zone(check)?;
-    push_warnings(
-        alloc,
-        &mut report,
-        file,
-        lines.as_slice(),
-        doubled.as_ref(),
-        check.records.as_slice(),
-        check.warnings.as_slice(),
-    )?;
+    push_findings(alloc, format, &mut report, files, faults.as_slice())?;
+    push_warnings(alloc, format, &mut report, files, &start, check)?;
     Ok(report)
 }
 
-/// Appends what is to be said of the outcome of a check to a report of a file with these lines.
-fn push_outcome(
+/// Appends what is said of findings to a report of a file with these lines.
+fn push_findings(
     alloc: Global,
+    format: ReportFormat,
     report: &mut String,
-    file: &str,
-    text: &str,
-    lines: &[&str],
-    origin: Option<&Name>,
-    check: &ZoneCheck,
+    files: Files<'_, '_, '_>,
+    findings: &[Finding<'_>],
 ) -> Result<(), AllocError>
-    ensures { OnOk result (AppendsOutcome file.now text.now (map (λ line. line.now) lines.now)
-        (option_copied origin.entry) check.now (string_bytes report.old)
-        (string_bytes report.new)) }
+    ensures { OnOk result (string_bytes report.new ≡ string_bytes report.old
+        ++ report_text format (files_view files.entry)
+        (map said_by findings.now)) }
+{
+    for finding in findings {
+        files.push(alloc, format, report, finding)?;
+    }
+    Ok(())
+}
+
+/// Returns the faults of a check: none of a zone, and at least one of a text that has none.
+fn faults<'a>(
+    alloc: Global,
+    start: &ZoneStart<'_>,
+    check: &'a ZoneCheck,
+) -> Result<Vec<Finding<'a>>, AllocError>
+    ensures { IfOk result (λ found. map said_by found.items
+        ≡ outcome_said (start_view start.entry.now) check.now.entries.items check.now.outcome) }
 {
     match &check.outcome {
-        Ok(_) => Ok(()),
+        Ok(_) => Ok(Vec::new(alloc)),
         Err(fault) => {
-            let records = check.records.as_slice();
-            let finding = fault_finding(alloc, text, origin, fault, records)?;
-            finding.push_to(alloc, report, file, lines)
+            let found = entry_faults(alloc, start, check.entries.as_slice())?;
+            with_whole(start, found, fault, check.entries.as_slice())
         }
     }
 }
 
-/// Returns the origin of a zone with its labels once more, if there is a zone and that is a name.
-fn doubled_if_zone(check: &ZoneCheck) -> Result<Option<Name>, AllocError>
-    ensures { IfOk result (λ doubled. doubled ≡ doubled_if_zone check.now.outcome) }
-{
-    match &check.outcome {
-        Ok(zone) => doubled_origin(zone.origin()),
-        Err(_) => Ok(None),
-    }
-}
-
-/// Returns what is to be said of a fault: that the SOA record lacks a dot, or else the fault.
-fn fault_finding<'a>(
+/// Returns the faults of entries.
+fn entry_faults<'a>(
     alloc: Global,
-    text: &'a str,
-    origin: Option<&Name>,
-    fault: &ZoneFault,
-    records: &[RecordLine],
-) -> Result<Finding<'a>, AllocError>
-    ensures { IfOk result (λ finding. SaysFault text.now (option_copied origin.entry) records.now
-        fault.now (soa_without_dot fault.now (option_copied origin.entry) records.now)
-        (said_by finding)) }
+    start: &ZoneStart<'_>,
+    entries: &'a [EntryLine],
+) -> Result<Vec<Finding<'a>>, AllocError>
+    ensures { IfOk result (λ found.
+        map said_by found.items ≡ entries_said (start_view start.entry.now) entries.now) }
 {
-    match soa_without_dot(fault, origin, records)? {
-        Some(line) => Ok(finding_on(Some(line), None, missing_dot_text())),
-        None => match fault_line(fault, origin, records) {
-            Some(line) => finding_on_line(alloc, text, origin, fault, line),
-            None => Ok(finding_on(None, None, advice_on(fault, None))),
-        },
+    let mut found = Vec::new(alloc);
+    for entry in entries {
+        match entry_finding(start, entry)? {
+            Some(finding) => found.push(finding)?,
+            None => continue,
+        }
     }
+    Ok(found)
 }
 
-/// Returns what is to be said of a fault on a line, with the word at fault of the entry that begins there.
-fn finding_on_line<'a>(
+/// Adds the fault of a file without an SOA record to those of its entries, and the fault of the whole file if there is no other.
+fn with_whole<'a>(
+    start: &ZoneStart<'_>,
+    found: Vec<Finding<'a>>,
+    fault: &ZoneFault,
+    entries: &[EntryLine],
+) -> Result<Vec<Finding<'a>>, AllocError>
+    ensures { IfOk result (λ all. map said_by all.items
+        ≡ whole_said start.entry.now.types fault.now entries.now (map said_by found.entry.items)) }
+{
+    let mut found = found;
+    if !some_starts(entries) {
+        found.push(file_finding(start, &ZoneFault::NoSoa))?;
+    } else if found.is_empty() {
+        found.push(file_finding(start, fault))?;
+    }
+    Ok(found)
+}
+
+/// Returns what is said of a whole file.
+fn file_finding<'a>(start: &ZoneStart<'_>, fault: &ZoneFault) -> Finding<'a>
+    ensures { said_by result ≡ file_said start.entry.now.types fault.now }
+{
+    finding_on(0, None, None, fault_advice(start.types, fault))
+}
+
+/// Appends what is said of each warning, except of an entry with a fault.
+fn push_warnings(
     alloc: Global,
-    text: &'a str,
-    origin: Option<&Name>,
-    fault: &ZoneFault,
-    line: usize,
-) -> Result<Finding<'a>, AllocError>
-    ensures { IfOk result (λ finding. SaysOnLine text.now (option_copied origin.entry) fault.now
-        (Some line) (said_by finding)) }
+    format: ReportFormat,
+    report: &mut String,
+    files: Files<'_, '_, '_>,
+    start: &ZoneStart<'_>,
+    check: &ZoneCheck,
+) -> Result<(), AllocError>
+    ensures { OnOk result (string_bytes report.new ≡ string_bytes report.old
+        ++ report_text format (files_view files.entry) (said_of_warnings
+        (start_view start.entry.now) check.now.entries.items check.now.warnings.items)) }
 {
-    let word = faulty_token(alloc, text, origin, line)?;
-    Ok(finding_on(Some(line), word, advice_at(text, line, fault, word)))
-}
-
-/// Returns the sentences of a fault on a line, or of the byte-order mark before the first line.
-fn advice_at(text: &str, line: usize, fault: &ZoneFault, word: Option<&str>) -> Advice
-    ensures { sentences result ≡ advice_at text.now line fault.now (option_copied word.entry) }
-{
-    if line == 1 && text.as_bytes().starts_with(&BYTE_ORDER_MARK) {
-        return Advice {
-            reason: "a byte-order mark at the start of the file",
-            hint: "save the file as UTF-8 without a byte-order mark",
-        };
+    let entries = check.entries.as_slice();
+    for warning in &check.warnings {
+        push_warning(alloc, format, report, files, start, entries, *warning)?;
     }
-    advice_on(fault, word)
+    Ok(())
 }
 
-/// Returns what is to be said of a fault on a line, if it has one.
-pub(crate) fn finding_on(line: Option<usize>, word: Option<&str>, advice: Advice) -> Finding<'_>
-    ensures { said_by result ≡ fault_said line (option_copied word.entry) (sentences advice) }
+/// Appends what is said of a warning about one of the entries, unless that has a fault.
+fn push_warning(
+    alloc: Global,
+    format: ReportFormat,
+    report: &mut String,
+    files: Files<'_, '_, '_>,
+    start: &ZoneStart<'_>,
+    entries: &[EntryLine],
+    warning: Warning,
+) -> Result<(), AllocError>
+    ensures { OnOk result (string_bytes report.new ≡ string_bytes report.old
+        ++ report_text format (files_view files.entry)
+        (said_of_warning (start_view start.entry.now) entries.now warning)) }
+{
+    match entries.get(warning.place) {
+        Some(entry) => push_entry_warning(alloc, format, report, files, start, entry, warning),
+        None => Ok(()),
+    }
+}
+
+/// Appends what is said of a warning about an entry, unless that has a fault.
+fn push_entry_warning(
+    alloc: Global,
+    format: ReportFormat,
+    report: &mut String,
+    files: Files<'_, '_, '_>,
+    start: &ZoneStart<'_>,
+    entry: &EntryLine,
+    warning: Warning,
+) -> Result<(), AllocError>
+    ensures { OnOk result (string_bytes report.new ≡ string_bytes report.old
+        ++ report_text format (files_view files.entry)
+        (entry_warned (start_view start.entry.now) warning entry.now)) }
+{
+    if entry_finding(start, entry)?.is_some() {
+        return Ok(());
+    }
+    let doubled = doubled_apex(start)?;
+    let name = shown_name(doubled.as_ref(), entry, warning);
+    push_named_warning(alloc, format, report, files, name, warning)
+}
+
+/// Returns the origin with its labels once more, if it is known and that is a name.
+fn doubled_apex(start: &ZoneStart<'_>) -> Result<Option<Name>, AllocError>
+    ensures { IfOk result (λ doubled. doubled ≡ doubled_apex (start_view start.entry.now)) }
+{
+    match start.apex {
+        Some(apex) => doubled_origin(apex),
+        None => Ok(None),
+    }
+}
+
+/// Appends what is said of a warning that shows a name, if there is one.
+fn push_named_warning(
+    alloc: Global,
+    format: ReportFormat,
+    report: &mut String,
+    files: Files<'_, '_, '_>,
+    name: Option<&Name>,
+    warning: Warning,
+) -> Result<(), AllocError>
+    ensures { OnOk result (string_bytes report.new ≡ string_bytes report.old
+        ++ finding_in format (files_view files.entry) (warning_said (option_copied name.entry) warning)) }
+{
+    match name {
+        Some(name) => {
+            let word = name.to_ascii()?;
+            let finding = warning_finding(warning, Some(word.as_str()));
+            files.push(alloc, format, report, &finding)
+        }
+        None => files.push(alloc, format, report, &warning_finding(warning, None)),
+    }
+}
+
+/// Returns what is said of a warning that shows a word, if there is one.
+fn warning_finding(warning: Warning, word: Option<&str>) -> Finding<'_>
+    ensures { said_by result ≡ word_said (option_copied word.entry) warning }
 {
     Finding {
-        line,
-        severity: Severity::Fault,
+        source: warning.at.source,
+        line: Some(warning.at.line),
+        severity: Severity::Warning,
         word,
-        advice,
+        advice: warning_advice(warning.kind),
     }
 }
 
-/// Returns what is to be said of a line of a script that cannot be read.
-pub fn script_report(
-    alloc: Global,
-    file: &str,
-    text: &str,
-    line: usize,
-) -> Result<String, AllocError>
-    ensures { IfOk result (λ report. IsLineReport file.now text.now line (string_bytes report)) }
+/// Returns the name that a warning about an entry shows: of a missing dot, the one that ends in the origin twice, as it is
+/// completed.
+fn shown_name<'a>(
+    doubled: Option<&Name>,
+    entry: &'a EntryLine,
+    warning: Warning,
+) -> Option<&'a Name>
+    ensures { option_copied result
+        ≡ shown_name (option_copied doubled.entry) entry.now warning.kind }
 {
-    let lines = lines_of(alloc, text)?;
-    let mistake = mistake_in(alloc, text_at(lines.as_slice(), Some(line)))?;
-    let mut report = String::new(alloc);
-    let finding = finding_on(Some(line), mistake.word, mistake.advice);
-    finding.push_to(alloc, &mut report, file, lines.as_slice())?;
-    Ok(report)
-}
-
-/// Returns what is to be said of a line of a script whose moment is before that of an event above it, or too great.
-pub fn moment_report(
-    alloc: Global,
-    file: &str,
-    text: &str,
-    line: usize,
-) -> Result<String, AllocError>
-    ensures { IfOk result (λ report. string_bytes report
-        ≡ finding_text file.now (lines text.now) (moment_said line)) }
-{
-    let lines = lines_of(alloc, text)?;
-    let mut report = String::new(alloc);
-    let advice = Advice {
-        reason: "a moment before that of an event above, or after 2^62",
-        hint: "write events in the order of their moments, and none after 2^62",
-    };
-    let finding = finding_on(Some(line), None, advice);
-    finding.push_to(alloc, &mut report, file, lines.as_slice())?;
-    Ok(report)
+    match (warning.kind, doubled, entry) {
+        (WarningKind::MissingDot, Some(doubled), EntryLine::Record(record_line)) => {
+            name_below(doubled, record_line)
+        }
+        _ => None,
+    }
 }

@@ -4,12 +4,12 @@ ghost use Rattle.std.specs.Prelude.{◌≡◌, ℕ, IfOk, IfSome, Some, slice_ge
 ghost use Rattle.std.specs.Str.Iter.{HasSubslice};
 ghost use Rattle.zone_check.specs.ScriptLine.{IsWordOf};
 
-use crate::finding::Advice;
 use dns_codes::parse_decimal;
 use dns_names::{Name, ParseError};
 use dns_text::parse_ip;
 use dns_wire::RecordType;
 use std::alloc::{AllocError, Global};
+use zone_findings::Advice;
 
 /// How events are written. A word in capitals denotes a value, and any other itself.
 const FORMS: [&str; 10] = [

@@ -1,4 +1,5 @@
-pub mod KindLaws
-pub mod DataLaws
-pub mod TextLaws
-pub mod TokenLaws
+pub mod ContextLaws
+pub mod GenerateLaws
+pub mod WordLaws
+pub mod SkipLaws
+pub mod ReadingLaws

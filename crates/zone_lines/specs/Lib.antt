@@ -1,4 +1,6 @@
-pub mod RecordLine
-pub mod Token
-pub mod Warning
+pub mod Source
+pub mod Line
+pub mod Skip
+pub mod Word
+pub mod Reading
 pub mod internal

@@ -1,4 +1,5 @@
 -- How contracts view the types of the code.
-pub mod Fields
-pub mod Entry
-pub mod RecordLine
+pub mod Source
+pub mod Context
+pub mod Word
+pub mod Reading

@@ -1,16 +1,23 @@
-//! The records of a zone file with their lines, and what such a file says and nobody means.
+//! The entries of a zone file with their lines: its records, and all its faults.
 //!
-//! - `record_line`: the records of a file, with their lines; `entry`, `fields`: how its entries are read;
-//! - `token`: the token at fault in an entry;
-//! - `warning`: the kinds of warnings, and the records that they apply to.
+//! - `reading`: the entries of a file and of those that it includes, in order; `context`: what an entry adds, and what a fault
+//!   leaves; `generate`: the records of a `$GENERATE`; `skip`: where a text is read on after a fault of it; `source`: the texts
+//!   of a file;
+//! - `line`: the lines of the texts; `fault`: the faults of entries; `word`: the token at fault in an entry;
+//! - `record_line`: records and faults with their lines.
 #![tactic(auto)]
 
-mod entry;
-mod fields;
+mod context;
+mod fault;
+mod generate;
+mod line;
+mod reading;
 mod record_line;
-mod token;
-mod warning;
+mod skip;
+mod source;
+mod word;
 
-pub use record_line::{RecordLine, read_records};
-pub use token::faulty_token;
-pub use warning::{Warning, WarningKind, doubled_origin, name_below, warnings};
+pub use line::{line_at, line_numbered, lines_of, lines_of_file};
+pub use reading::read_lines;
+pub use record_line::{Earlier, EntryLine, FaultLine, Position, RecordLine};
+pub use source::ZoneText;

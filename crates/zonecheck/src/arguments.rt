@@ -2,14 +2,21 @@
 
 use clap::error::ErrorKind;
 use clap::{Arg, ArgAction, ArgMatches, Command, value_parser};
+use dns_codes::parse_decimal;
 use dns_names::{Name, ParseError};
+use dns_zone_file::Types;
 use std::alloc::{AllocError, Global};
 use stub_play::Ending;
+use zone_check::ReportFormat;
+use zone_includes::Reach;
+
+/// The greatest time, in seconds since 1970, that is read.
+const MAX_TIME: u64 = 1 << 40;
 
 /// The arguments of the program. There is a zone file, or a script, or both.
 #[derive(Drop)]
 pub(crate) struct Arguments {
-    /// The path of the zone file, as given.
+    /// The path of the zone file, as given, or `-` for standard input.
     pub(crate) file: Option<String>,
     /// The path of the script, as given.
     pub(crate) script: Option<String>,
@@ -17,6 +24,23 @@ pub(crate) struct Arguments {
     pub(crate) origin: Option<Name>,
     /// Whether the zone is printed.
     pub(crate) print: bool,
+    /// Whether warnings fail.
+    pub(crate) fails_on_warning: bool,
+    /// How findings are written.
+    pub(crate) format: ReportFormat,
+    /// The types that the zone file may have.
+    pub(crate) types: Types,
+    /// Which files it may include.
+    pub(crate) reach: Reach,
+    /// The time at which signatures must not have expired, in seconds since 1970 and modulo 2^32, if it is given.
+    pub(crate) now: Option<u32>,
+}
+
+impl Arguments {
+    /// Returns `true` if the zone file may have all types, and include others.
+    pub(crate) fn reads_all_types(&self) -> bool {
+        matches!(self.types, Types::All)
+    }
 }
 
 /// Reads the arguments, of which the first is the program's name.
@@ -33,27 +57,101 @@ pub(crate) fn read_arguments(alloc: Global, words: &[&str]) -> Result<Arguments,
         file: text_in(alloc, &matches, "file")?,
         script: text_in(alloc, &matches, "script")?,
         origin: origin_in(alloc, &matches)?,
-        print: matches.get_str("print") == Some("true"),
+        print: is_set(&matches, "print"),
+        fails_on_warning: is_set(&matches, "fail-on-warning"),
+        format: format_in(&matches),
+        types: types_in(&matches),
+        reach: reach_in(&matches),
+        now: now_in(&matches)?,
     })
+}
+
+/// Returns how findings are written.
+fn format_in(matches: &ArgMatches<'_>) -> ReportFormat {
+    if is_set(matches, "json") {
+        ReportFormat::Json
+    } else {
+        ReportFormat::Text
+    }
+}
+
+/// Returns the types that the zone file may have.
+fn types_in(matches: &ArgMatches<'_>) -> Types {
+    if is_set(matches, "nine") {
+        Types::Nine
+    } else {
+        Types::All
+    }
+}
+
+/// Returns which files the zone file may include.
+fn reach_in(matches: &ArgMatches<'_>) -> Reach {
+    if is_set(matches, "include-anywhere") {
+        Reach::Anywhere
+    } else {
+        Reach::Folder
+    }
+}
+
+/// Returns the time at which signatures must not have expired, if it is given.
+fn now_in(matches: &ArgMatches<'_>) -> Result<Option<u32>, Ending> {
+    let Some(text) = matches.get_str("now") else {
+        return Ok(None);
+    };
+    match parse_decimal(text.as_bytes(), MAX_TIME) {
+        Some(seconds) => Ok(Some((seconds % (1 << 32)) as u32)),
+        None => Err(Ending::BadWords),
+    }
 }
 
 /// Returns the program's command, for clap.
 fn command<'a>(alloc: Global) -> Result<Command<'a>, AllocError> {
     let file = Arg::new(alloc, "file")
         .value_name("FILE")
-        .help("The zone file")
+        .help("The zone file, or - for standard input")
         .required_unless_present("script")?;
-    let print = Arg::new(alloc, "print")
-        .long("print")
-        .action(ArgAction::SetTrue)
-        .value_parser(value_parser!(bool))
-        .help("Print the zone as it was read");
     Command::new(alloc, "zonecheck")
         .about("Says what is wrong in a zone file or a script, and what to write instead")
         .arg(file)?
         .arg(option(alloc, "origin", "NAME", "The origin of the zone"))?
-        .arg(print)?
+        .arg(flag(alloc, "print", "Print the zone as it was read"))?
+        .arg(flag(
+            alloc,
+            "fail-on-warning",
+            "Exit with status 1 if there is a warning",
+        ))?
+        .arg(flag(alloc, "json", "Print a JSON object for each finding"))?
+        .arg(flag(
+            alloc,
+            "nine",
+            "Read the nine types of the program stub, and no other file",
+        ))?
+        .arg(flag(
+            alloc,
+            "include-anywhere",
+            "Let the zone file include any file",
+        ))?
+        .arg(option(
+            alloc,
+            "now",
+            "SECONDS",
+            "The time since 1970 at which signatures must be valid",
+        ))?
         .arg(option(alloc, "script", "FILE", "The script, for the program stub"))
+}
+
+/// Returns an option that takes no value.
+fn flag<'a>(alloc: Global, name: &'a str, help: &'a str) -> Arg<'a> {
+    Arg::new(alloc, name)
+        .long(name)
+        .action(ArgAction::SetTrue)
+        .value_parser(value_parser!(bool))
+        .help(help)
+}
+
+/// Returns `true` if an option that takes no value is given.
+fn is_set(matches: &ArgMatches<'_>, name: &str) -> bool {
+    matches.get_str(name) == Some("true")
 }
 
 /// Returns an option that takes one value.

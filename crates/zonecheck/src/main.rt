@@ -1,9 +1,12 @@
-//! `zonecheck [FILE] [--origin NAME] [--print] [--script FILE]`: says what is wrong in a zone file, in a script, or in both.
+//! `zonecheck [FILE] [--origin NAME] [--nine] [--include-anywhere] [--now SECONDS] [--print] [--fail-on-warning] [--json] [--script
+//! FILE]`: says what is wrong in a zone file, in a script, or in both.
 //!
-//! - `arguments`: the arguments; `zone_file`, `script_file`: the checks of the files.
+//! - `arguments`: the arguments; `includes`: the files that a zone file includes; `zone_file`, `script_file`: the checks of the
+//!   files.
 #![tactic(auto)]
 
 mod arguments;
+mod includes;
 mod script_file;
 mod zone_file;
 
@@ -52,13 +55,15 @@ fn run_program(rt: &HostRuntime) -> Result<Verdict, Ending> {
 
 /// Checks a zone file, and the script, if there is one, as a script for its zone.
 fn check_both(rt: &HostRuntime, path: &str, arguments: &Arguments) -> Result<Verdict, Ending> {
-    match check_zone_file(rt, path, arguments)? {
-        Some(origin) => check_script_file(rt, arguments, &origin),
-        None => {
-            let root = Name::root(rt.alloc());
-            check_script_file(rt, arguments, arguments.origin.as_ref().unwrap_or(&root))?;
-            Ok(Verdict::Refused)
-        }
+    let checked = check_zone_file(rt, path, arguments)?;
+    let root = Name::root(rt.alloc());
+    let origin = match (&checked.origin, &arguments.origin) {
+        (Some(origin), _) | (None, Some(origin)) => origin,
+        (None, None) => &root,
+    };
+    match (checked.verdict, check_script_file(rt, arguments, origin)?) {
+        (Verdict::Accepted, Verdict::Accepted) => Ok(Verdict::Accepted),
+        _ => Ok(Verdict::Refused),
     }
 }
 
@@ -95,13 +100,14 @@ pub(crate) fn read_text(
     arguments: &Arguments,
 ) -> Result<Option<String>, Ending> {
     let bytes = read_bytes(rt, path)?;
-    let report = encoding_report(rt.alloc(), path, bytes.as_slice())?;
+    let report = encoding_report(rt.alloc(), arguments.format, path, bytes.as_slice())?;
     write_report(rt, report.as_str(), arguments)?;
     Ok(String::from_utf8(bytes).ok())
 }
 
-/// Returns the bytes of a file.
+/// Returns the bytes of a file, or of standard input.
 fn read_bytes(rt: &HostRuntime, path: &str) -> Result<Vec<u8>, Ending> {
+    let path = if path == "-" { "/dev/stdin" } else { path };
     match fs::read(rt, path) {
         Ok(bytes) => Ok(bytes),
         Err(error) if error.kind() == io::ErrorKind::OutOfMemory => {

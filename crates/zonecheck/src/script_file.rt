@@ -22,10 +22,16 @@ pub(crate) fn check_script(
     };
     let report = match read_script(alloc, text.as_str(), origin) {
         Ok(script) => match line_out_of_order(&script) {
-            Some(line) => moment_report(alloc, path, text.as_str(), line)?,
+            Some(line) => moment_report(alloc, arguments.format, path, text.as_str(), line)?,
             None => return Ok(Verdict::Accepted),
         },
-        Err(ScriptFault::Line(line)) => script_report(alloc, path, text.as_str(), line)?,
+        Err(ScriptFault::Line(line)) => script_report(
+            alloc,
+            arguments.format,
+            path,
+            text.as_str(),
+            line,
+        )?,
         // Memory was refused while the script was read.
         Err(ScriptFault::Memory) => return Err(Ending::Memory),
     };

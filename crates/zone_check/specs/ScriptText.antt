@@ -1,0 +1,21 @@
+-- What is said of a script.
+use Rattle.std.specs.Prelude.{◌≡◌, ℕ, List, codes, IfSome, Option, Some, None}
+use Rattle.std.specs.Str.Lines.{lines}
+use Rattle.zone_check.specs.Fault.{fault_said}
+use Rattle.zone_check.specs.ScriptLine.{IsWordOf}
+use Rattle.zone_findings.specs.Finding.{Said, Sentences, finding_text, line_text}
+use Rattle.zone_findings.specs.declared.format.ReportFormat.{ReportFormat}
+
+-- what is said of a moment that is out of order
+abbrev pub moment_said : ℕ → Said
+moment_said line = fault_said 0 (Some line) None (record {
+  reason = codes "a moment before that of an event above, or after 2^62";
+  hint = codes "write events in the order of their moments, and none after 2^62";
+})
+
+-- The report of a line of a script that cannot be read: one fault of that line, which may show a word of the line.
+pub record IsLineReport (format : ReportFormat) (file text : List ℕ) (line : ℕ) (report : List ℕ) : Type 0 where
+  pub word : Option (List ℕ)
+  pub advice : Sentences
+  pub word_of_line : IfSome word (IsWordOf (line_text (lines text) (Some line)))
+  pub report_is : report ≡ finding_text format file (lines text) (fault_said 0 (Some line) word advice)

@@ -1,0 +1,2 @@
+pub mod AppendLaws
+pub mod ResultLaws

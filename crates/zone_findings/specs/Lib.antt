@@ -1,0 +1,6 @@
+pub mod Shown
+pub mod Finding
+pub mod ValueText
+pub mod WordText
+pub mod FaultText
+pub mod WarningText

@@ -1,0 +1,76 @@
+//! The sentences of warnings.
+
+ghost use Rattle.std.specs.Prelude.{◌≡◌};
+ghost use Rattle.zone_findings.specs.Finding.{sentences};
+ghost use Rattle.zone_findings.specs.WarningText.{warning_sentences};
+
+use crate::finding::Advice;
+use zone_warnings::WarningKind;
+
+/// Returns what a kind of warning says, and what to write instead.
+pub fn warning_advice(kind: WarningKind) -> Advice
+    ensures { sentences result ≡ warning_sentences kind }
+{
+    match kind {
+        WarningKind::RootZone => Advice {
+            reason: "a zone whose origin is the root",
+            hint: "write $ORIGIN and the zone's origin above it, or pass --origin",
+        },
+        WarningKind::NoOrigin => Advice {
+            reason: "no $ORIGIN, and no origin given: the root completed a name without a dot at its end",
+            hint: "write $ORIGIN and the zone's origin above it, pass --origin, or write a dot at the end of each name",
+        },
+        WarningKind::AliasBesideData => Advice {
+            reason: "an alias (CNAME) beside other records of its owner",
+            hint: "remove the alias or the other records, and at the origin always the alias: many servers answer with the alias alone",
+        },
+        WarningKind::SecondRecord => Advice {
+            reason: "a second CNAME or SOA record of its owner: the last CNAME is kept, or the SOA with the greater serial",
+            hint: "remove one of them",
+        },
+        WarningKind::DuplicateRecord => Advice {
+            reason: "a record that is dropped: one above has its owner, type and data",
+            hint: "remove one of them",
+        },
+        WarningKind::OtherTtl => Advice {
+            reason: "another TTL than the records above of this owner and type",
+            hint: "write the same TTL for all records of a set",
+        },
+        WarningKind::NoAddress => Advice {
+            reason: "a server in this zone that has no A or AAAA record",
+            hint: "write an address record of the server's name, which must not be an alias, or a dot after a name outside the zone",
+        },
+        WarningKind::Wildcard => Advice {
+            reason: "a wildcard, which this server does not expand",
+            hint: "write a record for each name that is to be found",
+        },
+        WarningKind::Delegation => Advice {
+            reason: "a delegation, which this server does not follow: it answers for names below from this file alone",
+            hint: "write the records of the names below it into this file",
+        },
+        WarningKind::SignerWithoutCut => Advice {
+            reason: "a DS record where nothing is delegated",
+            hint: "write the NS records of its owner, or remove it: the DS records of this zone are in the one above it",
+        },
+        WarningKind::ExpiredSignature => Advice {
+            reason: "a signature that has expired",
+            hint: "sign the zone again",
+        },
+        WarningKind::SecondSpf => Advice {
+            reason: "a second SPF policy of its owner, with which neither counts",
+            hint: "write one TXT record with v=spf1",
+        },
+        WarningKind::SecondDmarc => Advice {
+            reason: "a second DMARC policy of its owner, with which neither counts",
+            hint: "write one TXT record with v=DMARC1",
+        },
+        WarningKind::CutText => Advice {
+            reason: "a ; directly after a word, which ends the text there",
+            hint: "write the text in quotes, as \"v=DKIM1; k=rsa\"",
+        },
+        WarningKind::MissingDot => Advice {
+            reason: "a name that ends in the origin twice",
+            hint: "write a dot at the end of the name, or leave the origin out of it",
+        },
+    }
+}

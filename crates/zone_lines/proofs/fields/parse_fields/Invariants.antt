@@ -1,8 +1,0 @@
-use Rattle.std.proofs.Common.{◌≡◌, drop, map}
-use Rattle.dns_text.specs.Token.{lexeme}
-use Rattle.dns_zone_file.specs.Fields.{fields_of, fields_after}
-use Rattle.zone_lines.proofs.fields.parse_fields.Given as goal
-
--- what follows completes the fields
-abbrev pub invariant-loop-i : goal.invariant-loop-i
-invariant-loop-i l = fields_after l.ttl l.dns_class (drop l.i (map lexeme l.tokens)) ≡ fields_of (map lexeme l.tokens)

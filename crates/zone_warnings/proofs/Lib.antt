@@ -1,0 +1,3 @@
+pub mod PositionLaws
+pub mod PlacesLaws
+pub mod KindLaws

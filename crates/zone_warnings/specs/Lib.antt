@@ -1,0 +1,6 @@
+pub mod Names
+pub mod Text
+pub mod Signature
+pub mod Places
+pub mod Survey
+pub mod Warning

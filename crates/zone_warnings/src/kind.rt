@@ -1,0 +1,72 @@
+//! The kinds of warnings.
+
+use zone_lines::Position;
+
+/// A kind of warning.
+#[derive(Clone, Copy, Debug, PartialEq, Eq)]
+pub enum WarningKind {
+    /// An SOA record of a zone whose origin is the root: the text has no `$ORIGIN` above it, and none was given.
+    RootZone,
+    /// An SOA record of a zone without a `$ORIGIN` and without an origin that was given, with a name of one label in the data
+    /// of a record: the root completed it (RFC 1035 section 5.1).
+    NoOrigin,
+    /// A CNAME record, of whose owner there is other data (RFC 1034 section 3.6.2, RFC 2181 section 10.1).
+    AliasBesideData,
+    /// A CNAME or SOA record after another of its owner, of which one is kept (RFC 2181 section 10.1, RFC 1035 section 5.2).
+    SecondRecord,
+    /// A record that is dropped: one above has its owner and type, and equal data (RFC 2181 section 5).
+    DuplicateRecord,
+    /// A record whose TTL is not that of the set of its owner and type (RFC 2181 section 5.2).
+    OtherTtl,
+    /// An NS or MX record whose target is in the zone, which has no address for it (RFC 2181 section 10.3). A record with a
+    /// name that ends in the origin twice has this warning only once that name is corrected.
+    NoAddress,
+    /// A record of a wildcard, which the server does not expand (RFC 1034 section 4.3.3). It is the first of its type.
+    Wildcard,
+    /// The first NS record of an owner below the origin, with which the server treats no name otherwise (RFC 1034 section
+    /// 4.2.1).
+    Delegation,
+    /// A DS record whose owner is no delegation (RFC 4035 section 2.4).
+    SignerWithoutCut,
+    /// An RRSIG record that has expired (RFC 4034 section 3.1.5).
+    ExpiredSignature,
+    /// A TXT record beginning `v=spf1` after another of its owner, with which neither counts (RFC 7208 section 4.5).
+    SecondSpf,
+    /// A TXT record beginning `v=DMARC1` after another at `_dmarc`, with which neither counts (RFC 7489 section 6.6.3).
+    SecondDmarc,
+    /// A TXT record with a `;` directly behind a word that is not quoted, which ends the record there (RFC 1035 section 5.1).
+    CutText,
+    /// A record with a name that ends in the origin twice (RFC 1035 section 5.1).
+    MissingDot,
+}
+
+impl WarningKind {
+    /// The kinds, in the order of a record's warnings.
+    pub const ALL: [WarningKind; 15] = [
+        WarningKind::RootZone,
+        WarningKind::NoOrigin,
+        WarningKind::AliasBesideData,
+        WarningKind::SecondRecord,
+        WarningKind::DuplicateRecord,
+        WarningKind::OtherTtl,
+        WarningKind::NoAddress,
+        WarningKind::Wildcard,
+        WarningKind::Delegation,
+        WarningKind::SignerWithoutCut,
+        WarningKind::ExpiredSignature,
+        WarningKind::SecondSpf,
+        WarningKind::SecondDmarc,
+        WarningKind::CutText,
+        WarningKind::MissingDot,
+    ];
+}
+
+/// Something that is accepted and hardly meant.
+#[derive(Clone, Copy, Debug, PartialEq, Eq)]
+pub struct Warning {
+    /// Where the record is.
+    pub at: Position,
+    pub kind: WarningKind,
+    /// The place of its entry among those that were read, from 0.
+    pub place: usize,
+}

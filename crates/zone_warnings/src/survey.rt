@@ -1,0 +1,79 @@
+//! What is known of a zone as a whole.
+
+ghost use Rattle.std.specs.Prelude.{◌≡◌, IfOk, map};
+ghost use Rattle.zone_warnings.specs.Survey.{Surveys, facts_view, lacks_origin, names_top};
+
+use crate::names::{doubled_origin, has_top_name};
+use crate::places::{Places, Trait};
+use crate::text::has_directive;
+use dns_names::Name;
+use std::alloc::{AllocError, Global};
+use zone_lines::EntryLine;
+
+/// What is known of a zone besides its records.
+#[derive(Clone, Copy)]
+pub struct ZoneFacts<'a> {
+    pub origin: &'a Name,
+    /// Whether the origin was given, and not found in the text.
+    pub is_given: bool,
+    /// The time at which signatures must not have expired, in seconds since 1970 and modulo 2^32.
+    pub now: Option<u32>,
+    /// The lines of each text.
+    pub texts: &'a [Vec<&'a str>],
+}
+
+/// What is known of a zone as a whole.
+#[derive(Drop)]
+pub(crate) struct Survey {
+    /// The origin with its labels once more.
+    pub(crate) doubled: Option<Name>,
+    /// Whether the root completes names, and some name has been completed so.
+    pub(crate) lacks_origin: bool,
+    pub(crate) others: Places,
+    pub(crate) addresses: Places,
+    pub(crate) cuts: Places,
+    pub(crate) spf: Places,
+    pub(crate) dmarc: Places,
+}
+
+impl Survey {
+    /// Surveys the records of a zone.
+    pub(crate) fn new(
+        alloc: Global,
+        facts: &ZoneFacts<'_>,
+        entries: &[EntryLine],
+    ) -> Result<Survey, AllocError>
+        ensures { IfOk result (λ survey. Surveys survey (facts_view facts.entry.now) entries.now) }
+    {
+        Ok(Survey {
+            doubled: doubled_origin(facts.origin)?,
+            lacks_origin: lacks_origin(facts, entries),
+            others: Places::of(alloc, Trait::NoAlias, entries)?,
+            addresses: Places::of(alloc, Trait::Address, entries)?,
+            cuts: Places::of(alloc, Trait::NameServer, entries)?,
+            spf: Places::of(alloc, Trait::Spf, entries)?,
+            dmarc: Places::of(alloc, Trait::Dmarc, entries)?,
+        })
+    }
+}
+
+/// Returns `true` if the root completes names, and some name in data was completed so.
+fn lacks_origin(facts: &ZoneFacts<'_>, entries: &[EntryLine]) -> bool
+    ensures { result ≡ lacks_origin (facts_view facts.entry.now) entries.now }
+{
+    !facts.is_given && !has_directive(facts.texts) && names_top(entries)
+}
+
+/// Returns `true` if some name in data has one label.
+fn names_top(entries: &[EntryLine]) -> bool
+    ensures { result ≡ names_top entries.now }
+{
+    for entry in entries {
+        if let EntryLine::Record(record_line) = entry
+            && has_top_name(&record_line.rdata)
+        {
+            return true;
+        }
+    }
+    false
+}
