@@ -1,0 +1,72 @@
+//! The results of a script beside the expectations in it.
+
+ghost use Rattle.std.specs.Prelude.{◌≡◌, ◌≤◌, true};
+
+use script_expectations::{write_blessed, write_differences};
+use std::io::{self, BufWriter, ErrorKind, Write};
+use std::process::ExitCode;
+use stub_play::{Ending, PlayFault, PlayInput, play};
+
+/// Plays a script, and compares what each event led to with its expectations in the script. Each difference is printed, and
+/// the status is 1 if there is any.
+pub(crate) fn check(rt: &HostRuntime, input: &PlayInput) -> Result<ExitCode, Ending>
+    requires limit { 512 ≤ input.now.limit }
+    requires udp { input.now.udp ≡ true → input.now.limit ≤ 65507 }
+{
+    let printed = play_to_text(rt, input)?;
+    match print_differences(rt, input.script.as_str(), printed.as_str()) {
+        Ok(true) => Ok(ExitCode::SUCCESS),
+        Ok(false) => Ok(ExitCode::FAILURE),
+        Err(error) => Err(ending_of(error)),
+    }
+}
+
+/// Plays a script, and prints it with what each event led to as its expectations.
+pub(crate) fn bless(rt: &HostRuntime, input: &PlayInput) -> Result<ExitCode, Ending>
+    requires limit { 512 ≤ input.now.limit }
+    requires udp { input.now.udp ≡ true → input.now.limit ≤ 65507 }
+{
+    let printed = play_to_text(rt, input)?;
+    match print_blessed(rt, input.script.as_str(), printed.as_str()) {
+        Ok(()) => Ok(ExitCode::SUCCESS),
+        Err(error) => Err(ending_of(error)),
+    }
+}
+
+/// Plays a script, and returns what it prints.
+fn play_to_text(rt: &HostRuntime, input: &PlayInput) -> Result<String, Ending>
+    requires limit { 512 ≤ input.now.limit }
+    requires udp { input.now.udp ≡ true → input.now.limit ≤ 65507 }
+{
+    let mut bytes = Vec::new(rt.alloc());
+    play(rt, rt.alloc(), input, &mut bytes)?;
+    match String::from_utf8(bytes) {
+        Ok(text) => Ok(text),
+        // Names and data are printed in ASCII, and hosts as in the script.
+        Err(_) => Err(Ending::Fault(PlayFault::Write)),
+    }
+}
+
+/// Prints what a script expects and its events did not print.
+fn print_differences(rt: &HostRuntime, script: &str, printed: &str) -> io::Result<bool> {
+    let mut writer = BufWriter::new(rt.alloc(), io::writer(rt))?;
+    let is_met = write_differences(rt.alloc(), script, printed, &mut writer)?;
+    writer.flush()?;
+    Ok(is_met)
+}
+
+/// Prints a script with what its events printed as its expectations.
+fn print_blessed(rt: &HostRuntime, script: &str, printed: &str) -> io::Result<()> {
+    let mut writer = BufWriter::new(rt.alloc(), io::writer(rt))?;
+    write_blessed(rt.alloc(), script, printed, &mut writer)?;
+    writer.flush()
+}
+
+/// Returns how the program ends after an error.
+fn ending_of(error: io::Error) -> Ending {
+    match error.kind() {
+        // Memory for the lines was refused.
+        ErrorKind::OutOfMemory => Ending::Memory,
+        _ => Ending::Fault(PlayFault::Write),
+    }
+}
