@@ -1,9 +1,10 @@
 -- The connection that was active least recently, of those up to an index.
-use Rattle.std.proofs.Common.{◌≡◌, ◌<◌, ◌≤◌, ◌+◌, ◌⊎◌, inl, inr, ℕ, zero, suc, Bool, true, false, List, [], ◌∷◌, length, get_or, refl, sym, ap, subst, ◌∙◌, arith, Option, Some, None}
+use Rattle.std.proofs.Common.{◌≡◌, ◌<◌, ◌≤◌, ◌+◌, ◌⊎◌, inl, inr, ℕ, zero, suc, Bool, true, false, cond, add-zero, take, List, [], ◌∷◌, length, get_or, refl, sym, ap, subst, ◌∙◌, arith, Option, Some, None}
 use Rattle.std.specs.Prelude.{nat_lt, slice_get, IsSomeAnd}
 use Rattle.std.proofs.lemmas.Bool.{ltb-true, ltb-false, lt-ltb}
 use Rattle.dns_sockets.specs.declared.stream.Stream.{Stream}
-use Rattle.dns_sockets.specs.StreamTable.{is_less_active}
+use Rattle.std.proofs.lemmas.List.Filters.{length-filter_more}
+use Rattle.dns_sockets.specs.StreamTable.{has_transfer, is_less_active, transfers}
 
 not_true : (b : Bool) → (b ≡ true → ⊥) → b ≡ false
 not_true true f = absurd (f refl)
@@ -100,3 +101,15 @@ pub of_all : (slots : List (Option Stream)) (index count : ℕ) → length slots
 of_all slots index count all least other slot found =
     let h = within slots other slot found in
     least other slot (omega (arith, h, all)) found
+
+-- ---- replies of several messages
+
+-- one more connection is counted
+pub one_more : (slots : List (Option Stream)) (i count : ℕ) (d : Option Stream) → i < length slots → count ≡ transfers (take i slots) → true ≡ has_transfer (get_or slots i d) → count + 1 ≡ transfers (take (i + 1) slots)
+one_more slots i count d inside is e =
+    ap (λ (n : ℕ). n + 1) is ∙ ap (λ (b : Bool). transfers (take i slots) + cond b 1 0) e ∙ sym (length-filter_more has_transfer slots i d inside)
+
+-- or not
+pub none_more : (slots : List (Option Stream)) (i count : ℕ) (d : Option Stream) → i < length slots → count ≡ transfers (take i slots) → false ≡ has_transfer (get_or slots i d) → count ≡ transfers (take (i + 1) slots)
+none_more slots i count d inside is e =
+    is ∙ sym (add-zero (transfers (take i slots))) ∙ ap (λ (b : Bool). transfers (take i slots) + cond b 1 0) e ∙ sym (length-filter_more has_transfer slots i d inside)

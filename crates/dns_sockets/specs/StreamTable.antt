@@ -1,5 +1,6 @@
--- Which connection of a table leaves for another.
-use Rattle.std.specs.Prelude.{◌≡◌, nat_lt, Bool, true, false, List, ℕ, Option, Some, None, IsSomeAnd, slice_get, slice_set}
+-- Which connection of a table leaves for another, and which of them have replies of several messages that wait.
+use Rattle.std.specs.Prelude.{◌≡◌, ◌==◌, ◌&&◌, nat_lt, not, length, Bool, true, false, List, ℕ, Option, Some, None, IsSomeAnd, slice_get, slice_set}
+use Rattle.std.specs.List.{filter}
 use Rattle.dns_sockets.specs.declared.stream.Stream.{Stream}
 
 -- whether a connection was last active before another, or there is no other
@@ -17,3 +18,17 @@ IsLeastActive slots index =
 -- the table without the connection at an index
 abbrev pub closed_at : List (Option Stream) → ℕ → List (Option Stream)
 closed_at slots index = slice_set slots index None
+
+-- ---- replies of several messages
+
+-- whether messages of a reply with several wait to be written
+abbrev pub is_transferring : Stream → Bool
+is_transferring s = s.is_transferring && not (length s.held.items == 0)
+
+abbrev pub has_transfer : Option Stream → Bool
+has_transfer None = false
+has_transfer (Some stream) = is_transferring stream
+
+-- how many connections have a reply of several messages that waits
+abbrev pub transfers : List (Option Stream) → ℕ
+transfers slots = length (filter has_transfer slots)

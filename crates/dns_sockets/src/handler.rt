@@ -27,4 +27,15 @@ pub trait Handler {
     /// Handles requests that arrived together: at most 64, each of which but the last one gathers. Returns what is sent for each of
     /// them, in order. After an error, which is want of memory, datagrams have no reply, and a stream is closed.
     fn handle(&mut self, requests: &[Request<'_>]) -> Result<Vec<Delivery>, AllocError>;
+
+    /// Returns the messages of the reply to a request over a stream that has several, such as a transfer of a zone (RFC 5936), or
+    /// `None` for another request, which is then handled. While many such replies wait to be written, `_is_busy` is true. After an
+    /// error, which is want of memory, the stream is closed.
+    fn transfer(
+        &mut self,
+        _request: &Request<'_>,
+        _is_busy: bool,
+    ) -> Result<Option<Vec<Vec<u8>>>, AllocError> {
+        Ok(None)
+    }
 }

@@ -2,6 +2,7 @@
 
 ghost use Rattle.std.specs.Prelude.{◌≡◌, ◌+◌, ◌≤◌, length};
 ghost use Rattle.dns_server.specs.Connection.{max_input_len};
+ghost use Rattle.dns_sockets.specs.StreamTable.{is_transferring};
 
 use crate::clock::Milliseconds;
 use crate::handler::{Handler, Request, Transport};
@@ -58,6 +59,15 @@ impl HeldReply {
             reply: delivery.reply,
         }
     }
+
+    /// Holds a message of a reply that has several.
+    fn of_message(message: Vec<u8>, now: Milliseconds) -> HeldReply {
+        HeldReply {
+            moment: now,
+            reply: Some(message),
+            close_after: None,
+        }
+    }
 }
 
 /// A connection, and what has arrived and is to be written on it.
@@ -77,6 +87,8 @@ pub(crate) struct Stream {
     last_activity: Milliseconds,
     /// Whether the connection may go on at once.
     wants_turn: bool,
+    /// Whether the held replies are the messages of one reply.
+    is_transferring: bool,
 }
 
 impl Drop for Stream {
@@ -93,6 +105,7 @@ impl Drop for Stream {
             readiness: _readiness,
             last_activity: _last_activity,
             wants_turn: _wants_turn,
+            is_transferring: _is_transferring,
         } = self;
         drop(socket);
         drop(connection);
@@ -124,6 +137,7 @@ impl Stream {
             },
             last_activity: now,
             wants_turn: true,
+            is_transferring: false,
         }
     }
 
@@ -153,15 +167,23 @@ impl Stream {
         self.last_activity
     }
 
+    /// Returns `true` if messages of a reply with several wait to be written.
+    pub(crate) fn is_transferring(&self) -> bool
+        ensures { result ≡ is_transferring self.now }
+    {
+        self.is_transferring && !self.held.is_empty()
+    }
+
     /// Goes on as far as the peer allows, but for at most 8 steps. Returns `true` if the connection is to be closed.
     pub(crate) fn go_on<H: Handler>(
         &mut self,
         handler: &mut H,
         buffer: &mut [u8],
         now: Milliseconds,
+        is_busy: bool,
     ) -> bool {
         for _step in 0..MAX_STEPS {
-            match self.step(handler, buffer, now) {
+            match self.step(handler, buffer, now, is_busy) {
                 Step::Moved => {}
                 Step::Waits => {
                     self.wants_turn = false;
@@ -174,7 +196,13 @@ impl Stream {
     }
 
     /// Makes one step: writes what waits, releases held replies, handles requests, or reads.
-    fn step<H: Handler>(&mut self, handler: &mut H, buffer: &mut [u8], now: Milliseconds) -> Step {
+    fn step<H: Handler>(
+        &mut self,
+        handler: &mut H,
+        buffer: &mut [u8],
+        now: Milliseconds,
+        is_busy: bool,
+    ) -> Step {
         let has_output = !self.output.rest().is_empty();
         if has_output && self.readiness.write {
             return self.write(now);
@@ -193,7 +221,7 @@ impl Stream {
             return self.release(now);
         }
         if self.connection.next_message().is_some() {
-            return self.handle(handler, now);
+            return self.handle(handler, now, is_busy);
         }
         self.receive(buffer, now)
     }
@@ -220,8 +248,8 @@ impl Stream {
     }
 
     /// Handles the requests that have arrived, and holds their replies.
-    fn handle<H: Handler>(&mut self, handler: &mut H, now: Milliseconds) -> Step {
-        match self.answer(handler, now) {
+    fn handle<H: Handler>(&mut self, handler: &mut H, now: Milliseconds, is_busy: bool) -> Step {
+        match self.answer(handler, now, is_busy) {
             Ok(()) => Step::Moved,
             // There was no memory for the replies, so that no later ones may take their place.
             Err(AllocError) => Step::Closes,
@@ -229,7 +257,12 @@ impl Stream {
     }
 
     /// Handles the requests that have arrived and may be handled together, and holds their replies.
-    fn answer<H: Handler>(&mut self, handler: &mut H, now: Milliseconds) -> Result<(), AllocError> {
+    fn answer<H: Handler>(
+        &mut self,
+        handler: &mut H,
+        now: Milliseconds,
+        is_busy: bool,
+    ) -> Result<(), AllocError> {
         let gathered = self.gather(handler)?;
         let mut requests = Vec::new(self.alloc);
         for bytes in gathered.as_slice() {
@@ -240,8 +273,23 @@ impl Stream {
                 moment: now,
             })?;
         }
+        if let [request] = requests.as_slice() {
+            if let Some(messages) = handler.transfer(request, is_busy)? {
+                return self.hold_all(messages, now);
+            }
+        }
         let deliveries = handler.handle(requests.as_slice())?;
+        self.is_transferring = false;
         self.hold(deliveries, now)
+    }
+
+    /// Holds the messages of a reply that has several.
+    fn hold_all(&mut self, messages: Vec<Vec<u8>>, now: Milliseconds) -> Result<(), AllocError> {
+        self.is_transferring = true;
+        for message in messages {
+            self.held.push_back(HeldReply::of_message(message, now))?;
+        }
+        Ok(())
     }
 
     /// Takes the requests that have arrived and may be handled together, at most 64 of them.

@@ -1,7 +1,7 @@
 //! The connections of a service.
 
 ghost use Rattle.std.specs.Prelude.{◌≡◌};
-ghost use Rattle.dns_sockets.specs.StreamTable.{IsLeastActive, closed_at, is_less_active};
+ghost use Rattle.dns_sockets.specs.StreamTable.{IsLeastActive, closed_at, has_transfer, is_less_active, transfers};
 
 use crate::clock::{Milliseconds, ServiceClock};
 use crate::handler::Handler;
@@ -12,6 +12,9 @@ use std::time::Clock;
 
 /// For how many milliseconds the connections go on before datagrams have their turn, but for what the last of them does.
 const MAX_TURN: Milliseconds = 5;
+
+/// How many connections may have a reply of several messages that waits.
+const MAX_TRANSFERS: usize = 8;
 
 /// The connections of a service, at most a fixed number of them. There are no more places than needed.
 pub(crate) struct StreamTable {
@@ -106,13 +109,19 @@ impl StreamTable {
     ) -> io::Result<()> {
         let now = clock.now(rt)?;
         let end = now.saturating_add(MAX_TURN);
+        let mut transfers = self.transfers();
         for _slot in 0..self.slots.len() {
             if self.first >= self.slots.len() {
                 self.first = 0;
             }
             let index = self.first;
             self.first = index.saturating_add(1);
-            if self.go_on_at(index, handler, buffer, now) && clock.now(rt)? >= end {
+            let is_busy = transfers >= MAX_TRANSFERS;
+            let has_gone_on = self.go_on_at(index, handler, buffer, now, is_busy);
+            if has_gone_on {
+                transfers = self.transfers();
+            }
+            if has_gone_on && clock.now(rt)? >= end {
                 return Ok(());
             }
         }
@@ -127,19 +136,27 @@ impl StreamTable {
         handler: &mut H,
         buffer: &mut [u8],
         now: Milliseconds,
+        is_busy: bool,
     ) -> bool {
         if index >= self.slots.len() {
             return false;
         }
         let slot = &mut self.slots[index];
         let closes = match slot {
-            Some(stream) if stream.deadline() <= now => stream.go_on(handler, buffer, now),
+            Some(stream) if stream.deadline() <= now => stream.go_on(handler, buffer, now, is_busy),
             _ => return false,
         };
         if closes {
             *slot = None;
         }
         true
+    }
+
+    /// Returns the number of connections with a reply of several messages that waits.
+    fn transfers(&self) -> usize
+        ensures { result ≡ transfers self.now.slots.items }
+    {
+        count_transfers(self.slots.as_slice())
     }
 
     /// Removes the places behind the last connection.
@@ -175,6 +192,29 @@ fn least_active(slots: &[Option<Stream>]) -> usize
         }
     }
     least
+}
+
+/// Returns the number of connections with a reply of several messages that waits.
+fn count_transfers(slots: &[Option<Stream>]) -> usize
+    ensures { result ≡ transfers slots.now }
+{
+    let mut count = 0;
+    for slot in slots {
+        if has_transfer(slot) {
+            count += 1;
+        }
+    }
+    count
+}
+
+/// Returns `true` for a connection with a reply of several messages that waits.
+fn has_transfer(slot: &Option<Stream>) -> bool
+    ensures { result ≡ has_transfer slot.now }
+{
+    match slot {
+        Some(stream) => stream.is_transferring(),
+        None => false,
+    }
 }
 
 /// Returns `true` for a connection beside none, or beside one that was active later.
