@@ -1,6 +1,3 @@
-pub mod Answer
-pub mod Item
 pub mod Keys
-pub mod Session
 pub mod Settings
 pub mod Status

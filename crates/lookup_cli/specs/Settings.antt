@@ -1,12 +1,5 @@
--- The configuration and the options of the resolver.
-use Rattle.std.specs.Prelude.{true, false, if◌then◌else◌, unwrap_or, is_empty, map, List, [], ◌∷◌, ℕ, None}
-use Rattle.std.specs.Net.Socket.{socket_ip, socket_port}
-use Rattle.std.specs.declared.net.socket_addr.SocketAddr.{SocketAddr}
-use Rattle.stub_config.specs.config.Connection.{connection_of}
-use Rattle.stub_config.specs.declared.config.ResolverConfig.{ResolverConfig}
-use Rattle.stub_config.specs.declared.config.connection.ConnectionConfig.{ConnectionConfig}
-use Rattle.stub_config.specs.declared.config.connection.ProtocolConfig.TheVariants.{Udp, Tcp}
-use Rattle.stub_config.specs.declared.config.name_server.NameServerConfig.{NameServerConfig}
+-- The options of the resolver.
+use Rattle.std.specs.Prelude.{false, if◌then◌else◌, unwrap_or}
 use Rattle.stub_config.specs.declared.options.ResolverOpts.{ResolverOpts}
 use Rattle.stub_config.specs.declared.strategy.ServerOrderingStrategy.TheVariants.{RoundRobin}
 use Rattle.lookup_cli.specs.declared.arguments.Arguments.{Arguments}
@@ -22,28 +15,3 @@ options_by arguments options = record options {
   server_ordering_strategy = if arguments.rotate then RoundRobin else options.server_ordering_strategy;
   cache_size = if arguments.cache then options.cache_size else 0;
 }
-
--- a connection to another port
-abbrev pub at_port : ℕ → ConnectionConfig → ConnectionConfig
-at_port port connection = record connection { port = port }
-
--- the server at an address and port, which is asked over UDP and then over TCP, and whose negative responses are trusted
-abbrev pub server_at : SocketAddr → NameServerConfig
-server_at address = record {
-  ip = socket_ip address;
-  trust_negative_responses = true;
-  connections = at_port (socket_port address) (connection_of Udp) ∷ at_port (socket_port address) (connection_of Tcp) ∷ [];
-}
-
--- a configuration, with the servers of the arguments in place of its own if there are any
-abbrev pub with_servers : Arguments → ResolverConfig → ResolverConfig
-with_servers arguments config = record config {
-  name_servers = if is_empty arguments.servers.items then config.name_servers else map server_at arguments.servers.items;
-}
-
--- a configuration with the servers of the arguments, and with their search list in place of its own and of its domain if they
--- have one
-abbrev pub config_by : Arguments → ResolverConfig → ResolverConfig
-config_by arguments config =
-    if is_empty arguments.search.items then with_servers arguments config
-    else record (with_servers arguments config) { domain = None; search = arguments.search.items }

@@ -1,9 +1,5 @@
 //! What was looked up, and what was found.
 
-ghost use Rattle.std.specs.Prelude.{◌≡◌};
-ghost use Rattle.lookup_cli.specs.Answer.{code_of, denies_name, records_of};
-ghost use Rattle.lookup_cli.specs.Status.{status_of};
-
 use crate::item::{Item, Question};
 use crate::status::Status;
 use dns_messages::{Record, ResponseCode};
@@ -24,16 +20,12 @@ pub struct Answer {
 
 impl Answer {
     /// Returns what the lookup led to.
-    pub fn status(&self) -> Status
-        ensures { result ≡ status_of self.now.outcome }
-    {
+    pub fn status(&self) -> Status {
         Status::of(&self.outcome)
     }
 
     /// Returns the records that were found.
-    pub(crate) fn records(&self) -> &[Record]
-        ensures { result.now ≡ records_of self.now.outcome }
-    {
+    pub(crate) fn records(&self) -> &[Record] {
         match &self.outcome {
             Ok(lookup) => lookup.answers(),
             Err(_) => &[],
@@ -41,9 +33,7 @@ impl Answer {
     }
 
     /// Returns the response code, if a server replied.
-    pub(crate) fn code(&self) -> Option<ResponseCode>
-        ensures { result ≡ code_of self.now.outcome }
-    {
+    pub(crate) fn code(&self) -> Option<ResponseCode> {
         match &self.outcome {
             Ok(lookup) => Some(lookup.message().metadata.response_code),
             Err(NetError::Dns(DnsError::NoRecordsFound(none))) => Some(none.response_code),
@@ -53,9 +43,7 @@ impl Answer {
     }
 
     /// Returns `true` if the name does not exist (RFC 2308 section 2.1).
-    pub(crate) fn has_no_name(&self) -> bool
-        ensures { result ≡ denies_name (code_of self.now.outcome) }
-    {
+    pub(crate) fn has_no_name(&self) -> bool {
         matches!(self.code(), Some(ResponseCode::NXDomain))
     }
 

@@ -1,9 +1,5 @@
 //! What is looked up.
 
-ghost use Rattle.std.specs.Prelude.{◌≡◌, [], IfOk, IsNone, None, Ok};
-ghost use Rattle.std.specs.Str.{trim};
-ghost use Rattle.lookup_cli.specs.Item.{question_of_type};
-
 use dns_wire::RecordType;
 use std::alloc::{AllocError, Global};
 use std::fmt;
@@ -34,10 +30,7 @@ pub fn item_of_line(
     alloc: Global,
     line: &str,
     default: Question,
-) -> Result<Option<Item>, AllocError>
-    ensures empty { trim line.now ≡ [] → result ≡ Ok None }
-    ensures item { IfOk result (λ found. found ≡ None → trim line.now ≡ []) }
-{
+) -> Result<Option<Item>, AllocError> {
     let line = line.trim();
     if line.is_empty() {
         return Ok(None);
@@ -51,9 +44,7 @@ pub fn item_of_line(
 }
 
 /// Returns the question for the records of a type.
-fn question_of_type(text: &str) -> Question
-    ensures { result ≡ question_of_type text.now }
-{
+fn question_of_type(text: &str) -> Question {
     match RecordType::from_ascii_bytes(text.as_bytes()) {
         Some(record_type) => Question::Records(record_type),
         None => Question::Unknown,

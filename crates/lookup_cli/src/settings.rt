@@ -1,9 +1,7 @@
 //! The configuration and the options of the resolver.
 
-ghost use Rattle.std.specs.Prelude.{◌≡◌, IfOk, map, is_none, is_empty, not};
-ghost use Rattle.stub_resolv_conf.specs.Conf.{IsConfOf};
-ghost use Rattle.stub_resolv_conf.specs.declared.conf.SystemConf.{SystemConf};
-ghost use Rattle.lookup_cli.specs.Settings.{at_port, config_by, options_by, server_at};
+ghost use Rattle.std.specs.Prelude.{◌≡◌};
+ghost use Rattle.lookup_cli.specs.Settings.{options_by};
 
 use crate::arguments::Arguments;
 use std::alloc::{AllocError, Global};
@@ -17,9 +15,7 @@ use stub_resolv_conf::{SystemConf, parse_resolv_conf};
 const SYSTEM_CONF: &str = "/etc/resolv.conf";
 
 /// Returns the path of the configuration that is read if the arguments name none. With a server among the arguments it is none.
-pub fn default_conf_path(arguments: &Arguments) -> Option<&'static str>
-    ensures { is_none result ≡ not (is_empty arguments.now.servers.items) }
-{
+pub fn default_conf_path(arguments: &Arguments) -> Option<&'static str> {
     if arguments.servers.is_empty() {
         Some(SYSTEM_CONF)
     } else {
@@ -35,11 +31,7 @@ pub fn settings_of(
     alloc: Global,
     arguments: &Arguments,
     text: &[u8],
-) -> Result<SystemConf, AllocError>
-    ensures { IfOk result (λ conf. (read : SystemConf) × IsConfOf text.now read
-        × (conf.options ≡ options_by arguments.now read.options)
-        × (conf.config ≡ config_by arguments.now read.config)) }
-{
+) -> Result<SystemConf, AllocError> {
     let SystemConf {
         config,
         mut options,
@@ -73,9 +65,7 @@ fn config_of(
     alloc: Global,
     arguments: &Arguments,
     config: ResolverConfig,
-) -> Result<ResolverConfig, AllocError>
-    ensures { IfOk result (λ other. other ≡ config_by arguments.now config) }
-{
+) -> Result<ResolverConfig, AllocError> {
     let (domain, search, servers) = config.into_parts();
     let servers = if arguments.servers.is_empty() {
         servers
@@ -93,9 +83,10 @@ fn config_of(
 }
 
 /// Returns the servers at addresses.
-fn servers_at(alloc: Global, addresses: &[SocketAddr]) -> Result<Vec<NameServerConfig>, AllocError>
-    ensures { IfOk result (λ servers. servers.items ≡ map server_at addresses.now) }
-{
+fn servers_at(
+    alloc: Global,
+    addresses: &[SocketAddr],
+) -> Result<Vec<NameServerConfig>, AllocError> {
     let mut servers = Vec::new(alloc);
     for address in addresses {
         servers.push(server_at(alloc, *address)?)?;
@@ -104,18 +95,11 @@ fn servers_at(alloc: Global, addresses: &[SocketAddr]) -> Result<Vec<NameServerC
 }
 
 /// Returns the server at an address, which is asked over UDP and then over TCP.
-fn server_at(alloc: Global, address: SocketAddr) -> Result<NameServerConfig, AllocError>
-    ensures { IfOk result (λ server. server ≡ server_at address) }
-{
+fn server_at(alloc: Global, address: SocketAddr) -> Result<NameServerConfig, AllocError> {
     let mut connections = Vec::with_capacity(alloc, 2)?;
-    connections.push(at_port(address.port(), ConnectionConfig::udp()))?;
-    connections.push(at_port(address.port(), ConnectionConfig::tcp()))?;
+    for mut connection in [ConnectionConfig::udp(), ConnectionConfig::tcp()] {
+        connection.port = address.port();
+        connections.push(connection)?;
+    }
     Ok(NameServerConfig::new(address.ip(), true, connections))
-}
-
-/// Returns a connection to another port.
-fn at_port(port: u16, connection: ConnectionConfig) -> ConnectionConfig
-    ensures { result ≡ at_port port connection }
-{
-    ConnectionConfig { port, ..connection }
 }

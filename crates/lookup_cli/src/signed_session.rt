@@ -3,7 +3,6 @@
 ghost use Rattle.std.specs.Prelude.{◌≡◌, IfOk};
 ghost use Rattle.stub_net.specs.Network.{network_calls};
 ghost use Rattle.stub_signed.specs.Update.{IsSignedCode};
-ghost use Rattle.lookup_cli.specs.Session.{request_count};
 
 use crate::session::pool_of;
 use dns_messages::ResponseCode;
@@ -67,9 +66,7 @@ impl<N: Network + Drop, I: IdSource + Drop> SignedSession<N, I> {
     }
 
     /// Returns the number of requests that were sent to servers, or were to be.
-    pub fn questions(&self) -> u64
-        ensures { result ≡ request_count self.now.pool.requester.counts }
-    {
+    pub fn questions(&self) -> u64 {
         let counts = self.pool.counts();
         counts.datagrams.saturating_add(counts.streams)
     }
