@@ -12,7 +12,12 @@ use dns_wire::{EncodeError, RecordType};
 use std::alloc::{AllocError, Global};
 
 /// Returns the message that notifies a secondary that the SOA record of a zone is another one. Its records are a hint.
-fn notification(alloc: Global, id: u16, origin: &Name, start: &Record) -> Result<Message, AllocError>
+fn notification(
+    alloc: Global,
+    id: u16,
+    origin: &Name,
+    start: &Record,
+) -> Result<Message, AllocError>
     ensures { IfOk result (λ message. message ≡ notification id origin.now start.now) }
 {
     let mut message = Message::new(alloc, id, MessageType::Query, OpCode::Notify);

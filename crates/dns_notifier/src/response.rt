@@ -10,7 +10,12 @@ use dns_wire::{DNSClass, DecodeError, RecordType};
 use std::alloc::{AllocError, Global};
 
 /// Returns `true` if bytes are a response to the notification of a zone with an id. Its response code does not matter.
-pub(crate) fn is_response(alloc: Global, id: u16, origin: &Name, bytes: &[u8]) -> Result<bool, AllocError>
+pub(crate) fn is_response(
+    alloc: Global,
+    id: u16,
+    origin: &Name,
+    bytes: &[u8],
+) -> Result<bool, AllocError>
     ensures { IfOk result (IsResponse id origin.now bytes.now) }
 {
     messages_decode_unambiguously();

@@ -84,6 +84,7 @@ by_bytes zones road is_permitted bytes m request e decodes same (Ok found) h = a
   where
     is_request : IsRequest bytes m
     is_request = subst (DecodesRequest bytes) e decodes
+
     at : (found : Option (Vec (Vec ℕ))) → TransfersTo zones road is_permitted m (bytes_of found) → Transfers zones road is_permitted bytes (bytes_of found)
     at None other = λ n is. ap is_transfer (same n m is.reads is_request.reads) ∙ other
     at (Some messages) found = (m, (is_request, found))
