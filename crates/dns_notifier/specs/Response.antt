@@ -11,10 +11,12 @@ use Rattle.dns_messages.specs.Question.{same_question}
 use Rattle.dns_names.specs.Name.{DomainName}
 use Rattle.dns_notifier.specs.Notification.{start_question}
 
+-- QR is set
 abbrev pub is_response : MessageType → Bool
 is_response kinds.Response = true
 is_response kinds.Query = false
 
+-- the opcode is NOTIFY
 abbrev pub is_notify : OpCode → Bool
 is_notify ops.Notify = true
 is_notify other = false

@@ -20,6 +20,7 @@ new_secondary address = record { address = address; pending = None }
 abbrev pub announced_to : Retries → ℕ → List Secondary → List Secondary
 announced_to r now ss = map (with_pending (announcement r now)) ss
 
+-- the secondaries of a zone after a change
 abbrev pub announced : ℕ → NotificationsContent → NotificationsContent
 announced now n = record n { secondaries = announced_to n.retries now n.secondaries }
 
@@ -46,6 +47,7 @@ after_first_due r now [] = []
 after_first_due r now (s ∷ ss) =
     if is_due now s then with_pending (after_pending r now s.pending) s ∷ ss else s ∷ after_first_due r now ss
 
+-- the secondaries of a zone after a copy was sent
 abbrev pub after_due : ℕ → NotificationsContent → NotificationsContent
 after_due now n = record n { secondaries = after_first_due n.retries now n.secondaries }
 

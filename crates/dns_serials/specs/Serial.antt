@@ -15,5 +15,6 @@ serial_by orders.Equal before after = next_serial before
 serial_by orders.Greater before after = next_serial before
 serial_by orders.Undecided before after = next_serial before
 
+-- the serial number after a change, by the serial numbers before it and of the SOA record that it has left
 abbrev pub serial_after : ℕ → ℕ → ℕ
 serial_after before after = serial_by (serial_order before after) before after

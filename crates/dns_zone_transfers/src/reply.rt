@@ -111,6 +111,7 @@ fn transferred(
     match transfer.into_messages() {
         Ok(messages) => Ok(messages),
         Err(TransferError::TooLong) => refused(alloc, request, road, ResponseCode::ServFail),
+        // The memory for a message was refused.
         Err(TransferError::Memory) => Err(AllocError),
     }
 }
