@@ -60,7 +60,7 @@ enum rumstrait_code {
     RUMSTRAIT_INVALID_ENCODING = 7,
     /* A text is no domain name (RFC 1035 section 2.3.4). */
     RUMSTRAIT_INVALID_NAME = 8,
-    /* A text is not the zone file of a zone; the program `zonecheck` says why, and on which line. */
+    /* A text is not the zone file of a zone; `rumstrait_zone_fault` says why, and on which line. */
     RUMSTRAIT_INVALID_ZONE = 9,
     /* Bytes are no message. */
     RUMSTRAIT_INVALID_MESSAGE = 10,
@@ -90,6 +90,15 @@ typedef struct rumstrait_zone rumstrait_zone;
  * Then `*out` is null. */
 int32_t rumstrait_zone_new(const uint8_t *text, size_t text_len, const uint8_t *origin, size_t origin_len,
                            rumstrait_zone **out) RUMSTRAIT_NONNULL(1, 3, 5);
+
+/* Says what is wrong in a text that `rumstrait_zone_new` refuses as not the zone file of a zone: writes a sentence on the first
+ * fault to `out`, and the number of its line, from 1, to `*line`, or 0 if the fault is of no line, such as a missing SOA record.
+ * If nothing is wrong, the sentence is empty, and `*line` is 0.
+ *
+ * Refusals: RUMSTRAIT_INVALID_ENCODING, RUMSTRAIT_INVALID_NAME (the origin), RUMSTRAIT_TOO_SMALL (`*line` is written),
+ * RUMSTRAIT_OUT_OF_MEMORY. */
+int32_t rumstrait_zone_fault(const uint8_t *text, size_t text_len, const uint8_t *origin, size_t origin_len, size_t *line,
+                             uint8_t *out, size_t room, size_t *len) RUMSTRAIT_NONNULL(1, 3, 5, 6, 8);
 
 /* Serves a request, and writes the reply to `out`. `limit` is the maximum size of a reply in a datagram, at least 512; it is
  * ignored for a stream, whose messages come without the two bytes of their length. 65,535 bytes of room always suffice.

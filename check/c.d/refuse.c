@@ -27,6 +27,12 @@ static int32_t query_again(uint8_t *out, size_t room, size_t *len) { return rums
 static int32_t question(uint8_t *out, size_t room, size_t *len) {
     return rumstrait_question(1, BYTES("a-name-that-is-longer-than-what-is-inline.example.com."), 1, true, true, out, room, len);
 }
+static int32_t fault(uint8_t *out, size_t room, size_t *len) {
+    size_t line = 77;
+    int32_t code = rumstrait_zone_fault(BYTES("$TTL 60\n@ SOA ns h 1 1 1 1 1\nwww A 1\n"), BYTES("example.com."), &line, out, room, len);
+    WANT(line == (code ? 77 : 3));
+    return code;
+}
 static int32_t update(uint8_t *out, size_t room, size_t *len) {
     rumstrait_update *made = NULL;
     int32_t code = rumstrait_update_new(BYTES("a-name-that-is-longer-than-what-is-inline.example.com."), &made);
@@ -117,6 +123,7 @@ int main(void) {
     refuse_call("message text", text_of_query);
     refuse_call("message again", query_again);
     refuse_call("question", question);
+    refuse_call("zone fault", fault);
     refuse_call("update", update);
     WANT(failed > 20);
     puts("ok");

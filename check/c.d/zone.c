@@ -15,6 +15,28 @@ static void refuses(void) {
     want_refused(ZONE_TEXT, sizeof ZONE_TEXT - 1, "a..b", RUMSTRAIT_INVALID_NAME);
 }
 
+/* What is wrong in a text, and on which line. */
+static void want_fault(const char *text, const char *origin, size_t wanted, const char *front) {
+    uint8_t out[512];
+    size_t line = 77, len = 77, needed = 0;
+    WANT(rumstrait_zone_fault((const uint8_t *)text, strlen(text), (const uint8_t *)origin, strlen(origin), &line, out, sizeof out, &len) == RUMSTRAIT_OK);
+    WANT(line == wanted && len >= strlen(front) && !memcmp(out, front, strlen(front)));
+    if (!len) return;
+    WANT(rumstrait_zone_fault((const uint8_t *)text, strlen(text), (const uint8_t *)origin, strlen(origin), &line, out, len - 1, &needed) == RUMSTRAIT_TOO_SMALL);
+    WANT(line == wanted && needed == len);
+}
+
+static void faults(void) {
+    uint8_t out[512];
+    size_t line = 77, len = 77;
+    want_fault(ZONE_TEXT, "example.com.", 0, "");
+    want_fault("", "example.com.", 0, "no start of authority");
+    want_fault("$TTL 60\n@ SOA ns h 1 1 1 1 1\nwww A 1\n", "example.com.", 3, "line 3: ");
+    want_fault("$TTL 60\n@ SOA ns h ( 1 1 1 1 1\n", "example.com.", 2, "");
+    WANT(rumstrait_zone_fault(BYTES("; \xff\n"), BYTES("t."), &line, out, sizeof out, &len) == RUMSTRAIT_INVALID_ENCODING && line == 77 && len == 77);
+    WANT(rumstrait_zone_fault(BYTES(ZONE_TEXT), BYTES("a..b"), &line, out, sizeof out, &len) == RUMSTRAIT_INVALID_NAME && line == 77 && len == 77);
+}
+
 static void serves(void) {
     rumstrait_zone *zone = NULL;
     uint8_t reply[65535];
@@ -74,6 +96,7 @@ static void updates(void) {
 
 int main(void) {
     refuses();
+    faults();
     serves();
     updates();
     puts("ok");

@@ -46,6 +46,19 @@ func ExampleZone() {
 	// www.t. 60 IN A 10.0.0.1
 }
 
+func TestFaultHasItsLine(t *testing.T) {
+	sentence, line, err := rumstrait.ZoneFault("$TTL 60\n@ SOA ns h 1 1 1 1 1\nwww A 1\n", "t.")
+	if err != nil || line != 3 || !strings.HasPrefix(sentence, "line 3: ") {
+		t.Fatalf("%q, %d, %v", sentence, line, err)
+	}
+	if sentence, line, err := rumstrait.ZoneFault(text, "t."); sentence != "" || line != 0 || err != nil {
+		t.Fatalf("%q, %d, %v", sentence, line, err)
+	}
+	if _, _, err := rumstrait.ZoneFault(text, "a..b"); err != rumstrait.ErrInvalidName {
+		t.Fatal(err)
+	}
+}
+
 func TestQueryHasItsBytes(t *testing.T) {
 	query, err := rumstrait.Question{ID: 0x1234, Name: "www.t", Type: typeA}.Query()
 	wanted := []byte("\x12\x34\x00\x00\x00\x01\x00\x00\x00\x00\x00\x00\x03www\x01t\x00\x00\x01\x00\x01")

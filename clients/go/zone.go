@@ -28,6 +28,18 @@ func NewZone(text, origin string) (*Zone, error) {
 	return zone, nil
 }
 
+// ZoneFault says what is wrong in a text that NewZone refuses with ErrInvalidZone: a sentence on the first fault, and its line,
+// from 1, or 0 if the fault is of no line. If nothing is wrong, the sentence is empty.
+func ZoneFault(text, origin string) (sentence string, line int, err error) {
+	textStart, textLen := front([]byte(text))
+	originStart, originLen := front([]byte(origin))
+	var number C.size_t
+	found, code := bytesOf(func(out *C.uint8_t, room C.size_t, written *C.size_t) C.int32_t {
+		return C.rumstrait_zone_fault(textStart, textLen, originStart, originLen, &number, out, room, written)
+	})
+	return string(found), int(number), refusal(code)
+}
+
 // Serve serves a request that came over a datagram, and returns its reply, which has at most limit bytes, and limit is at least
 // 512. The reply is nil if the bytes do not decode or are a response. An update changes the zone if the response code of its reply
 // is NOERROR.

@@ -51,11 +51,15 @@ TEXTS = {
 
 
 class RumstraitError(Exception):
-    """A call of the library is refused."""
+    """A call of the library is refused.
 
-    def __init__(self, refusal: Refusal, text: Optional[str] = None) -> None:
+    `line` is the line of a zone file, from 1, on which its first fault is, or `None`.
+    """
+
+    def __init__(self, refusal: Refusal, text: Optional[str] = None, line: Optional[int] = None) -> None:
         super().__init__(text or TEXTS[refusal])
         self.refusal = refusal
+        self.line = line
 
 
 def check(code: int) -> None:
@@ -72,6 +76,7 @@ def load() -> ctypes.CDLL:
     place = os.environ.get("RUMSTRAIT_LIBRARY") or (str(beside) if beside.exists() else "librumstrait.so")
     library = ctypes.CDLL(place)
     declare(library, "rumstrait_zone_new", Bytes, Size, Bytes, Size, ctypes.POINTER(Handle))
+    declare(library, "rumstrait_zone_fault", Bytes, Size, Bytes, Size, SizePointer, Room, Size, SizePointer)
     declare(library, "rumstrait_zone_serve", Handle, Number, Short, Bytes, Size, Room, Size, SizePointer)
     declare(library, "rumstrait_zone_text", Handle, Room, Size, SizePointer)
     declare(library, "rumstrait_zone_free", Handle)

@@ -17,6 +17,13 @@ class Transport(IntEnum):
     STREAM = 1
 
 
+def fault_of(text: bytes, origin: bytes) -> RumstraitError:
+    """Returns the error of a text that is not the zone file of a zone."""
+    line = ctypes.c_size_t()
+    sentence = bytes_of(LIBRARY.rumstrait_zone_fault, text, len(text), origin, len(origin), line).decode()
+    return RumstraitError(Refusal.INVALID_ZONE, sentence, line.value or None)
+
+
 class Zone:
     """A zone, and the server of it (RFC 1034, RFC 2136).
 
@@ -35,11 +42,15 @@ class Zone:
         """Makes a zone of a zone file (RFC 1035 section 5.1).
 
         The origin completes relative names and is the zone's. Without one, relative names end at the root, and the origin is
-        the owner of the first SOA record. Raises `RumstraitError` if the text is not the zone file of a zone.
+        the owner of the first SOA record. Raises `RumstraitError` if the text is not the zone file of a zone, with the reason
+        and its line.
         """
         given, name = text.encode() if isinstance(text, str) else text, origin.encode()
         handle = Handle()
-        check(LIBRARY.rumstrait_zone_new(given, len(given), name, len(name), ctypes.byref(handle)))
+        code = LIBRARY.rumstrait_zone_new(given, len(given), name, len(name), ctypes.byref(handle))
+        if code == Refusal.INVALID_ZONE:
+            raise fault_of(given, name)
+        check(code)
         return cls(handle)
 
     def serve(self, request: bytes, transport: Transport = Transport.DATAGRAM, limit: int = 1232) -> Optional[bytes]:

@@ -38,6 +38,14 @@ def test_what_is_no_zone_is_refused(text, origin, refusal):
     assert raised.value.refusal == refusal
 
 
+@pytest.mark.parametrize("added, line", [("", None), ("@ SOA ns h 1 1 1 1 1\nwww A 1\n", 3)])
+def test_a_fault_has_its_line(added, line):
+    with pytest.raises(RumstraitError) as raised:
+        Zone.from_text("$TTL 60\n" + added, "t.")
+    assert raised.value.line == line
+    assert str(raised.value).startswith(f"line {line}: " if line else "no start of authority")
+
+
 @pytest.mark.parametrize("limit", [0, 511, 65_536])
 def test_a_limit_is_refused(zone, limit):
     with pytest.raises(RumstraitError) as raised:

@@ -38,6 +38,16 @@ mod ffi {
             origin_len: usize,
             out: *mut *mut Zone,
         ) -> i32;
+        pub fn rumstrait_zone_fault(
+            text: *const u8,
+            text_len: usize,
+            origin: *const u8,
+            origin_len: usize,
+            line: *mut usize,
+            out: *mut u8,
+            room: usize,
+            len: *mut usize,
+        ) -> i32;
         pub fn rumstrait_zone_serve(
             zone: *mut Zone,
             transport: u32,
@@ -255,6 +265,37 @@ impl Drop for Zone {
         // SAFETY: the handle is live, and is not used after this.
         unsafe { ffi::rumstrait_zone_free(self.handle.as_ptr()) }
     }
+}
+
+/// What is wrong in a text that is not the zone file of a zone.
+#[derive(Clone, Debug, PartialEq, Eq)]
+pub struct ZoneFault {
+    /// The line of the fault, from 1, or `None` if it is of no line, such as a missing SOA record.
+    pub line: Option<usize>,
+    /// A sentence on the fault.
+    pub sentence: String,
+}
+
+/// Returns the first fault of a text that [`Zone::from_text`] refuses with [`Refusal::InvalidZone`], or `None` if nothing is
+/// wrong.
+pub fn zone_fault(text: &str, origin: &str) -> Result<Option<ZoneFault>, Refusal> {
+    let mut line = 0;
+    // SAFETY: the slices are valid and apart, and `line` is written.
+    let found = bytes_of(|out, room, len| unsafe {
+        ffi::rumstrait_zone_fault(
+            text.as_ptr(),
+            text.len(),
+            origin.as_ptr(),
+            origin.len(),
+            &mut line,
+            out,
+            room,
+            len,
+        )
+    })?;
+    let sentence = String::from_utf8(found.unwrap_or_default()).map_err(|_| Refusal::InvalidEncoding)?;
+    let line = (line > 0).then_some(line);
+    Ok((!sentence.is_empty()).then(|| ZoneFault { line, sentence }))
 }
 
 /// Returns a message in the layout of dig: its header, its OPT record, and the records of its sections.

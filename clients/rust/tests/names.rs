@@ -1,7 +1,8 @@
 //! A program that resolves names, tested against a zone in the same process.
 
 use rumstrait::{
-    encode_again, message_text, query, Data, Item, QueryOptions, Refusal, Transport, Update, Zone,
+    encode_again, message_text, query, zone_fault, Data, Item, QueryOptions, Refusal, Transport,
+    Update, Zone,
 };
 
 const TEXT: &str = "$TTL 60\n@ SOA ns h 1 3600 600 86400 30\nwww A 10.0.0.1\nwww A 10.0.0.2\n";
@@ -35,6 +36,16 @@ fn what_is_wrong_is_refused() {
     assert_eq!(zone.serve(b"", Transport::Stream), Ok(None));
     let limit = Transport::Datagram { limit: 511 };
     assert_eq!(zone.serve(b"", limit), Err(Refusal::InvalidLimit));
+}
+
+#[test]
+fn a_fault_has_its_line() {
+    let fault = zone_fault("$TTL 60\n@ SOA ns h 1 1 1 1 1\nwww A 1\n", "t.").unwrap().unwrap();
+    assert_eq!(fault.line, Some(3));
+    assert!(fault.sentence.starts_with("line 3: "));
+    assert_eq!(zone_fault("", "t.").unwrap().unwrap().line, None);
+    assert_eq!(zone_fault(TEXT, "t."), Ok(None));
+    assert_eq!(zone_fault(TEXT, "a..b"), Err(Refusal::InvalidName));
 }
 
 #[test]

@@ -4,7 +4,6 @@ use Rattle.api_buffer.specs.Buffer.{bytes_in}
 use Rattle.api_buffer.specs.declared.refusal.Refusal.{Refusal}
 use Rattle.api_zones.specs.Serving.{IsRefused, IsUnserved, Replies, Serves}
 use Rattle.api_zones.specs.Transport.{IsRoad}
-use Rattle.api_zones.specs.Transport as by
 use Rattle.dns_zone.specs.Rows.{ZoneContent}
 use Rattle.dns_zone.specs.declared.road.Road.{Road}
 

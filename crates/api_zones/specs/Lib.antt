@@ -1,3 +1,4 @@
+pub mod Faults
 pub mod Serving
 pub mod Transport
 pub mod Zones

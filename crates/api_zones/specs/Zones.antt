@@ -1,5 +1,5 @@
 -- The zone of a text.
-use Rattle.std.specs.Prelude.{◌≡◌, ◌≢◌, [], List, ℕ, IsUtf8, IsOkAnd, Ok, Err}
+use Rattle.std.specs.Prelude.{◌≡◌, [], List, ℕ, IsUtf8, IsOkAnd, Ok, Err}
 use Rattle.api_buffer.specs.Arguments.{origin_in}
 use Rattle.api_buffer.specs.declared.refusal.Refusal.{Refusal}
 use Rattle.api_buffer.specs.declared.refusal.Refusal.TheVariants as refusal

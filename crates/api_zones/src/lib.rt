@@ -2,13 +2,15 @@
 //!
 //! - `zone`: zones of texts, and their texts;
 //! - `serving`: requests to a zone; `transport`: the transports of requests, by number;
-//! - `report`: what is wrong in a text, and on which line.
+//! - `fault`: what is wrong in a text, and on which line.
 #![tactic(auto)]
 
+mod fault;
 mod serving;
 mod transport;
 mod zone;
 
+pub use fault::zone_fault;
 pub use serving::serve_request;
 pub use transport::road_of;
 pub use zone::{read_zone, zone_text};

@@ -1,3 +1,4 @@
+mod FaultLaws
 mod GivingLaws
 pub mod HandleSteps
 pub mod NullSteps

@@ -8,6 +8,7 @@ use Rattle.std.specs.contracts.impls.GlobalAllocator.TheImpl.{ghosts}
 use Rattle.api_buffer.specs.Buffer.{Delivers}
 use Rattle.api_buffer.specs.declared.refusal.Refusal.{Refusal}
 use Rattle.api_buffer.specs.declared.refusal.Refusal.TheVariants as refusal
+use Rattle.api_zones.specs.Faults.{FindsFault, IsUnread}
 use Rattle.api_zones.specs.Serving.{Replies}
 use Rattle.api_zones.specs.Zones.{IsZoneOf}
 use Rattle.api_zones.specs.Zones as zones
@@ -39,6 +40,22 @@ made_at alloc (pos zero) p origin text =
     fex ZoneContent (λ zone. fex (IsZoneOf origin text zone) (λ _. zone_at alloc p zone))
 made_at alloc (pos (suc number)) p origin text = fex (IsRefused origin text (pos (suc number))) (λ _. feq Ptr p null_ptr)
 made_at alloc (negsuc number) p origin text = fex (IsRefused origin text (negsuc number)) (λ _. feq Ptr p null_ptr)
+
+-- ---- fault
+
+-- the line of the fault of a text, with a sentence; or why the text is not read, and the line as it was
+abbrev pub IsFaultOf : List ℕ → List ℕ → ℕ → Result (List ℕ) Refusal → ℕ → Type 0
+IsFaultOf origin text line (Ok sentence) line' = FindsFault origin text line' sentence
+IsFaultOf origin text line (Err reason) line' = IsUnread origin text reason × (line' ≡ line)
+
+-- What a call for the fault of a text returns and leaves: a line and a sentence are found, the sentence is delivered, and the
+-- code is that of the outcome.
+pub record TellsFault (origin text : List ℕ) (code : ℤ) (line line' : ℕ) (buffer buffer' : List ℕ) (len len' : ℕ) : Type 0 where
+  pub found : Result (List ℕ) Refusal
+  pub outcome : Result (Unit {0}) Refusal
+  pub fault : IsFaultOf origin text line found line'
+  pub delivered : Delivers found buffer len outcome buffer' len'
+  pub code_is : code ≡ result_code outcome
 
 -- ---- serve
 

@@ -5,11 +5,11 @@ ghost use types.Logic.{sem};
 ghost use Rattle.dns_zone.specs.Rows.{ZoneContent};
 ghost use Rattle.api_zones.specs.Zones as zones;
 ghost use Rattle.api_zones.specs.Zones.{IsZoneOf};
-ghost use Rattle.rumstrait_c.specs.Zones.{IsRefused, Printed, Served, handle_at, made_at, printed_at, served_at};
+ghost use Rattle.rumstrait_c.specs.Zones.{IsRefused, Printed, Served, TellsFault, handle_at, made_at, printed_at, served_at};
 
 use crate::codes::{NULL_HANDLE, code_of, result_code};
 use api_buffer::{Refusal, deliver};
-use api_zones::{read_zone, serve_request, zone_text};
+use api_zones::{read_zone, serve_request, zone_fault, zone_text};
 use dns_zone::Zone;
 use std::alloc::Global;
 use std::ptr::null_mut;
@@ -40,6 +40,23 @@ pub extern "C" fn rumstrait_zone_new(
             code
         }
     }
+}
+
+/// Writes the line of the fault of a text that is not the zone file of a zone, and a sentence on it.
+#[unsafe(no_mangle)]
+pub extern "C" fn rumstrait_zone_fault(
+    alloc: Global,
+    text: &[u8],
+    origin: &[u8],
+    line: &mut usize,
+    sentence: &mut [u8],
+    len: &mut usize,
+) -> i32
+    ensures { TellsFault origin.now text.now result line.old line.new sentence.old sentence.new
+        len.old len.new }
+{
+    let found = zone_fault(alloc, text, origin, line);
+    result_code(deliver(found, sentence, len))
 }
 
 /// Serves a request, unless the handle is null.
