@@ -20,7 +20,6 @@ pub fn transferred_records_are_sound()
 
 /// The messages of a transfer decode. The records of their answer sections, one after another, are the SOA record of the zone,
 /// those of its other sets, each once, and the SOA record again (RFC 5936 section 2.2).
-
 pub fn transfers_have_all_records()
     ensures { (zone : ZoneContent) (request : Message) (messages : List (List ℕ))
         → IsSound request → IsTransfer zone request messages
