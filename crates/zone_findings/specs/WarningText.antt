@@ -36,11 +36,11 @@ warning_sentences about.NoAddress = record {
   hint = codes "write an address record of the server's name, which must not be an alias, or a dot after a name outside the zone";
 }
 warning_sentences about.Wildcard = record {
-  reason = codes "a wildcard, which this server does not expand";
+  reason = codes "a wildcard, which stub and nameserver --plain do not expand";
   hint = codes "write a record for each name that is to be found";
 }
 warning_sentences about.Delegation = record {
-  reason = codes "a delegation, which this server does not follow: it answers for names below from this file alone";
+  reason = codes "a delegation, which stub and nameserver --plain do not follow: they answer for names below from this file alone";
   hint = codes "write the records of the names below it into this file";
 }
 warning_sentences about.SignerWithoutCut = record {

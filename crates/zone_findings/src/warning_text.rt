@@ -41,11 +41,11 @@ pub fn warning_advice(kind: WarningKind) -> Advice
             hint: "write an address record of the server's name, which must not be an alias, or a dot after a name outside the zone",
         },
         WarningKind::Wildcard => Advice {
-            reason: "a wildcard, which this server does not expand",
+            reason: "a wildcard, which stub and nameserver --plain do not expand",
             hint: "write a record for each name that is to be found",
         },
         WarningKind::Delegation => Advice {
-            reason: "a delegation, which this server does not follow: it answers for names below from this file alone",
+            reason: "a delegation, which stub and nameserver --plain do not follow: they answer for names below from this file alone",
             hint: "write the records of the names below it into this file",
         },
         WarningKind::SignerWithoutCut => Advice {
