@@ -1,4 +1,5 @@
 """The operations of `stub_bench` beside the same by trust-dns."""
+import os
 import resource
 import shutil
 import subprocess
@@ -6,8 +7,8 @@ import sys
 
 from packages import CARGO_REGISTRY, CRATES
 
-# Debian's cargo, whatever other one there is.
-CARGO = "/usr/bin/cargo"
+# Debian's cargo and compiler, whatever others there are.
+CARGO, RUSTC = "/usr/bin/cargo", "/usr/bin/rustc"
 # What has to be installed.
 NEEDED = [CARGO, *CRATES, "valgrind"]
 # The operation, how often it is repeated to be timed, and its size.
@@ -43,7 +44,7 @@ def build(project, folder, cache):
     )
     target = cache / "trust_dns_bench"
     words = [CARGO, "build", "--release", "--offline", "--quiet", "--target-dir", str(target)]
-    subprocess.run(words, cwd=copy, check=True)
+    subprocess.run(words, cwd=copy, check=True, env={**os.environ, "RUSTC": RUSTC})
     return str(target / "release" / "trust_dns_bench")
 
 
