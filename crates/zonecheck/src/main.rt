@@ -12,7 +12,7 @@ mod zone_file;
 
 use crate::arguments::{Arguments, read_arguments};
 use crate::script_file::check_script;
-use crate::zone_file::check_zone_file;
+use crate::zone_file::{CheckedFile, check_zone_file};
 use dns_names::Name;
 use std::process::ExitCode;
 use std::{env, fs, io};
@@ -57,13 +57,21 @@ fn run_program(rt: &HostRuntime) -> Result<Verdict, Ending> {
 fn check_both(rt: &HostRuntime, path: &str, arguments: &Arguments) -> Result<Verdict, Ending> {
     let checked = check_zone_file(rt, path, arguments)?;
     let root = Name::root(rt.alloc());
-    let origin = match (&checked.origin, &arguments.origin) {
-        (Some(origin), _) | (None, Some(origin)) => origin,
-        (None, None) => &root,
-    };
+    let origin = origin_of(&checked, arguments, &root);
     match (checked.verdict, check_script_file(rt, arguments, origin)?) {
         (Verdict::Accepted, Verdict::Accepted) => Ok(Verdict::Accepted),
         _ => Ok(Verdict::Refused),
+    }
+}
+
+/// Returns the origin of a zone: that of its file, if it has no fault, or else that of the arguments, or else the root.
+fn origin_of<'a>(checked: &'a CheckedFile, arguments: &'a Arguments, root: &'a Name) -> &'a Name {
+    if let Some(origin) = &checked.origin {
+        return origin;
+    }
+    match &arguments.origin {
+        Some(origin) => origin,
+        None => root,
     }
 }
 

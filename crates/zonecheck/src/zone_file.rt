@@ -24,7 +24,6 @@ pub(crate) fn check_zone_file(
     path: &str,
     arguments: &Arguments,
 ) -> Result<CheckedFile, Ending> {
-    let alloc = rt.alloc();
     let Some(text) = read_text(rt, path, arguments)? else {
         return Ok(CheckedFile {
             verdict: Verdict::Refused,
@@ -32,21 +31,55 @@ pub(crate) fn check_zone_file(
         });
     };
     let includes = read_includes(rt, path, text.as_str(), arguments)?;
-    let file = ZoneText {
-        text: text.as_str(),
-        includes: includes.texts.as_slice(),
-        types: arguments.types,
-    };
-    let now = arguments.now.or(clock(rt));
-    let check = check_zone(alloc, &file, arguments.origin.as_ref(), now)?;
+    let check = check_text(rt, text.as_str(), includes.texts.as_slice(), arguments)?;
     let names = names_of(rt, path, &includes)?;
-    let report = zone_report(alloc, arguments.format, names.as_slice(), &file, &check)?;
-    write_report(rt, report.as_str(), arguments)?;
+    tell_findings(
+        rt,
+        names.as_slice(),
+        text.as_str(),
+        includes.texts.as_slice(),
+        &check,
+        arguments,
+    )?;
     if arguments.format == ReportFormat::Text {
-        let summary = zone_summary(alloc, path, &check)?;
+        let summary = zone_summary(rt.alloc(), path, &check)?;
         write_report(rt, summary.as_str(), arguments)?;
     }
     checked_file(rt, arguments, &check)
+}
+
+/// Checks the text of a zone file, with the files that it includes.
+fn check_text(
+    rt: &HostRuntime,
+    text: &str,
+    includes: &[(String, String)],
+    arguments: &Arguments,
+) -> Result<ZoneCheck, AllocError> {
+    let file = ZoneText {
+        text,
+        includes,
+        types: arguments.types,
+    };
+    let now = arguments.now.or(clock(rt));
+    check_zone(rt.alloc(), &file, arguments.origin.as_ref(), now)
+}
+
+/// Says what is wrong in a zone file, if anything is.
+fn tell_findings(
+    rt: &HostRuntime,
+    names: &[&str],
+    text: &str,
+    includes: &[(String, String)],
+    check: &ZoneCheck,
+    arguments: &Arguments,
+) -> Result<(), Ending> {
+    let file = ZoneText {
+        text,
+        includes,
+        types: arguments.types,
+    };
+    let report = zone_report(rt.alloc(), arguments.format, names, &file, check)?;
+    write_report(rt, report.as_str(), arguments)
 }
 
 /// Returns the names of a zone file and of those that it includes, as a report shows them.
