@@ -68,11 +68,13 @@ def walk(rows: Rows, origin: Name, name: Name, rtype: int, links: int = MOST_LIN
 def soa_outcome(rows: Rows, origin: Name, name: Name) -> Outcome:
     """The same of the SOA record, for which a reply without one is no answer: where an alias leads out of the zone, or
     to a name of special use, the lookup ends there."""
-    alias, is_first = alias_of(rows, name), True
-    while alias and (name, SOA) not in rows and is_at_or_below(name, origin) and not special_outcome(name, SOA):
-        name, is_first = alias.data[0], False
-        alias = alias_of(rows, name)
-    if not is_first and (not is_at_or_below(name, origin) or special_outcome(name, SOA)):
+    end = name
+    for _ in range(MOST_LINKS):
+        alias = alias_of(rows, end)
+        if not alias or (end, SOA) in rows or not is_at_or_below(end, origin) or special_outcome(end, SOA):
+            break
+        end = alias.data[0]
+    if end != name and (not is_at_or_below(end, origin) or special_outcome(end, SOA)):
         return Outcome(failure="no records NoError")
     return walk(rows, origin, name, SOA)
 
