@@ -1,6 +1,7 @@
 //! Calls of sockets, which are repeated while signals interrupt them.
 
 ghost use Rattle.std.specs.Prelude.{◌≡◌, ◌<◌, ◌≤◌, length, Ok, Err, IfOk, IfSome, OnErr, MatchResult};
+ghost use Rattle.core.specs.Duration.{as_nanos};
 ghost use Rattle.std.specs.IoError.{error_kind};
 ghost use Rattle.dns_blocking.specs.Calls.{loopback, trouble_of};
 ghost use Rattle.dns_blocking.specs.declared.error.SocketError.TheVariants.{Failed};
@@ -37,7 +38,9 @@ pub fn loopback() -> SocketAddr
 }
 
 /// Returns how long a call waits for the other end: one second.
-pub fn patience() -> Duration {
+pub fn patience() -> Duration
+    ensures { as_nanos result ≡ 1_000_000_000 }
+{
     Duration::from_secs(PATIENCE)
 }
 

@@ -65,8 +65,9 @@ impl<S: Storage> Journal<S> {
     pub fn append(&mut self, alloc: Global, payload: &[u8]) -> Result<(), AppendError>
         requires { length payload.now < 2 ^ 32 }
         ensures ready { IsOk result → self.old.position.state ≡ states.Ready }
-        ensures performs { Performs S.performs self.old.storage self.new.storage (λ es. (text bytes digest : List ℕ)
-            (payloads : List (List ℕ)) → IsPosition self.old.position bytes digest payloads
+        ensures performs { Performs S.performs self.old.storage self.new.storage
+            (λ es. (text bytes digest : List ℕ) (payloads : List (List ℕ))
+            → IsPosition self.old.position bytes digest payloads
             → Appends self.old.position self.new.position payload.now (is_ok result) text bytes digest payloads es) }
     {
         an_appended_entry_is_read();

@@ -25,8 +25,9 @@ pub fn resume<S: Storage>(
     content: &JournalContent<'_>,
 ) -> Result<Position, StorageError>
     requires { length content.now.digest.now ≡ 32 }
-    ensures resumes { Performs S.performs storage.old storage.new (λ es. (text bytes digest : List ℕ)
-        (payloads : List (List ℕ)) → IsJournal bytes digest payloads content.now.end.now
+    ensures resumes { Performs S.performs storage.old storage.new
+        (λ es. (text bytes digest : List ℕ) (payloads : List (List ℕ))
+        → IsJournal bytes digest payloads content.now.end.now
         → content.now.len + length content.now.end.now ≡ length bytes
         → Resumes content.now.end.now (is_ok result) text bytes digest payloads es) }
     ensures position { IfOk result (λ position. (bytes digest : List ℕ) (payloads : List (List ℕ))

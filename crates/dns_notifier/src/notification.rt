@@ -49,7 +49,8 @@ pub(crate) fn encoded_notification(
     origin: &Name,
     start: &Record,
 ) -> Result<Vec<u8>, AllocError>
-    ensures { IfOk result (λ bytes. Encodes 65535 (notification id origin.now start.now) bytes.items) }
+    ensures { IfOk result (λ bytes.
+        Encodes 65535 (notification id origin.now start.now) bytes.items) }
 {
     let message = notification(alloc, id, origin, start)?;
     let _len = origin.encoded_len();

@@ -113,7 +113,8 @@ impl Notifier {
     /// Returns the address of the first secondary for which a copy is due, which the caller sends.
     pub fn next_due(&mut self, now: u64) -> Option<SocketAddr>
         ensures address { result ≡ due_address now self.old.notifications.secondaries }
-        ensures left { self.new ≡ with_notifications self.old (after_due now self.old.notifications) }
+        ensures left { self.new
+            ≡ with_notifications self.old (after_due now self.old.notifications) }
     {
         self.notifications.next_due(now)
     }

@@ -85,7 +85,8 @@ impl Secondary {
 
     /// Counts a copy that is sent at `now`, in milliseconds.
     pub(crate) fn count_copy(&mut self, retries: &Retries, now: u64)
-        ensures { self.new ≡ with_pending (after_pending retries.now now self.old.pending) self.old }
+        ensures { self.new
+            ≡ with_pending (after_pending retries.now now self.old.pending) self.old }
     {
         if let Some(pending) = self.pending {
             self.pending = pending_if(

@@ -106,7 +106,8 @@ fn accepted_reply(
     requires within { signature.now.place ≤ length reply.now }
     ensures message { IfOk result (λ accepted. accepted.message.items
         ≡ plain_message reply.now signature.now.place) }
-    ensures error { IfOk result (λ accepted. accepted.error ≡ error_of_code signature.now.tsig.error) }
+    ensures error { IfOk result (λ accepted.
+        accepted.error ≡ error_of_code signature.now.tsig.error) }
 {
     let error = TsigError::of_code(signature.tsig.error());
     let message = plain_message(alloc, reply, signature.place)?;

@@ -25,6 +25,7 @@ closed_at slots index = slice_set slots index None
 abbrev pub is_transferring : Stream → Bool
 is_transferring s = s.is_transferring && not (length s.held.items == 0)
 
+-- the same for a slot, which may be without a connection
 abbrev pub has_transfer : Option Stream → Bool
 has_transfer None = false
 has_transfer (Some stream) = is_transferring stream

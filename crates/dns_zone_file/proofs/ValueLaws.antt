@@ -23,7 +23,7 @@ use Rattle.dns_zone_file.specs.declared.types.Types.{Types}
 use Rattle.dns_zone_file.specs.declared.types.Types.TheVariants.{Nine, All}
 use Rattle.dns_zone_file.specs.Types.{type_in}
 use Rattle.dns_zone_file.specs.Data.{ReadsIn, IsAnyData, in_values, in_bytes}
-use Rattle.dns_zone_file.specs.Fields.{if_ok, name_of, Field, ttl_field, bad_ttl, class_field, type_field, no_field, begins_with_digit, zone_class, ttl_or_bad, type_or_none, field_in, Fields, fields_from}
+use Rattle.dns_zone_file.specs.Fields.{if_ok, name_of, Field, ttl_field, bad_ttl, class_field, type_field, no_field, begins_with_digit, class_in, ttl_or_bad, type_or_none, field_in, Fields, fields_from}
 use Rattle.dns_zone_file.proofs.FieldsLaws.{with_field}
 
 -- ---- values that may be absent
@@ -131,7 +131,7 @@ word_fits false number (Some class) type h = tt
 word_fits false number None type h = type_field_fits type
 
 field_fits : (types : Types) (token : Lexeme) → FieldFits (field_in types token)
-field_fits types (CharData text) = word_fits (begins_with_digit text) (time text) (zone_class text) (type_in types text) (time_has_32_bits text)
+field_fits types (CharData text) = word_fits (begins_with_digit text) (time text) (class_in types text) (type_in types text) (time_has_32_bits text)
 field_fits types token = tt
 
 abbrev StatesTtl : Fields → Type 0

@@ -1,7 +1,7 @@
 -- The fields of a record in a zone file: owner, TTL, class and type (RFC 1035 section 5.1).
-use Rattle.std.specs.Prelude.{ℕ, if◌then◌else◌, Bool, false, List, [], ◌∷◌, find, Option, Some, None, Result, Ok, Err}
+use Rattle.std.specs.Prelude.{ℕ, if◌then◌else◌, Bool, false, List, [], ◌∷◌, find, Option, Some, None, Result, Ok, Err, codes}
 use Rattle.std.specs.Str.{str_eq_ignore_ascii_case}
-use Rattle.dns_codes.specs.CodeText.{class_name}
+use Rattle.dns_codes.specs.CodeText.{class_name, or_else}
 use Rattle.dns_codes.specs.Decimal.{is_digit}
 use Rattle.dns_codes.specs.declared.record_type.RecordType.{RecordType}
 use Rattle.dns_codes.specs.declared.dns_class.DNSClass.{DNSClass}
@@ -14,7 +14,7 @@ use Rattle.dns_text.specs.Ttl.{time}
 use Rattle.dns_zone_file.specs.declared.error.EntryFault.{EntryFault}
 use Rattle.dns_zone_file.specs.declared.error.EntryFault.TheVariants.{InvalidTtl, RepeatedField, MissingType, UnknownType}
 use Rattle.dns_zone_file.specs.declared.types.Types.{Types}
-use Rattle.dns_zone_file.specs.declared.types.Types.TheVariants.{Nine}
+use Rattle.dns_zone_file.specs.declared.types.Types.TheVariants.{Nine, All}
 use Rattle.dns_zone_file.specs.Types.{type_in}
 
 -- ---- names
@@ -50,6 +50,19 @@ abbrev pub zone_class : List ℕ → Option DNSClass
 zone_class text =
     find (λ class. str_eq_ignore_ascii_case (class_name class) text) (classes.IN ∷ classes.CH ∷ classes.HS ∷ [])
 
+-- the classes of zone files by their numbers, in any case (RFC 3597 section 5)
+abbrev pub numbered_class : List ℕ → Option DNSClass
+numbered_class text =
+    if str_eq_ignore_ascii_case (codes "CLASS1") text then Some classes.IN
+    else if str_eq_ignore_ascii_case (codes "CLASS3") text then Some classes.CH
+    else if str_eq_ignore_ascii_case (codes "CLASS4") text then Some classes.HS
+    else None
+
+-- the class that a word denotes: its name or, where all types may be, its number
+abbrev pub class_in : Types → List ℕ → Option DNSClass
+class_in Nine text = zone_class text
+class_in All text = or_else (zone_class text) (numbered_class text)
+
 -- a time as the TTL, or an invalid TTL
 abbrev pub ttl_or_bad : Option ℕ → Field
 ttl_or_bad (Some seconds) = ttl_field seconds
@@ -60,11 +73,11 @@ abbrev pub type_or_none : Option RecordType → Field
 type_or_none (Some record_type) = type_field record_type
 type_or_none None = no_field
 
--- A word is a TTL if it begins with a digit, a class if it is IN, CH or HS, and otherwise a type.
+-- A word is a TTL if it begins with a digit, a class if it denotes IN, CH or HS, and otherwise a type.
 abbrev pub word_field : Types → List ℕ → Field
 word_field types text =
     if begins_with_digit text then ttl_or_bad (time text)
-    else elim (zone_class text) [ Some class ↦ class_field class | None ↦ type_or_none (type_in types text) ]
+    else elim (class_in types text) [ Some class ↦ class_field class | None ↦ type_or_none (type_in types text) ]
 
 -- among the types that have fields here
 abbrev pub field_of_word : List ℕ → Field

@@ -19,6 +19,7 @@ abbrev pub further_name : ℕ → List ℕ
 further_name number =
     if number == 17 then codes "RP"
     else if number == 18 then codes "AFSDB"
+    else if number == 21 then codes "RT"
     else if number == 29 then codes "LOC"
     else if number == 36 then codes "KX"
     else if number == 42 then codes "APL"
@@ -40,7 +41,7 @@ further_name number =
 -- the numbers of these types
 abbrev pub further_numbers : List ℕ
 further_numbers =
-    17 ∷ 18 ∷ 29 ∷ 36 ∷ 42 ∷ 45 ∷ 49 ∷ 55 ∷ 63 ∷ 99 ∷ 104 ∷ 105 ∷ 106 ∷ 107 ∷ 108 ∷ 109 ∷ 256 ∷ 260 ∷ []
+    17 ∷ 18 ∷ 21 ∷ 29 ∷ 36 ∷ 42 ∷ 45 ∷ 49 ∷ 55 ∷ 63 ∷ 99 ∷ 104 ∷ 105 ∷ 106 ∷ 107 ∷ 108 ∷ 109 ∷ 256 ∷ 260 ∷ []
 
 -- the type that such a name denotes, in any case
 abbrev pub further_type : List ℕ → Option RecordType

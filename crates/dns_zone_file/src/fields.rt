@@ -2,7 +2,7 @@
 
 ghost use Rattle.std.specs.Prelude.{◌≡◌, ◌≤◌, map, length, IfOk, IfErr, Ok, Err};
 ghost use Rattle.dns_text.specs.Token.{lexeme};
-ghost use Rattle.dns_zone_file.specs.Fields.{name_of, field_in, word_field, zone_class, fields_in};
+ghost use Rattle.dns_zone_file.specs.Fields.{name_of, field_in, word_field, zone_class, numbered_class, class_in, fields_in};
 ghost use Rattle.dns_zone_file.specs.internal.Fields.{field_view, fields_view};
 
 use crate::error::EntryFault;
@@ -69,6 +69,34 @@ fn parse_class(text: &[u8]) -> Option<DNSClass>
     None
 }
 
+/// Returns the class whose number a word has, as in `CLASS1`, in any case, if it is one of zone files (RFC 3597 section 5).
+fn numbered_class(text: &[u8]) -> Option<DNSClass>
+    ensures { result ≡ numbered_class text.now }
+{
+    if b"CLASS1".eq_ignore_ascii_case(text) {
+        Some(DNSClass::IN)
+    } else if b"CLASS3".eq_ignore_ascii_case(text) {
+        Some(DNSClass::CH)
+    } else if b"CLASS4".eq_ignore_ascii_case(text) {
+        Some(DNSClass::HS)
+    } else {
+        None
+    }
+}
+
+/// Returns the class that a word denotes: its name or, where all types may be, its number.
+fn class_of_word(types: Types, text: &[u8]) -> Option<DNSClass>
+    ensures { result ≡ class_in types text.now }
+{
+    if let Some(class) = parse_class(text) {
+        return Some(class);
+    }
+    match types {
+        Types::Nine => None,
+        Types::All => numbered_class(text),
+    }
+}
+
 /// Returns what a word between owner and data is.
 fn field_of_word(types: Types, text: &[u8]) -> Field
     ensures { field_view result ≡ word_field types text.now }
@@ -79,7 +107,7 @@ fn field_of_word(types: Types, text: &[u8]) -> Field
             Err(_) => Field::InvalidTtl,
         };
     }
-    if let Some(class) = parse_class(text) {
+    if let Some(class) = class_of_word(types, text) {
         return Field::Class(class);
     }
     match type_of_word(types, text) {

@@ -32,8 +32,8 @@ impl Types {
 }
 
 /// The numbers of the types of zone files alone.
-const FURTHER_NUMBERS: [u16; 18] = [
-    17, 18, 29, 36, 42, 45, 49, 55, 63, 99, 104, 105, 106, 107, 108, 109, 256, 260,
+const FURTHER_NUMBERS: [u16; 19] = [
+    17, 18, 21, 29, 36, 42, 45, 49, 55, 63, 99, 104, 105, 106, 107, 108, 109, 256, 260,
 ];
 
 /// Returns the name of a type of zone files alone, by its number, or nothing for any other.
@@ -43,6 +43,7 @@ fn further_name(number: u16) -> &'static str
     match number {
         17 => "RP",
         18 => "AFSDB",
+        21 => "RT",
         29 => "LOC",
         36 => "KX",
         42 => "APL",

@@ -16,6 +16,7 @@ line_numbered lines (suc index) = slice_get lines index
 abbrev pub lines_of_all : Includes → List (List (List ℕ))
 lines_of_all includes = map (λ i. lines i.1) includes
 
+-- the lines of the file itself, and then of each text that it includes
 abbrev pub lines_of_file : FileText → List (List (List ℕ))
 lines_of_file file = lines file.text ∷ lines_of_all file.includes
 

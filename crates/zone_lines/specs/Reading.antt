@@ -110,6 +110,7 @@ abbrev pub directive_with : Option (List Lexeme) → Option Generation
 directive_with None = None
 directive_with (Some arguments) = elim (generation_of arguments) [ Ok directive ↦ Some directive | Err refusal ↦ None ]
 
+-- the `$GENERATE` that an entry of these tokens is, if it is one with a range and a template
 abbrev pub directive_of : Types → List Lexeme → Option Generation
 directive_of types tokens = directive_with (generate_of types tokens)
 

@@ -6,6 +6,7 @@ use Rattle.std.specs.List.{after_first, before_first, list_any}
 abbrev pub after_line : List ℕ → List ℕ
 after_line text = after_first (λ b. b == 10) text
 
+-- a text up to its first line feed, or the whole text where there is none
 abbrev pub first_line : List ℕ → List ℕ
 first_line text = before_first (λ b. b == 10) text
 

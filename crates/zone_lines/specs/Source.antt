@@ -12,6 +12,7 @@ pub record FileText : Type 0 where
   pub includes : Includes
   pub types : Types
 
+-- the text, the files that it includes and the types, as a call finds them
 abbrev pub text_view : ZoneText → FileText
 text_view t = record { text = t.text.now; includes = includes_view t.includes.now; types = t.types }
 

@@ -74,7 +74,8 @@ fn add_records<'a>(
 ) -> Result<Effect<'a>, EntryError>
     ensures ok { IfOk result (λ effect. entry_of (map lexeme tokens.now) ≡ record_entry
         → EffectIs context.old at (map lexeme tokens.now) effect context.new) }
-    ensures refused { IfErr result (IsFault (λ fault. entry_of (map lexeme tokens.now) ≡ record_entry
+    ensures refused { IfErr result (IsFault (λ fault.
+        entry_of (map lexeme tokens.now) ≡ record_entry
         → RefusesAlone context.old (map lexeme tokens.now) fault × (context.new ≡ context.old))) }
 {
     match generate_arguments(context.types, tokens) {

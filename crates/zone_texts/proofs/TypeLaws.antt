@@ -13,7 +13,7 @@ use Rattle.dns_text.specs.Ttl.{time}
 use Rattle.dns_service.proofs.DecimalLaws.{Spelled, spelled}
 use Rattle.dns_formats.proofs.TypeLaws.{type_word, type_parses}
 use Rattle.dns_data.proofs.PrintedLaws.{time_parses}
-use Rattle.dns_zone_file.specs.Fields.{Field, ttl_field, class_field, type_field, begins_with_digit, zone_class, ttl_or_bad, type_or_none, word_field}
+use Rattle.dns_zone_file.specs.Fields.{Field, ttl_field, class_field, type_field, begins_with_digit, class_in, ttl_or_bad, type_or_none, word_field}
 use Rattle.dns_zone_file.specs.Types.{further_type, type_in}
 use Rattle.dns_zone_file.specs.declared.types.Types.TheVariants.{All}
 
@@ -22,7 +22,7 @@ use Rattle.dns_zone_file.specs.declared.types.Types.TheVariants.{All}
 -- the text of a type is neither a TTL nor a class
 record IsNoOther (text : List ℕ) : Type 0 where
   digit : begins_with_digit text ≡ false
-  class : zone_class text ≡ None
+  class : class_in All text ≡ None
 
 no_other : (k : RecordType) → IsNoOther (type_text k)
 no_other of.A = record { digit = refl; class = refl }
@@ -67,7 +67,7 @@ no_other (of.Unknown m) = record { digit = refl; class = refl }
 
 by_parts : (text : List ℕ) (k : RecordType) → IsNoOther text → type_of_text text ≡ Some k → word_field All text ≡ type_field k
 by_parts text k is e =
-    ap (λ (b : Bool). if b then ttl_or_bad (time text) else after (zone_class text)) is.digit
+    ap (λ (b : Bool). if b then ttl_or_bad (time text) else after (class_in All text)) is.digit
     ∙ ap after is.class ∙ ap (λ (o : Option RecordType). type_or_none (or_else o (further_type text))) e
   where
     after : Option DNSClass → Field

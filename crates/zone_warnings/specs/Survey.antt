@@ -19,6 +19,7 @@ pub record Facts : Type 0 where
   pub now : Option ℕ
   pub texts : List (List (List ℕ))
 
+-- what is known of a zone, as a call finds it
 abbrev pub facts_view : ZoneFacts → Facts
 facts_view f = record {
   origin = f.origin.now;
