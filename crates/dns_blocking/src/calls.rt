@@ -1,7 +1,7 @@
 //! Calls of sockets, which are repeated while signals interrupt them.
 
 ghost use Rattle.std.specs.Prelude.{◌≡◌, ◌<◌, ◌≤◌, length, Ok, Err, IfOk, IfSome, OnErr, MatchResult};
-ghost use Rattle.core.specs.Duration.{as_nanos};
+ghost use Rattle.std.specs.Duration.{as_nanos};
 ghost use Rattle.std.specs.IoError.{error_kind};
 ghost use Rattle.dns_blocking.specs.Calls.{loopback, trouble_of};
 ghost use Rattle.dns_blocking.specs.declared.error.SocketError.TheVariants.{Failed};
