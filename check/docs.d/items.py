@@ -1,7 +1,7 @@
 """The items of a source file, with their documentation and contracts."""
 from dataclasses import dataclass, field
 
-from tokens import Tokens
+from rattle_source import Tokens
 
 # What begins a clause of a contract.
 CLAUSES = ("requires", "ensures", "measure")
