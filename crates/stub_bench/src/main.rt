@@ -3,6 +3,7 @@
 //! `all` stands for every operation, one after another, but `cache-full`, whose cache takes long to fill.
 #![tactic(auto)]
 
+mod authority;
 mod cache;
 mod data;
 mod hosts;
@@ -19,7 +20,7 @@ use std::env;
 use std::process::ExitCode;
 
 /// What may be repeated.
-const WHAT: [&str; 26] = [
+const WHAT: [&str; 29] = [
     "all",
     "name-read",
     "name-write",
@@ -37,6 +38,9 @@ const WHAT: [&str; 26] = [
     "serve-cname",
     "serve-chain",
     "serve-nxdomain",
+    "answer-a",
+    "answer-referral",
+    "answer-wildcard",
     "update-add",
     "update-swap",
     "cache-insert",

@@ -2,6 +2,7 @@
 
 ghost use Rattle.std.specs.Prelude.{◌≡◌, []};
 
+use crate::authority::{answer_addresses, expand, refer};
 use crate::cache::{get_nothing, get_responses, insert_responses, replace_responses};
 use crate::data::{parse_data, print_data, read_data, write_data};
 use crate::hosts::{read_addresses, read_hosts, read_names as read_host_names};
@@ -48,6 +49,13 @@ pub(crate) enum Operation {
     ServeChain,
     /// Serves a question for a name that is not in that zone.
     ServeNxdomain,
+    /// Answers a question for the addresses of a name in that zone, which also has a delegation and a wildcard, by the whole of
+    /// RFC 1034 section 4.3.2.
+    AnswerA,
+    /// Answers a question for a name below the delegation with a referral.
+    AnswerReferral,
+    /// Answers a question for a name that the wildcard stands for.
+    AnswerWildcard,
     /// Serves an update that adds an address of a new owner to that zone, and one that deletes it, by turns.
     UpdateAdd,
     /// Serves an update that swaps the address of an owner in that zone for another one, and one that swaps it back.
@@ -90,7 +98,7 @@ const BYTES: &[u8; 29] = b"\x03com\x00\x07example\xC0\x00\x03www\xC0\x05\x01a\xC
 
 impl Operation {
     /// All of them.
-    pub(crate) const ALL: [Operation; 25] = [
+    pub(crate) const ALL: [Operation; 28] = [
         Operation::NameRead,
         Operation::NameWrite,
         Operation::NameParse,
@@ -107,6 +115,9 @@ impl Operation {
         Operation::ServeCname,
         Operation::ServeChain,
         Operation::ServeNxdomain,
+        Operation::AnswerA,
+        Operation::AnswerReferral,
+        Operation::AnswerWildcard,
         Operation::UpdateAdd,
         Operation::UpdateSwap,
         Operation::CacheInsert,
@@ -137,6 +148,9 @@ impl Operation {
             Operation::ServeCname => "serve-cname",
             Operation::ServeChain => "serve-chain",
             Operation::ServeNxdomain => "serve-nxdomain",
+            Operation::AnswerA => "answer-a",
+            Operation::AnswerReferral => "answer-referral",
+            Operation::AnswerWildcard => "answer-wildcard",
             Operation::UpdateAdd => "update-add",
             Operation::UpdateSwap => "update-swap",
             Operation::CacheInsert => "cache-insert",
@@ -168,6 +182,9 @@ impl Operation {
             Operation::ServeCname => serve_aliases(alloc, count, size),
             Operation::ServeChain => serve_chains(alloc, count, size),
             Operation::ServeNxdomain => serve_missing(alloc, count, size),
+            Operation::AnswerA => answer_addresses(alloc, count, size),
+            Operation::AnswerReferral => refer(alloc, count, size),
+            Operation::AnswerWildcard => expand(alloc, count, size),
             Operation::UpdateAdd => add_and_delete(alloc, count, size),
             Operation::UpdateSwap => swap(alloc, count, size),
             Operation::CacheInsert => insert_responses(alloc, count),

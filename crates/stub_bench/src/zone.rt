@@ -70,8 +70,8 @@ fn serve(alloc: Global, letter: char, count: u64, groups: u32) -> Result<u64> {
 
 /// Serves questions for the addresses of two names below the origin, by turns. The checksum is the length of the replies.
 fn serve_over(alloc: Global, even: &str, odd: &str, count: u64, groups: u32) -> Result<u64> {
-    let even = request(alloc, even)?;
-    let odd = request(alloc, odd)?;
+    let even = request(alloc, &[even])?;
+    let odd = request(alloc, &[odd])?;
     serve_requests(alloc, even.as_slice(), odd.as_slice(), count, groups)
 }
 
@@ -107,18 +107,20 @@ fn reply_len(zone: &mut Zone, request: &[u8]) -> Result<u64> {
     }
 }
 
-/// A request for the addresses of a name below the origin.
-fn request(alloc: Global, label: &str) -> Result<Vec<u8>> {
+/// A request for the addresses of a name of these labels below the origin.
+pub(crate) fn request(alloc: Global, labels: &[&str]) -> Result<Vec<u8>> {
     let mut bytes = Vec::new(alloc);
     bytes.extend_from_slice(HEADER)?;
-    bytes.push(u8::try_from(label.len())?)?;
-    bytes.extend_from_slice(label.as_bytes())?;
+    for label in labels {
+        bytes.push(u8::try_from(label.len())?)?;
+        bytes.extend_from_slice(label.as_bytes())?;
+    }
     bytes.extend_from_slice(QUESTION)?;
     Ok(bytes)
 }
 
 /// The zone file.
-fn zone_text(alloc: Global, groups: u32) -> Result<String, AllocError> {
+pub(crate) fn zone_text(alloc: Global, groups: u32) -> Result<String, AllocError> {
     let mut text = String::from_str(alloc, HEAD)?;
     for group in 0..groups {
         push_owners(&mut text, group)?;
