@@ -9,8 +9,8 @@ use std::alloc::Global;
 use std::io;
 use std::process::ExitCode;
 use zone_check::{
-    ReportFormat, ZoneText, check_zone, encoding_report, moment_report, script_report, zone_report,
-    zone_summary,
+    ReportFormat, ZoneText, check_zone, encoding_report, keep_origin_warnings, moment_report,
+    script_report, states_origin, zone_report, zone_summary,
 };
 
 /// How a row checks a zone file.
@@ -55,6 +55,7 @@ impl Operations for CheckOperations {
             "all-with" => all_with(alloc, input),
             "line" => summary_said(alloc, Types::Nine, input),
             "all-line" => summary_said(alloc, Types::All, input),
+            "origin" => origin_said(alloc, input),
             "bytes" => bytes_said(alloc, input),
             "script" => Ok(script_report(alloc, ReportFormat::Text, "s", input, 1)?),
             "moment" => Ok(moment_report(alloc, ReportFormat::Text, "s", input, 2)?),
@@ -127,6 +128,21 @@ fn summary_said(alloc: Global, types: Types, text: &str) -> Answer {
     };
     let check = check_zone(alloc, &file, None, None)?;
     Ok(zone_summary(alloc, "f", &check)?)
+}
+
+/// `origin TEXT`: what is said of the origin alone of a zone file of nine types, if no line states one.
+fn origin_said(alloc: Global, text: &str) -> Answer {
+    let file = ZoneText {
+        text,
+        includes: &[],
+        types: Types::Nine,
+    };
+    if states_origin(alloc, &file)? {
+        return Ok(String::new(alloc));
+    }
+    let mut check = check_zone(alloc, &file, None, None)?;
+    keep_origin_warnings(&mut check.warnings);
+    Ok(zone_report(alloc, ReportFormat::Text, &["f"], &file, &check)?)
 }
 
 /// `bytes HEX`: the report of a file by its bytes.

@@ -1,13 +1,14 @@
 //! The check of a zone file.
 
 ghost use Rattle.std.specs.Prelude.{◌≡◌, IfOk, option_copied};
-ghost use Rattle.zone_check.specs.Check.{ReadsZoneText, checked_origin, warnings_at_origin, warnings_if_known};
+ghost use Rattle.zone_check.specs.Check.{ReadsZoneText, checked_origin, is_plain, warnings_at_origin, warnings_if_known};
 ghost use Rattle.zone_lines.specs.Reading.{ReadsFile};
 ghost use Rattle.zone_lines.specs.Source.{text_view};
 
 use crate::apex::apex_of;
 use dns_names::Name;
 use dns_zone::{Zone, ZoneFault};
+use dns_zone_file::Types;
 use std::alloc::{AllocError, Global};
 use zone_lines::{EntryLine, ZoneText, lines_of_file, read_lines};
 use zone_warnings::{Warning, ZoneFacts, warnings};
@@ -91,6 +92,14 @@ fn checked_origin(
     }
 }
 
+/// Returns `true` if a file of some types is served plainly: a server that reads no other types expands no wildcard, and follows
+/// no delegation.
+fn is_plain(types: Types) -> bool
+    ensures { result ≡ is_plain types }
+{
+    matches!(types, Types::Nine)
+}
+
 /// Returns the warnings that apply to the records of a file, if its origin is known.
 fn warnings_at(
     alloc: Global,
@@ -110,6 +119,7 @@ fn warnings_at(
     let facts = ZoneFacts {
         origin,
         is_given,
+        is_plain: is_plain(file.types),
         now,
         texts: texts.as_slice(),
     };

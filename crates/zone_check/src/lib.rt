@@ -3,7 +3,7 @@
 //! - `check`: the zone of a file, or its faults, with the warnings; `apex`: the origin of a file, also of one with faults;
 //!   `fault`: the faults of entries;
 //! - `report`: the text of a whole check; `files`: the files that it shows; `summary`: the line about a file of which there is
-//!   nothing to say;
+//!   nothing to say; `origin`: what is said of the origin alone;
 //! - `script_text`: the text of the check of a script; `script_line`: the word at fault in a line of a script;
 //! - `encoding`: a file that is not UTF-8; `laws`: theorems.
 #![tactic(auto)]
@@ -14,6 +14,7 @@ mod encoding;
 mod fault;
 mod files;
 pub mod laws;
+mod origin;
 mod report;
 mod script_line;
 mod script_text;
@@ -21,6 +22,7 @@ mod summary;
 
 pub use check::{ZoneCheck, check_zone};
 pub use encoding::encoding_report;
+pub use origin::{keep_origin_warnings, states_origin};
 pub use report::zone_report;
 pub use script_text::{moment_report, script_report};
 pub use summary::zone_summary;

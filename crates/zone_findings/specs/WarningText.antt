@@ -31,6 +31,10 @@ warning_sentences about.OtherTtl = record {
   reason = codes "another TTL than the records above of this owner and type";
   hint = codes "write the same TTL for all records of a set";
 }
+warning_sentences about.HighTtl = record {
+  reason = codes "a TTL above 2147483647, which resolvers take as 0";
+  hint = codes "write at most 2147483647 seconds";
+}
 warning_sentences about.NoAddress = record {
   reason = codes "a server in this zone that has no A or AAAA record";
   hint = codes "write an address record of the server's name, which must not be an alias, or a dot after a name outside the zone";
@@ -42,6 +46,18 @@ warning_sentences about.Wildcard = record {
 warning_sentences about.Delegation = record {
   reason = codes "a delegation, which stub and nameserver --plain do not follow: they answer for names below from this file alone";
   hint = codes "write the records of the names below it into this file";
+}
+warning_sentences about.WildcardCut = record {
+  reason = codes "a delegation at a wildcard, which servers treat in different ways";
+  hint = codes "write the NS records of each name that is to be delegated";
+}
+warning_sentences about.NoGlue = record {
+  reason = codes "a delegation to a server at or below it that has no A or AAAA record here: resolvers do not find it";
+  hint = codes "write an address record of the server's name, or a dot after a name outside the zone";
+}
+warning_sentences about.Occluded = record {
+  reason = codes "a record below a delegation, which is never an answer";
+  hint = codes "remove it, or the NS records above it; only addresses of name servers belong there";
 }
 warning_sentences about.SignerWithoutCut = record {
   reason = codes "a DS record where nothing is delegated";

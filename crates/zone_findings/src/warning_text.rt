@@ -36,6 +36,10 @@ pub fn warning_advice(kind: WarningKind) -> Advice
             reason: "another TTL than the records above of this owner and type",
             hint: "write the same TTL for all records of a set",
         },
+        WarningKind::HighTtl => Advice {
+            reason: "a TTL above 2147483647, which resolvers take as 0",
+            hint: "write at most 2147483647 seconds",
+        },
         WarningKind::NoAddress => Advice {
             reason: "a server in this zone that has no A or AAAA record",
             hint: "write an address record of the server's name, which must not be an alias, or a dot after a name outside the zone",
@@ -47,6 +51,18 @@ pub fn warning_advice(kind: WarningKind) -> Advice
         WarningKind::Delegation => Advice {
             reason: "a delegation, which stub and nameserver --plain do not follow: they answer for names below from this file alone",
             hint: "write the records of the names below it into this file",
+        },
+        WarningKind::WildcardCut => Advice {
+            reason: "a delegation at a wildcard, which servers treat in different ways",
+            hint: "write the NS records of each name that is to be delegated",
+        },
+        WarningKind::NoGlue => Advice {
+            reason: "a delegation to a server at or below it that has no A or AAAA record here: resolvers do not find it",
+            hint: "write an address record of the server's name, or a dot after a name outside the zone",
+        },
+        WarningKind::Occluded => Advice {
+            reason: "a record below a delegation, which is never an answer",
+            hint: "remove it, or the NS records above it; only addresses of name servers belong there",
         },
         WarningKind::SignerWithoutCut => Advice {
             reason: "a DS record where nothing is delegated",

@@ -1,3 +1,4 @@
 pub mod PositionLaws
 pub mod PlacesLaws
 pub mod KindLaws
+pub mod CutLaws

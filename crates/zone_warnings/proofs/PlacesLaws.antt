@@ -12,7 +12,7 @@ use Rattle.dns_names.specs.internal.Compare.{same_name-equivalence}
 use Rattle.dns_records.specs.internal.DataIndex.{first_of}
 use Rattle.zone_warnings.proofs.PositionLaws.{position_push}
 use Rattle.zone_lines.specs.declared.record_line.EntryLine.{EntryLine}
-use Rattle.zone_warnings.specs.Places.{HasNoted, first_place, is_of, owner_with}
+use Rattle.zone_warnings.specs.Places.{HasNoted, first_place, is_of, name_with}
 use Rattle.zone_warnings.specs.declared.places.Trait.{Trait}
 
 clash : false ≡ true → ⊥
@@ -57,7 +57,7 @@ module _ (t : Trait) (entries : List EntryLine) (i : ℕ) (e : EntryLine) (withi
       ∙ position_push (is_of t owner) (take i entries) e
       ∙ ap (λ (n : ℕ). first_of (first_place t (take i entries) owner) (is_of t owner e) n) (length-take-le i entries (omega arith))
 
-  pub one_found : {S : Type 0} (old new : HashMap DomainName ℕ S) (owner : DomainName) → Has old t (take i entries) → owner_with t e ≡ Some owner
+  pub one_found : {S : Type 0} (old new : HashMap DomainName ℕ S) (owner : DomainName) → Has old t (take i entries) → name_with t e ≡ Some owner
       → HasNoted old owner i new → Has new t (take (i + 1) entries)
   one_found {S} old new owner has is_owner noted = record {
     finds = λ other.
@@ -67,7 +67,7 @@ module _ (t : Trait) (entries : List EntryLine) (i : ℕ) (e : EntryLine) (withi
         ∙ sym (one_more other);
   }
 
-  pub none_found : {S : Type 0} (m : HashMap DomainName ℕ S) → Has m t (take i entries) → owner_with t e ≡ None → Has m t (take (i + 1) entries)
+  pub none_found : {S : Type 0} (m : HashMap DomainName ℕ S) → Has m t (take i entries) → name_with t e ≡ None → Has m t (take (i + 1) entries)
   none_found {S} m has none = record {
     finds = λ other.
         has.finds other ∙ none_first (first_place t (take i entries) other)

@@ -3,4 +3,5 @@ pub mod Text
 pub mod Signature
 pub mod Places
 pub mod Survey
+pub mod Cuts
 pub mod Warning

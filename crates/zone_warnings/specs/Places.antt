@@ -1,8 +1,9 @@
 -- The first records of each owner with a property.
-use Rattle.std.specs.Prelude.{◌≡◌, not, Bool, true, false, ℕ, List, Option, Some, None, position, if◌then◌else◌}
+use Rattle.std.specs.Prelude.{◌≡◌, ◌==◌, ◌&&◌, ◌||◌, not, Bool, true, false, ℕ, List, Option, Some, None, position, if◌then◌else◌}
 use Rattle.std.specs.Option.{option_map_or}
 use Rattle.std.specs.HashMap as hash
 use Rattle.std.specs.HashMap.{HashMap}
+use Rattle.dns_codes.specs.RecordType.{type_number}
 use Rattle.dns_names.specs.Compare.{same_name}
 use Rattle.dns_names.specs.Name.{DomainName}
 use Rattle.dns_records.specs.internal.DataIndex.{first_of}
@@ -21,6 +22,12 @@ abbrev pub is_alias : RData → Bool
 is_alias (of.CNAME cname) = true
 is_alias other = false
 
+-- Whether data may be beside an alias: in a signed zone RRSIG, 46, and NSEC, 47, are, and KEY, 25, may be (RFC 4035 section 2.5).
+abbrev pub joins_alias : RData → Bool
+joins_alias (of.Unknown code bytes) =
+    let number = type_number code in number == 25 || number == 46 || number == 47
+joins_alias other = false
+
 -- whether data is an address
 abbrev pub is_address : RData → Bool
 is_address (of.A a) = true
@@ -34,22 +41,29 @@ is_name_server other = false
 
 -- whether a record has a property
 abbrev pub has_trait : Trait → RecordLine → Bool
-has_trait property.NoAlias r = not (is_alias r.rdata)
+has_trait property.NotBesideAlias r = not (is_alias r.rdata) && not (joins_alias r.rdata)
 has_trait property.Address r = is_address r.rdata
 has_trait property.NameServer r = is_name_server r.rdata
+has_trait property.Target r = is_name_server r.rdata
 has_trait property.Spf r = is_spf r.rdata
 has_trait property.Dmarc r = is_dmarc r
 
--- the owner of an entry's record, if that has a property
-abbrev pub owner_with : Trait → EntryLine → Option DomainName
-owner_with t (entry.Record r) = if has_trait t r then Some r.owner else None
-owner_with t (entry.Fault f) = None
+-- the name server that data names
+abbrev pub name_server_of : RData → Option DomainName
+name_server_of (of.NS ns) = Some ns.0
+name_server_of other = None
 
--- whether an entry is a record of an owner, up to ASCII case, with a property
+-- the name by which an entry's record is found, if that has a property: its owner, or the name server that it names
+abbrev pub name_with : Trait → EntryLine → Option DomainName
+name_with property.Target (entry.Record r) = name_server_of r.rdata
+name_with t (entry.Record r) = if has_trait t r then Some r.owner else None
+name_with t (entry.Fault f) = None
+
+-- whether an entry is found by a name, up to ASCII case, and has a property
 abbrev pub is_of : Trait → DomainName → EntryLine → Bool
-is_of t owner e = option_map_or (λ other. same_name other owner) (owner_with t e) false
+is_of t owner e = option_map_or (λ other. same_name other owner) (name_with t e) false
 
--- the place of the first record of an owner with a property, among the entries of a file
+-- the place of the first record of an owner, or for a name server, with a property, among the entries of a file
 abbrev pub first_place : Trait → List EntryLine → DomainName → Option ℕ
 first_place t entries owner = position (is_of t owner) entries
 

@@ -17,7 +17,12 @@ is_past_in now other = false
 abbrev pub is_past : ℕ → List ℕ → Bool
 is_past now bytes = is_past_in now (drop 8 bytes)
 
--- whether data is that of a signature, of the type 46, that has expired
+-- whether data is that of a signature, of the type 46
+abbrev pub is_signature : RData → Bool
+is_signature (of.Unknown code bytes) = type_number code == 46
+is_signature other = false
+
+-- whether data is that of a signature that has expired
 abbrev pub has_expired : ℕ → RData → Bool
 has_expired now (of.Unknown code bytes) = type_number code == 46 && is_past now bytes
 has_expired now other = false

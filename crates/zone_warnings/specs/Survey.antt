@@ -12,10 +12,12 @@ use Rattle.zone_warnings.specs.declared.places.Trait.TheVariants as property
 use Rattle.zone_warnings.specs.declared.survey.Survey.{Survey}
 use Rattle.zone_warnings.specs.declared.survey.ZoneFacts.{ZoneFacts}
 
--- what is known of a zone besides its records: its origin, whether that was given, the time, and the lines of each text
+-- what is known of a zone besides its records: its origin, whether that was given, whether it is served plainly, the time, and
+-- the lines of each text
 pub record Facts : Type 0 where
   pub origin : DomainName
   pub is_given : Bool
+  pub is_plain : Bool
   pub now : Option ℕ
   pub texts : List (List (List ℕ))
 
@@ -24,6 +26,7 @@ abbrev pub facts_view : ZoneFacts → Facts
 facts_view f = record {
   origin = f.origin.now;
   is_given = f.is_given;
+  is_plain = f.is_plain;
   now = f.now;
   texts = lines_view f.texts.now;
 }
@@ -45,8 +48,9 @@ lacks_origin f entries = not f.is_given && not (has_directive f.texts) && names_
 pub record Surveys (survey : Survey) (f : Facts) (entries : List EntryLine) : Type 0 where
   pub doubled : survey.doubled ≡ doubled_origin f.origin
   pub without_origin : survey.lacks_origin ≡ lacks_origin f entries
-  pub others : ArePlaces survey.others property.NoAlias entries
+  pub others : ArePlaces survey.others property.NotBesideAlias entries
   pub addresses : ArePlaces survey.addresses property.Address entries
   pub cuts : ArePlaces survey.cuts property.NameServer entries
+  pub servers : ArePlaces survey.servers property.Target entries
   pub spf : ArePlaces survey.spf property.Spf entries
   pub dmarc : ArePlaces survey.dmarc property.Dmarc entries

@@ -2,7 +2,7 @@
 use Rattle.std.specs.Prelude.{◌==◌, ◌&&◌, ◌||◌, ◌+◌, ◌-◌, nat_lt, not, Bool, true, false, ℕ, suc, length, List, [], ◌∷◌, ◌++◌, map, is_some, Option, Some, None}
 use Rattle.std.specs.List.{filter}
 use Rattle.std.specs.Option.{option_map_or}
-use Rattle.dns_names.specs.Compare.{at_or_below, same_labels}
+use Rattle.dns_names.specs.Compare.{at_or_below}
 use Rattle.dns_names.specs.Labels.{begins_with_star}
 use Rattle.dns_names.specs.Name.{DomainName}
 use Rattle.dns_data.specs.declared.rdata.RData.{RData}
@@ -12,9 +12,10 @@ use Rattle.zone_lines.specs.declared.record_line.EntryLine.TheVariants as entry
 use Rattle.zone_lines.specs.Line.{line_at}
 use Rattle.zone_lines.specs.declared.record_line.Position.{Position}
 use Rattle.zone_lines.specs.declared.record_line.RecordLine.{RecordLine}
+use Rattle.zone_warnings.specs.Cuts.{is_below_cut, is_glue, is_server_delegated, lacks_cut, lacks_glue, refers}
 use Rattle.zone_warnings.specs.Names.{doubled_origin, name_lies_below, server_of}
-use Rattle.zone_warnings.specs.Places.{first_place, is_alias, is_name_server}
-use Rattle.zone_warnings.specs.Signature.{has_expired, is_signer}
+use Rattle.zone_warnings.specs.Places.{first_place, is_alias}
+use Rattle.zone_warnings.specs.Signature.{has_expired, is_signature, is_signer}
 use Rattle.zone_warnings.specs.Survey.{Facts, lacks_origin}
 use Rattle.zone_warnings.specs.Text.{cuts_word, is_dmarc, is_spf}
 use Rattle.zone_warnings.specs.declared.kind.Warning.{Warning}
@@ -68,11 +69,6 @@ lacks_address_if f entries (Some server) =
 abbrev pub lacks_address : Facts → List EntryLine → RData → Bool
 lacks_address f entries rdata = lacks_address_if f entries (server_of rdata)
 
--- whether an owner is no delegation: it is the origin, or has no NS record
-abbrev pub lacks_cut : Facts → List EntryLine → DomainName → Bool
-lacks_cut f entries owner =
-    same_labels f.origin.labels owner.labels || not (is_some (first_place property.NameServer entries owner))
-
 -- whether a place comes after the first one
 abbrev pub comes_after : Option ℕ → ℕ → Bool
 comes_after first place = option_map_or (λ p. nat_lt p place) first false
@@ -84,18 +80,25 @@ is_cut f at = option_map_or cuts_word (line_at f.texts at) false
 -- ---- warnings
 
 -- Whether a kind of warning applies to the record at a place among the entries of a zone. A server with a name that ends in the
--- origin twice is not said to lack an address.
+-- origin twice is not said to lack an address, nor is one at or below a delegation, whose address is in another zone. The TTL of a
+-- signature is that of the set that it covers (RFC 4034 section 3).
 abbrev pub applies : WarningKind → Facts → List EntryLine → ℕ → RecordLine → Bool
 applies about.RootZone f entries place r = is_start r && is_root f && not f.is_given
 applies about.NoOrigin f entries place r = is_start r && not (is_root f) && lacks_origin f entries
-applies about.AliasBesideData f entries place r = is_alias r.rdata && is_some (first_place property.NoAlias entries r.owner)
+applies about.AliasBesideData f entries place r = is_alias r.rdata && is_some (first_place property.NotBesideAlias entries r.owner)
 applies about.SecondRecord f entries place r = is_single r.rdata && r.earlier.exists
 applies about.DuplicateRecord f entries place r = is_dropped r
-applies about.OtherTtl f entries place r = r.earlier.has_other_ttl && not r.earlier.is_no_more
-applies about.NoAddress f entries place r = lacks_address f entries r.rdata && not (name_lies_below (doubled_origin f.origin) r)
-applies about.Wildcard f entries place r = begins_with_star r.owner.labels && is_first r
-applies about.Delegation f entries place r =
-    is_name_server r.rdata && not (same_labels f.origin.labels r.owner.labels) && is_first r
+applies about.OtherTtl f entries place r =
+    r.earlier.has_other_ttl && not r.earlier.is_no_more && not (is_signature r.rdata)
+applies about.HighTtl f entries place r = nat_lt 2147483647 r.ttl
+applies about.NoAddress f entries place r =
+    lacks_address f entries r.rdata && not (name_lies_below (doubled_origin f.origin) r)
+    && not (is_server_delegated f entries (server_of r.rdata))
+applies about.Wildcard f entries place r = f.is_plain && begins_with_star r.owner.labels && is_first r
+applies about.Delegation f entries place r = f.is_plain && refers f r && is_first r
+applies about.WildcardCut f entries place r = not f.is_plain && refers f r && begins_with_star r.owner.labels && is_first r
+applies about.NoGlue f entries place r = lacks_glue f entries r
+applies about.Occluded f entries place r = is_below_cut f entries r.owner && not (is_glue entries r)
 applies about.SignerWithoutCut f entries place r = is_signer r.rdata && lacks_cut f entries r.owner
 applies about.ExpiredSignature f entries place r = option_map_or (λ now. has_expired now r.rdata) f.now false
 applies about.SecondSpf f entries place r =
@@ -109,8 +112,14 @@ applies about.MissingDot f entries place r = name_lies_below (doubled_origin f.o
 abbrev pub kinds : List WarningKind
 kinds =
     about.RootZone ∷ about.NoOrigin ∷ about.AliasBesideData ∷ about.SecondRecord ∷ about.DuplicateRecord ∷ about.OtherTtl
-    ∷ about.NoAddress ∷ about.Wildcard ∷ about.Delegation ∷ about.SignerWithoutCut ∷ about.ExpiredSignature ∷ about.SecondSpf
-    ∷ about.SecondDmarc ∷ about.CutText ∷ about.MissingDot ∷ []
+    ∷ about.HighTtl ∷ about.NoAddress ∷ about.Wildcard ∷ about.Delegation ∷ about.WildcardCut ∷ about.NoGlue ∷ about.Occluded
+    ∷ about.SignerWithoutCut ∷ about.ExpiredSignature ∷ about.SecondSpf ∷ about.SecondDmarc ∷ about.CutText ∷ about.MissingDot ∷ []
+
+-- whether a kind of warning is about the origin of the zone: that the root is, or completed a name
+abbrev pub is_about_origin : WarningKind → Bool
+is_about_origin about.RootZone = true
+is_about_origin about.NoOrigin = true
+is_about_origin other = false
 
 -- the warning of a kind for the record at a place
 abbrev pub warning_of : ℕ → RecordLine → WarningKind → Warning

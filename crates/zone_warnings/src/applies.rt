@@ -3,17 +3,21 @@
 ghost use Rattle.std.specs.Prelude.{◌≡◌, List};
 ghost use Rattle.zone_lines.specs.declared.record_line.EntryLine.{EntryLine};
 ghost use Rattle.zone_warnings.specs.Survey.{Surveys, facts_view};
-ghost use Rattle.zone_warnings.specs.Warning.{applies, comes_after, is_cut, is_dropped, is_first, is_single, is_start, lacks_address, lacks_cut};
+ghost use Rattle.zone_warnings.specs.Cuts.{AreCuts};
+ghost use Rattle.zone_warnings.specs.Warning.{applies, comes_after, is_cut, is_dropped, is_first, is_single, is_start, lacks_address};
 
+use crate::cuts::{Cuts, is_glue, lacks_cut, lacks_glue, refers};
 use crate::kind::WarningKind;
 use crate::names::{name_lies_below, server_of};
-use crate::places::{Trait, has_trait};
-use crate::signature::{has_expired, is_signer};
+use crate::places::{Trait, has_trait, is_alias};
+use crate::signature::{has_expired, is_signature, is_signer};
 use crate::survey::{Survey, ZoneFacts};
 use crate::text::cuts_word;
 use dns_data::RData;
-use dns_names::Name;
 use zone_lines::{Position, RecordLine, line_at};
+
+/// The greatest TTL, in seconds (RFC 2181 section 8).
+const MAX_TTL: u32 = 2_147_483_647;
 
 /// Returns `true` if a kind of warning applies to the record at a place.
 pub(crate) fn applies(
@@ -22,8 +26,10 @@ pub(crate) fn applies(
     survey: &Survey,
     place: usize,
     record_line: &RecordLine,
+    cuts: Cuts,
 ) -> bool
     ensures { (entries : List EntryLine) → Surveys survey.now (facts_view facts.entry.now) entries
+        → AreCuts cuts (facts_view facts.entry.now) entries record_line.now
         → result ≡ applies kind (facts_view facts.entry.now) entries place record_line.now }
 {
     match kind {
@@ -34,24 +40,35 @@ pub(crate) fn applies(
             is_start(record_line) && !facts.origin.is_root() && survey.lacks_origin
         }
         WarningKind::AliasBesideData => {
-            !has_trait(Trait::NoAlias, record_line)
-                && survey.others.get(&record_line.owner).is_some()
+            is_alias(&record_line.rdata) && survey.others.get(&record_line.owner).is_some()
         }
         WarningKind::SecondRecord => is_single(&record_line.rdata) && record_line.earlier.exists,
         WarningKind::DuplicateRecord => is_dropped(record_line),
         WarningKind::OtherTtl => {
-            record_line.earlier.has_other_ttl && !record_line.earlier.is_no_more
+            record_line.earlier.has_other_ttl
+                && !record_line.earlier.is_no_more
+                && !is_signature(&record_line.rdata)
         }
+        WarningKind::HighTtl => record_line.ttl > MAX_TTL,
         WarningKind::NoAddress => {
             lacks_address(facts, survey, &record_line.rdata)
                 && !name_lies_below(survey.doubled.as_ref(), record_line)
+                && !cuts.is_above_server
         }
-        WarningKind::Wildcard => record_line.owner.is_wildcard() && is_first(record_line),
+        WarningKind::Wildcard => {
+            facts.is_plain && record_line.owner.is_wildcard() && is_first(record_line)
+        }
         WarningKind::Delegation => {
-            has_trait(Trait::NameServer, record_line)
-                && !facts.origin.eq_ignore_root(&record_line.owner)
+            facts.is_plain && refers(facts, record_line) && is_first(record_line)
+        }
+        WarningKind::WildcardCut => {
+            !facts.is_plain
+                && refers(facts, record_line)
+                && record_line.owner.is_wildcard()
                 && is_first(record_line)
         }
+        WarningKind::NoGlue => lacks_glue(facts, survey, record_line),
+        WarningKind::Occluded => cuts.is_above_owner && !is_glue(survey, record_line),
         WarningKind::SignerWithoutCut => {
             is_signer(&record_line.rdata) && lacks_cut(facts, survey, &record_line.owner)
         }
@@ -113,14 +130,6 @@ fn lacks_address(facts: &ZoneFacts<'_>, survey: &Survey, rdata: &RData) -> bool
         Some(server) => facts.origin.zone_of(server) && survey.addresses.get(server).is_none(),
         None => false,
     }
-}
-
-/// Returns `true` if an owner is no delegation.
-fn lacks_cut(facts: &ZoneFacts<'_>, survey: &Survey, owner: &Name) -> bool
-    ensures { (entries : List EntryLine) → Surveys survey.now (facts_view facts.entry.now) entries
-        → result ≡ lacks_cut (facts_view facts.entry.now) entries owner.now }
-{
-    facts.origin.eq_ignore_root(owner) || survey.cuts.get(owner).is_none()
 }
 
 /// Returns `true` if a place comes after the first one.

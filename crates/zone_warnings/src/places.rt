@@ -1,7 +1,7 @@
 //! The first records of each owner with a property.
 
 ghost use Rattle.std.specs.Prelude.{◌≡◌, IfOk, OnOk, option_copied};
-ghost use Rattle.zone_warnings.specs.Places.{ArePlaces, HasNoted, has_trait, owner_with, place_of};
+ghost use Rattle.zone_warnings.specs.Places.{ArePlaces, HasNoted, has_trait, is_alias, joins_alias, name_server_of, name_with, place_of};
 
 use crate::text::{is_dmarc, is_spf};
 use dns_data::RData;
@@ -13,16 +13,18 @@ use zone_lines::{EntryLine, RecordLine};
 /// A property of a record by itself.
 #[derive(Clone, Copy, Debug, PartialEq, Eq)]
 pub(crate) enum Trait {
-    /// It is no CNAME.
-    NoAlias,
+    /// It may not be beside a CNAME record.
+    NotBesideAlias,
     Address,
     NameServer,
+    /// It names a name server, by whose name it is found.
+    Target,
     Spf,
     Dmarc,
 }
 
-/// The place of the first record of each owner, up to ASCII case, that has a property. It is found in a time that does not
-/// grow with the number of records.
+/// The place of the first record of each owner, or for each target, up to ASCII case, that has a property. It is found in a
+/// time that does not grow with the number of records.
 pub(crate) struct Places {
     first: HashMap<Name, usize>,
 }
@@ -35,7 +37,7 @@ impl Drop for Places {
 }
 
 impl Places {
-    /// Finds the places of the records with a property.
+    /// Finds the places of the records with a property, by their owners, or by their targets.
     pub(crate) fn of(
         alloc: Global,
         property: Trait,
@@ -45,8 +47,8 @@ impl Places {
     {
         let mut first = HashMap::new(alloc);
         for (place, entry) in entries.iter().enumerate() {
-            match owner_with(property, entry) {
-                Some(owner) => note(&mut first, owner, place)?,
+            match name_with(property, entry) {
+                Some(name) => note(&mut first, name, place)?,
                 None => continue,
             }
         }
@@ -61,14 +63,25 @@ impl Places {
     }
 }
 
-/// Returns the owner of an entry's record, if that has a property.
-fn owner_with(property: Trait, entry: &EntryLine) -> Option<&Name>
-    ensures { option_copied result ≡ owner_with property entry.now }
+/// Returns the name by which an entry's record is found, if that has a property.
+fn name_with(property: Trait, entry: &EntryLine) -> Option<&Name>
+    ensures { option_copied result ≡ name_with property entry.now }
 {
-    match entry {
-        EntryLine::Record(record_line) if has_trait(property, record_line) => Some(
+    match (property, entry) {
+        (Trait::Target, EntryLine::Record(record_line)) => name_server_of(&record_line.rdata),
+        (property, EntryLine::Record(record_line)) if has_trait(property, record_line) => Some(
             &record_line.owner,
         ),
+        _ => None,
+    }
+}
+
+/// Returns the name server that data names.
+fn name_server_of(rdata: &RData) -> Option<&Name>
+    ensures { option_copied result ≡ name_server_of rdata.now }
+{
+    match rdata {
+        RData::NS(ns) => Some(&ns.0),
         _ => None,
     }
 }
@@ -89,10 +102,27 @@ pub(crate) fn has_trait(property: Trait, record_line: &RecordLine) -> bool
     ensures { result ≡ has_trait property record_line.now }
 {
     match property {
-        Trait::NoAlias => !matches!(&record_line.rdata, RData::CNAME(_)),
+        Trait::NotBesideAlias => !is_alias(&record_line.rdata) && !joins_alias(&record_line.rdata),
         Trait::Address => matches!(&record_line.rdata, RData::A(_) | RData::AAAA(_)),
-        Trait::NameServer => matches!(&record_line.rdata, RData::NS(_)),
+        Trait::NameServer | Trait::Target => matches!(&record_line.rdata, RData::NS(_)),
         Trait::Spf => is_spf(&record_line.rdata),
         Trait::Dmarc => is_dmarc(record_line),
+    }
+}
+
+/// Returns `true` if data is a CNAME.
+pub(crate) fn is_alias(rdata: &RData) -> bool
+    ensures { result ≡ is_alias rdata.now }
+{
+    matches!(rdata, RData::CNAME(_))
+}
+
+/// Returns `true` if data may be beside a CNAME record: in a signed zone RRSIG and NSEC are, and KEY may be (RFC 4035 section 2.5).
+fn joins_alias(rdata: &RData) -> bool
+    ensures { result ≡ joins_alias rdata.now }
+{
+    match rdata {
+        RData::Unknown { code, rdata: _ } => matches!(u16::from(*code), 25 | 46 | 47),
+        _ => false,
     }
 }

@@ -1,7 +1,7 @@
 //! The time of signatures (RFC 4034 section 3).
 
 ghost use Rattle.std.specs.Prelude.{◌≡◌};
-ghost use Rattle.zone_warnings.specs.Signature.{has_expired, is_past, is_signer};
+ghost use Rattle.zone_warnings.specs.Signature.{has_expired, is_past, is_signature, is_signer};
 
 use dns_data::RData;
 
@@ -10,6 +10,16 @@ const RRSIG: u16 = 46;
 
 /// The number of the type DS (RFC 4034 section 5).
 const DS: u16 = 43;
+
+/// Returns `true` if data is that of a signature.
+pub(crate) fn is_signature(rdata: &RData) -> bool
+    ensures { result ≡ is_signature rdata.now }
+{
+    match rdata {
+        RData::Unknown { code, rdata: _ } => u16::from(*code) == RRSIG,
+        _ => false,
+    }
+}
 
 /// Returns `true` if data is that of a signature that has expired at a time, in seconds since 1970.
 pub(crate) fn has_expired(now: u32, rdata: &RData) -> bool

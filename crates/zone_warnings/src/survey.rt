@@ -16,6 +16,8 @@ pub struct ZoneFacts<'a> {
     pub origin: &'a Name,
     /// Whether the origin was given, and not found in the text.
     pub is_given: bool,
+    /// Whether the zone is served plainly: wildcards are not expanded, and delegations not followed.
+    pub is_plain: bool,
     /// The time at which signatures must not have expired, in seconds since 1970 and modulo 2^32.
     pub now: Option<u32>,
     /// The lines of each text.
@@ -32,6 +34,8 @@ pub(crate) struct Survey {
     pub(crate) others: Places,
     pub(crate) addresses: Places,
     pub(crate) cuts: Places,
+    /// By the names of name servers.
+    pub(crate) servers: Places,
     pub(crate) spf: Places,
     pub(crate) dmarc: Places,
 }
@@ -48,9 +52,10 @@ impl Survey {
         Ok(Survey {
             doubled: doubled_origin(facts.origin)?,
             lacks_origin: lacks_origin(facts, entries),
-            others: Places::of(alloc, Trait::NoAlias, entries)?,
+            others: Places::of(alloc, Trait::NotBesideAlias, entries)?,
             addresses: Places::of(alloc, Trait::Address, entries)?,
             cuts: Places::of(alloc, Trait::NameServer, entries)?,
+            servers: Places::of(alloc, Trait::Target, entries)?,
             spf: Places::of(alloc, Trait::Spf, entries)?,
             dmarc: Places::of(alloc, Trait::Dmarc, entries)?,
         })

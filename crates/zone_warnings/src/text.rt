@@ -111,7 +111,7 @@ fn spot_after(spot: Spot, c: u8) -> Spot
 }
 
 /// Returns `true` if some line of some text begins with `$ORIGIN`.
-pub(crate) fn has_directive(texts: &[Vec<&str>]) -> bool
+pub fn has_directive(texts: &[Vec<&str>]) -> bool
     ensures { result ≡ has_directive (lines_view texts.now) }
 {
     for lines in texts {

@@ -6,6 +6,7 @@ ghost use Rattle.zone_warnings.specs.Survey.{Surveys, facts_view};
 ghost use Rattle.zone_warnings.specs.Warning.{warnings_at, warnings_of};
 
 use crate::applies::applies;
+use crate::cuts::Cuts;
 use crate::kind::{Warning, WarningKind};
 use crate::survey::{Survey, ZoneFacts};
 use std::alloc::{AllocError, Global};
@@ -50,8 +51,9 @@ fn push_warnings(
         → Surveys survey.now (facts_view facts.entry.now) entries → found.new.items ≡ found.old.items
         ++ warnings_at (facts_view facts.entry.now) entries place record_line.now) }
 {
+    let cuts = Cuts::of(facts, survey, record_line)?;
     for kind in WarningKind::ALL {
-        let is_meant = applies(kind, facts, survey, place, record_line);
+        let is_meant = applies(kind, facts, survey, place, record_line, cuts);
         let warning = Warning {
             at: record_line.at,
             kind,

@@ -6,7 +6,7 @@ use Rattle.zone_warnings.proofs.warning.push_warnings.Goals as goal
 pub loop-kind-preserved : goal.loop-kind-preserved
 loop-kind-preserved c = λ entries surveys.
     kind_pushed (facts_view c.args.facts.now) entries c.args.place c.args.record_line.now _ _ _ _ _ _ _
-    c.loop-kind-test.true (c.loop-kind.invariant entries surveys) (c.applies-is_meant.ensures entries surveys) c.in_ok-push_if.ensures
+    c.loop-kind-test.true (c.loop-kind.invariant entries surveys) (c.applies-is_meant.ensures entries surveys (c.in_ok-cuts.ensures entries surveys)) c.in_ok-push_if.ensures
 
 pub returns : goal.returns
 returns c = λ entries surveys.

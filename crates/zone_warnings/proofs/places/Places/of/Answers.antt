@@ -10,4 +10,4 @@ loop-place-preserved-in-None c =
 pub loop-place-preserved : goal.loop-place-preserved
 loop-place-preserved c =
     one_found c.args.property c.args.entries.now c.loop-place.place c.index-entries-place.result c.loop-place-test.true c.index-entries-place.is
-    c.loop-place.first c.note.new.first c.in-Some.owner.now c.loop-place.invariant (sym c.in-Some.ensures) c.in_ok-note-in-Some.ensures
+    c.loop-place.first c.note.new.first c.in-Some.name.now c.loop-place.invariant (sym c.in-Some.ensures) c.in_ok-note-in-Some.ensures

@@ -1,0 +1,28 @@
+//! What is said of the origin of a zone file alone.
+
+ghost use Rattle.std.specs.Prelude.{◌≡◌, IfOk};
+ghost use Rattle.std.specs.List.{filter};
+ghost use Rattle.zone_lines.specs.Line.{lines_of_file};
+ghost use Rattle.zone_lines.specs.Source.{text_view};
+ghost use Rattle.zone_warnings.specs.Text.{has_directive};
+ghost use Rattle.zone_warnings.specs.Warning.{is_about_origin};
+
+use std::alloc::{AllocError, Global};
+use zone_lines::{ZoneText, lines_of_file};
+use zone_warnings::{Warning, has_directive};
+
+/// Returns `true` if some line of a zone file begins with `$ORIGIN`.
+pub fn states_origin(alloc: Global, file: &ZoneText<'_>) -> Result<bool, AllocError>
+    ensures { IfOk result (λ states.
+        states ≡ has_directive (lines_of_file (text_view file.entry.now))) }
+{
+    let texts = lines_of_file(alloc, file)?;
+    Ok(has_directive(texts.as_slice()))
+}
+
+/// Removes the warnings that are not about the origin: a program that reads a zone file for another purpose says no others.
+pub fn keep_origin_warnings(warnings: &mut Vec<Warning>)
+    ensures { warnings.new.items ≡ filter (λ w. is_about_origin w.kind) warnings.old.items }
+{
+    warnings.retain(move |warning| warning.kind.is_about_origin());
+}
