@@ -75,6 +75,19 @@ impl ServerList {
         })
     }
 
+    /// Copies the list, with the failures and the place of the next order.
+    pub fn clone(&self) -> Result<ServerList, AllocError>
+        ensures { IfOk result (λ copy. copy ≡ self.now) }
+    {
+        let alloc = *self.servers.allocator();
+        Ok(ServerList {
+            servers: Vec::from_slice(alloc, self.servers.as_slice())?,
+            failures: Vec::from_slice(alloc, self.failures.as_slice())?,
+            turn: self.turn,
+            rotates: self.rotates,
+        })
+    }
+
     /// Returns the number of servers.
     pub fn len(&self) -> usize
         ensures { result ≡ length self.now.servers }
