@@ -1,3 +1,4 @@
 pub mod Notification
 pub mod Response
 pub mod Notifier
+pub mod Follower

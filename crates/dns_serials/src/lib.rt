@@ -1,9 +1,11 @@
 //! Serial numbers of zones that rise with each change (RFC 2136 section 3.6, RFC 1982).
 //!
-//! - `serial`: the serial number after a change; `laws`: theorems about it.
+//! - `record`: the serial number of an SOA record; `serial`: that after a change; `laws`: theorems about it.
 #![tactic(auto)]
 
 pub mod laws;
+mod record;
 mod serial;
 
+pub use record::data_serial;
 pub use serial::serial_after;
