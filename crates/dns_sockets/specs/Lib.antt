@@ -1,1 +1,2 @@
 pub mod StreamTable
+pub mod Notices

@@ -1,7 +1,8 @@
 //! Datagram sockets.
 
 use crate::clock::Milliseconds;
-use crate::handler::{Handler, Request, Transport};
+use crate::handler::{Handler, Notice, Request, Transport};
+use crate::notices::is_response;
 use dns_faults::Delivery;
 use dns_schedule::Schedule;
 use mio::net::UdpSocket;
@@ -105,7 +106,7 @@ impl DatagramSocket {
         }
         let mut gathered = Vec::new(alloc);
         for _datagram in 0..MAX_BATCH {
-            if !self.receive(&mut gathered, alloc, buffer, now) {
+            if !self.receive(&mut gathered, alloc, handler, buffer, now) {
                 break;
             }
             if let Some(last) = gathered.as_slice().last() {
@@ -118,21 +119,18 @@ impl DatagramSocket {
         self.handle(alloc, index, handler, waiting, gathered.as_slice(), now);
     }
 
-    /// Adds the next datagram to those that are handled together. Returns `false` if none waits.
-    fn receive(
+    /// Adds the next datagram to those that are handled together, unless it is a response that is expected. Returns `false` if none
+    /// waits.
+    fn receive<H: Handler>(
         &mut self,
         gathered: &mut Vec<Datagram>,
         alloc: Global,
+        handler: &mut H,
         buffer: &mut [u8],
         now: Milliseconds,
     ) -> bool {
         match self.socket.recv_from(buffer) {
-            Ok((count, peer)) => {
-                // Without memory there is no reply, as if the datagram had been lost.
-                if let Ok(bytes) = Vec::from_slice(alloc, &buffer[..count]) {
-                    let _pushed = gathered.push(Datagram { peer, bytes });
-                }
-            }
+            Ok((count, peer)) => gather(gathered, alloc, handler, &buffer[..count], peer, now),
             Err(error) => match error.kind() {
                 ErrorKind::Interrupted => {}
                 ErrorKind::WouldBlock => {
@@ -198,11 +196,42 @@ impl DatagramSocket {
         }
     }
 
+    /// Sends a datagram without a request. Returns `false` if the system does not take it.
+    pub(crate) fn send_notice(&self, notice: &Notice) -> bool {
+        self.socket
+            .send_to(notice.bytes.as_slice(), notice.peer)
+            .is_ok()
+    }
+
     /// Sends a reply. What the system does not take is lost, as any datagram may be.
     fn send(&self, reply: &WaitingReply) {
         for _copy in 0..reply.copies {
             let _sent = self.socket.send_to(reply.bytes.as_slice(), reply.peer);
         }
+    }
+}
+
+/// Adds a datagram to those that are handled together, unless it is a response that is expected.
+fn gather<H: Handler>(
+    gathered: &mut Vec<Datagram>,
+    alloc: Global,
+    handler: &mut H,
+    bytes: &[u8],
+    peer: SocketAddr,
+    now: Milliseconds,
+) {
+    let response = Request {
+        bytes,
+        peer,
+        transport: Transport::Datagram,
+        moment: now,
+    };
+    if is_response(bytes) && handler.take_response(&response) {
+        return;
+    }
+    // Without memory there is no reply, as if the datagram had been lost.
+    if let Ok(bytes) = Vec::from_slice(alloc, bytes) {
+        let _pushed = gathered.push(Datagram { peer, bytes });
     }
 }
 

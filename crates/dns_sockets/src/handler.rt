@@ -19,7 +19,22 @@ pub struct Request<'a> {
     pub moment: Milliseconds,
 }
 
-/// Decides what is sent in reply to requests, and when.
+/// A datagram that is sent without a request, such as a notification (RFC 1996).
+pub struct Notice {
+    /// The address to which it is sent.
+    pub peer: SocketAddr,
+    /// The message.
+    pub bytes: Vec<u8>,
+}
+
+impl Drop for Notice {
+    fn drop(self) {
+        let Notice { peer: _peer, bytes } = self;
+        drop(bytes);
+    }
+}
+
+/// Decides what is sent in reply to requests and without any, and when.
 pub trait Handler {
     /// Returns `true` if the requests that wait behind this one may be handled together with it.
     fn gathers(&self, bytes: &[u8]) -> bool;
@@ -37,5 +52,21 @@ pub trait Handler {
         _is_busy: bool,
     ) -> Result<Option<Vec<Vec<u8>>>, AllocError> {
         Ok(None)
+    }
+
+    /// Takes a datagram that is a response, to what was sent without a request. Returns `false` if it is none that was expected:
+    /// then it is handled as a request.
+    fn take_response(&mut self, _response: &Request<'_>) -> bool {
+        false
+    }
+
+    /// Returns the earliest moment at which a datagram is due to be sent without a request, or `None` if none will be.
+    fn next_moment(&self) -> Option<Milliseconds> {
+        None
+    }
+
+    /// Returns the next datagram that is due at a moment to be sent without a request. It is sent once.
+    fn next_notice(&mut self, _now: Milliseconds) -> Option<Notice> {
+        None
     }
 }

@@ -5,6 +5,7 @@ use crate::datagrams::{DatagramSocket, WaitingReply, send_due};
 use crate::handler::Handler;
 use crate::input::{has_ended, watch_input};
 use crate::listener::Listener;
+use crate::notices::{send_notices, sooner};
 use crate::open::{Sockets, open_sockets};
 use crate::stream_table::StreamTable;
 use crate::tokens::SocketToken;
@@ -93,7 +94,7 @@ impl Service {
         }
         let mut events = Events::with_capacity(self.alloc, MAX_EVENTS)?;
         for _turn in 0..u64::MAX {
-            let wait = self.wait(rt)?;
+            let wait = self.wait(rt, handler.next_moment())?;
             self.poll.poll(&mut events, wait)?;
             if self.note_all(rt, &events) {
                 return Ok(());
@@ -103,9 +104,10 @@ impl Service {
         Ok(())
     }
 
-    /// Returns how long to wait for events: not at all if there is something to do, and without end if there is not.
-    fn wait<R: Clock>(&self, rt: &R) -> io::Result<Option<Duration>> {
-        let deadline = self.deadline();
+    /// Returns how long to wait for events: not at all if there is something to do, and without end if there is not. At a moment,
+    /// something is to be sent without a request.
+    fn wait<R: Clock>(&self, rt: &R, moment: Option<Milliseconds>) -> io::Result<Option<Duration>> {
+        let deadline = sooner(self.deadline(), moment);
         if deadline == Milliseconds::MAX {
             return Ok(None);
         }
@@ -173,6 +175,7 @@ impl Service {
         }
         self.streams.go_on(rt, &self.clock, handler, buffer)?;
         send_due(self.datagrams.as_slice(), &mut self.waiting, now);
+        send_notices(self.datagrams.as_slice(), handler, now);
         Ok(())
     }
 }
