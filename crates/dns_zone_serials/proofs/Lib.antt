@@ -1,0 +1,3 @@
+pub mod NamedLaws
+pub mod RaiseLaws
+pub mod SameLaws

@@ -1,0 +1,4 @@
+pub mod ZoneSerial
+pub mod NamedSet
+pub mod NamedRows
+pub mod Raise
