@@ -1,0 +1,5 @@
+pub mod OwnerLaws
+pub mod PushLaws
+pub mod LackingLaws
+pub mod ChangeLaws
+pub mod OtherOwnersLaws
