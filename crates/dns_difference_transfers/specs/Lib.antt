@@ -1,0 +1,2 @@
+pub mod DifferenceRecords
+pub mod Messages
