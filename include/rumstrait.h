@@ -91,8 +91,8 @@ typedef struct rumstrait_zone rumstrait_zone;
 int32_t rumstrait_zone_new(const uint8_t *text, size_t text_len, const uint8_t *origin, size_t origin_len,
                            rumstrait_zone **out) RUMSTRAIT_NONNULL(1, 3, 5);
 
-/* Says what is wrong in a text that `rumstrait_zone_new` refuses as not the zone file of a zone: writes a sentence on the first
- * fault to `out`, and the number of its line, from 1, to `*line`, or 0 if the fault is of no line, such as a missing SOA record.
+/* Says what is wrong in a text that `rumstrait_zone_new` refuses as not the zone file of a zone: writes to `out` what the first
+ * fault is, a semicolon, a blank and what to write instead, and the number of its line, from 1, to `*line`, or 0 if the fault is of no line, such as a missing SOA record.
  * If nothing is wrong, the sentence is empty, and `*line` is 0.
  *
  * Refusals: RUMSTRAIT_INVALID_ENCODING, RUMSTRAIT_INVALID_NAME (the origin), RUMSTRAIT_TOO_SMALL (`*line` is written),

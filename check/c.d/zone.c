@@ -30,8 +30,8 @@ static void faults(void) {
     uint8_t out[512];
     size_t line = 77, len = 77;
     want_fault(ZONE_TEXT, "example.com.", 0, "");
-    want_fault("", "example.com.", 0, "no start of authority");
-    want_fault("$TTL 60\n@ SOA ns h 1 1 1 1 1\nwww A 1\n", "example.com.", 3, "line 3: ");
+    want_fault("", "example.com.", 0, "no SOA record at the zone's origin; write: ");
+    want_fault("$TTL 60\n@ SOA ns h 1 1 1 1 1\nwww A 1\n", "example.com.", 3, "an invalid value for this type; write ");
     want_fault("$TTL 60\n@ SOA ns h ( 1 1 1 1 1\n", "example.com.", 2, "");
     WANT(rumstrait_zone_fault(BYTES("; \xff\n"), BYTES("t."), &line, out, sizeof out, &len) == RUMSTRAIT_INVALID_ENCODING && line == 77 && len == 77);
     WANT(rumstrait_zone_fault(BYTES(ZONE_TEXT), BYTES("a..b"), &line, out, sizeof out, &len) == RUMSTRAIT_INVALID_NAME && line == 77 && len == 77);

@@ -21,7 +21,8 @@ def fault_of(text: bytes, origin: bytes) -> RumstraitError:
     """Returns the error of a text that is not the zone file of a zone."""
     line = ctypes.c_size_t()
     sentence = bytes_of(LIBRARY.rumstrait_zone_fault, text, len(text), origin, len(origin), line).decode()
-    return RumstraitError(Refusal.INVALID_ZONE, sentence, line.value or None)
+    text = f"line {line.value}: {sentence}" if line.value else sentence
+    return RumstraitError(Refusal.INVALID_ZONE, text, line.value or None)
 
 
 class Zone:

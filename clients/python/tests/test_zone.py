@@ -43,7 +43,7 @@ def test_a_fault_has_its_line(added, line):
     with pytest.raises(RumstraitError) as raised:
         Zone.from_text("$TTL 60\n" + added, "t.")
     assert raised.value.line == line
-    assert str(raised.value).startswith(f"line {line}: " if line else "no start of authority")
+    assert str(raised.value).startswith(f"line {line}: " if line else "no SOA record at the zone's origin; ")
 
 
 @pytest.mark.parametrize("limit", [0, 511, 65_536])

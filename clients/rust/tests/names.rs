@@ -42,7 +42,7 @@ fn what_is_wrong_is_refused() {
 fn a_fault_has_its_line() {
     let fault = zone_fault("$TTL 60\n@ SOA ns h 1 1 1 1 1\nwww A 1\n", "t.").unwrap().unwrap();
     assert_eq!(fault.line, Some(3));
-    assert!(fault.sentence.starts_with("line 3: "));
+    assert!(fault.sentence.contains("; "));
     assert_eq!(zone_fault("", "t.").unwrap().unwrap().line, None);
     assert_eq!(zone_fault(TEXT, "t."), Ok(None));
     assert_eq!(zone_fault(TEXT, "a..b"), Err(Refusal::InvalidName));

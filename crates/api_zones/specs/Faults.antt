@@ -1,5 +1,5 @@
 -- What is wrong in the text of a zone.
-use Rattle.std.specs.Prelude.{◌≡◌, [], List, ℕ, IsUtf8, IsOkAnd, Option, Some, None, Err, unwrap_or}
+use Rattle.std.specs.Prelude.{◌≡◌, ◌++◌, codes, [], List, ℕ, IsUtf8, IsOkAnd, Option, Some, None, Err, unwrap_or}
 use Rattle.api_buffer.specs.Arguments.{origin_in}
 use Rattle.api_buffer.specs.declared.refusal.Refusal.{Refusal}
 use Rattle.api_buffer.specs.declared.refusal.Refusal.TheVariants as refusal
@@ -8,6 +8,8 @@ use Rattle.dns_zone.specs.Rows.{ZoneContent}
 use Rattle.dns_zone.specs.declared.zone.ZoneFault.{ZoneFault}
 use Rattle.dns_zone.specs.declared.zone.ZoneFault.TheVariants.{Parse}
 use Rattle.dns_zone_file.specs.Error as file
+use Rattle.dns_zone_file.specs.declared.types.Types.TheVariants.{Nine}
+use Rattle.zone_findings.specs.FaultText.{fault_sentences}
 use Rattle.api_zones.specs.Zones.{IsZoneOf}
 
 -- a text has this fault under an origin
@@ -24,10 +26,14 @@ abbrev pub line_of : ZoneFault → ℕ
 line_of (Parse error) = unwrap_or (file.line_of error) 0
 line_of other = 0
 
--- the line of the fault of a text, with a sentence, or 0 and an empty one if it is that of a zone
+-- what is wrong, and what to write instead
+abbrev pub sentence_of : ZoneFault → List ℕ
+sentence_of fault = ((fault_sentences Nine fault).reason ++ codes "; ") ++ (fault_sentences Nine fault).hint
+
+-- the line of the fault of a text, with the sentence on it, or 0 and an empty one if it is that of a zone
 pub data FindsFault (origin text : List ℕ) : ℕ → List ℕ → Type 0 where
   nothing_is_wrong : (zone : ZoneContent) → IsZoneOf origin text zone → FindsFault origin text 0 []
-  has_a_fault : (fault : ZoneFault) (sentence : List ℕ) → HasFault origin text fault → FindsFault origin text (line_of fault) sentence
+  has_a_fault : (fault : ZoneFault) → HasFault origin text fault → FindsFault origin text (line_of fault) (sentence_of fault)
 
 -- why a text is not read
 abbrev pub IsUnread : List ℕ → List ℕ → Refusal → Type 0

@@ -1,15 +1,17 @@
 //! What is wrong in the text of a zone (RFC 1035 section 5.1).
 
 ghost use Rattle.std.specs.Prelude.{◌≡◌, IfErr, IfOk, OnErr};
-ghost use Rattle.api_zones.specs.Faults.{IsFaultIn, IsUnread, FindsFault, line_of};
+ghost use Rattle.api_zones.specs.Faults.{IsFaultIn, IsUnread, FindsFault, line_of, sentence_of};
 
 use api_buffer::{Refusal, origin_in, text_in};
 use dns_zone::{Zone, ZoneFault};
-use std::alloc::Global;
+use dns_zone_file::Types;
+use std::alloc::{AllocError, Global};
+use zone_findings::fault_advice;
 
-/// Returns a sentence on what is wrong in a text that is not the zone file of a zone under an origin, as for `read_zone`, and
-/// writes the line of the fault, from 1, to `line`, or 0 if the fault has none. If nothing is wrong, the sentence is empty, and
-/// the line 0.
+/// Returns what is wrong in a text that is not the zone file of a zone under an origin, as for `read_zone`, a semicolon, a blank and
+/// what to write instead, and writes the line of the fault, from 1, to `line`, or 0 if the fault has none. If nothing is wrong, the
+/// sentence is empty, and the line 0.
 ///
 /// # Errors
 ///
@@ -29,15 +31,27 @@ pub fn zone_fault(
 {
     match fault_in(alloc, text, origin)? {
         Some(fault) => {
-            let sentence = format!(in alloc; "{fault}")?;
+            let sentence = sentence_of(alloc, &fault)?;
             *line = line_of(&fault);
-            Ok(sentence.into_bytes())
+            Ok(sentence)
         }
         None => {
             *line = 0;
             Ok(Vec::new(alloc))
         }
     }
+}
+
+/// Returns what a fault says, and what to write instead.
+fn sentence_of(alloc: Global, fault: &ZoneFault) -> Result<Vec<u8>, AllocError>
+    ensures { IfOk result (λ sentence. sentence.items ≡ sentence_of fault.now) }
+{
+    let advice = fault_advice(Types::Nine, fault);
+    let mut sentence = Vec::new(alloc);
+    sentence.extend_from_slice(advice.reason.as_bytes())?;
+    sentence.extend_from_slice(b"; ")?;
+    sentence.extend_from_slice(advice.hint.as_bytes())?;
+    Ok(sentence)
 }
 
 /// Returns the fault of a text, or none if it is the zone file of a zone.
