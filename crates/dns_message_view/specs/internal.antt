@@ -1,0 +1,2 @@
+-- Definitions that no public clause cites.
+pub mod PlainNames
