@@ -1,15 +1,18 @@
 //! Questions, borrowed from a message (RFC 1035 section 4.1.2).
 
-ghost use Rattle.std.specs.Prelude.{◌≡◌, ◌++◌, List, ℕ, None, IfSome};
+ghost use Rattle.std.specs.Prelude.{◌≡◌, ◌++◌, List, ℕ, None, IfOk, IfSome, IsOk};
 ghost use Rattle.dns_wire.specs.Decoder.{rest};
 ghost use Rattle.dns_wire.specs.Name.{AreLabels};
+ghost use Rattle.dns_names.specs.Name.{IsInline};
 ghost use Rattle.dns_messages.specs.Sound.{IsSoundQuery};
 ghost use Rattle.dns_messages.specs.declared.query.Query.{Query};
 ghost use Rattle.dns_message_view.specs.Request.{question_form, question_of};
 
 use crate::plain_name::PlainName;
+use dns_messages::Query;
 use dns_wire::laws::{class_number_round_trips, type_number_round_trips};
 use dns_wire::{BinDecoder, DNSClass, RecordType};
+use std::alloc::{AllocError, Global};
 
 /// A question whose name has no compression pointers, borrowed from a message (RFC 1035 section 4.1.2).
 #[derive(Drop)]
@@ -50,6 +53,19 @@ impl<'a> QuestionView<'a> {
             name,
             query_type: RecordType::from(query_type),
             query_class: DNSClass::from(query_class),
+        })
+    }
+
+    /// Copies the question. It takes no memory if its name has at most 24 labels of at most 32 bytes in all, which are stored
+    /// inline.
+    pub fn to_query(&self, alloc: Global) -> Result<Query, AllocError>
+        ensures ok { IfOk result (λ query. query ≡ question_of self.now) }
+        ensures inline { IsInline self.now.name.labels → IsOk result }
+    {
+        Ok(Query {
+            name: self.name.to_name(alloc)?,
+            query_type: self.query_type,
+            query_class: self.query_class,
         })
     }
 }

@@ -20,6 +20,8 @@ fn a_request_with_an_opt_record_is_read(rt: HostRuntime) -> Result<(), Fail> {
     assert_eq!(rt; edns.max_payload, 1400);
     assert!(rt; edns.flags.dnssec_ok);
     assert_eq!(rt; edns.options.len(), 12);
+    let query = view.question.to_query(rt.alloc())?;
+    assert!(rt; query.query_type == RecordType::AAAA);
     let name = view.question.name.to_name(rt.alloc())?;
     assert!(rt; view.question.name.is_name(&name));
     Ok(())
