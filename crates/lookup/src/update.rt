@@ -1,5 +1,6 @@
 //! The words of an update.
 
+use dns_zone_file::Types;
 use lookup_cli::{Ending, UpdateArguments};
 use std::alloc::Global;
 use stub_link::UpdateEvent;
@@ -16,7 +17,7 @@ pub(crate) fn update_of<I: IdSource>(
     let Some(id) = ids.draw() else {
         return Err(Ending::NoEntropy);
     };
-    match parse_update(alloc, words.as_bytes(), &arguments.zone, id)? {
+    match parse_update(alloc, words.as_bytes(), &arguments.zone, id, Types::Nine)? {
         Some(update) => Ok(update),
         None => Err(Ending::invalid(
             alloc,

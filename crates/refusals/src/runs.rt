@@ -4,11 +4,12 @@ use crate::parts::{TURNS, Turn, begin_call, end_call, print_refusal};
 use anyhow::{Result, bail};
 use dns_names::Name;
 use dns_zone::{DatagramLimit, Zone};
+use dns_zone_file::Types;
 use std::alloc::Global;
 use std::fmt::Write;
 use stub_config::{ResolverConfig, ResolverOpts};
 use stub_hosts::Hosts;
-use stub_play::{ScriptText, read_script, write_report};
+use stub_play::{PlayFormat, ScriptText, read_script, write_report};
 use stub_run::{Event, Report, Stopped, World};
 
 /// A run: its zone and its script.
@@ -65,7 +66,7 @@ pub(crate) fn run<R: Print + AllocGlobal>(rt: &R, name: &str) -> Result<()> {
 /// Returns the events of a script.
 fn script_of(alloc: Global, script: &str) -> Result<ScriptText> {
     let origin = Name::from_ascii(alloc, "t.")?;
-    Ok(read_script(alloc, script, &origin)?)
+    Ok(read_script(alloc, script, &origin, Types::Nine)?)
 }
 
 /// Runs events in a new world.
@@ -134,7 +135,7 @@ fn print_run<R: Print + AllocGlobal>(
 /// Prints a report, and the ids that were drawn.
 fn print_report<R: Print + AllocGlobal>(rt: &R, events: &[Event], report: &Report) -> Result<()> {
     let mut text: Vec<u8> = Vec::new(rt.alloc());
-    write_report(events, report, &mut text)?;
+    write_report(events, report, Types::Nine, PlayFormat::Text, &mut text)?;
     let text = String::from_utf8_lossy(rt.alloc(), text.as_slice())?;
     print!(rt; "{text}")?;
     for (id, query) in report.sent.as_slice() {

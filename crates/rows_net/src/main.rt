@@ -9,6 +9,7 @@ mod resolv_conf;
 mod schedules;
 mod updates;
 
+use dns_zone_file::Types;
 use rows::{Answer, Notation, Operations, RowFault};
 use std::alloc::Global;
 use std::io;
@@ -30,7 +31,8 @@ impl Operations for NetOperations {
             "schedule" => schedules::schedule(alloc, input),
             "update" => schedules::update(alloc, input),
             "line" => updates::line(alloc, input),
-            "update-text" => updates::update(alloc, input),
+            "update-text" => updates::update(alloc, input, Types::Nine),
+            "update-text-all" => updates::update(alloc, input, Types::All),
             _ => Err(RowFault::UnknownOperation),
         }
     }

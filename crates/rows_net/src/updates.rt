@@ -1,6 +1,7 @@
 //! The text of updates.
 
 use dns_names::Name;
+use dns_zone_file::Types;
 use rows::{Answer, RowFault, hex_of, split};
 use rows_text::name_of;
 use std::alloc::{AllocError, Global};
@@ -39,16 +40,16 @@ fn push_words(text: &mut String, words: &[Vec<u8>]) -> Result<(), AllocError> {
     Ok(())
 }
 
-/// `update-text ZONE || TEXT`: the bytes of the update that a text says, or `none`.
-pub(crate) fn update(alloc: Global, input: &str) -> Answer {
+/// `update-text ZONE || TEXT`: the bytes of the update that a text says, or `none`; by `update-text-all` it may be of all types.
+pub(crate) fn update(alloc: Global, input: &str, types: Types) -> Answer {
     let (zone, text) = split(input, " || ", "a text")?;
     let zone = name_of(alloc, zone)?;
-    update_bytes(alloc, &zone, text)
+    update_bytes(alloc, &zone, text, types)
 }
 
 /// The bytes of the update that a text says.
-fn update_bytes(alloc: Global, zone: &Name, text: &str) -> Answer {
-    match parse_update(alloc, text.as_bytes(), zone, UPDATE_ID)? {
+fn update_bytes(alloc: Global, zone: &Name, text: &str, types: Types) -> Answer {
+    match parse_update(alloc, text.as_bytes(), zone, UPDATE_ID, types)? {
         Some(update) => bytes_text(alloc, &update),
         None => Ok(String::from_str(alloc, "none")?),
     }

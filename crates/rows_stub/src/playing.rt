@@ -1,10 +1,11 @@
 //! Whole runs, from the contents of the files to what is printed.
 
+use dns_zone_file::Types;
 use rows::{Answer, RowFault, bytes_of, parsed, split};
 use rows_text::name_of;
 use std::alloc::Global;
 use std::fmt::Write;
-use stub_play::{PlayInput, play_in_memory};
+use stub_play::{PlayFormat, PlayInput, play_in_memory};
 
 /// `play ZONE || SCRIPT`: what a run prints, and behind it the line of its fault.
 pub(crate) fn played(alloc: Global, input: &str) -> Answer {
@@ -47,11 +48,13 @@ fn input_of(alloc: Global, texts: &str) -> Result<PlayInput, RowFault> {
         cache: 8192,
         max_ttl: 86_400,
         udp: false,
+        types: Types::Nine,
+        format: PlayFormat::Text,
     })
 }
 
-/// Sets an option: `limit:NUMBER`, `cache:NUMBER`, `max-ttl:NUMBER`, `origin:NAME`, or `hosts:DIGITS`, the bytes of the hosts
-/// file. `-` sets none.
+/// Sets an option: `limit:NUMBER`, `cache:NUMBER`, `max-ttl:NUMBER`, `origin:NAME`, `hosts:DIGITS`, the bytes of the hosts file,
+/// `all-types` or `json`. `-` sets none.
 fn set_option(alloc: Global, input: &mut PlayInput, option: &str) -> Result<(), RowFault> {
     match option.split_once(':') {
         Some(("limit", number)) => input.limit = parsed::<u16>(number)?,
@@ -59,6 +62,8 @@ fn set_option(alloc: Global, input: &mut PlayInput, option: &str) -> Result<(), 
         Some(("max-ttl", number)) => input.max_ttl = parsed::<u32>(number)?,
         Some(("origin", name)) => input.origin = Some(name_of(alloc, name)?),
         Some(("hosts", digits)) => input.hosts = bytes_of(alloc, digits)?,
+        None if option == "all-types" => input.types = Types::All,
+        None if option == "json" => input.format = PlayFormat::Json,
         None if option == "-" => {}
         _ => return Err(RowFault::Lacks("an option")),
     }

@@ -5,12 +5,13 @@ use crate::hosts::hosts_of;
 use crate::ids::ids_of;
 use crate::linking::{limit_of, zone_of};
 use dns_messages::Query;
+use dns_zone_file::Types;
 use rows::{Answer, RowFault, split, text, two_words};
 use rows_text::{error_text, push_question, resolver_config_of, resolver_options_of};
 use std::alloc::{AllocError, Global};
 use std::fmt::Write;
 use stub_lookup::NetError;
-use stub_play::{read_script, write_report};
+use stub_play::{PlayFormat, read_script, write_report};
 use stub_run::{Event, EventReport, Report, Stopped, World, run};
 
 /// `run LIMIT IDS SETTINGS || EVENTS || HOSTS || ZONE`: the report of events in a world over a zone, whose resolver has these
@@ -39,7 +40,7 @@ pub(crate) fn ran_script(alloc: Global, input: &str) -> Answer {
 /// The events of a script over a zone.
 fn script_events(alloc: Global, script: &str, zone: &str) -> Result<Vec<Event>, RowFault> {
     let zone = Box::new(alloc, zone_of(alloc, zone)?)?;
-    match read_script(alloc, script, zone.origin()) {
+    match read_script(alloc, script, zone.origin(), Types::Nine) {
         Ok(script) => Ok(script.events),
         Err(_) => Err(RowFault::Lacks("a script")),
     }
@@ -90,7 +91,7 @@ fn reported(alloc: Global, world: World, events: &[Event]) -> Answer {
 /// A report in text.
 fn report_text(alloc: Global, events: &[Event], report: &Report) -> Answer {
     let mut bytes: Vec<u8> = Vec::new(alloc);
-    if write_report(events, report, &mut bytes).is_err() {
+    if write_report(events, report, Types::Nine, PlayFormat::Text, &mut bytes).is_err() {
         return text(alloc, "not written");
     }
     let mut text = String::from_utf8_lossy(alloc, bytes.as_slice())?;

@@ -2,6 +2,7 @@
 
 use crate::event::push_event;
 use dns_names::Name;
+use dns_zone_file::Types;
 use rows::{Answer, named};
 use std::alloc::Global;
 use std::fmt::Write;
@@ -9,7 +10,7 @@ use stub_play::{ScriptText, read_script};
 
 /// `script TEXT`: how many events a script has, and each with its line, or the fault.
 pub(crate) fn script(alloc: Global, text: &str) -> Answer {
-    match read_script(alloc, text, &Name::root(alloc)) {
+    match read_script(alloc, text, &Name::root(alloc), Types::Nine) {
         Ok(script) => script_text(alloc, &script),
         Err(fault) => named(alloc, fault),
     }

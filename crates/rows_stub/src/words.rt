@@ -1,5 +1,6 @@
 //! The program's arguments.
 
+use dns_zone_file::Types;
 use rows::{Answer, text};
 use std::alloc::Global;
 use std::fmt::Write;
@@ -33,6 +34,9 @@ fn words_text(alloc: Global, words: &Words) -> Answer {
     write!(text, ", limit {limit}, cache {cache}, max-ttl {max_ttl}")?;
     if words.udp {
         text.push_str(", udp")?;
+    }
+    if let Types::All = words.types {
+        text.push_str(", all-types")?;
     }
     Ok(text)
 }

@@ -12,6 +12,8 @@ pub(crate) enum Mode {
     Check,
     /// The script is printed with them as its expectations: `--bless`.
     Bless,
+    /// They are printed as JSON objects: `--json`.
+    Json,
 }
 
 /// What `--help` says of the modes.
@@ -19,9 +21,10 @@ const MODES: &str = "
 One of these, anywhere:
       --check          Compare what each event prints with the lines '#> ' after it
       --bless          Print the script with these lines as its events print them
+      --json           Print a JSON object for each event
 ";
 
-/// Removes the first `--check` or `--bless` from the arguments, and returns what it asks for. No other option takes such a
+/// Removes the first `--check`, `--bless` or `--json` from the arguments, and returns what it asks for. No other option takes such a
 /// value, and a second one is left to be refused.
 pub(crate) fn take_mode(words: &mut Vec<&str>) -> Mode {
     let Some(index) = words.iter().position(|word| mode_of(word).is_some()) else {
@@ -35,6 +38,7 @@ fn mode_of(word: &str) -> Option<Mode> {
     match word {
         "--check" => Some(Mode::Check),
         "--bless" => Some(Mode::Bless),
+        "--json" => Some(Mode::Json),
         _ => None,
     }
 }

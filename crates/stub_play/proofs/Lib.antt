@@ -1,6 +1,7 @@
 pub mod HonestLaws
 pub mod HostLaws
 pub mod LineLaws
+pub mod MembersLaws
 pub mod OptionLaws
 pub mod OrderLaws
 pub mod PlayLaws

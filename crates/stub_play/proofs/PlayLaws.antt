@@ -44,11 +44,13 @@ use Rattle.stub_play.specs.declared.plays.fault.PlayFault.TheVariants.{Write}
 use Rattle.stub_play.specs.declared.plays.fault.PlayFault.TheVariants as plays
 use Rattle.stub_play.specs.declared.plays.input.PlayInput.{PlayInput}
 use Rattle.dns_names.specs.Name.{DomainName}
+use Rattle.dns_zone_file.specs.declared.types.Types.{Types}
 use Rattle.stub_play.specs.EventContent.{EventContent}
 use Rattle.stub_run.specs.Event.{AreHonest}
 use Rattle.stub_play.specs.Plays.{Faults, HasFiles, HostsAre, IsAtFault, IsLineListed, IsLineOf, IsLineOutOfOrder, IsLoaded, IsPlayed, IsRead, IsScript, IsStart, IsStartOver, IsUnwritten, IsUsable, IsZone, ScriptIs, Tells, TellsAll, TellsAllBy, TellsFirst, TellsFirstBy, TellsOver, ZoneIs, content_of, events_of, lines_of, numbered, play_options}
 use Rattle.stub_play.specs.PlayFault.{script_fault}
-use Rattle.stub_play.specs.ReportText.{event_text, reply_text, report_text}
+use Rattle.stub_play.specs.Report.{report_text, told_text}
+use Rattle.stub_play.specs.declared.report.PlayFormat.{PlayFormat}
 use Rattle.stub_play.specs.ScriptText.{IsScriptOf, contents_of, side_by_side}
 use Rattle.stub_play.proofs.OrderLaws.{in_order_if_not_out}
 
@@ -111,14 +113,14 @@ if_err P Q (Err e) h holds = h e holds
 
 -- the first line that cannot be read is the script's fault
 line_is_at_fault : (input : PlayInput) (zone : ZoneContent) (fault : ScriptFault) (line : ℕ) → fault ≡ Line line
-    → (fault ≢ Memory → IsScriptOf zone.origin (string_bytes input.script) (Err fault)) → IsAtFault input zone line
+    → (fault ≢ Memory → IsScriptOf input.types zone.origin (string_bytes input.script) (Err fault)) → IsAtFault input zone line
 line_is_at_fault input zone fault line is refused =
     let other : fault ≢ Memory = λ e. let both : Line line ≡ Memory = sym is ∙ e in cc both in
-    inl (subst (λ (x : ScriptFault). IsScriptOf zone.origin (string_bytes input.script) (Err x)) is (refused other))
+    inl (subst (λ (x : ScriptFault). IsScriptOf input.types zone.origin (string_bytes input.script) (Err x)) is (refused other))
 
 -- the script's fault is the run's
 pub script_faults : (input : PlayInput) (zone : ZoneContent) (fault : ScriptFault) → ZoneIs input (Ok zone)
-    → (fault ≢ Memory → IsScriptOf zone.origin (string_bytes input.script) (Err fault))
+    → (fault ≢ Memory → IsScriptOf input.types zone.origin (string_bytes input.script) (Err fault))
     → IsUnwritten (script_fault fault) × Faults input (script_fault fault)
 script_faults input zone (Line line) is refused = (tt, (zone, is, line_is_at_fault input zone (Line line) line refl refused))
 script_faults input zone Memory is refused = (tt, (zone, is))
@@ -126,7 +128,7 @@ script_faults input zone Memory is refused = (tt, (zone, is))
 -- what was read of a script is that of the run's
 pub script_read : {origin : DomainName} (input : PlayInput) (zone : ZoneContent) (found : List ℕ)
     (outcome : Result (List (ℕ × EventContent)) ScriptFault) → origin ≡ zone.origin → found ≡ string_bytes input.script
-    → IsScriptOf origin found outcome → IsScriptOf zone.origin (string_bytes input.script) outcome
+    → IsScriptOf input.types origin found outcome → IsScriptOf input.types zone.origin (string_bytes input.script) outcome
 script_read input zone found outcome same text read = rw (same, text) at read
 
 -- the fault of the hosts is the run's
@@ -208,25 +210,25 @@ runs_len old (e ∷ events) (r ∷ reports) [] new h = absurd h
 runs_len old (e ∷ events) (r ∷ reports) (state ∷ states) new h = ap suc (runs_len state events reports states new h.1)
 
 -- events without a report have no text
-front_text : (n : ℕ) (events : List Event) (reports : List EventReport) → length reports ≤ n
-    → report_text events reports ≡ report_text (take n events) reports
-front_text n [] reports h = ap (λ (x : List Event). report_text x reports) (sym (take-nil n))
-front_text zero (e ∷ events) [] h = refl
-front_text zero (e ∷ events) (r ∷ reports) h = absurd (omega arith)
-front_text (suc n) (e ∷ events) [] h = refl
-front_text (suc n) (e ∷ events) (r ∷ reports) h =
+front_text : (types : Types) (format : PlayFormat) (n : ℕ) (events : List Event) (reports : List EventReport) → length reports ≤ n
+    → report_text types format events reports ≡ report_text types format (take n events) reports
+front_text types format n [] reports h = ap (λ (x : List Event). report_text types format x reports) (sym (take-nil n))
+front_text types format zero (e ∷ events) [] h = refl
+front_text types format zero (e ∷ events) (r ∷ reports) h = absurd (omega arith)
+front_text types format (suc n) (e ∷ events) [] h = refl
+front_text types format (suc n) (e ∷ events) (r ∷ reports) h =
     let less : length reports ≤ n = omega arith in
-    ap (λ (x : List ℕ). (event_text e ++ reply_text r.reply) ++ x) (front_text n events reports less)
+    ap (λ (x : List ℕ). told_text types format e r ++ x) (front_text types format n events reports less)
 
-front_is : (first : RunState) (events : List Event) (report : Report) (before : IsReportBefore first events report)
-    → report_text events report.events.items ≡ report_text (take before.count events) report.events.items
-front_is first events report before =
+front_is : (types : Types) (format : PlayFormat) (first : RunState) (events : List Event) (report : Report) (before : IsReportBefore first events report)
+    → report_text types format events report.events.items ≡ report_text types format (take before.count events) report.events.items
+front_is types format first events report before =
     let front = take before.count events in
     let same : length report.events.items ≡ length front =
     runs_len first front report.events.items before.reported.states before.reported.last before.reported.runs in
     let short = length-take before.count events in
     let few : length report.events.items ≤ before.count = omega (arith, same, short) in
-    front_text before.count events report.events.items few
+    front_text types format before.count events report.events.items few
 
 module _ {R : Type 0} where
   -- a run over sockets reports of each event once
@@ -239,17 +241,17 @@ module _ {R : Type 0} where
   runs_over_len old (e ∷ events) (r ∷ reports) [] new h = absurd h
   runs_over_len old (e ∷ events) (r ∷ reports) (state ∷ states) new h = ap suc (runs_over_len state events reports states new h.1)
 
-  front_is_over : (first : Resolver (WireHandle (SocketLink R))) (events : List Event) (report : Report)
+  front_is_over : (types : Types) (format : PlayFormat) (first : Resolver (WireHandle (SocketLink R))) (events : List Event) (report : Report)
       (before : IsReportBeforeOver (socket_rules R) first events report)
-      → report_text events report.events.items ≡ report_text (take before.count events) report.events.items
-  front_is_over first events report before =
+      → report_text types format events report.events.items ≡ report_text types format (take before.count events) report.events.items
+  front_is_over types format first events report before =
       let front = take before.count events in
       let run = before.reported.has_run in
       let same : length report.events.items ≡ length front =
       runs_over_len (with_sent first run.ids) front report.events.items run.states before.reported.last run.runs in
       let short = length-take before.count events in
       let few : length report.events.items ≤ before.count = omega (arith, same, short) in
-      front_text before.count events report.events.items few
+      front_text types format before.count events report.events.items few
 
   within_over : (count : ℕ) (events : List Event) (resolver : Resolver (WireHandle (SocketLink R))) → StopsAtOver (socket_rules R) count events resolver
       → (count ≡ 0) ⊎ (count < length events)
@@ -312,21 +314,21 @@ module _ (input : PlayInput) (loaded : Loaded) (is : IsLoaded input loaded) wher
 
   -- what is told of all events, or of the first ones
   module _ (tells : ZoneContent → List Event → List ℕ → Type 0) (order : InOrder 0 loaded.script.events.items) (report : Report) where
-    pub tells_all_by : tells loaded.zone loaded.script.events.items (report_text loaded.script.events.items report.events.items)
-        → TellsAllBy tells input (report_text loaded.script.events.items report.events.items)
+    pub tells_all_by : tells loaded.zone loaded.script.events.items (report_text input.types input.format loaded.script.events.items report.events.items)
+        → TellsAllBy tells input (report_text input.types input.format loaded.script.events.items report.events.items)
     tells_all_by told = (
       loaded.zone,
       numbered loaded.script,
       is.script,
       rw events_are order,
-      subst (λ (es : List Event). tells loaded.zone es (report_text loaded.script.events.items report.events.items)) (sym events_are) told,
+      subst (λ (es : List Event). tells loaded.zone es (report_text input.types input.format loaded.script.events.items report.events.items)) (sym events_are) told,
     )
 
     pub tells_first_by : (count : ℕ) → (count ≡ 0) ⊎ (count < length loaded.script.events.items)
-        → report_text loaded.script.events.items report.events.items
-        ≡ report_text (take count loaded.script.events.items) report.events.items
-        → tells loaded.zone (take count loaded.script.events.items) (report_text (take count loaded.script.events.items) report.events.items)
-        → TellsFirstBy tells input (report_text loaded.script.events.items report.events.items)
+        → report_text input.types input.format loaded.script.events.items report.events.items
+        ≡ report_text input.types input.format (take count loaded.script.events.items) report.events.items
+        → tells loaded.zone (take count loaded.script.events.items) (report_text input.types input.format (take count loaded.script.events.items) report.events.items)
+        → TellsFirstBy tells input (report_text input.types input.format loaded.script.events.items report.events.items)
     tells_first_by count within same told =
         let events = loaded.script.events.items in
         let len = sides_len loaded.script.lines.items events is.beside in (
@@ -336,7 +338,7 @@ module _ (input : PlayInput) (loaded : Loaded) (is : IsLoaded input loaded) wher
           is.script,
           rw events_are order,
           below_sides count events (length (numbered loaded.script)) len within,
-          subst (λ (es : List Event). tells loaded.zone (take count es) (report_text events report.events.items)) (sym events_are)
+          subst (λ (es : List Event). tells loaded.zone (take count es) (report_text input.types input.format events report.events.items)) (sym events_are)
               (subst (tells loaded.zone (take count events)) (sym same) told),
         )
 
@@ -355,7 +357,7 @@ module _ (input : PlayInput) (loaded : Loaded) (is : IsLoaded input loaded) wher
         laws.distinct start.ids (asks_of reported.last).sent (laws.counted 1 start.ids start.counted) last.drawn
 
     tells : (told : List Event) → InOrder 0 told → AreAskable told → IsReportOf state told report
-        → Tells input loaded.zone told (report_text told report.events.items)
+        → Tells input loaded.zone told (report_text input.types input.format told report.events.items)
     tells told in-order asked reported =
         let history : HasOneHistory content state told report =
         laws.history content state told report zone start.first limit in-order asked reported in
@@ -377,15 +379,15 @@ module _ (input : PlayInput) (loaded : Loaded) (is : IsLoaded input loaded) wher
         }
 
     pub tells_all : IsReportOf state loaded.script.events.items report
-        → TellsAll input (report_text loaded.script.events.items report.events.items)
+        → TellsAll input (report_text input.types input.format loaded.script.events.items report.events.items)
     tells_all reported = tells_all_by (Tells input) order report (tells loaded.script.events.items order askable reported)
 
     pub tells_first : IsReportBefore state loaded.script.events.items report
-        → TellsFirst input (report_text loaded.script.events.items report.events.items)
+        → TellsFirst input (report_text input.types input.format loaded.script.events.items report.events.items)
     tells_first before =
         let events = loaded.script.events.items in
         tells_first_by (Tells input) order report before.count
-        (front_within before.count (length events) events before.reported.last refl before.stopped) (front_is state events report before)
+        (front_within before.count (length events) events before.reported.last refl before.stopped) (front_is input.types input.format state events report before)
         (tells (take before.count events) (front-in-order 0 before.count events order) (front-askable before.count events askable)
         before.reported)
 
@@ -393,7 +395,7 @@ module _ (input : PlayInput) (loaded : Loaded) (is : IsLoaded input loaded) wher
   module _ {R : Type 0} (order : InOrder 0 loaded.script.events.items) (resolver : Resolver (WireHandle (SocketLink R)))
       (start : IsStartOver input loaded.zone loaded.hosts resolver) (report : Report) where
     tells_over : (told : List Event) → IsReportOver (socket_rules R) resolver told report
-        → TellsOver R input loaded.zone told (report_text told report.events.items)
+        → TellsOver R input loaded.zone told (report_text input.types input.format told report.events.items)
     tells_over told reported = record {
       hosts = loaded.hosts;
       resolver = resolver;
@@ -406,16 +408,16 @@ module _ (input : PlayInput) (loaded : Loaded) (is : IsLoaded input loaded) wher
     }
 
     pub tells_all_over : IsReportOver (socket_rules R) resolver loaded.script.events.items report
-        → TellsAllBy (TellsOver R input) input (report_text loaded.script.events.items report.events.items)
+        → TellsAllBy (TellsOver R input) input (report_text input.types input.format loaded.script.events.items report.events.items)
     tells_all_over reported = tells_all_by (TellsOver R input) order report (tells_over loaded.script.events.items reported)
 
     pub tells_first_over : IsReportBeforeOver (socket_rules R) resolver loaded.script.events.items report
-        → TellsFirstBy (TellsOver R input) input (report_text loaded.script.events.items report.events.items)
+        → TellsFirstBy (TellsOver R input) input (report_text input.types input.format loaded.script.events.items report.events.items)
     tells_first_over before =
         let events = loaded.script.events.items in
         tells_first_by (TellsOver R input) order report before.count
         (within_over before.count events before.reported.last before.stopped)
-        (front_is_over resolver events report before) (tells_over (take before.count events) before.reported)
+        (front_is_over input.types input.format resolver events report before) (tells_over (take before.count events) before.reported)
 
 -- ---- how a whole run ends
 

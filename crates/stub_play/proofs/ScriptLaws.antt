@@ -2,6 +2,7 @@
 use Rattle.std.proofs.Common.{◌≡◌, ◌<◌, ◌≤◌, ◌+◌, ◌++◌, ℕ, zero, suc, Bool, true, false, if◌then◌else◌, List, [], ◌∷◌, length, map, drop, get_or, Option, Some, None, Result, Ok, Err, Bor, refl, ap, ◌∙◌, sym, subst, add-one, append_assoc, drop-cons, length-append, append-nil, arith}
 use Rattle.std.specs.Int.{from_bool}
 use Rattle.dns_names.specs.Name.{DomainName}
+use Rattle.dns_zone_file.specs.declared.types.Types.{Types}
 use Rattle.stub_run.specs.declared.event.Event.{Event}
 use Rattle.stub_play.specs.declared.script_text.LineContent.{LineContent}
 use Rattle.stub_play.specs.declared.script_text.ScriptFault.{ScriptFault}
@@ -29,19 +30,19 @@ abbrev pub texts : List (Bor (List ℕ)) → List (List ℕ)
 texts = map (λ line. line.now)
 
 -- what is read from the line at a place on, after this many updates
-abbrev pub Rest : DomainName → ℕ → List (Bor (List ℕ)) → ℕ → Result (List (ℕ × EventContent)) ScriptFault → Type 0
-Rest origin count all i found = IsScriptFrom origin count (i + 1) (texts (drop i all)) found
+abbrev pub Rest : Types → DomainName → ℕ → List (Bor (List ℕ)) → ℕ → Result (List (ℕ × EventContent)) ScriptFault → Type 0
+Rest types origin count all i found = IsScriptFrom types origin count (i + 1) (texts (drop i all)) found
 
 -- whatever the rest leads to, the whole leads to, with these events in front
-abbrev pub LeadsOn : DomainName → List (Bor (List ℕ)) → ℕ → ℕ → List (ℕ × EventContent) → Type 0
-LeadsOn origin all i count front =
-    (found : Result (List (ℕ × EventContent)) ScriptFault) → Rest origin count all i found → Rest origin 0 all 0 (in_front front found)
+abbrev pub LeadsOn : Types → DomainName → List (Bor (List ℕ)) → ℕ → ℕ → List (ℕ × EventContent) → Type 0
+LeadsOn types origin all i count front =
+    (found : Result (List (ℕ × EventContent)) ScriptFault) → Rest types origin count all i found → Rest types origin 0 all 0 (in_front front found)
 
 -- the line at a place has this meaning
-pub record IsLine (origin : DomainName) (count : ℕ) (all : List (Bor (List ℕ))) (i : ℕ) (meaning : Meaning) : Type 0 where
+pub record IsLine (types : Types) (origin : DomainName) (count : ℕ) (all : List (Bor (List ℕ))) (i : ℕ) (meaning : Meaning) : Type 0 where
   pub d : Bor (List ℕ)
   pub is_line : i < length all
-  pub means : Means origin (update_id count) (get_or all i d).now meaning
+  pub means : Means types origin (update_id count) (get_or all i d).now meaning
 
 texts_at : (all : List (Bor (List ℕ))) (i : ℕ) (d : Bor (List ℕ)) → i < length all
     → texts (drop i all) ≡ (get_or all i d).now ∷ texts (drop (i + 1) all)
@@ -50,14 +51,14 @@ texts_at all i d lt =
     ap texts back
 
 -- nothing was read so far
-pub leads_from_start : (origin : DomainName) (all : List (Bor (List ℕ))) → LeadsOn origin all 0 0 []
-leads_from_start origin all (Ok events) rest = rest
-leads_from_start origin all (Err fault) rest = rest
+pub leads_from_start : (types : Types) (origin : DomainName) (all : List (Bor (List ℕ))) → LeadsOn types origin all 0 0 []
+leads_from_start types origin all (Ok events) rest = rest
+leads_from_start types origin all (Err fault) rest = rest
 
-pub past_no_event : (origin : DomainName) (all : List (Bor (List ℕ))) (i count : ℕ) (front : List (ℕ × EventContent))
-    → IsLine origin count all i NoEvent → LeadsOn origin all i count front → LeadsOn origin all (i + 1) count front
-past_no_event origin all i count front line leads found rest =
-    leads found (subst (λ (ts : List (List ℕ)). IsScriptFrom origin count (i + 1) ts found) (sym (texts_at all i line.d line.is_line))
+pub past_no_event : (types : Types) (origin : DomainName) (all : List (Bor (List ℕ))) (i count : ℕ) (front : List (ℕ × EventContent))
+    → IsLine types origin count all i NoEvent → LeadsOn types origin all i count front → LeadsOn types origin all (i + 1) count front
+past_no_event types origin all i count front line leads found rest =
+    leads found (subst (λ (ts : List (List ℕ)). IsScriptFrom types origin count (i + 1) ts found) (sym (texts_at all i line.d line.is_line))
     (past_nothing line.means rest))
 
 in_front_more : (front : List (ℕ × EventContent)) (n : ℕ) (e : EventContent) (rest : Result (List (ℕ × EventContent)) ScriptFault)
@@ -65,25 +66,25 @@ in_front_more : (front : List (ℕ × EventContent)) (n : ℕ) (e : EventContent
 in_front_more front n e (Ok events) = ap Ok (rw append_assoc refl)
 in_front_more front n e (Err fault) = refl
 
-pub past_one_event : (origin : DomainName) (all : List (Bor (List ℕ))) (i count : ℕ) (numbers : List ℕ) (events : List Event) (e : Event)
-    → IsLine origin count all i (OneEvent (content_of e)) → length numbers ≡ length events
-    → LeadsOn origin all i count (contents_at numbers events)
-    → LeadsOn origin all (i + 1) (updates_after count (content_of e)) (contents_at (numbers ++ (i + 1) ∷ []) (events ++ e ∷ []))
-past_one_event origin all i count numbers events e line same leads found rest =
+pub past_one_event : (types : Types) (origin : DomainName) (all : List (Bor (List ℕ))) (i count : ℕ) (numbers : List ℕ) (events : List Event) (e : Event)
+    → IsLine types origin count all i (OneEvent (content_of e)) → length numbers ≡ length events
+    → LeadsOn types origin all i count (contents_at numbers events)
+    → LeadsOn types origin all (i + 1) (updates_after count (content_of e)) (contents_at (numbers ++ (i + 1) ∷ []) (events ++ e ∷ []))
+past_one_event types origin all i count numbers events e line same leads found rest =
     let front = contents_at numbers events in
-    let step : Rest origin count all i (with_event (i + 1) (content_of e) found) =
-    subst (λ (ts : List (List ℕ)). IsScriptFrom origin count (i + 1) ts (with_event (i + 1) (content_of e) found))
+    let step : Rest types origin count all i (with_event (i + 1) (content_of e) found) =
+    subst (λ (ts : List (List ℕ)). IsScriptFrom types origin count (i + 1) ts (with_event (i + 1) (content_of e) found))
     (sym (texts_at all i line.d line.is_line)) (past_event (content_of e) found line.means rest) in
     let more = contents_more numbers events (i + 1) e same in
-    subst (λ (r : Result (List (ℕ × EventContent)) ScriptFault). Rest origin 0 all 0 r)
+    subst (λ (r : Result (List (ℕ × EventContent)) ScriptFault). Rest types origin 0 all 0 r)
     (in_front_more front (i + 1) (content_of e) found ∙ ap (λ (x : List (ℕ × EventContent)). in_front x found) (sym more))
     (leads (with_event (i + 1) (content_of e) found) step)
 
 -- a line that cannot be read
-pub ends_at_fault : (origin : DomainName) (all : List (Bor (List ℕ))) (i count : ℕ) (front : List (ℕ × EventContent))
-    → IsLine origin count all i Unreadable → LeadsOn origin all i count front → Rest origin 0 all 0 (Err (Line (i + 1)))
-ends_at_fault origin all i count front line leads =
-    leads (Err (Line (i + 1))) (subst (λ (ts : List (List ℕ)). IsScriptFrom origin count (i + 1) ts (Err (Line (i + 1))))
+pub ends_at_fault : (types : Types) (origin : DomainName) (all : List (Bor (List ℕ))) (i count : ℕ) (front : List (ℕ × EventContent))
+    → IsLine types origin count all i Unreadable → LeadsOn types origin all i count front → Rest types origin 0 all 0 (Err (Line (i + 1)))
+ends_at_fault types origin all i count front line leads =
+    leads (Err (Line (i + 1))) (subst (λ (ts : List (List ℕ)). IsScriptFrom types origin count (i + 1) ts (Err (Line (i + 1))))
     (sym (texts_at all i line.d line.is_line)) (at_fault line.means))
 
 pub drop_all : {A : Type 0} (xs : List A) (i : ℕ) → length xs ≤ i → drop i xs ≡ []
@@ -93,24 +94,24 @@ drop_all (x ∷ xs) zero few = absurd (omega arith)
 drop_all (x ∷ xs) (suc i) few = let less : length xs ≤ i = omega arith in drop_all xs i less
 
 -- all lines were read
-pub ends_at_end : (origin : DomainName) (all : List (Bor (List ℕ))) (i count : ℕ) (front : List (ℕ × EventContent)) → length all ≤ i
-    → LeadsOn origin all i count front → Rest origin 0 all 0 (Ok front)
-ends_at_end origin all i count front len leads =
+pub ends_at_end : (types : Types) (origin : DomainName) (all : List (Bor (List ℕ))) (i count : ℕ) (front : List (ℕ × EventContent)) → length all ≤ i
+    → LeadsOn types origin all i count front → Rest types origin 0 all 0 (Ok front)
+ends_at_end types origin all i count front len leads =
     let none : texts (drop i all) ≡ [] = ap texts (drop_all all i len) in
-    let whole : Rest origin 0 all 0 (Ok (front ++ [])) =
-    leads (Ok []) (subst (λ (ts : List (List ℕ)). IsScriptFrom origin count (i + 1) ts (Ok [])) (sym none) no_line) in
-    subst (λ (events : List (ℕ × EventContent)). Rest origin 0 all 0 (Ok events)) (append-nil front) whole
+    let whole : Rest types origin 0 all 0 (Ok (front ++ [])) =
+    leads (Ok []) (subst (λ (ts : List (List ℕ)). IsScriptFrom types origin count (i + 1) ts (Ok [])) (sym none) no_line) in
+    subst (λ (events : List (ℕ × EventContent)). Rest types origin 0 all 0 (Ok events)) (append-nil front) whole
 
 -- the line at a place was read, as an event or not
-pub line_of : (origin : DomainName) (count id : ℕ) (all : List (Bor (List ℕ))) (i : ℕ) (content : LineContent) (meaning : Meaning)
+pub line_of : (types : Types) (origin : DomainName) (count id : ℕ) (all : List (Bor (List ℕ))) (i : ℕ) (content : LineContent) (meaning : Meaning)
     → id ≡ update_id count → i < length all → meaning_of content ≡ meaning
-    → Means origin id (get_or all i (record { ref_ptr = (0, 0); now = [] })).now (meaning_of content)
-    → IsLine origin count all i meaning
-line_of origin count id all i content meaning same lt is means = record {
+    → Means types origin id (get_or all i (record { ref_ptr = (0, 0); now = [] })).now (meaning_of content)
+    → IsLine types origin count all i meaning
+line_of types origin count id all i content meaning same lt is means = record {
   d = record { ref_ptr = (0, 0); now = [] };
   is_line = lt;
-  means = subst (λ (n : ℕ). Means origin n (get_or all i (record { ref_ptr = (0, 0); now = [] })).now meaning) same
-      (subst (λ (m : Meaning). Means origin id (get_or all i (record { ref_ptr = (0, 0); now = [] })).now m) is means);
+  means = subst (λ (n : ℕ). Means types origin n (get_or all i (record { ref_ptr = (0, 0); now = [] })).now meaning) same
+      (subst (λ (m : Meaning). Means types origin id (get_or all i (record { ref_ptr = (0, 0); now = [] })).now m) is means);
 }
 
 -- a line has one update at most

@@ -165,8 +165,8 @@ pub record IsGiven (name : List ℕ) (rule : Rule) (a : Arg) : Type 0 where
   pub option : IsOption name a
   pub is_rule : rule_of a ≡ rule
 
--- the command with the eight options
-pub record IsStub (start cmd : Command) (zone script origin hosts limit cache max_ttl udp : Arg) : Type 0 where
+-- the command with the nine options
+pub record IsStub (start cmd : Command) (zone script origin hosts limit cache max_ttl udp all_types : Arg) : Type 0 where
   pub bare : IsBare start
   pub is_zone : IsGiven (codes "zone") (required (codes "zone")) zone
   pub is_script : IsGiven (codes "script") (required (codes "script")) script
@@ -176,17 +176,19 @@ pub record IsStub (start cmd : Command) (zone script origin hosts limit cache ma
   pub is_cache : IsGiven (codes "cache") cache_rule cache
   pub is_max_ttl : IsGiven (codes "max-ttl") max_ttl_rule max_ttl
   pub is_udp : IsGiven (codes "udp") (flag (codes "udp")) udp
+  pub is_all_types : IsGiven (codes "all-types") (flag (codes "all-types")) all_types
   pub zone_value : TakesValue zone
   pub script_value : TakesValue script
   pub limit_number : TakesNumber (between 512 65535) limit
   pub cache_number : TakesNumber (between 0 4294967295) cache
   pub max_ttl_number : TakesNumber (between 0 4294967295) max_ttl
   pub udp_flag : TakesFlag udp
-  pub chain : AddsInTurn AddsArg start (zone ∷ script ∷ origin ∷ hosts ∷ limit ∷ cache ∷ max_ttl ∷ udp ∷ []) cmd
+  pub all_types_flag : TakesFlag all_types
+  pub chain : AddsInTurn AddsArg start (zone ∷ script ∷ origin ∷ hosts ∷ limit ∷ cache ∷ max_ttl ∷ udp ∷ all_types ∷ []) cmd
 
-module _ (start cmd : Command) (zone script origin hosts limit cache max_ttl udp : Arg)
-    (h : IsStub start cmd zone script origin hosts limit cache max_ttl udp) where
-  each_fits : AllByRecursion FitsChain (zone ∷ script ∷ origin ∷ hosts ∷ limit ∷ cache ∷ max_ttl ∷ udp ∷ [])
+module _ (start cmd : Command) (zone script origin hosts limit cache max_ttl udp all_types : Arg)
+    (h : IsStub start cmd zone script origin hosts limit cache max_ttl udp all_types) where
+  each_fits : AllByRecursion FitsChain (zone ∷ script ∷ origin ∷ hosts ∷ limit ∷ cache ∷ max_ttl ∷ udp ∷ all_types ∷ [])
   each_fits = (
     option_fits (codes "zone") zone h.is_zone.option refl,
     (
@@ -201,7 +203,10 @@ module _ (start cmd : Command) (zone script origin hosts limit cache max_ttl udp
               option_fits (codes "cache") cache h.is_cache.option refl,
               (
                 option_fits (codes "max-ttl") max_ttl h.is_max_ttl.option refl,
-                (option_fits (codes "udp") udp h.is_udp.option refl, tt),
+                (
+                  option_fits (codes "udp") udp h.is_udp.option refl,
+                  (option_fits (codes "all-types") all_types h.is_all_types.option refl, tt),
+                ),
               ),
             ),
           ),
@@ -212,26 +217,26 @@ module _ (start cmd : Command) (zone script origin hosts limit cache max_ttl udp
 
   pub app_is : app_of cmd ≡ stub_app
   app_is =
-      let rules : map rule_of (zone ∷ script ∷ origin ∷ hosts ∷ limit ∷ cache ∷ max_ttl ∷ udp ∷ []) ≡ stub_rules =
-      rw (h.is_zone.is_rule, h.is_script.is_rule, h.is_origin.is_rule, h.is_hosts.is_rule, h.is_limit.is_rule, h.is_cache.is_rule, h.is_max_ttl.is_rule, h.is_udp.is_rule) refl in
-      app_in_turn (zone ∷ script ∷ origin ∷ hosts ∷ limit ∷ cache ∷ max_ttl ∷ udp ∷ []) start cmd h.chain each_fits
-      ∙ ap (λ (x : App). fold with_rule x (map rule_of (zone ∷ script ∷ origin ∷ hosts ∷ limit ∷ cache ∷ max_ttl ∷ udp ∷ []))) h.bare.app
+      let rules : map rule_of (zone ∷ script ∷ origin ∷ hosts ∷ limit ∷ cache ∷ max_ttl ∷ udp ∷ all_types ∷ []) ≡ stub_rules =
+      rw (h.is_zone.is_rule, h.is_script.is_rule, h.is_origin.is_rule, h.is_hosts.is_rule, h.is_limit.is_rule, h.is_cache.is_rule, h.is_max_ttl.is_rule, h.is_udp.is_rule, h.is_all_types.is_rule) refl in
+      app_in_turn (zone ∷ script ∷ origin ∷ hosts ∷ limit ∷ cache ∷ max_ttl ∷ udp ∷ all_types ∷ []) start cmd h.chain each_fits
+      ∙ ap (λ (x : App). fold with_rule x (map rule_of (zone ∷ script ∷ origin ∷ hosts ∷ limit ∷ cache ∷ max_ttl ∷ udp ∷ all_types ∷ []))) h.bare.app
       ∙ ap (fold with_rule (new_app (codes "stub"))) rules
 
-  apart : are_distinct (ids_of (zone ∷ script ∷ origin ∷ hosts ∷ limit ∷ cache ∷ max_ttl ∷ udp ∷ [])) ≡ true
+  apart : are_distinct (ids_of (zone ∷ script ∷ origin ∷ hosts ∷ limit ∷ cache ∷ max_ttl ∷ udp ∷ all_types ∷ [])) ≡ true
   apart =
-      rw (h.is_zone.option.id, h.is_script.option.id, h.is_origin.option.id, h.is_hosts.option.id, h.is_limit.option.id, h.is_cache.option.id, h.is_max_ttl.option.id, h.is_udp.option.id) refl
+      rw (h.is_zone.option.id, h.is_script.option.id, h.is_origin.option.id, h.is_hosts.option.id, h.is_limit.option.id, h.is_cache.option.id, h.is_max_ttl.option.id, h.is_udp.option.id, h.is_all_types.option.id) refl
 
-  made : IsMadeOf (zone ∷ script ∷ origin ∷ hosts ∷ limit ∷ cache ∷ max_ttl ∷ udp ∷ []) cmd
-  made = made_in_turn [] (zone ∷ script ∷ origin ∷ hosts ∷ limit ∷ cache ∷ max_ttl ∷ udp ∷ []) start cmd
+  made : IsMadeOf (zone ∷ script ∷ origin ∷ hosts ∷ limit ∷ cache ∷ max_ttl ∷ udp ∷ all_types ∷ []) cmd
+  made = made_in_turn [] (zone ∷ script ∷ origin ∷ hosts ∷ limit ∷ cache ∷ max_ttl ∷ udp ∷ all_types ∷ []) start cmd
       (record { same = rw h.bare.args tt; plain = (rw h.bare.args (All-nil IsPlainArg), h.bare.groups); globals = h.bare.globals }) h.chain each_fits
 
   module _ (m : ArgMatches) (parsed : IsParsedFrom cmd m) where
     number_at : (k : ℕ) (a : Arg) (name : List ℕ) (least most : ℕ)
-        → (k < 8) → slice_index_or (zone ∷ script ∷ origin ∷ hosts ∷ limit ∷ cache ∷ max_ttl ∷ udp ∷ []) k a ≡ a → a.id.now ≡ name
+        → (k < 9) → slice_index_or (zone ∷ script ∷ origin ∷ hosts ∷ limit ∷ cache ∷ max_ttl ∷ udp ∷ all_types ∷ []) k a ≡ a → a.id.now ≡ name
         → TakesNumber (between least most) a → HasNumber name least most m
     number_at k a name least most lt at is takes =
-        let xs : List Arg = zone ∷ script ∷ origin ∷ hosts ∷ limit ∷ cache ∷ max_ttl ∷ udp ∷ [] in
+        let xs : List Arg = zone ∷ script ∷ origin ∷ hosts ∷ limit ∷ cache ∷ max_ttl ∷ udp ∷ all_types ∷ [] in
         let read = number_text xs cmd m made (all_fit xs each_fits) (distinct_ids xs apart) parsed k a lt (between least most) (rw at takes) in
         let named : (slice_index_or xs k a).id.now ≡ name = ap (λ (x : Arg). x.id.now) at ∙ is in
         record {
@@ -240,18 +245,18 @@ module _ (start cmd : Command) (zone script origin hosts limit cache max_ttl udp
           is_number = read.2;
         }
 
-    file_at : (k : ℕ) (a : Arg) (name : List ℕ) → k < 8 → slice_index_or (zone ∷ script ∷ origin ∷ hosts ∷ limit ∷ cache ∷ max_ttl ∷ udp ∷ []) k a ≡ a
+    file_at : (k : ℕ) (a : Arg) (name : List ℕ) → k < 9 → slice_index_or (zone ∷ script ∷ origin ∷ hosts ∷ limit ∷ cache ∷ max_ttl ∷ udp ∷ all_types ∷ []) k a ≡ a
         → a.id.now ≡ name → TakesValue a → is_some (first_value (found_of m) name) ≡ true
     file_at k a name lt at is takes =
-        let xs : List Arg = zone ∷ script ∷ origin ∷ hosts ∷ limit ∷ cache ∷ max_ttl ∷ udp ∷ [] in
+        let xs : List Arg = zone ∷ script ∷ origin ∷ hosts ∷ limit ∷ cache ∷ max_ttl ∷ udp ∷ all_types ∷ [] in
         let named : (slice_index_or xs k a).id.now ≡ name = ap (λ (x : Arg). x.id.now) at ∙ is in
         subst (λ (w : List ℕ). is_some (first_value (found_of m) w) ≡ true) named
         (required_in_chain start cmd xs k a m h.chain h.bare.args h.bare.groups h.bare.globals h.bare.negates (all_fit xs each_fits) (distinct_ids xs apart) lt (rw at takes) parsed)
 
-    flag_at : (k : ℕ) (a : Arg) (name : List ℕ) → k < 8 → slice_index_or (zone ∷ script ∷ origin ∷ hosts ∷ limit ∷ cache ∷ max_ttl ∷ udp ∷ []) k a ≡ a
+    flag_at : (k : ℕ) (a : Arg) (name : List ℕ) → k < 9 → slice_index_or (zone ∷ script ∷ origin ∷ hosts ∷ limit ∷ cache ∷ max_ttl ∷ udp ∷ all_types ∷ []) k a ≡ a
         → a.id.now ≡ name → TakesFlag a → IsFlagText (one_text (found_of m) name)
     flag_at k a name lt at is takes =
-        let xs : List Arg = zone ∷ script ∷ origin ∷ hosts ∷ limit ∷ cache ∷ max_ttl ∷ udp ∷ [] in
+        let xs : List Arg = zone ∷ script ∷ origin ∷ hosts ∷ limit ∷ cache ∷ max_ttl ∷ udp ∷ all_types ∷ [] in
         let named : (slice_index_or xs k a).id.now ≡ name = ap (λ (x : Arg). x.id.now) at ∙ is in
         subst (λ (w : List ℕ). IsFlagText (one_text (found_of m) w)) named
         (flag_text xs cmd m made (all_fit xs each_fits) (distinct_ids xs apart) parsed k a lt (rw at takes))
@@ -264,4 +269,5 @@ module _ (start cmd : Command) (zone script origin hosts limit cache max_ttl udp
       cache = number_at 5 cache (codes "cache") 0 4294967295 (omega arith) refl h.is_cache.option.id h.cache_number;
       max_ttl = number_at 6 max_ttl (codes "max-ttl") 0 4294967295 (omega arith) refl h.is_max_ttl.option.id h.max_ttl_number;
       udp = flag_at 7 udp (codes "udp") (omega arith) refl h.is_udp.option.id h.udp_flag;
+      all_types = flag_at 8 all_types (codes "all-types") (omega arith) refl h.is_all_types.option.id h.all_types_flag;
     }

@@ -5,6 +5,9 @@ pub mod LookupLine
 pub mod PlayFault
 pub mod Plays
 pub mod Program
+pub mod Report
+pub mod ReportJson
+pub mod ReportMembers
 pub mod ReportText
 pub mod ScriptFields
 pub mod ScriptText

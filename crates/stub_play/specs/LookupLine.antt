@@ -2,6 +2,7 @@
 use Rattle.std.specs.Prelude.{List, [], ◌∷◌, ℕ, Option, Some, None}
 use Rattle.dns_codes.specs.declared.record_type.RecordType.{RecordType}
 use Rattle.dns_names.specs.Name.{DomainName}
+use Rattle.dns_zone_file.specs.declared.types.Types.{Types}
 use Rattle.stub_play.specs.EventContent.{EventContent, LinkScript, Lookup, LookupIp}
 use Rattle.stub_play.specs.ScriptFields.{host_of, question_of}
 
@@ -11,9 +12,9 @@ lookup_if at link (Some (name, kind)) = Some (Lookup at name kind link)
 lookup_if at link None = None
 
 -- the lookup at a moment, by the words after its keyword
-abbrev pub lookup_of : ℕ → LinkScript → List (List ℕ) → Option EventContent
-lookup_of at link (name ∷ kind ∷ []) = lookup_if at link (question_of name kind)
-lookup_of at link arguments = None
+abbrev pub lookup_of : Types → ℕ → LinkScript → List (List ℕ) → Option EventContent
+lookup_of types at link (name ∷ kind ∷ []) = lookup_if at link (question_of types name kind)
+lookup_of types at link arguments = None
 
 -- the lookup of a host's addresses, if there is a host
 abbrev pub ip_if : ℕ → LinkScript → Option (List ℕ) → Option EventContent

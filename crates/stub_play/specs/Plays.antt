@@ -3,7 +3,7 @@
 use Rattle.std.specs.Prelude.{◌≡◌, ◌≢◌, ◌<◌, ◌≤◌, ◌+◌, ◌⊎◌, false, true, List, [], ℕ, map, length, take, slice_get, slice_index, EachIndex, Option, Some, None, Result, Ok, Err, OnOk, IfErr, ⊤, string_bytes}
 use Rattle.std.specs.Io.KnownBytes.{Appends}
 use Rattle.dns_zone.specs.Rows.{ZoneContent}
-use Rattle.dns_zone.specs.Load.{ReadsZone}
+use Rattle.dns_zone.specs.Load.{ReadsZoneIn}
 use Rattle.dns_zone.specs.declared.zone.ZoneFault.{ZoneFault}
 use Rattle.dns_zone.specs.declared.zone.ZoneFault.TheVariants as zones
 use Rattle.stub_config.specs.Options.{default_options}
@@ -34,7 +34,7 @@ use Rattle.stub_play.specs.declared.plays.Loaded.{Loaded}
 use Rattle.stub_play.specs.declared.plays.fault.PlayFault.{PlayFault}
 use Rattle.stub_play.specs.declared.plays.fault.PlayFault.TheVariants.{Zone, Script, Hosts, Sockets, Memory, Write}
 use Rattle.stub_play.specs.declared.plays.input.PlayInput.{PlayInput}
-use Rattle.stub_play.specs.ReportText.{report_text}
+use Rattle.stub_play.specs.Report.{report_text}
 use Rattle.stub_play.specs.ScriptText.{IsScriptOf, contents_of, side_by_side}
 
 -- ---- moments
@@ -75,9 +75,9 @@ IsLineListed = IsLineOf IsFirstListed
 
 -- ---- the files
 
--- the zone of a run, or its first fault; the zone file includes no text
+-- the zone of a run, or its first fault; the zone file has the types of the input, and includes no text
 abbrev pub ZoneIs : PlayInput → Result ZoneContent ZoneFault → Type 0
-ZoneIs input outcome = ReadsZone [] input.origin (string_bytes input.zone) outcome
+ZoneIs input outcome = ReadsZoneIn input.types [] input.origin (string_bytes input.zone) outcome
 
 -- the zone can be read
 abbrev pub IsZone : PlayInput → Type 0
@@ -85,7 +85,7 @@ IsZone input = (zone : ZoneContent) × ZoneIs input (Ok zone)
 
 -- the events of the script, each with its line; the zone's origin completes the names of updates
 abbrev pub ScriptIs : PlayInput → ZoneContent → List (ℕ × Event) → Type 0
-ScriptIs input zone script = IsScriptOf zone.origin (string_bytes input.script) (Ok (contents_of script))
+ScriptIs input zone script = IsScriptOf input.types zone.origin (string_bytes input.script) (Ok (contents_of script))
 
 -- over sockets, which follow no script, no event has link words other than `honest`
 abbrev pub IsUsable : PlayInput → List (ℕ × Event) → Type 0
@@ -134,7 +134,7 @@ pub record IsLoaded (input : PlayInput) (loaded : Loaded) : Type 0 where
 -- the hosts can be read, one whose moment is out of order
 abbrev pub IsAtFault : PlayInput → ZoneContent → ℕ → Type 0
 IsAtFault input zone line =
-    IsScriptOf zone.origin (string_bytes input.script) (Err (scripts.Line line))
+    IsScriptOf input.types zone.origin (string_bytes input.script) (Err (scripts.Line line))
     ⊎ (((script : List (ℕ × Event)) × ScriptIs input zone script × (input.udp ≡ true) × IsLineListed script line)
     ⊎ ((script : List (ℕ × Event)) × (hosts : HostsContent) × ScriptIs input zone script × IsUsable input script
     × HostsAre input.hosts.items (Ok hosts) × IsLineOutOfOrder script line))
@@ -201,7 +201,7 @@ pub record Tells (input : PlayInput) (zone : ZoneContent) (events : List Event) 
   pub is_zone : ZoneIs input (Ok zone)
   pub are_hosts : HostsAre input.hosts.items (Ok hosts)
   pub start : IsStart input zone hosts state
-  pub is_text : text ≡ report_text events report.events.items
+  pub is_text : text ≡ report_text input.types input.format events report.events.items
   pub history : HasOneHistory (content_of input zone start.ids hosts) state events report
   pub fresh : AreFresh (content_of input zone start.ids hosts) events report.events.items history.occasions
   pub chain_bound : HaveChainBounds (content_of input zone start.ids hosts) events report.events.items history.occasions
@@ -251,7 +251,7 @@ pub record TellsOver (R : Type 0) (input : PlayInput) (zone : ZoneContent) (even
   pub are_hosts : HostsAre input.hosts.items (Ok hosts)
   pub start : IsStartOver input zone hosts resolver
   pub reported : IsReportOver (socket_rules R) resolver events report
-  pub is_text : text ≡ report_text events report.events.items
+  pub is_text : text ≡ report_text input.types input.format events report.events.items
 
 -- what a run of files that can be read comes to: `same` says that nothing was written, and `tells` what a text tells of events
 pub record IsPlayed (tells : ZoneContent → List Event → List ℕ → Type 0) (input : PlayInput) (same : Type 0) (old new : Option (List ℕ))

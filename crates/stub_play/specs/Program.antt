@@ -10,6 +10,7 @@ use Rattle.stub_play.specs.declared.program.InputFile.TheVariants as files
 use Rattle.stub_play.specs.declared.program.Ending.{Ending}
 use Rattle.stub_play.specs.declared.program.Ending.TheVariants.{Arguments, BadWords, NotUtf8, CannotRead, Fault, Memory}
 use Rattle.stub_play.specs.declared.plays.input.PlayInput.{PlayInput}
+use Rattle.stub_play.specs.declared.report.PlayFormat.TheVariants.{Text}
 use Rattle.stub_play.specs.declared.words.Words.{Words}
 use Rattle.stub_play.specs.declared.words.WordsFault.{WordsFault}
 use Rattle.stub_play.specs.declared.words.WordsFault.TheVariants as words
@@ -35,7 +36,7 @@ Sets old files.Zone bytes new = (string_bytes new.zone ≡ bytes) × (new ≡ re
 Sets old files.Script bytes new = (string_bytes new.script ≡ bytes) × (new ≡ record old { script = new.script })
 Sets old files.Hosts bytes new = (new.hosts.items ≡ bytes) × (new ≡ record old { hosts = new.hosts })
 
--- the contents of the files, with the options of the arguments
+-- the contents of the files, with the options of the arguments; the report is text
 abbrev pub input_of : Words → FileContents → PlayInput
 input_of given contents = record {
   zone = contents.zone;
@@ -46,6 +47,8 @@ input_of given contents = record {
   cache = given.cache;
   max_ttl = given.max_ttl;
   udp = given.udp;
+  types = given.types;
+  format = Text;
 }
 
 -- ---- endings

@@ -3,12 +3,13 @@ use Rattle.std.specs.Prelude.{◌≡◌, ◌||◌, ◌⊎◌, if◌then◌else�
 use Rattle.std.specs.Net.Grammar.{IsIpText}
 use Rattle.std.specs.Net.Reader.{read_ipv4, read_ipv6, whole_value}
 use Rattle.std.specs.declared.net.ip_addr.IpAddr.{IpAddr}
-use Rattle.dns_codes.specs.CodeText.{type_of_text}
 use Rattle.dns_codes.specs.Decimal.{decimal_up_to}
 use Rattle.dns_codes.specs.declared.record_type.RecordType.{RecordType}
 use Rattle.dns_names.specs.Name.{DomainName}
 use Rattle.dns_names.specs.Parse.{name_of_text}
 use Rattle.dns_names.specs.declared.error.ParseError.{ParseError}
+use Rattle.dns_zone_file.specs.declared.types.Types.{Types}
+use Rattle.update_text.specs.TypeWord.{type_named}
 
 -- a moment, in seconds: a number of 64 bits
 abbrev pub moment : List ℕ → Option ℕ
@@ -40,6 +41,6 @@ abbrev pub question_if : Option DomainName → Option RecordType → Option (Dom
 question_if (Some name) (Some kind) = Some (name, kind)
 question_if name kind = None
 
--- the words of a name and a type
-unfoldable pub question_of : List ℕ → List ℕ → Option (DomainName × RecordType)
-question_of name kind = question_if (name_of name) (type_of_text kind)
+-- the words of a name and a type, which zone files of these types may have
+unfoldable pub question_of : Types → List ℕ → List ℕ → Option (DomainName × RecordType)
+question_of types name kind = question_if (name_of name) (type_named types kind)

@@ -4,6 +4,7 @@ use Rattle.std.specs.Prelude.{◌≡◌, ◌==◌, ◌+◌, ◌%◌, if◌then�
 use Rattle.std.specs.Str.{bytes_eq}
 use Rattle.std.specs.Str.Lines.{lines}
 use Rattle.dns_names.specs.Name.{DomainName}
+use Rattle.dns_zone_file.specs.declared.types.Types.{Types}
 use Rattle.stub_run.specs.declared.event.Event.{Event}
 use Rattle.stub_play.specs.ClearLine.{clear_all_of, clear_of}
 use Rattle.stub_play.specs.EventContent.{EventContent, LinkScript, Update, content_of}
@@ -32,31 +33,31 @@ keyword_of word =
     else None
 
 -- the event of a moment, a keyword and the words after it, or none; an update has this id
-abbrev pub IsEventAt : DomainName → ℕ → LinkScript → Option ℕ → Option Keyword → List (List ℕ) → Option EventContent → Type 0
-IsEventAt origin id link (Some at) (Some keyword.Lookup) arguments found = found ≡ lookup_of at link arguments
-IsEventAt origin id link (Some at) (Some keyword.Ip) arguments found = found ≡ ip_of at link arguments
-IsEventAt origin id link (Some at) (Some keyword.Clear) arguments found = found ≡ clear_of at link arguments
-IsEventAt origin id link (Some at) (Some keyword.ClearAll) arguments found = found ≡ clear_all_of at link arguments
-IsEventAt origin id link (Some at) (Some keyword.Update) arguments found = IsUpdateLine origin id at link arguments found
-IsEventAt origin id link at keyword arguments found = found ≡ None
+abbrev pub IsEventAt : Types → DomainName → ℕ → LinkScript → Option ℕ → Option Keyword → List (List ℕ) → Option EventContent → Type 0
+IsEventAt types origin id link (Some at) (Some keyword.Lookup) arguments found = found ≡ lookup_of types at link arguments
+IsEventAt types origin id link (Some at) (Some keyword.Ip) arguments found = found ≡ ip_of at link arguments
+IsEventAt types origin id link (Some at) (Some keyword.Clear) arguments found = found ≡ clear_of types at link arguments
+IsEventAt types origin id link (Some at) (Some keyword.ClearAll) arguments found = found ≡ clear_all_of at link arguments
+IsEventAt types origin id link (Some at) (Some keyword.Update) arguments found = IsUpdateLine types origin id at link arguments found
+IsEventAt types origin id link at keyword arguments found = found ≡ None
 
 -- the event of a line's words
-abbrev pub IsEvent : DomainName → ℕ → LinkScript → List (List ℕ) → Option EventContent → Type 0
-IsEvent origin id link (at ∷ keyword ∷ arguments) found = IsEventAt origin id link (moment at) (keyword_of keyword) arguments found
-IsEvent origin id link words found = found ≡ None
+abbrev pub IsEvent : Types → DomainName → ℕ → LinkScript → List (List ℕ) → Option EventContent → Type 0
+IsEvent types origin id link (at ∷ keyword ∷ arguments) found = IsEventAt types origin id link (moment at) (keyword_of keyword) arguments found
+IsEvent types origin id link words found = found ≡ None
 
 -- ---- lines
 
 -- the event of the words of a line, with the link script that its words spell
-abbrev pub IsEventIf : DomainName → ℕ → Option LinkScript → List (List ℕ) → Option EventContent → Type 0
-IsEventIf origin id (Some link) words found = IsEvent origin id link words found
-IsEventIf origin id None words found = found ≡ None
+abbrev pub IsEventIf : Types → DomainName → ℕ → Option LinkScript → List (List ℕ) → Option EventContent → Type 0
+IsEventIf types origin id (Some link) words found = IsEvent types origin id link words found
+IsEventIf types origin id None words found = found ≡ None
 
 -- the event of a line of words, or none if the text is no such line
-pub data IsEventOfLine (origin : DomainName) (id : ℕ) (text : List ℕ) : Option EventContent → Type 0 where
+pub data IsEventOfLine (types : Types) (origin : DomainName) (id : ℕ) (text : List ℕ) : Option EventContent → Type 0 where
   of_line : {words link : List (List ℕ)} {found : Option EventContent} → IsLine text words link
-      → IsEventIf origin id (link_of_words link) words found → IsEventOfLine origin id text found
-  of_no_line : ¬ ((words : List (List ℕ)) × (link : List (List ℕ)) × IsLine text words link) → IsEventOfLine origin id text None
+      → IsEventIf types origin id (link_of_words link) words found → IsEventOfLine types origin id text found
+  of_no_line : ¬ ((words : List (List ℕ)) × (link : List (List ℕ)) × IsLine text words link) → IsEventOfLine types origin id text None
 
 -- a text without the blanks in front
 abbrev pub after_blanks : List ℕ → List ℕ
@@ -90,13 +91,13 @@ meaning_if (Some e) = OneEvent e
 meaning_if None = Unreadable
 
 -- the meaning of a line that is skipped, and of one that is not
-abbrev pub MeansIf : Bool → DomainName → ℕ → List ℕ → Meaning → Type 0
-MeansIf true origin id text meaning = meaning ≡ NoEvent
-MeansIf false origin id text meaning = (found : Option EventContent) × IsEventOfLine origin id text found × (meaning ≡ meaning_if found)
+abbrev pub MeansIf : Bool → Types → DomainName → ℕ → List ℕ → Meaning → Type 0
+MeansIf true types origin id text meaning = meaning ≡ NoEvent
+MeansIf false types origin id text meaning = (found : Option EventContent) × IsEventOfLine types origin id text found × (meaning ≡ meaning_if found)
 
 -- the meaning of a line, in which an update has this id
-abbrev pub Means : DomainName → ℕ → List ℕ → Meaning → Type 0
-Means origin id text meaning = MeansIf (is_skipped text) origin id text meaning
+abbrev pub Means : Types → DomainName → ℕ → List ℕ → Meaning → Type 0
+Means types origin id text meaning = MeansIf (is_skipped text) types origin id text meaning
 
 -- ---- scripts
 
@@ -118,22 +119,22 @@ abbrev pub with_event : ℕ → EventContent → Result (List (ℕ × EventConte
 with_event number e (Ok events) = Ok ((number, e) ∷ events)
 with_event number e (Err fault) = Err fault
 
--- IsScriptFrom origin count number lines found: the events of the lines, each with its line, or the first line that cannot be
+-- IsScriptFrom types origin count number lines found: the events of the lines, each with its line, or the first line that cannot be
 -- read. The first line has this number, and this many updates come before it.
-pub data IsScriptFrom (origin : DomainName) : ℕ → ℕ → List (List ℕ) → Result (List (ℕ × EventContent)) ScriptFault → Type 0 where
-  no_line : {count number : ℕ} → IsScriptFrom origin count number [] (Ok [])
+pub data IsScriptFrom (types : Types) (origin : DomainName) : ℕ → ℕ → List (List ℕ) → Result (List (ℕ × EventContent)) ScriptFault → Type 0 where
+  no_line : {count number : ℕ} → IsScriptFrom types origin count number [] (Ok [])
   past_nothing : {count number : ℕ} {text : List ℕ} {more : List (List ℕ)} {found : Result (List (ℕ × EventContent)) ScriptFault}
-      → Means origin (update_id count) text NoEvent → IsScriptFrom origin count (number + 1) more found
-      → IsScriptFrom origin count number (text ∷ more) found
+      → Means types origin (update_id count) text NoEvent → IsScriptFrom types origin count (number + 1) more found
+      → IsScriptFrom types origin count number (text ∷ more) found
   past_event : {count number : ℕ} {text : List ℕ} {more : List (List ℕ)} (e : EventContent) (found : Result (List (ℕ × EventContent)) ScriptFault)
-      → Means origin (update_id count) text (OneEvent e) → IsScriptFrom origin (updates_after count e) (number + 1) more found
-      → IsScriptFrom origin count number (text ∷ more) (with_event number e found)
-  at_fault : {count number : ℕ} {text : List ℕ} {more : List (List ℕ)} → Means origin (update_id count) text Unreadable
-      → IsScriptFrom origin count number (text ∷ more) (Err (Line number))
+      → Means types origin (update_id count) text (OneEvent e) → IsScriptFrom types origin (updates_after count e) (number + 1) more found
+      → IsScriptFrom types origin count number (text ∷ more) (with_event number e found)
+  at_fault : {count number : ℕ} {text : List ℕ} {more : List (List ℕ)} → Means types origin (update_id count) text Unreadable
+      → IsScriptFrom types origin count number (text ∷ more) (Err (Line number))
 
 -- The events of a text, each with its line, counted from 1, or the first line that cannot be read.
-abbrev pub IsScriptOf : DomainName → List ℕ → Result (List (ℕ × EventContent)) ScriptFault → Type 0
-IsScriptOf origin text found = IsScriptFrom origin 0 1 (lines text) found
+abbrev pub IsScriptOf : Types → DomainName → List ℕ → Result (List (ℕ × EventContent)) ScriptFault → Type 0
+IsScriptOf types origin text found = IsScriptFrom types origin 0 1 (lines text) found
 
 -- lines and events, side by side
 abbrev pub side_by_side : List ℕ → List Event → List (ℕ × Event)

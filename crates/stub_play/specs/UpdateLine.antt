@@ -2,11 +2,12 @@
 use Rattle.std.specs.Prelude.{◌≡◌, List, ℕ, Option, option_map}
 use Rattle.dns_names.specs.Name.{DomainName}
 use Rattle.dns_messages.specs.declared.message.Message.{Message}
+use Rattle.dns_zone_file.specs.declared.types.Types.{Types}
 use Rattle.update_text.specs.Update.{IsUpdateOf}
 use Rattle.stub_play.specs.EventContent.{EventContent, LinkScript, Update}
 
 -- the event of an update at a moment, by the words after its keyword
-abbrev pub IsUpdateLine : DomainName → ℕ → ℕ → LinkScript → List (List ℕ) → Option EventContent → Type 0
-IsUpdateLine origin id at link arguments found =
-    (update : Option Message) × IsUpdateOf origin id arguments update
+abbrev pub IsUpdateLine : Types → DomainName → ℕ → ℕ → LinkScript → List (List ℕ) → Option EventContent → Type 0
+IsUpdateLine types origin id at link arguments found =
+    (update : Option Message) × IsUpdateOf types origin id arguments update
     × (found ≡ option_map (λ (m : Message). Update at m link) update)

@@ -5,6 +5,8 @@ use Rattle.std.specs.Str.Parse.{digits_value, without_leading_plus}
 use Rattle.dns_names.specs.Name.{DomainName}
 use Rattle.dns_names.specs.Parse.{name_of_text}
 use Rattle.dns_names.specs.declared.error.ParseError.{ParseError}
+use Rattle.dns_zone_file.specs.declared.types.Types.{Types}
+use Rattle.dns_zone_file.specs.declared.types.Types.TheVariants.{Nine, All}
 use Rattle.stub_play.specs.declared.words.WordsFault.{WordsFault}
 use Rattle.stub_play.specs.declared.words.WordsFault.TheVariants.{Clap, Bad, Memory}
 use Rattle.clap.specs.declared.error.Error.{Error}
@@ -57,7 +59,7 @@ flag name = record (new_rule name) { long = Some name; action = Some SetTrue; pa
 abbrev pub stub_rules : List Rule
 stub_rules =
     required (codes "zone") ∷ required (codes "script") ∷ optional (codes "origin") ∷ optional (codes "hosts")
-    ∷ limit_rule ∷ cache_rule ∷ max_ttl_rule ∷ flag (codes "udp") ∷ []
+    ∷ limit_rule ∷ cache_rule ∷ max_ttl_rule ∷ flag (codes "udp") ∷ flag (codes "all-types") ∷ []
 
 -- the program, as clap knows it
 abbrev pub stub_app : App
@@ -85,6 +87,11 @@ is_set (Some text) = bytes_eq text (codes "true")
 -- the words use an option without a value
 abbrev pub flag_of : List ℕ → List (List ℕ) → Bool
 flag_of name words = is_set (one_of name (matches_of stub_app words))
+
+-- the types that a zone file may have: all, or those with fields
+abbrev pub types_of : Bool → Types
+types_of true = All
+types_of false = Nine
 
 -- the origin that an option's value spells, if it has one, or why it is not a name
 abbrev pub some_name : Result DomainName ParseError → Result (Option DomainName) ParseError
@@ -137,7 +144,7 @@ pub record HasNumber (name : List ℕ) (least most : ℕ) (matches : ArgMatches)
   pub is_text : one_text (found_of matches) name ≡ Some (without_minus text)
   pub is_number : IsSignedIn (pos least) (pos most) text
 
--- the files that are required, the numbers and the flag are found
+-- the files that are required, the numbers and the flags are found
 pub record HasAll (matches : ArgMatches) : Type 0 where
   pub zone : is_some (first_value (found_of matches) (codes "zone")) ≡ true
   pub script : is_some (first_value (found_of matches) (codes "script")) ≡ true
@@ -145,6 +152,7 @@ pub record HasAll (matches : ArgMatches) : Type 0 where
   pub cache : HasNumber (codes "cache") 0 4294967295 matches
   pub max_ttl : HasNumber (codes "max-ttl") 0 4294967295 matches
   pub udp : IsFlagText (one_text (found_of matches) (codes "udp"))
+  pub all_types : IsFlagText (one_text (found_of matches) (codes "all-types"))
 
 -- ---- faults
 

@@ -5,6 +5,7 @@ ghost use Rattle.stub_play.specs.ClearLine.{clear_all_of, clear_of};
 ghost use Rattle.stub_play.specs.EventContent.{content_of, link_content};
 
 use crate::script_fields::parse_question;
+use dns_zone_file::Types;
 use std::alloc::{AllocError, Global};
 use stub_lookup::Moment;
 use stub_run::{Event, Script};
@@ -15,14 +16,15 @@ pub(crate) fn read_clear(
     at: Moment,
     script: Script,
     arguments: &[Vec<u8>],
+    types: Types,
 ) -> Result<Option<Event>, AllocError>
     ensures { IfOk result (λ found. option_map content_of found
-        ≡ clear_of at (link_content script) (map (λ word. word.items) arguments.now)) }
+        ≡ clear_of types at (link_content script) (map (λ word. word.items) arguments.now)) }
 {
     let [name, rtype] = arguments else {
         return Ok(None);
     };
-    match parse_question(alloc, name, rtype)? {
+    match parse_question(alloc, name, rtype, types)? {
         Some((name, rtype)) => Ok(Some(Event::Clear {
             at,
             name,

@@ -3,26 +3,31 @@
 //! - `words`: the arguments; `program`: the files that the program reads, and how it reports each fault
 //! - `script_text`: the events of a script, one a line; `script_fields`: moments, names, types and hosts
 //! - `lookup_line`, `clear_line`, `update_line`: the kinds of lines; `link_words`: the link scripts of lines
-//! - `report_text`: the text of a report
+//! - `report`: the text of a report; `report_text`, `report_json`: that of an event's, for people and for programs; `shown`: owners,
+//!   types, data and reasons in it; `json_members`: the members of an object
 //! - `plays`: a whole run, from the contents of the files to the text that is printed; `plays/input`: its input;
 //!   `plays/sockets`: a run over sockets; `plays/fault`: why it ended early
-//! - `laws`: which words of a script are hosts
+//! - `laws`: which words of a script are hosts, and what the objects of events say
 #![tactic(auto)]
 
 mod clear_line;
+mod json_members;
 pub mod laws;
 mod link_words;
 mod lookup_line;
 mod plays;
 mod program;
+mod report;
+mod report_json;
 mod report_text;
 mod script_fields;
 mod script_text;
+mod shown;
 mod update_line;
 mod words;
 
 pub use plays::{PlayFault, PlayInput, play, play_in_memory};
 pub use program::{Ending, FileContents, InputFile, reading_order, unread_arguments};
-pub use report_text::write_report;
+pub use report::{PlayFormat, write_report};
 pub use script_text::{ScriptFault, ScriptText, read_script};
 pub use words::{Words, WordsFault, read_words};

@@ -5,6 +5,7 @@ ghost use Rattle.stub_play.specs.EventContent.{content_of, link_content};
 ghost use Rattle.stub_play.specs.LookupLine.{ip_of, lookup_of};
 
 use crate::script_fields::{parse_host, parse_question};
+use dns_zone_file::Types;
 use std::alloc::{AllocError, Global};
 use stub_lookup::Moment;
 use stub_run::{Event, Script};
@@ -15,14 +16,15 @@ pub(crate) fn read_lookup(
     at: Moment,
     script: Script,
     arguments: &[Vec<u8>],
+    types: Types,
 ) -> Result<Option<Event>, AllocError>
     ensures { IfOk result (λ found. option_map content_of found
-        ≡ lookup_of at (link_content script) (map (λ word. word.items) arguments.now)) }
+        ≡ lookup_of types at (link_content script) (map (λ word. word.items) arguments.now)) }
 {
     let [name, rtype] = arguments else {
         return Ok(None);
     };
-    match parse_question(alloc, name, rtype)? {
+    match parse_question(alloc, name, rtype, types)? {
         Some((name, rtype)) => Ok(Some(Event::Lookup {
             at,
             name,

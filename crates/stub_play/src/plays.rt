@@ -2,7 +2,7 @@
 
 ghost use Rattle.std.specs.Prelude.{◌≡◌, ◌≢◌, ◌↔◌, ◌≤◌, ◌⊎◌, ◌+◌, ◌<◌, ◌^◌, List, ℕ, EachIndex, IfOk, IfErr, IfSome, OnOk, None, Ok, Err, length, slice_index, true, false};
 ghost use Rattle.std.specs.Io.KnownBytes.{Appends};
-ghost use Rattle.stub_play.specs.ReportText.{report_text};
+ghost use Rattle.stub_play.specs.Report.{report_text};
 ghost use Rattle.stub_play.specs.Plays.{Faults, HostsAre, IsBeforeRun, IsFirstListed, IsFirstOutOfOrder, IsLineListed, IsLineOutOfOrder, IsLoaded, IsPlayed, IsRead, IsStart, IsUnwritten, IsUsable, Tells, TellsAll, TellsAllBy, TellsFirst, TellsFirstBy, TellsOver, ZoneIs, numbered, play_options};
 ghost use Rattle.stub_link.specs.declared.link.script.Script.TheVariants.{Honest};
 ghost use Rattle.stub_run.specs.Event.{AreHonest, script_of};
@@ -13,7 +13,7 @@ mod fault;
 mod input;
 mod sockets;
 
-use crate::report_text::write_report;
+use crate::report::write_report;
 use crate::script_text::{ScriptText, read_script};
 use dns_zone::{DatagramLimit, Zone, ZoneFault};
 pub use fault::PlayFault;
@@ -99,7 +99,7 @@ fn load(alloc: Global, input: &PlayInput) -> Result<Loaded, PlayFault>
     ensures fault { IfErr result (λ fault. IsUnwritten fault × Faults input.now fault) }
 {
     let zone = read_zone(alloc, input)?;
-    let script = read_script(alloc, input.script.as_str(), zone.origin())?;
+    let script = read_script(alloc, input.script.as_str(), zone.origin(), input.types)?;
     refuse_link_words(input, &script)?;
     let hosts = read_hosts(alloc, input.hosts.as_slice())?;
     Ok(Loaded {
@@ -115,7 +115,13 @@ fn read_zone(alloc: Global, input: &PlayInput) -> Result<Zone, ZoneFault>
     ensures refused { IfErr result (λ fault. fault ≢ ZoneFault.Memory
         → ZoneIs input.now (Err fault)) }
 {
-    Zone::from_text(alloc, input.zone.as_str(), &[], input.origin.as_ref())
+    Zone::from_text_with(
+        alloc,
+        input.zone.as_str(),
+        &[],
+        input.origin.as_ref(),
+        input.types,
+    )
 }
 
 /// Refuses a script with link words other than `honest`, if it is run over sockets.
@@ -194,11 +200,11 @@ fn play_loaded<W: io::Write>(
     let world = new_world(alloc, input, zone, hosts)?;
     match run(world, script.events.as_slice()) {
         Ok(report) => {
-            print(&script, &report, writer)?;
+            print(&script, &report, input, writer)?;
             Ok(())
         }
         Err(Stopped::Memory(report)) => {
-            print(&script, &report, writer)?;
+            print(&script, &report, input, writer)?;
             // The run ended for want of memory.
             Err(PlayFault::Memory)
         }
@@ -207,11 +213,18 @@ fn play_loaded<W: io::Write>(
 }
 
 /// Writes the report of a script's events, and flushes the writer.
-fn print<W: io::Write>(script: &ScriptText, report: &Report, writer: &mut W) -> io::Result<()>
+fn print<W: io::Write>(
+    script: &ScriptText,
+    report: &Report,
+    input: &PlayInput,
+    writer: &mut W,
+) -> io::Result<()>
     ensures { OnOk result (Appends (W.contents writer.old) (W.contents writer.new)
-        (report_text script.now.events.items report.now.events.items)) }
+        (report_text input.now.types input.now.format script.now.events.items report.now.events.items)) }
 {
-    write_report(script.events.as_slice(), report, writer)?;
+    let types = input.types;
+    let format = input.format;
+    write_report(script.events.as_slice(), report, types, format, writer)?;
     writer.flush()
 }
 

@@ -7,6 +7,7 @@ ghost use Rattle.std.specs.declared.io.ErrorKind.TheVariants.{InvalidData};
 ghost use Rattle.stub_play.specs.Program.{IsContent, Sets, ending_text, input_of, path_of, status_of, unread_arguments, unread_file};
 
 use crate::plays::{PlayFault, PlayInput};
+use crate::report::PlayFormat;
 use crate::words::{Words, WordsFault};
 use std::alloc::{AllocError, Global};
 use std::{fmt, io};
@@ -124,7 +125,7 @@ impl Words {
         })
     }
 
-    /// Returns the input of the run, from the options and the contents of the files.
+    /// Returns the input of the run, from the options and the contents of the files. Its report is written as text.
     pub fn into_input(self, contents: FileContents) -> PlayInput
         ensures { result ≡ input_of self contents }
     {
@@ -137,6 +138,8 @@ impl Words {
             cache: self.cache,
             max_ttl: self.max_ttl,
             udp: self.udp,
+            types: self.types,
+            format: PlayFormat::Text,
         }
     }
 }

@@ -8,8 +8,10 @@ use dns_codes::parse_decimal;
 use dns_names::{Name, ParseError};
 use dns_text::parse_ip;
 use dns_wire::RecordType;
+use dns_zone_file::Types;
 use std::alloc::{AllocError, Global};
 use stub_lookup::Moment;
+use update_text::parse_type;
 
 /// Parses a moment, in seconds.
 pub(crate) fn parse_moment(word: &[u8]) -> Option<Moment>
@@ -18,16 +20,17 @@ pub(crate) fn parse_moment(word: &[u8]) -> Option<Moment>
     parse_decimal(word, Moment::MAX)
 }
 
-/// Parses a name and a type.
+/// Parses a name and a type, which zone files of these types may have.
 #[tactic(auto, unfolding(crate::specs::ScriptFields::question_of))]
 pub(crate) fn parse_question(
     alloc: Global,
     name: &[u8],
     rtype: &[u8],
+    types: Types,
 ) -> Result<Option<(Name, RecordType)>, AllocError>
-    ensures { IfOk result (λ found. found ≡ question_of name.now rtype.now) }
+    ensures { IfOk result (λ found. found ≡ question_of types name.now rtype.now) }
 {
-    let Some(rtype) = RecordType::from_ascii_bytes(rtype) else {
+    let Some(rtype) = parse_type(rtype, types) else {
         return Ok(None);
     };
     match parse_name(alloc, name)? {

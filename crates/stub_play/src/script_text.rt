@@ -11,6 +11,7 @@ use crate::lookup_line::{read_ip, read_lookup};
 use crate::script_fields::parse_moment;
 use crate::update_line::read_update;
 use dns_names::Name;
+use dns_zone_file::Types;
 use std::alloc::{AllocError, AllocFailed, Global};
 use stub_run::{Event, Script};
 use thiserror::Error;
@@ -77,24 +78,30 @@ enum Keyword {
 /// Reads the events of a script.
 ///
 /// The origin is that of the zone: it completes the names of updates, and their owners must be at or below it. Names of
-/// lookups may be relative, and stay so. The `k`-th update, from 0, has the id `k` modulo 65,536.
+/// lookups may be relative, and stay so. The `k`-th update, from 0, has the id `k` modulo 65,536. Types are named, and data is
+/// spelled, as zone files of these types may have them.
 ///
 /// The error is [`ScriptFault::Line`] with the first line that cannot be read, also for an update that cannot be sent: one
 /// that is longer than 65,535 bytes without compression, or that deletes a set of type `OPT`. An empty text takes no memory.
-pub fn read_script(alloc: Global, text: &str, origin: &Name) -> Result<ScriptText, ScriptFault>
-    ensures ok { IfOk result (λ script. IsScriptOf origin.now text.now
+pub fn read_script(
+    alloc: Global,
+    text: &str,
+    origin: &Name,
+    types: Types,
+) -> Result<ScriptText, ScriptFault>
+    ensures ok { IfOk result (λ script. IsScriptOf types origin.now text.now
         (Ok (contents_of (side_by_side script.lines.items script.events.items)))) }
     ensures beside { IfOk result (λ script.
         length script.lines.items ≡ length script.events.items) }
     ensures refused { IfErr result (λ fault. fault ≢ ScriptFault.Memory
-        → IsScriptOf origin.now text.now (Err fault)) }
+        → IsScriptOf types origin.now text.now (Err fault)) }
     ensures empty { text.now ≡ [] → IsOk result }
 {
     if text.is_empty() {
         return Ok(no_events(alloc));
     }
     let all = lines_of(alloc, text)?;
-    read_lines(alloc, all.as_slice(), origin)
+    read_lines(alloc, all.as_slice(), origin, types)
 }
 
 /// Creates a script without events.
@@ -108,19 +115,24 @@ fn no_events(alloc: Global) -> ScriptText
 }
 
 /// Reads the events of a script's lines.
-fn read_lines(alloc: Global, all: &[&str], origin: &Name) -> Result<ScriptText, ScriptFault>
-    ensures ok { IfOk result (λ script. IsScriptFrom origin.now 0 1 (map (λ line. line.now) all.now)
+fn read_lines(
+    alloc: Global,
+    all: &[&str],
+    origin: &Name,
+    types: Types,
+) -> Result<ScriptText, ScriptFault>
+    ensures ok { IfOk result (λ script. IsScriptFrom types origin.now 0 1 (map (λ line. line.now) all.now)
         (Ok (contents_of (side_by_side script.lines.items script.events.items)))) }
     ensures beside { IfOk result (λ script.
         length script.lines.items ≡ length script.events.items) }
     ensures refused { IfErr result (λ fault. fault ≢ ScriptFault.Memory
-        → IsScriptFrom origin.now 0 1 (map (λ line. line.now) all.now) (Err fault)) }
+        → IsScriptFrom types origin.now 0 1 (map (λ line. line.now) all.now) (Err fault)) }
 {
     let mut events = Vec::new(alloc);
     let mut lines = Vec::new(alloc);
     let mut update_count = 0_usize;
     for (i, line) in all.iter().enumerate() {
-        match read_line(alloc, line, origin, update_id(update_count))? {
+        match read_line(alloc, line, origin, update_id(update_count), types)? {
             LineContent::Nothing => {}
             LineContent::Unreadable => return Err(ScriptFault::Line(i + 1)),
             LineContent::Holds(event) => {
@@ -155,14 +167,20 @@ fn lines_of(alloc: Global, text: &str) -> Result<Vec<&str>, AllocError>
 }
 
 /// Reads a line. An update has this id.
-fn read_line(alloc: Global, line: &str, origin: &Name, id: u16) -> Result<LineContent, AllocError>
-    ensures { IfOk result (λ content. Means origin.now id line.now (meaning_of content)) }
+fn read_line(
+    alloc: Global,
+    line: &str,
+    origin: &Name,
+    id: u16,
+    types: Types,
+) -> Result<LineContent, AllocError>
+    ensures { IfOk result (λ content. Means types origin.now id line.now (meaning_of content)) }
 {
     let bytes = line.as_bytes();
     if is_skipped(bytes) {
         return Ok(LineContent::Nothing);
     }
-    match read_event_line(alloc, bytes, origin, id)? {
+    match read_event_line(alloc, bytes, origin, id, types)? {
         Some(event) => Ok(LineContent::Holds(event)),
         None => Ok(LineContent::Unreadable),
     }
@@ -186,15 +204,16 @@ fn read_event_line(
     line: &[u8],
     origin: &Name,
     id: u16,
+    types: Types,
 ) -> Result<Option<Event>, AllocError>
-    ensures { IfOk result (λ found. IsEventOfLine origin.now id line.now
+    ensures { IfOk result (λ found. IsEventOfLine types origin.now id line.now
         (option_map content_of found)) }
 {
     let Some(line) = split_line(alloc, line)? else {
         return Ok(None);
     };
     match read_link_words(alloc, line.more.as_slice())? {
-        Some(script) => read_event(alloc, line.words.as_slice(), script, origin, id),
+        Some(script) => read_event(alloc, line.words.as_slice(), script, origin, id, types),
         None => Ok(None),
     }
 }
@@ -206,8 +225,9 @@ fn read_event(
     script: Script,
     origin: &Name,
     id: u16,
+    types: Types,
 ) -> Result<Option<Event>, AllocError>
-    ensures { IfOk result (λ found. IsEvent origin.now id (link_content script)
+    ensures { IfOk result (λ found. IsEvent types origin.now id (link_content script)
         (map (λ word. word.items) line_words.now) (option_map content_of found)) }
 {
     let [at, keyword, arguments @ ..] = line_words else {
@@ -217,11 +237,11 @@ fn read_event(
         return Ok(None);
     };
     match parse_keyword(keyword) {
-        Some(Keyword::Lookup) => read_lookup(alloc, at, script, arguments),
+        Some(Keyword::Lookup) => read_lookup(alloc, at, script, arguments, types),
         Some(Keyword::Ip) => read_ip(alloc, at, script, arguments),
-        Some(Keyword::Clear) => read_clear(alloc, at, script, arguments),
+        Some(Keyword::Clear) => read_clear(alloc, at, script, arguments, types),
         Some(Keyword::ClearAll) => Ok(read_clear_all(at, script, arguments)),
-        Some(Keyword::Update) => read_update(alloc, at, script, arguments, origin, id),
+        Some(Keyword::Update) => read_update(alloc, at, script, arguments, origin, id, types),
         None => Ok(None),
     }
 }

@@ -5,6 +5,7 @@ ghost use Rattle.stub_play.specs.EventContent.{content_of, link_content};
 ghost use Rattle.stub_play.specs.UpdateLine.{IsUpdateLine};
 
 use dns_names::Name;
+use dns_zone_file::Types;
 use std::alloc::{AllocError, Global};
 use stub_lookup::Moment;
 use stub_run::{Event, Script};
@@ -17,11 +18,12 @@ pub(crate) fn read_update(
     arguments: &[Vec<u8>],
     origin: &Name,
     id: u16,
+    types: Types,
 ) -> Result<Option<Event>, AllocError>
-    ensures { IfOk result (λ found. IsUpdateLine origin.now id at (link_content script)
+    ensures { IfOk result (λ found. IsUpdateLine types origin.now id at (link_content script)
         (map (λ word. word.items) arguments.now) (option_map content_of found)) }
 {
-    match update_text::read_update(alloc, arguments, origin, id)? {
+    match update_text::read_update(alloc, arguments, origin, id, types)? {
         Some(update) => {
             let update = Box::new(alloc, update)?;
             Ok(Some(Event::Update { at, update, script }))

@@ -4,12 +4,13 @@ ghost use Rattle.std.specs.Prelude.{◌≡◌, ◌<◌, ◌≤◌, ◌⊎◌, []
 ghost use Rattle.clap.specs.Words.{IsParsedFrom, IsPlainArg, app_of, fault_of, first_value, found_of, kind_of, one_text, rule_of, takes};
 ghost use Rattle.clap.specs.Built.{TakesValue};
 ghost use Rattle.clap.specs.declared.parser.matches.ArgMatches.{ArgMatches};
-ghost use Rattle.stub_play.specs.Words.{HasAll, HasNumber, IsFlagText, IsOriginFault, IsWordsFault, TakesFlag, TakesNumber, TakesOne, between, cache_rule, flag, flag_of, is_set, limit_rule, max_ttl_rule, number, number_of, number_of_text, optional, origin_of, required, stub_app, value_of};
+ghost use Rattle.stub_play.specs.Words.{HasAll, HasNumber, IsFlagText, IsOriginFault, IsWordsFault, TakesFlag, TakesNumber, TakesOne, between, cache_rule, flag, flag_of, is_set, limit_rule, max_ttl_rule, number, number_of, number_of_text, optional, origin_of, required, stub_app, types_of, value_of};
 
 use clap::builder::ValueParser;
 use clap::error::ErrorKind;
 use clap::{Arg, ArgAction, ArgMatches, Command, value_parser};
 use dns_names::{Name, ParseError};
+use dns_zone_file::Types;
 use std::alloc::{AllocError, Global};
 
 /// The greatest payload of a UDP datagram over IPv4, in bytes: 65,535 less headers of 20 and 8 (RFC 791 section 3.1, RFC 768).
@@ -34,6 +35,8 @@ pub struct Words {
     pub max_ttl: u32,
     /// Whether datagrams and streams of the loopback interface are used.
     pub udp: bool,
+    /// Which types the zone file and the script may have.
+    pub types: Types,
 }
 
 /// Why the arguments are not valid.
@@ -73,7 +76,7 @@ impl From<clap::Error> for WordsFault {
 
 /// Reads the arguments, of which the first is the program's name: `--zone FILE` and `--script FILE`, each once; and each at
 /// most once `--origin NAME`, `--hosts FILE`, `--limit N` from 512 to 65,535, `--cache N` and `--max-ttl N`, numbers of 32
-/// bits, and `--udp`, with which the limit is at most 65,507. The name is parsed as by `Name::from_ascii`.
+/// bits, `--udp`, with which the limit is at most 65,507, and `--all-types`. The name is parsed as by `Name::from_ascii`.
 pub fn read_words(alloc: Global, words: &[&str]) -> Result<Words, WordsFault>
     ensures zone { IfOk result (λ found.
         value_of (codes "zone") (map (λ word. word.now) words.now)
@@ -96,6 +99,9 @@ pub fn read_words(alloc: Global, words: &[&str]) -> Result<Words, WordsFault>
         ≡ Some found.max_ttl) }
     ensures udp { IfOk result (λ found.
         flag_of (codes "udp") (map (λ word. word.now) words.now) ≡ found.udp) }
+    ensures types { IfOk result (λ found.
+        types_of (flag_of (codes "all-types") (map (λ word. word.now) words.now))
+        ≡ found.types) }
     ensures range { IfOk result (λ found. 512 ≤ found.limit) }
     ensures udp_range { IfOk result (λ found. found.udp ≡ true → found.limit ≤ 65507) }
     // None is taken in which clap finds a fault.
@@ -110,6 +116,8 @@ pub fn read_words(alloc: Global, words: &[&str]) -> Result<Words, WordsFault>
     let cache = number_in(&matches, "cache");
     let max_ttl = number_in(&matches, "max-ttl");
     let udp = flag_in(&matches, "udp");
+    let all_types = flag_in(&matches, "all-types");
+    let types = types_of(all_types);
     check_limit(limit, udp)?;
     Ok(Words {
         zone: value_in(alloc, &matches, "zone")?,
@@ -120,6 +128,7 @@ pub fn read_words(alloc: Global, words: &[&str]) -> Result<Words, WordsFault>
         cache,
         max_ttl,
         udp,
+        types,
     })
 }
 
@@ -140,7 +149,8 @@ fn stub_command<'a>(alloc: Global) -> Result<Command<'a>, AllocError>
         .arg(limit_option(alloc))?
         .arg(cache_option(alloc))?
         .arg(max_ttl_option(alloc))?
-        .arg(flag(alloc, "udp", "Use sockets of the loopback interface"))
+        .arg(flag(alloc, "udp", "Use sockets of the loopback interface"))?
+        .arg(flag(alloc, "all-types", "Take and print all record types"))
 }
 
 /// Returns an option that takes one value.
@@ -316,6 +326,13 @@ fn number_in(matches: &ArgMatches<'_>, name: &str) -> u32
     ensures { option_map number_of_text (one_text (found_of matches.now) name.now) ≡ Some result }
 {
     matches.get_one(name).unwrap()
+}
+
+/// Returns the types that a zone file may have: all, or those with fields.
+fn types_of(all_types: bool) -> Types
+    ensures { result ≡ types_of all_types }
+{
+    if all_types { Types::All } else { Types::Nine }
 }
 
 /// Returns whether an option without a value is used.

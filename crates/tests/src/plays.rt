@@ -1,8 +1,9 @@
 ghost use Rattle.std.specs.Prelude.{◌≤◌, IfOk};
 
+use dns_zone_file::Types;
 use std::alloc::{AllocError, Global};
 use std::io;
-use stub_play::{PlayFault, PlayInput, play_in_memory};
+use stub_play::{PlayFault, PlayFormat, PlayInput, play_in_memory};
 
 /// A writer that takes so many writes, and fails from then on. It cannot be flushed.
 #[derive(Drop)]
@@ -38,6 +39,8 @@ fn input(alloc: Global) -> Result<PlayInput, AllocError>
         cache: 8192,
         max_ttl: 86_400,
         udp: false,
+        types: Types::Nine,
+        format: PlayFormat::Text,
     })
 }
 

@@ -4,42 +4,43 @@ use Rattle.std.proofs.lemmas.List.{take-map, drop-map}
 use Rattle.dns_codes.specs.declared.record_type.RecordType.{RecordType}
 use Rattle.dns_names.specs.Name.{DomainName}
 use Rattle.dns_messages.specs.declared.message.Message.{Message}
+use Rattle.dns_zone_file.specs.declared.types.Types.{Types}
 use Rattle.update_text.specs.Update.{IsSetWithTtl, IsSwap, IsSwapBetween, IsSwapOf, only_type}
 
 abbrev pub texts : List (Vec ℕ Global) → List (List ℕ)
 texts = map (λ word. word.items)
 
 -- fewer words than a TTL and a type
-pub no_set_with_ttl : (origin owner : DomainName) (words : List (Vec ℕ Global)) → length words < 2
-    → IsSetWithTtl origin owner (texts words) None
-no_set_with_ttl origin owner [] few = refl
-no_set_with_ttl origin owner (x ∷ []) few = refl
-no_set_with_ttl origin owner (x ∷ y ∷ words) few = absurd (omega arith)
+pub no_set_with_ttl : (types : Types) (origin owner : DomainName) (words : List (Vec ℕ Global)) → length words < 2
+    → IsSetWithTtl types origin owner (texts words) None
+no_set_with_ttl types origin owner [] few = refl
+no_set_with_ttl types origin owner (x ∷ []) few = refl
+no_set_with_ttl types origin owner (x ∷ y ∷ words) few = absurd (omega arith)
 
-pub no_swap : (origin : DomainName) (id : ℕ) (owner : DomainName) (words : List (Vec ℕ Global)) → length words < 2
-    → IsSwap origin id owner (texts words) None
-no_swap origin id owner [] few = refl
-no_swap origin id owner (x ∷ []) few = refl
-no_swap origin id owner (x ∷ y ∷ words) few = absurd (omega arith)
+pub no_swap : (types : Types) (origin : DomainName) (id : ℕ) (owner : DomainName) (words : List (Vec ℕ Global)) → length words < 2
+    → IsSwap types origin id owner (texts words) None
+no_swap types origin id owner [] few = refl
+no_swap types origin id owner (x ∷ []) few = refl
+no_swap types origin id owner (x ∷ y ∷ words) few = absurd (omega arith)
 
 -- the words before and after an arrow
-swap_at : (origin : DomainName) (id : ℕ) (owner : DomainName) (ttl : ℕ) (kind : RecordType) (words : List (Vec ℕ Global)) (arrow : ℕ)
+swap_at : (types : Types) (origin : DomainName) (id : ℕ) (owner : DomainName) (ttl : ℕ) (kind : RecordType) (words : List (Vec ℕ Global)) (arrow : ℕ)
     (place : Option ℕ) (found : Option Message) → place ≡ Some arrow
-    → IsSwapBetween origin id owner ttl kind (texts (take arrow words)) (texts (drop (arrow + 1) words)) found
-    → IsSwapOf origin id owner (Some ttl) (Some kind) place (texts words) found
-swap_at origin id owner ttl kind words arrow place found is between =
+    → IsSwapBetween types origin id owner ttl kind (texts (take arrow words)) (texts (drop (arrow + 1) words)) found
+    → IsSwapOf types origin id owner (Some ttl) (Some kind) place (texts words) found
+swap_at types origin id owner ttl kind words arrow place found is between =
     rw (is, take-map {X = Vec ℕ Global} (λ word. word.items) arrow words, drop-map {X = Vec ℕ Global} (λ word. word.items) (arrow + 1) words) between
 
-pub swaps_at : (origin : DomainName) (id : ℕ) (owner : DomainName) (ttl : ℕ) (kind : RecordType) (words before after : List (Vec ℕ Global))
+pub swaps_at : (types : Types) (origin : DomainName) (id : ℕ) (owner : DomainName) (ttl : ℕ) (kind : RecordType) (words before after : List (Vec ℕ Global))
     (arrow : ℕ) (place : Option ℕ) {E : Type 0} (result : Result (Option Message) E) → place ≡ Some arrow → before ≡ take arrow words
-    → after ≡ drop (arrow + 1) words → IfOk result (IsSwapBetween origin id owner ttl kind (texts before) (texts after))
-    → IfOk result (IsSwapOf origin id owner (Some ttl) (Some kind) place (texts words))
-swaps_at origin id owner ttl kind words before after arrow place (Ok found) is front rest between =
-    swap_at origin id owner ttl kind words arrow place found is (rw (front, rest) at between)
-swaps_at origin id owner ttl kind words before after arrow place (Err e) is front rest between = tt
+    → after ≡ drop (arrow + 1) words → IfOk result (IsSwapBetween types origin id owner ttl kind (texts before) (texts after))
+    → IfOk result (IsSwapOf types origin id owner (Some ttl) (Some kind) place (texts words))
+swaps_at types origin id owner ttl kind words before after arrow place (Ok found) is front rest between =
+    swap_at types origin id owner ttl kind words arrow place found is (rw (front, rest) at between)
+swaps_at types origin id owner ttl kind words before after arrow place (Err e) is front rest between = tt
 
 -- a word comes after the type
-pub no_only_type : (words : List (Vec ℕ Global)) → 2 ≤ length words → None ≡ only_type (texts words)
-no_only_type [] many = absurd (omega arith)
-no_only_type (x ∷ []) many = absurd (omega arith)
-no_only_type (x ∷ y ∷ words) many = refl
+pub no_only_type : (types : Types) (words : List (Vec ℕ Global)) → 2 ≤ length words → None ≡ only_type types (texts words)
+no_only_type types [] many = absurd (omega arith)
+no_only_type types (x ∷ []) many = absurd (omega arith)
+no_only_type types (x ∷ y ∷ words) many = refl

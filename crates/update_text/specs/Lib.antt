@@ -1,3 +1,4 @@
 pub mod internal
+pub mod TypeWord
 pub mod Update
 pub mod Words

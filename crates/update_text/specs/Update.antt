@@ -1,10 +1,9 @@
 -- The words of an update (RFC 2136 section 2):
 -- `create <name> <ttl> <type> <data>` and `append` alike, `swap <name> <ttl> <type> <data> -> <data>`,
 -- `delete-record <name> <type> <data>`, `delete-set <name> <type>`, `delete-name <name>`.
--- The zone's origin completes names; the owner of an update is at or below it.
+-- The zone's origin completes names; the owner of an update is at or below it. The types are those that zone files may have.
 use Rattle.std.specs.Prelude.{◌≡◌, ◌==◌, ◌+◌, ◌-◌, if◌then◌else◌, false, List, [], ◌∷◌, ℕ, map, take, drop, length, codes, Option, Some, None, option_map, Result, Ok, Err}
 use Rattle.std.specs.Str.{bytes_eq}
-use Rattle.dns_codes.specs.CodeText.{type_of_text}
 use Rattle.dns_codes.specs.Decimal.{decimal_up_to}
 use Rattle.dns_codes.specs.declared.dns_class.DNSClass.TheVariants.{IN}
 use Rattle.dns_codes.specs.declared.record_type.RecordType.{RecordType}
@@ -13,15 +12,18 @@ use Rattle.dns_names.specs.Compare.{at_or_below}
 use Rattle.dns_names.specs.Name.{DomainName}
 use Rattle.dns_names.specs.declared.error.ParseError.{ParseError}
 use Rattle.dns_text.specs.Lexer.{Lexeme, QuotedString, word_token}
-use Rattle.dns_data.specs.declared.error.RDataParseError.{RDataParseError}
 use Rattle.dns_data.specs.declared.rdata.RData.{RData}
 use Rattle.dns_data.specs.declared.rdata.RData.TheVariants as of
-use Rattle.dns_data.specs.rdata.{IsParsedData, RefusesText, data_type}
+use Rattle.dns_data.specs.rdata.{data_type}
+use Rattle.dns_zone_file.specs.Data.{ReadsIn, RefusesIn}
+use Rattle.dns_zone_file.specs.declared.error.EntryFault.{EntryFault}
+use Rattle.dns_zone_file.specs.declared.types.Types.{Types}
 use Rattle.dns_records.specs.Record.{Record}
 use Rattle.dns_records.specs.RecordSet.{RecordSetValue}
 use Rattle.dns_messages.specs.declared.message.Message.{Message}
 use Rattle.dns_updates.specs.Builders.{append_message, compare_and_swap_message, create_message, delete_all_message, delete_by_rdata_message, delete_rrset_message}
 use Rattle.stub_link.specs.Request.{IsUpdate}
+use Rattle.update_text.specs.TypeWord.{type_named}
 use Rattle.update_text.specs.Words.{AreWords}
 use Rattle.update_text.specs.declared.update.Action.{Action}
 use Rattle.update_text.specs.declared.update.Action.TheVariants.{Create, Append, Swap, DeleteRecord, DeleteSet, DeleteName}
@@ -47,9 +49,9 @@ word_lexeme [] = word_token false []
 word_lexeme (c ∷ cs) = if c == 34 then QuotedString (take (length cs - 1) cs) else word_token false (c ∷ cs)
 
 -- the data of a type in words, or none if the words are not such data
-abbrev pub IsData : DomainName → RecordType → List (List ℕ) → Option RData → Type 0
-IsData origin kind words (Some d) = IsParsedData (Some origin) kind (map word_lexeme words) d
-IsData origin kind words None = (error : RDataParseError) × RefusesText (Some origin) kind (map word_lexeme words) error
+abbrev pub IsData : Types → DomainName → RecordType → List (List ℕ) → Option RData → Type 0
+IsData types origin kind words (Some d) = ReadsIn types origin kind (map word_lexeme words) d
+IsData types origin kind words None = (fault : EntryFault) × RefusesIn types origin kind (map word_lexeme words) fault
 
 -- ---- sets of one record
 
@@ -69,23 +71,23 @@ set_of owner ttl d = record {
 }
 
 -- the set of one record whose data the words are, or none
-abbrev pub IsSet : DomainName → DomainName → ℕ → RecordType → List (List ℕ) → Option RecordSetValue → Type 0
-IsSet origin owner ttl kind words set = (d : Option RData) × IsData origin kind words d × (set ≡ option_map (set_of owner ttl) d)
+abbrev pub IsSet : Types → DomainName → DomainName → ℕ → RecordType → List (List ℕ) → Option RecordSetValue → Type 0
+IsSet types origin owner ttl kind words set = (d : Option RData) × IsData types origin kind words d × (set ≡ option_map (set_of owner ttl) d)
 
 -- the same, if there is a TTL and a type
-abbrev pub IsSetIf : DomainName → DomainName → Option ℕ → Option RecordType → List (List ℕ) → Option RecordSetValue → Type 0
-IsSetIf origin owner (Some ttl) (Some kind) words set = IsSet origin owner ttl kind words set
-IsSetIf origin owner ttl kind words set = set ≡ None
+abbrev pub IsSetIf : Types → DomainName → DomainName → Option ℕ → Option RecordType → List (List ℕ) → Option RecordSetValue → Type 0
+IsSetIf types origin owner (Some ttl) (Some kind) words set = IsSet types origin owner ttl kind words set
+IsSetIf types origin owner ttl kind words set = set ≡ None
 
 -- `<ttl> <type> <data>`
-abbrev pub IsSetWithTtl : DomainName → DomainName → List (List ℕ) → Option RecordSetValue → Type 0
-IsSetWithTtl origin owner (ttl ∷ kind ∷ words) set = IsSetIf origin owner (ttl_of ttl) (type_of_text kind) words set
-IsSetWithTtl origin owner arguments set = set ≡ None
+abbrev pub IsSetWithTtl : Types → DomainName → DomainName → List (List ℕ) → Option RecordSetValue → Type 0
+IsSetWithTtl types origin owner (ttl ∷ kind ∷ words) set = IsSetIf types origin owner (ttl_of ttl) (type_named types kind) words set
+IsSetWithTtl types origin owner arguments set = set ≡ None
 
 -- `<type> <data>`
-abbrev pub IsSetWithoutTtl : DomainName → DomainName → List (List ℕ) → Option RecordSetValue → Type 0
-IsSetWithoutTtl origin owner (kind ∷ words) set = IsSetIf origin owner (Some 0) (type_of_text kind) words set
-IsSetWithoutTtl origin owner arguments set = set ≡ None
+abbrev pub IsSetWithoutTtl : Types → DomainName → DomainName → List (List ℕ) → Option RecordSetValue → Type 0
+IsSetWithoutTtl types origin owner (kind ∷ words) set = IsSetIf types origin owner (Some 0) (type_named types kind) words set
+IsSetWithoutTtl types origin owner arguments set = set ≡ None
 
 -- ---- swaps
 
@@ -95,23 +97,23 @@ arrow_from place [] = None
 arrow_from place (word ∷ words) = if bytes_eq word (codes "->") then Some place else arrow_from (place + 1) words
 
 -- the new set, after the current one
-abbrev pub IsSwapTo : DomainName → ℕ → DomainName → ℕ → RecordType → Option RecordSetValue → List (List ℕ) → Option Message → Type 0
-IsSwapTo origin id owner ttl kind None after found = found ≡ None
-IsSwapTo origin id owner ttl kind (Some current) after found =
-    (new : Option RecordSetValue) × IsSet origin owner ttl kind after new
+abbrev pub IsSwapTo : Types → DomainName → ℕ → DomainName → ℕ → RecordType → Option RecordSetValue → List (List ℕ) → Option Message → Type 0
+IsSwapTo types origin id owner ttl kind None after found = found ≡ None
+IsSwapTo types origin id owner ttl kind (Some current) after found =
+    (new : Option RecordSetValue) × IsSet types origin owner ttl kind after new
     × (found ≡ option_map (λ (s : RecordSetValue). compare_and_swap_message id current s origin false) new)
 
 -- the current data, and the new data
-abbrev pub IsSwapBetween : DomainName → ℕ → DomainName → ℕ → RecordType → List (List ℕ) → List (List ℕ) → Option Message → Type 0
-IsSwapBetween origin id owner ttl kind before after found =
-    (current : Option RecordSetValue) × IsSet origin owner 0 kind before current
-    × IsSwapTo origin id owner ttl kind current after found
+abbrev pub IsSwapBetween : Types → DomainName → ℕ → DomainName → ℕ → RecordType → List (List ℕ) → List (List ℕ) → Option Message → Type 0
+IsSwapBetween types origin id owner ttl kind before after found =
+    (current : Option RecordSetValue) × IsSet types origin owner 0 kind before current
+    × IsSwapTo types origin id owner ttl kind current after found
 
 -- the words before the arrow are the current data, and those after it the new data
-abbrev pub IsSwapOf : DomainName → ℕ → DomainName → Option ℕ → Option RecordType → Option ℕ → List (List ℕ) → Option Message → Type 0
-IsSwapOf origin id owner (Some ttl) (Some kind) (Some arrow) words found =
-    IsSwapBetween origin id owner ttl kind (take arrow words) (drop (arrow + 1) words) found
-IsSwapOf origin id owner ttl kind arrow words found = found ≡ None
+abbrev pub IsSwapOf : Types → DomainName → ℕ → DomainName → Option ℕ → Option RecordType → Option ℕ → List (List ℕ) → Option Message → Type 0
+IsSwapOf types origin id owner (Some ttl) (Some kind) (Some arrow) words found =
+    IsSwapBetween types origin id owner ttl kind (take arrow words) (drop (arrow + 1) words) found
+IsSwapOf types origin id owner ttl kind arrow words found = found ≡ None
 
 -- ---- actions
 
@@ -127,38 +129,38 @@ action_of word =
     else None
 
 -- `create`: the set must not stand yet
-abbrev pub IsCreate : DomainName → ℕ → DomainName → List (List ℕ) → Option Message → Type 0
-IsCreate origin id owner arguments found =
-    (set : Option RecordSetValue) × IsSetWithTtl origin owner arguments set
+abbrev pub IsCreate : Types → DomainName → ℕ → DomainName → List (List ℕ) → Option Message → Type 0
+IsCreate types origin id owner arguments found =
+    (set : Option RecordSetValue) × IsSetWithTtl types origin owner arguments set
     × (found ≡ option_map (λ (s : RecordSetValue). create_message id s origin false) set)
 
 -- `append`: the record is added to the set, or makes it
-abbrev pub IsAppend : DomainName → ℕ → DomainName → List (List ℕ) → Option Message → Type 0
-IsAppend origin id owner arguments found =
-    (set : Option RecordSetValue) × IsSetWithTtl origin owner arguments set
+abbrev pub IsAppend : Types → DomainName → ℕ → DomainName → List (List ℕ) → Option Message → Type 0
+IsAppend types origin id owner arguments found =
+    (set : Option RecordSetValue) × IsSetWithTtl types origin owner arguments set
     × (found ≡ option_map (λ (s : RecordSetValue). append_message id s origin false false) set)
 
 -- `swap`: current data, which must stand, and new data
-abbrev pub IsSwap : DomainName → ℕ → DomainName → List (List ℕ) → Option Message → Type 0
-IsSwap origin id owner (ttl ∷ kind ∷ words) found =
-    IsSwapOf origin id owner (ttl_of ttl) (type_of_text kind) (arrow_from 0 words) words found
-IsSwap origin id owner arguments found = found ≡ None
+abbrev pub IsSwap : Types → DomainName → ℕ → DomainName → List (List ℕ) → Option Message → Type 0
+IsSwap types origin id owner (ttl ∷ kind ∷ words) found =
+    IsSwapOf types origin id owner (ttl_of ttl) (type_named types kind) (arrow_from 0 words) words found
+IsSwap types origin id owner arguments found = found ≡ None
 
 -- `delete-record`: the record goes
-abbrev pub IsDeleteRecord : DomainName → ℕ → DomainName → List (List ℕ) → Option Message → Type 0
-IsDeleteRecord origin id owner arguments found =
-    (set : Option RecordSetValue) × IsSetWithoutTtl origin owner arguments set
+abbrev pub IsDeleteRecord : Types → DomainName → ℕ → DomainName → List (List ℕ) → Option Message → Type 0
+IsDeleteRecord types origin id owner arguments found =
+    (set : Option RecordSetValue) × IsSetWithoutTtl types origin owner arguments set
     × (found ≡ option_map (λ (s : RecordSetValue). delete_by_rdata_message id s origin false) set)
 
 -- a type alone
-abbrev pub only_type : List (List ℕ) → Option RecordType
-only_type (kind ∷ []) = type_of_text kind
-only_type arguments = None
+abbrev pub only_type : Types → List (List ℕ) → Option RecordType
+only_type types (kind ∷ []) = type_named types kind
+only_type types arguments = None
 
 -- `delete-set`: all records of the type go
-abbrev pub delete_set : DomainName → ℕ → DomainName → List (List ℕ) → Option Message
-delete_set origin id owner arguments =
-    option_map (λ (t : RecordType). delete_rrset_message id (record_of owner 0 (of.Update0 t)) origin false) (only_type arguments)
+abbrev pub delete_set : Types → DomainName → ℕ → DomainName → List (List ℕ) → Option Message
+delete_set types origin id owner arguments =
+    option_map (λ (t : RecordType). delete_rrset_message id (record_of owner 0 (of.Update0 t)) origin false) (only_type types arguments)
 
 -- `delete-name`: all records of the name go
 abbrev pub delete_name : DomainName → ℕ → DomainName → List (List ℕ) → Option Message
@@ -166,20 +168,20 @@ delete_name origin id owner [] = Some (delete_all_message id owner origin IN fal
 delete_name origin id owner arguments = None
 
 -- the message of an action on an owner
-abbrev pub IsAction : DomainName → ℕ → Option Action → Option DomainName → List (List ℕ) → Option Message → Type 0
-IsAction origin id (Some Create) (Some owner) arguments found = IsCreate origin id owner arguments found
-IsAction origin id (Some Append) (Some owner) arguments found = IsAppend origin id owner arguments found
-IsAction origin id (Some Swap) (Some owner) arguments found = IsSwap origin id owner arguments found
-IsAction origin id (Some DeleteRecord) (Some owner) arguments found = IsDeleteRecord origin id owner arguments found
-IsAction origin id (Some DeleteSet) (Some owner) arguments found = found ≡ delete_set origin id owner arguments
-IsAction origin id (Some DeleteName) (Some owner) arguments found = found ≡ delete_name origin id owner arguments
-IsAction origin id action owner arguments found = found ≡ None
+abbrev pub IsAction : Types → DomainName → ℕ → Option Action → Option DomainName → List (List ℕ) → Option Message → Type 0
+IsAction types origin id (Some Create) (Some owner) arguments found = IsCreate types origin id owner arguments found
+IsAction types origin id (Some Append) (Some owner) arguments found = IsAppend types origin id owner arguments found
+IsAction types origin id (Some Swap) (Some owner) arguments found = IsSwap types origin id owner arguments found
+IsAction types origin id (Some DeleteRecord) (Some owner) arguments found = IsDeleteRecord types origin id owner arguments found
+IsAction types origin id (Some DeleteSet) (Some owner) arguments found = found ≡ delete_set types origin id owner arguments
+IsAction types origin id (Some DeleteName) (Some owner) arguments found = found ≡ delete_name origin id owner arguments
+IsAction types origin id action owner arguments found = found ≡ None
 
 -- the message of an action, an owner, and what follows them
-abbrev pub IsMessage : DomainName → ℕ → List (List ℕ) → Option Message → Type 0
-IsMessage origin id (action ∷ owner ∷ arguments) found =
-    IsAction origin id (action_of action) (owner_of origin owner) arguments found
-IsMessage origin id arguments found = found ≡ None
+abbrev pub IsMessage : Types → DomainName → ℕ → List (List ℕ) → Option Message → Type 0
+IsMessage types origin id (action ∷ owner ∷ arguments) found =
+    IsAction types origin id (action_of action) (owner_of origin owner) arguments found
+IsMessage types origin id arguments found = found ≡ None
 
 -- ---- updates
 
@@ -190,16 +192,16 @@ IsSendable (Some message) None = ¬ IsUpdate message
 IsSendable None update = update ≡ None
 
 -- the update of words, under an id
-abbrev pub IsUpdateOf : DomainName → ℕ → List (List ℕ) → Option Message → Type 0
-IsUpdateOf origin id arguments update =
-    (message : Option Message) × IsMessage origin id arguments message × IsSendable message update
+abbrev pub IsUpdateOf : Types → DomainName → ℕ → List (List ℕ) → Option Message → Type 0
+IsUpdateOf types origin id arguments update =
+    (message : Option Message) × IsMessage types origin id arguments message × IsSendable message update
 
 -- the update of words, if there are any
-abbrev pub IsUpdateIf : DomainName → ℕ → Option (List (List ℕ)) → Option Message → Type 0
-IsUpdateIf origin id (Some words) update = IsUpdateOf origin id words update
-IsUpdateIf origin id None update = update ≡ None
+abbrev pub IsUpdateIf : Types → DomainName → ℕ → Option (List (List ℕ)) → Option Message → Type 0
+IsUpdateIf types origin id (Some words) update = IsUpdateOf types origin id words update
+IsUpdateIf types origin id None update = update ≡ None
 
 -- the update that a text says, or none if it is not words alone
-abbrev pub IsUpdateText : DomainName → ℕ → List ℕ → Option Message → Type 0
-IsUpdateText origin id text update =
-    (words : Option (List (List ℕ))) × AreWords text words × IsUpdateIf origin id words update
+abbrev pub IsUpdateText : Types → DomainName → ℕ → List ℕ → Option Message → Type 0
+IsUpdateText types origin id text update =
+    (words : Option (List (List ℕ))) × AreWords text words × IsUpdateIf types origin id words update

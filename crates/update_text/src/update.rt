@@ -7,15 +7,17 @@ ghost use Rattle.std.specs.Prelude.{◌≡◌, ◌<◌, ◌+◌, [], IfOk, IfSom
 ghost use Rattle.dns_text.specs.Token.{lexeme};
 ghost use Rattle.update_text.specs.Update.{IsAction, IsAppend, IsCreate, IsData, IsDeleteRecord, IsMessage, IsSendable, IsSet, IsSetWithTtl, IsSetWithoutTtl, IsSwap, IsSwapBetween, IsSwapOf, IsSwapTo, IsUpdateOf, IsUpdateText, action_of, arrow_from, delete_name, delete_set, only_type, owner_of, ttl_of, word_lexeme};
 
+use crate::type_word::parse_type;
 use crate::words::words_alone;
 use dns_codes::parse_decimal;
-use dns_data::{RData, RDataParseError};
+use dns_data::RData;
 use dns_messages::{Message, Record};
 use dns_names::{Name, ParseError};
 use dns_records::RecordSet;
 use dns_text::Token;
 use dns_updates::{append, compare_and_swap, create, delete_all, delete_by_rdata, delete_rrset};
 use dns_wire::{DNSClass, RecordType};
+use dns_zone_file::{EntryError, Types, parse_rdata};
 use std::alloc::{AllocError, Global};
 use stub_link::UpdateEvent;
 
@@ -35,8 +37,8 @@ enum Action {
     DeleteName,
 }
 
-/// Reads the update that a text says: words, and no semicolon after them. The origin is that of the zone, and the update has this
-/// id.
+/// Reads the update that a text says: words, and no semicolon after them. The origin is that of the zone, the update has this id,
+/// and its data is of the types that zone files may have.
 ///
 /// The result is `None` if the text is no update of the zone, or if its message cannot be sent. An empty text takes no memory.
 pub fn parse_update(
@@ -44,21 +46,22 @@ pub fn parse_update(
     text: &[u8],
     origin: &Name,
     id: u16,
+    types: Types,
 ) -> Result<Option<UpdateEvent>, AllocError>
-    ensures update { IfOk result (IsUpdateText origin.now id text.now) }
+    ensures update { IfOk result (IsUpdateText types origin.now id text.now) }
     ensures empty { text.now ≡ [] → IsOk result }
 {
     if text.is_empty() {
         return Ok(None);
     }
     match words_alone(alloc, text)? {
-        Some(words) => read_update(alloc, words.as_slice(), origin, id),
+        Some(words) => read_update(alloc, words.as_slice(), origin, id, types),
         None => Ok(None),
     }
 }
 
-/// Reads an update from its words: an action, an owner, and what the action says of it. The origin is that of the zone, and the
-/// update has this id.
+/// Reads an update from its words: an action, an owner, and what the action says of it. The origin is that of the zone, the update
+/// has this id, and its data is of the types that zone files may have.
 ///
 /// The result is `None` if the words are no update of the zone, or if its message cannot be sent: one that deletes a set of type
 /// `OPT` would be decoded as another, and one may be too long. Less than two words take no memory.
@@ -67,12 +70,13 @@ pub fn read_update(
     arguments: &[Vec<u8>],
     origin: &Name,
     id: u16,
+    types: Types,
 ) -> Result<Option<UpdateEvent>, AllocError>
     ensures update { IfOk result
-        (IsUpdateOf origin.now id (map (λ word. word.items) arguments.now)) }
+        (IsUpdateOf types origin.now id (map (λ word. word.items) arguments.now)) }
     ensures short { length arguments.now < 2 → IsOk result }
 {
-    match message_of(alloc, arguments, origin, id)? {
+    match message_of(alloc, arguments, origin, id, types)? {
         Some(message) => Ok(sendable(message)),
         None => Ok(None),
     }
@@ -94,8 +98,9 @@ fn message_of(
     arguments: &[Vec<u8>],
     origin: &Name,
     id: u16,
+    types: Types,
 ) -> Result<Option<Message>, AllocError>
-    ensures message { IfOk result (λ message. IsMessage origin.now id
+    ensures message { IfOk result (λ message. IsMessage types origin.now id
         (map (λ word. word.items) arguments.now) message) }
     ensures short { length arguments.now < 2 → IsOk result }
 {
@@ -106,7 +111,7 @@ fn message_of(
         return Ok(None);
     };
     match parse_owner(alloc, owner, origin)? {
-        Some(owner) => message_of_action(alloc, action, owner, arguments, origin, id),
+        Some(owner) => message_of_action(alloc, action, owner, arguments, origin, id, types),
         None => Ok(None),
     }
 }
@@ -162,16 +167,17 @@ fn message_of_action(
     arguments: &[Vec<u8>],
     origin: &Name,
     id: u16,
+    types: Types,
 ) -> Result<Option<Message>, AllocError>
-    ensures { IfOk result (λ message. IsAction origin.now id (Some action) (Some owner)
+    ensures { IfOk result (λ message. IsAction types origin.now id (Some action) (Some owner)
         (map (λ word. word.items) arguments.now) message) }
 {
     match action {
-        Action::Create => read_create(alloc, owner, arguments, origin, id),
-        Action::Append => read_append(alloc, owner, arguments, origin, id),
-        Action::Swap => read_swap(alloc, owner, arguments, origin, id),
-        Action::DeleteRecord => read_delete_record(alloc, owner, arguments, origin, id),
-        Action::DeleteSet => read_delete_set(alloc, owner, arguments, origin, id),
+        Action::Create => read_create(alloc, owner, arguments, origin, id, types),
+        Action::Append => read_append(alloc, owner, arguments, origin, id, types),
+        Action::Swap => read_swap(alloc, owner, arguments, origin, id, types),
+        Action::DeleteRecord => read_delete_record(alloc, owner, arguments, origin, id, types),
+        Action::DeleteSet => read_delete_set(alloc, owner, arguments, origin, id, types),
         Action::DeleteName => read_delete_name(alloc, owner, arguments, origin, id),
     }
 }
@@ -183,11 +189,12 @@ fn read_create(
     arguments: &[Vec<u8>],
     origin: &Name,
     id: u16,
+    types: Types,
 ) -> Result<Option<Message>, AllocError>
-    ensures { IfOk result (λ message. IsCreate origin.now id owner
+    ensures { IfOk result (λ message. IsCreate types origin.now id owner
         (map (λ word. word.items) arguments.now) message) }
 {
-    match read_set_with_ttl(alloc, owner, arguments, origin)? {
+    match read_set_with_ttl(alloc, owner, arguments, origin, types)? {
         Some(rrset) => Ok(Some(create(alloc, id, rrset, origin.clone()?, false)?)),
         None => Ok(None),
     }
@@ -200,11 +207,12 @@ fn read_append(
     arguments: &[Vec<u8>],
     origin: &Name,
     id: u16,
+    types: Types,
 ) -> Result<Option<Message>, AllocError>
-    ensures { IfOk result (λ message. IsAppend origin.now id owner
+    ensures { IfOk result (λ message. IsAppend types origin.now id owner
         (map (λ word. word.items) arguments.now) message) }
 {
-    match read_set_with_ttl(alloc, owner, arguments, origin)? {
+    match read_set_with_ttl(alloc, owner, arguments, origin, types)? {
         Some(rrset) => Ok(Some(append(alloc, id, rrset, origin.clone()?, false, false)?)),
         None => Ok(None),
     }
@@ -217,8 +225,9 @@ fn read_swap(
     arguments: &[Vec<u8>],
     origin: &Name,
     id: u16,
+    types: Types,
 ) -> Result<Option<Message>, AllocError>
-    ensures { IfOk result (λ message. IsSwap origin.now id owner
+    ensures { IfOk result (λ message. IsSwap types origin.now id owner
         (map (λ word. word.items) arguments.now) message) }
 {
     let [ttl, rtype, words @ ..] = arguments else {
@@ -227,10 +236,10 @@ fn read_swap(
     let Some(ttl) = parse_ttl_digits(ttl) else {
         return Ok(None);
     };
-    let Some(rtype) = RecordType::from_ascii_bytes(rtype) else {
+    let Some(rtype) = parse_type(rtype, types) else {
         return Ok(None);
     };
-    read_swap_of(alloc, owner, ttl, rtype, words, origin, id)
+    read_swap_of(alloc, owner, ttl, rtype, words, origin, id, types)
 }
 
 /// Reads the replacement of data by others, with `->` between them.
@@ -242,8 +251,9 @@ fn read_swap_of(
     words: &[Vec<u8>],
     origin: &Name,
     id: u16,
+    types: Types,
 ) -> Result<Option<Message>, AllocError>
-    ensures { IfOk result (λ message. IsSwapOf origin.now id owner (Some ttl) (Some rtype)
+    ensures { IfOk result (λ message. IsSwapOf types origin.now id owner (Some ttl) (Some rtype)
         (arrow_from 0 (map (λ word. word.items) words.now))
         (map (λ word. word.items) words.now) message) }
 {
@@ -252,7 +262,7 @@ fn read_swap_of(
     };
     let before = words_before(words, arrow);
     let after = words_after(words, arrow);
-    read_swap_between(alloc, owner, ttl, rtype, before, after, origin, id)
+    read_swap_between(alloc, owner, ttl, rtype, before, after, origin, id, types)
 }
 
 /// Returns the words before a place.
@@ -281,12 +291,13 @@ fn read_swap_between(
     after: &[Vec<u8>],
     origin: &Name,
     id: u16,
+    types: Types,
 ) -> Result<Option<Message>, AllocError>
-    ensures { IfOk result (λ message. IsSwapBetween origin.now id owner ttl rtype
+    ensures { IfOk result (λ message. IsSwapBetween types origin.now id owner ttl rtype
         (map (λ word. word.items) before.now) (map (λ word. word.items) after.now) message) }
 {
-    match read_set(alloc, owner.clone()?, 0, rtype, before, origin)? {
-        Some(current) => read_swap_to(alloc, owner, ttl, rtype, current, after, origin, id),
+    match read_set(alloc, owner.clone()?, 0, rtype, before, origin, types)? {
+        Some(current) => read_swap_to(alloc, owner, ttl, rtype, current, after, origin, id, types),
         None => Ok(None),
     }
 }
@@ -301,11 +312,12 @@ fn read_swap_to(
     words: &[Vec<u8>],
     origin: &Name,
     id: u16,
+    types: Types,
 ) -> Result<Option<Message>, AllocError>
-    ensures { IfOk result (λ message. IsSwapTo origin.now id owner ttl rtype (Some current)
+    ensures { IfOk result (λ message. IsSwapTo types origin.now id owner ttl rtype (Some current)
         (map (λ word. word.items) words.now) message) }
 {
-    match read_set(alloc, owner, ttl, rtype, words, origin)? {
+    match read_set(alloc, owner, ttl, rtype, words, origin, types)? {
         Some(new) => {
             let message = compare_and_swap(alloc, id, current, new, origin.clone()?, false)?;
             Ok(Some(message))
@@ -334,11 +346,12 @@ fn read_delete_record(
     arguments: &[Vec<u8>],
     origin: &Name,
     id: u16,
+    types: Types,
 ) -> Result<Option<Message>, AllocError>
-    ensures { IfOk result (λ message. IsDeleteRecord origin.now id owner
+    ensures { IfOk result (λ message. IsDeleteRecord types origin.now id owner
         (map (λ word. word.items) arguments.now) message) }
 {
-    match read_set_without_ttl(alloc, owner, arguments, origin)? {
+    match read_set_without_ttl(alloc, owner, arguments, origin, types)? {
         Some(rrset) => Ok(Some(delete_by_rdata(alloc, id, rrset, origin.clone()?, false)?)),
         None => Ok(None),
     }
@@ -351,11 +364,12 @@ fn read_delete_set(
     arguments: &[Vec<u8>],
     origin: &Name,
     id: u16,
+    types: Types,
 ) -> Result<Option<Message>, AllocError>
     ensures { IfOk result (λ message. message
-        ≡ delete_set origin.now id owner (map (λ word. word.items) arguments.now)) }
+        ≡ delete_set types origin.now id owner (map (λ word. word.items) arguments.now)) }
 {
-    let Some(rtype) = parse_only_type(arguments) else {
+    let Some(rtype) = parse_only_type(arguments, types) else {
         return Ok(None);
     };
     let deleted = Record::update0(owner, 0, rtype);
@@ -363,11 +377,11 @@ fn read_delete_set(
 }
 
 /// Parses a type, after which no word comes.
-fn parse_only_type(arguments: &[Vec<u8>]) -> Option<RecordType>
-    ensures { result ≡ only_type (map (λ word. word.items) arguments.now) }
+fn parse_only_type(arguments: &[Vec<u8>], types: Types) -> Option<RecordType>
+    ensures { result ≡ only_type types (map (λ word. word.items) arguments.now) }
 {
     match arguments {
-        [rtype] => RecordType::from_ascii_bytes(rtype),
+        [rtype] => parse_type(rtype, types),
         _ => None,
     }
 }
@@ -396,8 +410,9 @@ fn read_set_with_ttl(
     owner: Name,
     arguments: &[Vec<u8>],
     origin: &Name,
+    types: Types,
 ) -> Result<Option<RecordSet>, AllocError>
-    ensures { IfOk result (λ found. IsSetWithTtl origin.now owner
+    ensures { IfOk result (λ found. IsSetWithTtl types origin.now owner
         (map (λ word. word.items) arguments.now) found) }
 {
     let [ttl, rtype, words @ ..] = arguments else {
@@ -406,10 +421,10 @@ fn read_set_with_ttl(
     let Some(ttl) = parse_ttl_digits(ttl) else {
         return Ok(None);
     };
-    let Some(rtype) = RecordType::from_ascii_bytes(rtype) else {
+    let Some(rtype) = parse_type(rtype, types) else {
         return Ok(None);
     };
-    read_set(alloc, owner, ttl, rtype, words, origin)
+    read_set(alloc, owner, ttl, rtype, words, origin, types)
 }
 
 /// Reads a type and data.
@@ -418,17 +433,18 @@ fn read_set_without_ttl(
     owner: Name,
     arguments: &[Vec<u8>],
     origin: &Name,
+    types: Types,
 ) -> Result<Option<RecordSet>, AllocError>
-    ensures { IfOk result (λ found. IsSetWithoutTtl origin.now owner
+    ensures { IfOk result (λ found. IsSetWithoutTtl types origin.now owner
         (map (λ word. word.items) arguments.now) found) }
 {
     let [rtype, words @ ..] = arguments else {
         return Ok(None);
     };
-    let Some(rtype) = RecordType::from_ascii_bytes(rtype) else {
+    let Some(rtype) = parse_type(rtype, types) else {
         return Ok(None);
     };
-    read_set(alloc, owner, 0, rtype, words, origin)
+    read_set(alloc, owner, 0, rtype, words, origin, types)
 }
 
 /// Parses a TTL in seconds: digits without a unit.
@@ -446,11 +462,12 @@ fn read_set(
     rtype: RecordType,
     words: &[Vec<u8>],
     origin: &Name,
+    types: Types,
 ) -> Result<Option<RecordSet>, AllocError>
-    ensures { IfOk result (λ found. IsSet origin.now owner ttl rtype
+    ensures { IfOk result (λ found. IsSet types origin.now owner ttl rtype
         (map (λ word. word.items) words.now) found) }
 {
-    match parse_data(alloc, rtype, words, origin)? {
+    match parse_data(alloc, rtype, words, origin, types)? {
         Some(rdata) => {
             let added = Record::from_rdata(owner, ttl, rdata);
             Ok(Some(RecordSet::from_record(alloc, added)?))
@@ -465,16 +482,17 @@ fn parse_data(
     rtype: RecordType,
     words: &[Vec<u8>],
     origin: &Name,
+    types: Types,
 ) -> Result<Option<RData>, AllocError>
-    ensures { IfOk result (λ found. IsData origin.now rtype
+    ensures { IfOk result (λ found. IsData types origin.now rtype
         (map (λ word. word.items) words.now) found) }
 {
     let tokens = tokens_of(alloc, words)?;
-    match RData::parse(alloc, rtype, tokens.as_slice(), Some(origin)) {
+    match parse_rdata(alloc, types, rtype, tokens.as_slice(), origin) {
         Ok(rdata) => Ok(Some(rdata)),
         // The memory for the data was refused.
-        Err(RDataParseError::Memory) => Err(AllocError),
-        Err(_) => Ok(None),
+        Err(EntryError::Memory) => Err(AllocError),
+        Err(EntryError::Fault(_)) => Ok(None),
     }
 }
 

@@ -3,6 +3,7 @@
 use crate::arguments::Arguments;
 use crate::{Verdict, read_text, write_report};
 use dns_names::Name;
+use dns_zone_file::Types;
 use stub_play::{Ending, PlayFault, ScriptFault, ScriptText, read_script};
 use zone_check::{moment_report, script_report};
 
@@ -20,7 +21,7 @@ pub(crate) fn check_script(
     let Some(text) = read_text(rt, path, arguments)? else {
         return Ok(Verdict::Refused);
     };
-    let report = match read_script(alloc, text.as_str(), origin) {
+    let report = match read_script(alloc, text.as_str(), origin, Types::Nine) {
         Ok(script) => match line_out_of_order(&script) {
             Some(line) => moment_report(alloc, arguments.format, path, text.as_str(), line)?,
             None => return Ok(Verdict::Accepted),

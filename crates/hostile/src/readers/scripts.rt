@@ -4,6 +4,7 @@ use crate::reader::{Reader, Shape};
 use crate::readers::zone_files::line_count;
 use crate::tally::Tally;
 use dns_names::Name;
+use dns_zone_file::Types;
 use rows::RowFault;
 use std::alloc::Global;
 use stub_play::{ScriptFault, read_script};
@@ -39,7 +40,7 @@ impl Reader for ScriptReader {
 
 /// Reads a script.
 fn read_text(alloc: Global, text: &str, origin: &Name, tally: &mut Tally) -> Result<(), RowFault> {
-    match read_script(alloc, text, origin) {
+    match read_script(alloc, text, origin, Types::Nine) {
         Ok(script) => {
             tally.count("read")?;
             Ok(tally.add("event", script.events.len() as u64)?)

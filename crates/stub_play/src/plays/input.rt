@@ -1,6 +1,8 @@
 //! The input of a run.
 
+use crate::report::PlayFormat;
 use dns_names::Name;
+use dns_zone_file::Types;
 
 /// The contents of the files, and the options of a run.
 #[derive(Drop)]
@@ -21,4 +23,8 @@ pub struct PlayInput {
     pub max_ttl: u32,
     /// Whether datagrams and streams of the loopback interface are used.
     pub udp: bool,
+    /// Which types the zone file and the script may have.
+    pub types: Types,
+    /// How the report is written.
+    pub format: PlayFormat,
 }

@@ -34,11 +34,11 @@ pub(super) fn play_over_sockets<
     let world = new_socket_world(net, alloc, input, zone, hosts)?;
     match run_sockets(world, script.events.as_slice()) {
         Ok(report) => {
-            print(&script, &report, writer)?;
+            print(&script, &report, input, writer)?;
             Ok(())
         }
         Err(Stopped::Memory(report)) => {
-            print(&script, &report, writer)?;
+            print(&script, &report, input, writer)?;
             // The run ended for want of memory.
             Err(PlayFault::Memory)
         }

@@ -12,7 +12,7 @@ returns-in_err-script-clause-fault c =
     let left = err_from_is_err_and c.from_residual-in_err-script.result c.from_residual-in_err-script.ensures.1 in
     let fault = c.in_err-script.field-0.0 in
     let zone = c.in_ok-zone.zone in
-    let refused : fault ≢ Memory → IsScriptOf zone.origin (string_bytes c.args.input.now.script) (Err fault) =
+    let refused : fault ≢ Memory → IsScriptOf c.args.input.now.types zone.origin (string_bytes c.args.input.now.script) (Err fault) =
     λ other. script_read c.args.input.now zone c.as_str.result.now (Err fault) c.origin.ensures.origin c.as_str.ensures.value
     (c.in_err-script.ensures.refused other) in
     rw (left.1, left.2) (script_faults c.args.input.now zone fault c.in_ok-zone.ensures.ok refused)

@@ -3,7 +3,7 @@ use Rattle.std.proofs.lemmas.Result.{err_from_is_err_and}
 use Rattle.stub_run.specs.declared.event.Event.{Event}
 use Rattle.stub_run.specs.Questions.{AreAskable}
 use Rattle.stub_run.specs.Run.{InOrder, IsReportBefore, IsReportOf}
-use Rattle.stub_play.specs.ReportText.{report_text}
+use Rattle.stub_play.specs.Report.{report_text}
 use Rattle.stub_play.specs.Plays.{Tells}
 use Rattle.stub_play.specs.declared.plays.fault.PlayFault.TheVariants as plays
 use Rattle.stub_play.proofs.PlayLaws.{RunsHold, in_order_if_run, is_read, moment_is_at_fault, silent_end, stopped_end, stopped_is, tells_all, tells_first, told_end, unwritten_end, zone_is}
@@ -43,7 +43,7 @@ returns-in-Ok g c =
     let reported : IsReportOf start.0 events c.in-Ok.report =
     subst (λ (es : List Event). IsReportOf start.0 es c.in-Ok.report) c.as_slice-2.ensures.value (c.in-Ok.ensures.run start.0 start.2) in
     told_end (Tells input) input (c.print.new.writer ≡ c.args.writer.now) (g.W.Write.contents c.args.writer.now) (g.W.Write.contents c.print.new.writer)
-    (report_text events c.in-Ok.report.events.items) (is_read input loaded c.requires.loaded order)
+    (report_text input.types input.format events c.in-Ok.report.events.items) (is_read input loaded c.requires.loaded order)
     (tells_all input loaded c.requires.loaded laws c.origin-origin.ensures.well_formed order askable c.limit_of-limit.ensures.range start.0 start.1 c.in-Ok.report reported) c.in_ok-print-in-Ok.ensures
 
 pub returns-in_err-print-in-Err-Memory : goal.returns-in_err-print-in-Err-Memory
@@ -75,7 +75,7 @@ returns-in-Err-Memory g c =
     let before : IsReportBefore start.0 events report =
     subst (λ (es : List Event). IsReportBefore start.0 es report) c.as_slice-2.ensures.value (stopped start.0 start.2) in
     stopped_end (Tells input) input (c.print-in-Err-Memory.new.writer ≡ c.args.writer.now) (g.W.Write.contents c.args.writer.now)
-    (g.W.Write.contents c.print-in-Err-Memory.new.writer) (report_text events report.events.items)
+    (g.W.Write.contents c.print-in-Err-Memory.new.writer) (report_text input.types input.format events report.events.items)
     (zone_is input loaded c.requires.loaded) (tells_first input loaded c.requires.loaded laws c.origin-origin.ensures.well_formed order askable c.limit_of-limit.ensures.range start.0 start.1 report before)
     c.in_ok-print-in-Err-Memory.ensures
 

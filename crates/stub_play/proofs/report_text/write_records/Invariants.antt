@@ -5,4 +5,4 @@ use Rattle.stub_play.proofs.report_text.write_records.Given as goal
 
 -- the records so far are written
 abbrev pub invariant-loop-record : goal.invariant-loop-record
-invariant-loop-record g l = Appends (g.W.Write.contents l.initial.writer) (g.W.Write.contents l.writer) (flat_map record_text (take l.record-index l.records))
+invariant-loop-record g l = Appends (g.W.Write.contents l.initial.writer) (g.W.Write.contents l.writer) (flat_map (record_text l.types) (take l.record-index l.records))

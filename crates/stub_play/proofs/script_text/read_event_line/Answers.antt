@@ -17,12 +17,12 @@ pub returns-in-Some-2 : goal.returns-in-Some-2
 returns-in-Some-2 c =
     let line : AreLineWords c.args.line.now (texts (Some c.in-Some.line)) =
     subst (λ (found : Option Line). AreLineWords c.args.line.now (texts found)) c.in-Some.is c.in_ok-line.ensures.words in
-    event_of_words c.args.origin.now c.args.id c.args.line.now c.in-Some.line c.as_slice-in-Some-2.result.now c.as_slice.result.now c.in_ok-script.field-0
+    event_of_words c.args.types c.args.origin.now c.args.id c.args.line.now c.in-Some.line c.as_slice-in-Some-2.result.now c.as_slice.result.now c.in_ok-script.field-0
     c.in-Some-2.script c.read_event.result line c.as_slice-in-Some-2.ensures.value c.as_slice.ensures.value c.in-Some-2.is c.in_ok-script.ensures c.read_event.ensures
 
 pub returns : goal.returns
 returns c =
     let line : AreLineWords c.args.line.now (texts (Some c.in-Some.line)) =
     subst (λ (found : Option Line). AreLineWords c.args.line.now (texts found)) c.in-Some.is c.in_ok-line.ensures.words in
-    no_event_of_words c.args.origin.now c.args.id c.args.line.now c.in-Some.line c.as_slice.result.now c.in_ok-script.field-0 line
+    no_event_of_words c.args.types c.args.origin.now c.args.id c.args.line.now c.in-Some.line c.as_slice.result.now c.in_ok-script.field-0 line
     c.as_slice.ensures.value c.in-None.is c.in_ok-script.ensures

@@ -7,5 +7,5 @@ abbrev pub invariant-loop-i : goal.invariant-loop-i
 invariant-loop-i l = record {
   beside : length l.lines.items ≡ length l.events.items;
   few : l.update_count ≤ l.i;
-  leads : LeadsOn l.origin l.all l.i l.update_count (contents_at l.lines.items l.events.items);
+  leads : LeadsOn l.types l.origin l.all l.i l.update_count (contents_at l.lines.items l.events.items);
 }

@@ -1,7 +1,7 @@
-use Rattle.std.proofs.Common.{◌≡◌, ◌∙◌, ap, codes, map, option_map, string_bytes, Some, true}
+use Rattle.std.proofs.Common.{◌≡◌, ◌∙◌, ap, sym, codes, map, option_map, string_bytes, Some, true}
 use Rattle.clap.specs.Words.{app_of, takes}
 use Rattle.stub_play.proofs.WordsLaws.{bad_passes, fault_is, flag_is, no_fault, number_is, only_memory, origin_fault_passes, too_much_passes, value_in, value_is}
-use Rattle.stub_play.specs.Words.{origin_of, stub_app}
+use Rattle.stub_play.specs.Words.{origin_of, stub_app, types_of}
 use Rattle.stub_play.proofs.words.read_words.Goals as goal
 
 pub returns-in_err-matches-clause-taken : goal.returns-in_err-matches-clause-taken
@@ -22,6 +22,9 @@ number_in-max_ttl-requires c = (c.in_ok-command.ensures.all c.in_ok-matches.matc
 
 pub flag_in-udp-requires : goal.flag_in-udp-requires
 flag_in-udp-requires c = (c.in_ok-command.ensures.all c.in_ok-matches.matches c.in_ok-matches.ensures.parsed).udp
+
+pub flag_in-all_types-requires : goal.flag_in-all_types-requires
+flag_in-all_types-requires c = (c.in_ok-command.ensures.all c.in_ok-matches.matches c.in_ok-matches.ensures.parsed).all_types
 
 pub returns-in_err-check_limit-clause-fault : goal.returns-in_err-check_limit-clause-fault
 returns-in_err-check_limit-clause-fault c =
@@ -68,6 +71,11 @@ pub returns-clause-udp : goal.returns-clause-udp
 returns-clause-udp c =
     flag_is (app_of c.in_ok-command.command) (map (λ word. word.now) c.args.words.now) c.in_ok-matches.matches (codes "udp") c.flag_in-udp.result
     c.in_ok-command.ensures.app c.in_ok-matches.ensures.matches c.flag_in-udp.ensures
+
+pub returns-clause-types : goal.returns-clause-types
+returns-clause-types c =
+    ap types_of (flag_is (app_of c.in_ok-command.command) (map (λ word. word.now) c.args.words.now) c.in_ok-matches.matches (codes "all-types") c.flag_in-all_types.result
+    c.in_ok-command.ensures.app c.in_ok-matches.ensures.matches c.flag_in-all_types.ensures) ∙ sym c.types_of-types.ensures
 
 pub returns-clause-only : goal.returns-clause-only
 returns-clause-only c =

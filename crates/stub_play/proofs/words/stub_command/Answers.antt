@@ -6,12 +6,12 @@ use Rattle.stub_play.proofs.WordsLaws.{IsStub, app_is, bare_with_about, has_all}
 use Rattle.stub_play.proofs.words.stub_command.Goals as goal
 
 -- the command that the last option makes
-abbrev IsLast : goal.After-arg-8 → Command → Type 0
-IsLast c cmd = AddsArg c.in_ok-arg-7.field-0 c.flag.result cmd
+abbrev IsLast : goal.After-arg-9 → Command → Type 0
+IsLast c cmd = AddsArg c.in_ok-arg-8.field-0 c.flag-2.result cmd
 
-is_stub : (c : goal.After-arg-8) (cmd : Command) → IsLast c cmd
+is_stub : (c : goal.After-arg-9) (cmd : Command) → IsLast c cmd
     → IsStub c.about.result cmd c.required_file.result c.required_file-2.result c.value_option.result c.value_option-2.result c.limit_option.result c.cache_option.result
-    c.max_ttl_option.result c.flag.result
+    c.max_ttl_option.result c.flag.result c.flag-2.result
 is_stub c cmd added =
     let bare = bare_with_about c.new.result c.about.result _ c.about.ensures c.new.ensures.app c.new.ensures.empty.0 c.new.ensures.empty.1 c.new.ensures.local c.new.ensures.negates in
     record {
@@ -24,12 +24,14 @@ is_stub c cmd added =
       is_cache = record { option = record { id = c.cache_option.ensures.id; plain = c.cache_option.ensures.plain }; is_rule = c.cache_option.ensures.rule };
       is_max_ttl = record { option = record { id = c.max_ttl_option.ensures.id; plain = c.max_ttl_option.ensures.plain }; is_rule = c.max_ttl_option.ensures.rule };
       is_udp = record { option = record { id = ap (λ x. x.now) c.flag.ensures.id; plain = c.flag.ensures.plain }; is_rule = c.flag.ensures.rule };
+      is_all_types = record { option = record { id = ap (λ x. x.now) c.flag-2.ensures.id; plain = c.flag-2.ensures.plain }; is_rule = c.flag-2.ensures.rule };
       zone_value = c.required_file.ensures.takes;
       script_value = c.required_file-2.ensures.takes;
       limit_number = c.limit_option.ensures.number;
       cache_number = c.cache_option.ensures.number;
       max_ttl_number = c.max_ttl_option.ensures.number;
       udp_flag = c.flag.ensures.parser;
+      all_types_flag = c.flag-2.ensures.parser;
       chain = (
         c.in_ok-arg.field-0,
         c.in_ok-arg.ensures,
@@ -51,7 +53,11 @@ is_stub c cmd added =
                   (
                     c.in_ok-arg-7.field-0,
                     c.in_ok-arg-7.ensures,
-                    (cmd, added, refl),
+                    (
+                      c.in_ok-arg-8.field-0,
+                      c.in_ok-arg-8.ensures,
+                      (cmd, added, refl),
+                    ),
                   ),
                 ),
               ),
@@ -63,8 +69,8 @@ is_stub c cmd added =
 
 pub returns-clause-app : goal.returns-clause-app
 returns-clause-app c =
-    IfOk-weaker c.arg-8.result _ _ (λ cmd added. app_is c.about.result cmd _ _ _ _ _ _ _ _ (is_stub c cmd added)) c.arg-8.ensures
+    IfOk-weaker c.arg-9.result _ _ (λ cmd added. app_is c.about.result cmd _ _ _ _ _ _ _ _ _ (is_stub c cmd added)) c.arg-9.ensures
 
 pub returns-clause-all : goal.returns-clause-all
 returns-clause-all c =
-    IfOk-weaker c.arg-8.result _ _ (λ cmd added m parsed. has_all c.about.result cmd _ _ _ _ _ _ _ _ (is_stub c cmd added) m parsed) c.arg-8.ensures
+    IfOk-weaker c.arg-9.result _ _ (λ cmd added m parsed. has_all c.about.result cmd _ _ _ _ _ _ _ _ _ (is_stub c cmd added) m parsed) c.arg-9.ensures

@@ -5,4 +5,4 @@ use Rattle.update_text.proofs.update.read_set_with_ttl.Goals as goal
 pub returns-in_default : goal.returns-in_default
 returns-in_default c =
     let few : length c.args.arguments.now < 2 = omega arith in
-    no_set_with_ttl c.args.origin.now c.args.owner c.args.arguments.now few
+    no_set_with_ttl c.args.types c.args.origin.now c.args.owner c.args.arguments.now few

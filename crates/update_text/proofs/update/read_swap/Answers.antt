@@ -5,4 +5,4 @@ use Rattle.update_text.proofs.update.read_swap.Goals as goal
 pub returns-in_default : goal.returns-in_default
 returns-in_default c =
     let few : length c.args.arguments.now < 2 = omega arith in
-    no_swap c.args.origin.now c.args.id c.args.owner c.args.arguments.now few
+    no_swap c.args.types c.args.origin.now c.args.id c.args.owner c.args.arguments.now few

@@ -6,7 +6,7 @@ use Rattle.stub_run.specs.Run.{InOrder}
 use Rattle.stub_run.specs.RunOver.{IsReportBeforeOver, IsReportOver}
 use Rattle.stub_socket.specs.SocketLink.{socket_rules}
 use Rattle.stub_socket.specs.SocketWorld.{resolver_of}
-use Rattle.stub_play.specs.ReportText.{report_text}
+use Rattle.stub_play.specs.Report.{report_text}
 use Rattle.stub_play.specs.Plays.{TellsOver}
 use Rattle.stub_play.specs.declared.plays.fault.PlayFault.TheVariants as plays
 use Rattle.stub_play.proofs.PlayLaws.{honest_if, in_order_if_run, is_read, moment_is_at_fault, silent_end, sockets_end, stopped_end, stopped_is, tells_all_over, tells_first_over, told_end, unwritten_end, zone_is}
@@ -45,7 +45,7 @@ returns-in-Ok g c =
     subst (λ (es : List Event). IsReportOver (socket_rules _) (resolver_of c.in_ok-world.world) es c.in-Ok.report) c.as_slice.ensures.value
     c.in-Ok.ensures.run in
     told_end (TellsOver _ input) input (c.print.new.writer ≡ c.args.writer.now) (g.W.Write.contents c.args.writer.now)
-    (g.W.Write.contents c.print.new.writer) (report_text events c.in-Ok.report.events.items) (is_read input loaded c.requires.loaded order)
+    (g.W.Write.contents c.print.new.writer) (report_text input.types input.format events c.in-Ok.report.events.items) (is_read input loaded c.requires.loaded order)
     (tells_all_over input loaded c.requires.loaded order (resolver_of c.in_ok-world.world) c.in_ok-world.ensures.world c.in-Ok.report reported)
     c.in_ok-print-in-Ok.ensures
 
@@ -70,7 +70,7 @@ returns-in-Err-Memory g c =
     let before : IsReportBeforeOver (socket_rules _) (resolver_of c.in_ok-world.world) events report =
     subst (λ (es : List Event). IsReportBeforeOver (socket_rules _) (resolver_of c.in_ok-world.world) es report) c.as_slice.ensures.value stopped in
     stopped_end (TellsOver _ input) input (c.print-in-Err-Memory.new.writer ≡ c.args.writer.now) (g.W.Write.contents c.args.writer.now)
-    (g.W.Write.contents c.print-in-Err-Memory.new.writer) (report_text events report.events.items)
+    (g.W.Write.contents c.print-in-Err-Memory.new.writer) (report_text input.types input.format events report.events.items)
     (zone_is input loaded c.requires.loaded)
     (tells_first_over input loaded c.requires.loaded order (resolver_of c.in_ok-world.world) c.in_ok-world.ensures.world report before)
     c.in_ok-print-in-Err-Memory.ensures
