@@ -1,0 +1,6 @@
+//! What is known of the replies that an authoritative server sends, as theorems about their bytes.
+//!
+//! - `laws`: the theorems.
+#![tactic(auto)]
+
+pub mod laws;
