@@ -2,9 +2,7 @@
 
 use crate::notifying::{copies, followed, notified, response, serial};
 use crate::raising::raised;
-use crate::transferring::{
-    incremental_datagram, incremental_refused, incremental_sent, lens_sent, sent, wide_sent,
-};
+use crate::transferring::{lens_sent, sent, wide_sent};
 use rows::{Answer, RowFault};
 use std::alloc::Global;
 
@@ -14,9 +12,6 @@ pub(crate) fn answer(alloc: Global, word: &str, input: &str) -> Answer {
         "axfr" => sent(alloc, input),
         "lens" => lens_sent(alloc, input),
         "wide" => wide_sent(alloc, input),
-        "ixfr" => incremental_sent(alloc, input),
-        "refused" => incremental_refused(alloc, input),
-        "datagram" => incremental_datagram(alloc, input),
         "raise" => raised(alloc, input),
         "follow" => followed(alloc, input),
         "notify" => notified(alloc, input),

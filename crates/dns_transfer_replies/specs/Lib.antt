@@ -1,4 +1,0 @@
-pub mod Request
-pub mod Incremental
-pub mod Signing
-pub mod Reply
