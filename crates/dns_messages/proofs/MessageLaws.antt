@@ -1,11 +1,10 @@
 -- Bytes decode to one message at most, and what decodes is not refused.
-use Rattle.std.proofs.Common.{◌≡◌, ℕ, ◌<◌, List, [], ◌∷◌, ◌++◌, length, Option, refl, sym, ap, subst, ◌∙◌, arith, length-append}
+use Rattle.std.proofs.Common.{◌≡◌, ℕ, ◌<◌, List, [], ◌∷◌, ◌++◌, length, Option, sym, ap, subst, ◌∙◌, arith, length-append}
 use Rattle.dns_wire.specs.Decodable.{Follow}
 use Rattle.dns_wire.specs.declared.error.DecodeError.{DecodeError}
 use Rattle.dns_records.specs.Record.{Record}
 use Rattle.dns_messages.specs.declared.edns.Edns.{Edns}
 use Rattle.dns_messages.specs.declared.header.Metadata.{Metadata}
-use Rattle.dns_messages.specs.declared.header.HeaderCounts.{HeaderCounts}
 use Rattle.dns_messages.specs.declared.header.Header.{Header}
 use Rattle.dns_messages.specs.declared.query.Query.{Query}
 use Rattle.dns_messages.specs.declared.message.Message.{Message}

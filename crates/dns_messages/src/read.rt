@@ -15,7 +15,7 @@ use crate::message::Message;
 use crate::op_code::OpCode;
 use crate::query::Query;
 use crate::response_code::ResponseCode;
-use crate::section::SectionRecords;
+use crate::section::{SectionRecords, push_expected};
 use dns_records::{Record, Sequence};
 use dns_wire::{BinDecodable, BinDecoder, DecodeError, PointerTable};
 use std::alloc::{AllocError, Global};
@@ -31,8 +31,9 @@ impl Message {
     /// Decodes a message. Bytes after its last record are ignored.
     ///
     /// Fewer than 12 bytes are refused before memory is allocated, and a header whose counts are all 0 needs none. Memory is
-    /// allocated for an item when it is decoded, and never for the counts of the header, which may be false. A message of more
-    /// than 2,048 bytes is decoded with a table of its compression pointers, of at most 32 KiB, if there is memory for it.
+    /// allocated for items as they are decoded: with the first of a section for at most 16, since the counts of the header may
+    /// be false. A message of more than 2,048 bytes is decoded with a table of its compression pointers, of at most 32 KiB, if
+    /// there is memory for it.
     pub fn from_vec(alloc: Global, bytes: &[u8]) -> Result<Message, DecodeError>
         ensures read { IfOk result (λ message. ReadsMessage bytes.now message) }
         ensures sound { IfOk result (λ message. IsSound message) }
@@ -112,9 +113,9 @@ fn read_questions(
     ensures decided { count ≡ 0 → result ≡ Ok [] }
 {
     let mut queries = Sequence::new(alloc);
-    for _nth in 0..count {
+    for nth in 0..count {
         let query = Query::read(alloc, decoder)?;
-        queries.push(query)?;
+        push_expected(alloc, &mut queries, query, count - nth)?;
     }
     Ok(queries)
 }
@@ -153,7 +154,8 @@ fn read_from(alloc: Global, decoder: BinDecoder<'_>) -> Result<Message, DecodeEr
     let queries = Message::read_queries(alloc, &mut decoder, counts.queries)?;
     let answers = read_plain_section(alloc, &mut decoder, counts.answers, op_code)?;
     let authorities = read_plain_section(alloc, &mut decoder, counts.authorities, op_code)?;
-    let last = Message::read_records(alloc, &mut decoder, counts.additionals, op_code, true)?;
+    let mut last = SectionRecords::new(alloc);
+    last.read(alloc, &mut decoder, counts.additionals, op_code, true)?;
     Ok(Message {
         metadata: extended(&last.edns, header.metadata),
         queries,
@@ -179,7 +181,8 @@ fn read_plain_section(
     ensures bytes { decoder.new.bytes ≡ decoder.old.bytes }
     ensures decided { count ≡ 0 → result ≡ Ok [] }
 {
-    let section = Message::read_records(alloc, decoder, count, op_code, false)?;
+    let mut section = SectionRecords::new(alloc);
+    section.read(alloc, decoder, count, op_code, false)?;
     Ok(section.records)
 }
 

@@ -1,6 +1,6 @@
 //! Sections of records: which record may be where, and what a section has.
 
-ghost use Rattle.std.specs.Prelude.{◌≡◌, ◌≢◌, true, [], None, Ok, IfOk, IfErr, OnOk};
+ghost use Rattle.std.specs.Prelude.{◌≡◌, ◌≢◌, ◌++◌, ◌∷◌, true, [], None, Ok, IfOk, IfErr, OnOk};
 ghost use Rattle.dns_data.specs.rdata.{IsSoundData};
 ghost use Rattle.dns_records.specs.Record.{ReadsRecord};
 ghost use Rattle.dns_messages.specs.Section.{head_fault, opt_fault, record_fault, with_record, RefusesNext, ReadsSectionRecords, RefusesSection};
@@ -14,6 +14,9 @@ use dns_names::Name;
 use dns_records::{Record, RecordHead, Sequence};
 use dns_wire::{BinDecoder, DecodeError, RecordType};
 use std::alloc::{AllocError, Global};
+
+/// The number of items for which memory is allocated at most before they are decoded: a count may be false.
+const MAX_EXPECTED: u16 = 16;
 
 /// The records of a section.
 #[derive(Drop)]
@@ -78,13 +81,18 @@ impl SectionRecords {
                 is_last: count - nth == 1,
             };
             let next = read_record(alloc, decoder, setting)?;
-            self.push(next)?;
+            self.push(alloc, next, count - nth)?;
         }
         Ok(())
     }
 
-    /// Adds the next record of the section.
-    pub(crate) fn push(&mut self, next: Record) -> Result<(), AllocError>
+    /// Adds the next record of the section, after which fewer than `expected` others are expected.
+    pub(crate) fn push(
+        &mut self,
+        alloc: Global,
+        next: Record,
+        expected: u16,
+    ) -> Result<(), AllocError>
         requires { IsSoundData next.rdata }
         ensures { OnOk result (self.new ≡ with_record self.old next) }
     {
@@ -94,10 +102,39 @@ impl SectionRecords {
                 code: RecordType::TSIG,
                 rdata: _,
             } => self.signature = Some(next),
-            _ => self.records.push(next)?,
+            _ => push_expected(alloc, &mut self.records, next, expected)?,
         }
         Ok(())
     }
+}
+
+/// Adds an item to a list. With the first one, memory is allocated for as many as are expected, but at most for
+/// [`MAX_EXPECTED`].
+pub(crate) fn push_expected<T: Drop>(
+    alloc: Global,
+    items: &mut Sequence<T>,
+    item: T,
+    expected: u16,
+) -> Result<(), AllocError>
+    ensures { OnOk result (items.new ≡ items.old ++ item ∷ []) }
+{
+    if items.is_empty() {
+        make_room(alloc, items, usize::from(expected.min(MAX_EXPECTED)))?;
+    }
+    items.push(item)
+}
+
+/// Allocates memory for items of an empty list.
+fn make_room<T: Drop>(
+    alloc: Global,
+    items: &mut Sequence<T>,
+    count: usize,
+) -> Result<(), AllocError>
+    requires { items.old ≡ [] }
+    ensures { items.new ≡ [] }
+{
+    *items = Sequence::from_vec(Vec::with_capacity(alloc, count)?);
+    Ok(())
 }
 
 /// Returns `true` for the opcode of updates (RFC 2136 section 1.3).

@@ -18,6 +18,7 @@ pub mod PartsLaws
 pub mod PrintingLaws
 pub mod ReverseLaws
 pub mod RoundTrip
+pub mod RunLaws
 pub mod SeekLaws
 pub mod SubtreeLaws
 pub mod TextLaws

@@ -1,5 +1,5 @@
 -- Keys tell the questions that have the same entry, and are short.
-use Rattle.std.proofs.Common.{◌≡◌, ℕ, ◌+◌, ◌≤◌, Bool, true, false, List, [], ◌∷◌, ◌++◌, length, refl, ap, arith, length-append}
+use Rattle.std.proofs.Common.{◌≡◌, ℕ, ◌+◌, ◌/◌, ◌%◌, ◌≤◌, Bool, true, false, List, [], ◌∷◌, ◌++◌, length, refl, ap, arith, length-append}
 use Rattle.std.specs.Prelude.{◌==◌}
 use Rattle.std.specs.Bool.{beq}
 use Rattle.std.specs.Str.{str_to_ascii_lowercase, str_eq_ignore_ascii_case}
@@ -74,6 +74,10 @@ same_from_flag true false e = absurd (omega (arith, e))
 same_from_flag false true e = absurd (omega (arith, e))
 same_from_flag false false e = refl
 
+-- the two bytes of a number tell it
+halves : (s t : ℕ) → s / 256 ≡ t / 256 → s % 256 ≡ t % 256 → s ≡ t
+halves s t high low = omega (arith, high, low)
+
 pub key_from_same : (p q : Query) → same_key p q ≡ true → key_of p ≡ key_of q
 key_from_same p q e =
     let parts = and_parts (same_name p.name q.name) _ e in
@@ -87,8 +91,12 @@ key_from_same p q e =
 
 pub same_from_key : (p q : Query) → key_of p ≡ key_of q → same_key p q ≡ true
 same_from_key p q e =
-    let kinds : type_number p.query_type ≡ type_number q.query_type = cc in
-    let classes : class_number p.query_class ≡ class_number q.query_class = cc in
+    let kind_high : type_number p.query_type / 256 ≡ type_number q.query_type / 256 = cc in
+    let kind_low : type_number p.query_type % 256 ≡ type_number q.query_type % 256 = cc in
+    let class_high : class_number p.query_class / 256 ≡ class_number q.query_class / 256 = cc in
+    let class_low : class_number p.query_class % 256 ≡ class_number q.query_class % 256 = cc in
+    let kinds = halves (type_number p.query_type) (type_number q.query_type) kind_high kind_low in
+    let classes = halves (class_number p.query_class) (class_number q.query_class) class_high class_low in
     let flags : flag_key p.name.is_fqdn ≡ flag_key q.name.is_fqdn = cc in
     let labels : labels_key p.name.labels ≡ labels_key q.name.labels = cc in
     and_from (same_name p.name q.name) _
@@ -98,7 +106,7 @@ same_from_key p q e =
 -- ---- the key of a question while it is built
 
 pub next_label_fits : (q : Query) (key label : List ℕ) (labels : List (List ℕ)) → AreLabels q.name.labels → key ++ labels_key (label ∷ labels) ≡ key_of q
-    → length key + (length label + 1) ≤ 258
+    → length key + (length label + 1) ≤ 260
 next_label_fits q key label labels are e =
     let whole = ap length e in
     let fits = are.fits in

@@ -1,8 +1,8 @@
 -- The elements that the code decodes and the pieces that it writes for a name, and that decoding a name is unambiguous.
-use Rattle.std.specs.Prelude.{◌≡◌, ℕ, ◌+◌, length, Result, Ok, Err, MatchResult, List, [], ◌∷◌, ◌++◌, max}
+use Rattle.std.specs.Prelude.{◌≡◌, ℕ, ◌+◌, ◌<◌, ◌≤◌, ◌⊎◌, length, drop, slice_get, Option, None, Some, Ok, Err, List, [], ◌∷◌, ◌++◌, max}
 use Rattle.dns_wire.specs.declared.error.DecodeError.{DecodeError}
-use Rattle.dns_names.specs.declared.name.wire.Part.{Part}
-use Rattle.dns_names.specs.declared.name.wire.Part.TheVariants.{Closing, Label, Pointer}
+use Rattle.dns_wire.specs.declared.error.DecodeError.TheVariants.{DomainNameTooLong}
+use Rattle.dns_wire.specs.Name.{IsLabel}
 use Rattle.dns_wire.specs.Encoder.{EncoderState}
 use Rattle.dns_wire.specs.Encodable.{Piece, Plain}
 use Rattle.dns_wire.specs.Writing.{labels_form, compressed_form, remember_labels}
@@ -12,21 +12,50 @@ use Rattle.dns_wire.proofs.ReadingLaws.{reads_same}
 use Rattle.dns_names.specs.Name.{DomainName}
 use Rattle.dns_wire.specs.Element as wire
 
--- the code's element as that of the grammar
-abbrev pub element_of : Part → wire.Element
-element_of Closing = wire.Closing
-element_of (Label bytes) = wire.Label bytes.now
-element_of (Pointer target) = wire.Pointer target
+-- what ends a run of labels, as an element of the grammar: no target is the root's zero byte
+abbrev pub element_of : Option ℕ → wire.Element
+element_of None = wire.Closing
+element_of (Some target) = wire.Pointer target
 
--- how many bytes a part takes
-abbrev pub part_len : Part → ℕ
-part_len Closing = 1
-part_len (Label bytes) = length bytes.now + 1
-part_len (Pointer target) = 2
+-- how many bytes it takes
+abbrev pub element_len : Option ℕ → ℕ
+element_len None = 1
+element_len (Some target) = 2
 
--- the part that is decoded is the element, or has the element's fault
-abbrev pub MatchesElement : Result Part DecodeError → Result wire.Element DecodeError → Type 0
-MatchesElement read element = MatchResult read (λ part. element ≡ Ok (element_of part)) (λ error. element ≡ Err error)
+-- a label from a place of the bytes up to an end
+pub record LabelIs (bytes : List ℕ) (place end : ℕ) : Type 0 where
+  pub label : List ℕ
+  pub rest : List ℕ
+  pub is : IsLabel label
+  pub here : drop place bytes ≡ length label ∷ (label ++ rest)
+  pub end_is : end ≡ place + (length label + 1)
+
+-- labels one after another, from a place of the bytes up to an end
+pub data Run (bytes : List ℕ) (place : ℕ) : List (List ℕ) → ℕ → Type 0 where
+  no_label : Run bytes place [] place
+  label_more : {labels : List (List ℕ)} {label : List ℕ} {at : ℕ} (rest : List ℕ) → Run bytes place labels at → IsLabel label
+      → drop at bytes ≡ length label ∷ (label ++ rest) → Run bytes place (labels ++ label ∷ []) (at + (length label + 1))
+
+-- so many labels, of so many bytes at most with their lengths
+pub record RunIs (bytes : List ℕ) (place room end count : ℕ) : Type 0 where
+  pub labels : List (List ℕ)
+  pub run : Run bytes place labels end
+  pub many : length labels ≡ count
+  pub fits : length (labels_form labels) ≤ room
+
+-- no label begins at the end
+abbrev pub IsRunEnd : List ℕ → ℕ → Type 0
+IsRunEnd bytes end = (code : ℕ) → slice_get bytes end ≡ Some code → (code ≡ 0) ⊎ (64 ≤ code)
+
+-- after some labels there is a fault, or a label for which there is no room
+pub record RunFails (bytes : List ℕ) (place room : ℕ) (error : DecodeError) : Type 0 where
+  pub labels : List (List ℕ)
+  pub end : ℕ
+  pub run : Run bytes place labels end
+  pub fits : length (labels_form labels) ≤ room
+  pub cause : (wire.element_at bytes end ≡ Err error)
+      ⊎ ((label : List ℕ) × (wire.element_at bytes end ≡ Ok (wire.Label label))
+      × (room < length (labels_form labels) + (length label + 1)) × (error ≡ DomainNameTooLong))
 
 -- labels, each preceded by its length (RFC 1035 section 3.1)
 abbrev pub labels_pieces : List (List ℕ) → List Piece

@@ -1,10 +1,9 @@
 //! Names on the wire (RFC 1035 sections 3.1 and 4.1.4).
 
-ghost use Rattle.std.specs.Prelude.{◌≡◌, ◌≢◌, ℕ, List, true, length, ◌≤◌, MatchResult, Err, IsOk, IfOk, IfErr, OnErr, ◌<◌, OnOk};
-ghost use Rattle.dns_wire.specs.Decoder.{rest, Advances};
-ghost use Rattle.dns_wire.specs.Element.{element, element_at};
+ghost use Rattle.std.specs.Prelude.{◌≡◌, ◌≢◌, ◌+◌, ℕ, List, true, length, ◌≤◌, MatchResult, Ok, Err, None, IsOk, IfOk, IfErr, IfSome, OnErr, ◌<◌, OnOk};
+ghost use Rattle.dns_wire.specs.Element.{element_at};
 ghost use Rattle.dns_wire.specs.Reading.{ReadsName, RefusesName};
-ghost use Rattle.dns_names.specs.internal.Wire.{MatchesElement, part_len};
+ghost use Rattle.dns_names.specs.internal.Wire.{LabelIs, RunIs, RunFails, IsRunEnd, element_of, element_len};
 ghost use Rattle.dns_wire.specs.Encoder.{state_of, IsAtEnd, CanRollBack};
 ghost use Rattle.dns_wire.specs.Name.{AreLabels};
 ghost use Rattle.dns_names.specs.Name.{IsInline};
@@ -18,32 +17,81 @@ use dns_wire::{
 };
 use std::alloc::Global;
 
-/// An element of an encoded name.
-#[derive(Clone, Copy)]
-enum Part<'a> {
-    /// The root's zero byte, which ends the name.
-    Closing,
-    /// A label, borrowed from the buffer.
-    Label(&'a [u8]),
-    /// A compression pointer, with its target offset.
-    Pointer(usize),
+/// Returns the end of the label that begins at a place, or `None` if none begins there.
+fn label_end(bytes: &[u8], place: usize) -> Result<Option<usize>, DecodeError>
+    requires { place ≤ length bytes.now }
+    ensures label { IfOk result (λ end. IfSome end (LabelIs bytes.now place)) }
+    ensures none { result ≡ Ok None → IsRunEnd bytes.now place }
+    ensures refused { IfErr result (λ error. element_at bytes.now place ≡ Err error) }
+{
+    if place == bytes.len() {
+        return Ok(None);
+    }
+    let len = bytes[place] as usize;
+    if len == 0 {
+        return Ok(None);
+    }
+    if len >= 64 {
+        return Ok(None);
+    }
+    let end = place + len + 1;
+    if end > bytes.len() {
+        return Err(DecodeError::InsufficientBytes);
+    }
+    Ok(Some(end))
 }
 
-/// Reads the next element of a name.
-fn read_part<'a>(reader: &mut BinDecoder<'a>) -> Result<Part<'a>, DecodeError>
-    ensures shows { MatchesElement result (element (rest reader.old)) }
-    ensures moved { IfOk result (λ part. Advances reader.old reader.new (part_len part)) }
+/// Returns the end of the labels from `place` on, before the first byte that begins no label, and their number. They may
+/// have `room` bytes in all, with their lengths.
+fn run_end(bytes: &[u8], place: usize, room: usize) -> Result<(usize, usize), DecodeError>
+    requires { place ≤ length bytes.now }
+    ensures ok { IfOk result (λ found. RunIs bytes.now place room found.0 found.1) }
+    ensures ends { IfOk result (λ found. IsRunEnd bytes.now found.0) }
+    ensures refused { IfErr result (λ error. RunFails bytes.now place room error) }
 {
-    let code = reader.read_u8()?;
-    match code {
-        0 => Ok(Part::Closing),
-        1..64 => Ok(Part::Label(reader.read_slice(code as usize)?)),
-        64..192 => Err(DecodeError::UnrecognizedLabelCode),
-        192.. => {
-            let low = reader.read_u8()?;
-            Ok(Part::Pointer((code as usize - 192) * 256 + low as usize))
+    let mut end = place;
+    let mut count = 0;
+    while let Some(next) = label_end(bytes, end)? {
+        if next - place > room {
+            return Err(DecodeError::DomainNameTooLong);
         }
+        end = next;
+        count += 1;
     }
+    Ok((end, count))
+}
+
+/// Reads what ends a run of labels: the target of a compression pointer, or `None` for the root's zero byte.
+fn read_target(bytes: &[u8], place: usize) -> Result<Option<usize>, DecodeError>
+    requires within { place ≤ length bytes.now }
+    requires ends { IsRunEnd bytes.now place }
+    ensures shows { MatchResult result (λ target. element_at bytes.now place ≡ Ok (element_of target))
+        (λ error. element_at bytes.now place ≡ Err error) }
+    ensures within { IfOk result (λ target. place + element_len target ≤ length bytes.now) }
+{
+    if place == bytes.len() {
+        return Err(DecodeError::InsufficientBytes);
+    }
+    let code = bytes[place];
+    if code == 0 {
+        return Ok(None);
+    }
+    if code < 192 {
+        return Err(DecodeError::UnrecognizedLabelCode);
+    }
+    if place + 1 == bytes.len() {
+        return Err(DecodeError::InsufficientBytes);
+    }
+    Ok(Some(256 * (code as usize - 192) + bytes[place + 1] as usize))
+}
+
+/// Returns all bytes of a decoder, those that were read too.
+fn all_bytes<'a>(decoder: &BinDecoder<'a>) -> &'a [u8]
+    ensures { result.now ≡ decoder.now.bytes }
+{
+    let mut reader = decoder.clone(decoder.index());
+    let _unread = reader.read_slice(decoder.len()).unwrap();
+    reader.slice_from(0)
 }
 
 impl Name {
@@ -111,31 +159,26 @@ fn read_at(alloc: Global, decoder: BinDecoder<'_>) -> Result<(Name, usize), Deco
     ensures refused { IfErr result (λ error. error ≢ DecodeError.Memory
         → RefusesName decoder.entry.bytes decoder.entry.index error) }
 {
+    let bytes = all_bytes(&decoder);
     let mut name = Name::root(alloc);
-    let mut segment = decoder.index();
-    let mut reader = decoder;
+    let mut place = decoder.index();
     // The end of the name, once a pointer was followed.
     let mut end = None;
     loop {
-        match read_part(&mut reader)? {
-            Part::Closing => break,
-            Part::Label(label) => {
-                if name.encoded_len() + label.len() + 1 > Name::MAX_LENGTH {
-                    return Err(DecodeError::DomainNameTooLong);
-                }
-                name.push(label)?;
-            }
-            Part::Pointer(target) => {
-                if target >= segment {
+        let room = Name::MAX_LENGTH - name.encoded_len();
+        let (last, count) = run_end(bytes, place, room)?;
+        name.push_run(&bytes[place..last], count)?;
+        match read_target(bytes, last)? {
+            None => return Ok((name, end.unwrap_or(last + 1))),
+            Some(target) => {
+                if target >= place {
                     return Err(DecodeError::PointerNotPriorToLabel);
                 }
-                end = Some(end.unwrap_or(reader.index()));
-                segment = reader.follow_pointers(target);
-                reader = reader.clone(segment);
+                end = Some(end.unwrap_or(last + 2));
+                place = decoder.follow_pointers(target);
             }
         }
     }
-    Ok((name, end.unwrap_or(reader.index())))
 }
 
 /// A relative name is encoded like the fully qualified name with the same labels.

@@ -1,5 +1,5 @@
 -- Keys of questions, which tell the questions that have the same entry.
-use Rattle.std.specs.Prelude.{ℕ, Bool, List, ◌∷◌, length, if◌then◌else◌}
+use Rattle.std.specs.Prelude.{ℕ, ◌/◌, ◌%◌, Bool, List, ◌∷◌, length, if◌then◌else◌}
 use Rattle.std.specs.List.{flat_map}
 use Rattle.std.specs.Str.{str_to_ascii_lowercase}
 use Rattle.dns_codes.specs.RecordType.{type_number}
@@ -18,6 +18,9 @@ labels_key = flat_map label_key
 abbrev pub flag_key : Bool → ℕ
 flag_key is_fqdn = if is_fqdn then 1 else 0
 
--- the numbers of the type and the class of a question, the flag of its name, and the labels
+-- the two bytes of the type of a question, those of its class, the flag of its name, and the labels
 abbrev pub key_of : Query → List ℕ
-key_of q = type_number q.query_type ∷ class_number q.query_class ∷ flag_key q.name.is_fqdn ∷ labels_key q.name.labels
+key_of q =
+    type_number q.query_type / 256 ∷ type_number q.query_type % 256
+    ∷ class_number q.query_class / 256 ∷ class_number q.query_class % 256
+    ∷ flag_key q.name.is_fqdn ∷ labels_key q.name.labels

@@ -39,6 +39,9 @@ pub(super) fn age_answer(answer: &mut NoRecords, seconds: u64)
 fn age_section(section: &mut Sequence<Record>, seconds: u64)
     ensures { section.new ≡ map (after_seconds seconds) section.old }
 {
+    if section.is_empty() {
+        return;
+    }
     let mut records = section.take().into_vec();
     age_records(records.as_mut_slice(), seconds);
     drop(section.replace(records));

@@ -19,7 +19,7 @@ pub struct EntryTable {
     /// The entries, by stamp.
     entries: BTreeMap<u64, Entry>,
     /// The stamp of the entry for a question, by the question's key.
-    stamps: HashMap<Vec<u16>, u64>,
+    stamps: HashMap<Vec<u8>, u64>,
     /// The deadline of each entry, with its stamp.
     timeline: BTreeSet<(Moment, u64)>,
     /// The stamp of the next entry.
@@ -207,7 +207,7 @@ impl EntryTable {
 }
 
 /// Removes a key from the index of questions, if it leads to a stamp.
-fn remove_key(stamps: &mut HashMap<Vec<u16>, u64>, key: &[u16], stamp: u64)
+fn remove_key(stamps: &mut HashMap<Vec<u8>, u64>, key: &[u8], stamp: u64)
     ensures key { stamp_in stamps.new key.now ≢ Some stamp }
     ensures others { (other : List ℕ) (found : ℕ) → found ≢ stamp
         → stamp_in stamps.old other ≡ Some found → stamp_in stamps.new other ≡ Some found }

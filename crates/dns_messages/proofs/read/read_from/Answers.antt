@@ -1,6 +1,5 @@
-use Rattle.std.proofs.Common.{◌≡◌, ◌∙◌, ◌<◌, ℕ, List, [], length, Ok, sym, ap, subst}
+use Rattle.std.proofs.Common.{◌≡◌, ◌∙◌, ℕ, List, [], Ok, sym, ap, subst}
 use Rattle.std.proofs.lemmas.Result.{err_from_is_err_and}
-use Rattle.dns_wire.specs.Decoder.{Decoder}
 use Rattle.dns_wire.specs.declared.error.DecodeError.{DecodeError}
 use Rattle.dns_records.specs.Record.{Record}
 use Rattle.dns_messages.specs.declared.header.Header.{Header}
@@ -81,10 +80,10 @@ returns-in_err-authorities-clause-refused c =
     (section_read _ _ (section_kind h) end2 h.counts.answers an end3 (bytes2 at.In_ok-queries) c.in_ok-answers.ensures.read)
     (section_refused _ _ (section_kind h) end3 h.counts.authorities c.in_err-authorities.field-0.0 (bytes3 at.In_ok-answers) (c.in_err-authorities.ensures.refused other)))
 
-pub returns-in_err-last-clause-refused : goal.returns-in_err-last-clause-refused
-returns-in_err-last-clause-refused c =
-    let at = goal.at.returns-in_err-last-clause-refused c in
-    let p = err_from_is_err_and c.from_residual-in_err-last.result c.from_residual-in_err-last.ensures.1 in
+pub returns-in_err-read-clause-refused : goal.returns-in_err-read-clause-refused
+returns-in_err-read-clause-refused c =
+    let at = goal.at.returns-in_err-read-clause-refused c in
+    let p = err_from_is_err_and c.from_residual-in_err-read.result c.from_residual-in_err-read.ensures.1 in
     let h : Header = c.in_ok-header.header in
     let qs : List Query = c.in_ok-queries.queries in
     let an : List Record = c.in_ok-answers.answers in
@@ -95,7 +94,7 @@ returns-in_err-last-clause-refused c =
     rw (p.1, p.2) (λ other. bad_additionals h qs an au end2 end3 end4 (header_read at.In_ok-header) (queries_read at.In_ok-header qs end2 c.in_ok-queries.ensures.read)
     (section_read _ _ (section_kind h) end2 h.counts.answers an end3 (bytes2 at.In_ok-queries) c.in_ok-answers.ensures.read)
     (section_read _ _ (section_kind h) end3 h.counts.authorities au end4 (bytes3 at.In_ok-answers) c.in_ok-authorities.ensures.read)
-    (section_refused _ _ (additional_kind h) end4 h.counts.additionals c.in_err-last.field-0.0 (bytes4 at.In_ok-authorities) (c.in_err-last.ensures.refused other)))
+    (section_refused _ _ (additional_kind h) end4 h.counts.additionals c.in_err-read.field-0.0 (bytes4 at.In_ok-authorities) (c.in_err-read.ensures.refused other)))
 
 -- ---- a bare header
 
@@ -127,10 +126,10 @@ returns-in_err-authorities-clause-decided c = λ bare is.
     let never = c.in_err-authorities.ensures.decided (ap (λ (k : HeaderCounts). k.authorities) (no_entries at bare is)) in
     absurd (cc never)
 
-pub returns-in_err-last-clause-decided : goal.returns-in_err-last-clause-decided
-returns-in_err-last-clause-decided c = λ bare is.
-    let at = (goal.at.returns-in_err-last-clause-decided c).In_ok-header in
-    let never = c.in_err-last.ensures.decided (ap (λ (k : HeaderCounts). k.additionals) (no_entries at bare is)) in
+pub returns-in_err-read-clause-decided : goal.returns-in_err-read-clause-decided
+returns-in_err-read-clause-decided c = λ bare is.
+    let at = (goal.at.returns-in_err-read-clause-decided c).In_ok-header in
+    let never = (c.in_err-read.ensures.decided (ap (λ (k : HeaderCounts). k.additionals) (no_entries at bare is))).0 in
     absurd (cc never)
 
 pub returns-clause-decided : goal.returns-clause-decided
@@ -140,5 +139,5 @@ returns-clause-decided c = λ bare is.
     let queries : c.in_ok-queries.queries ≡ [] = cc (c.in_ok-queries.ensures.decided (ap (λ (k : HeaderCounts). k.queries) none)) in
     let answers : c.in_ok-answers.answers ≡ [] = cc (c.in_ok-answers.ensures.decided (ap (λ (k : HeaderCounts). k.answers) none)) in
     let authorities : c.in_ok-authorities.authorities ≡ [] = cc (c.in_ok-authorities.ensures.decided (ap (λ (k : HeaderCounts). k.authorities) none)) in
-    let last : c.in_ok-last.last ≡ empty_section = cc (c.in_ok-last.ensures.decided (ap (λ (k : HeaderCounts). k.additionals) none)) in
-    ap Ok (bare_message c.extended.result c.in_ok-queries.queries c.in_ok-answers.answers c.in_ok-authorities.authorities c.in_ok-last.last c.in_ok-header.header bare c.extended.ensures queries answers authorities last (header_same at bare is))
+    let last : c.read.new.self ≡ empty_section = (c.in_ok-read.ensures.decided (ap (λ (k : HeaderCounts). k.additionals) none)).1 ∙ c.new-last.ensures in
+    ap Ok (bare_message c.extended.result c.in_ok-queries.queries c.in_ok-answers.answers c.in_ok-authorities.authorities c.read.new.self c.in_ok-header.header bare c.extended.ensures queries answers authorities last (header_same at bare is))

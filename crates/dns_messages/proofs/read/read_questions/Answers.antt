@@ -25,7 +25,7 @@ loop-nth-preserved c =
     let old = c.args.decoder.now in
     let now = c.loop-nth.decoder in
     let new = c.read.new.decoder in
-    let pushed = c.in_ok-push.ensures.ok in
+    let pushed = c.in_ok-push_expected.ensures in
     let here : ReadsQuestion old.bytes now.index c.in_ok-query.query new.index = subst (λ (bs : List ℕ). ReadsQuestion bs now.index c.in_ok-query.query new.index) inv.same_bytes c.in_ok-query.ensures.read in
     record {
       so_far = subst (λ (xs : List Query). Follow (ReadsQuestion old.bytes) old.index xs new.index) (sym pushed) (follow_push (ReadsQuestion old.bytes) old.index c.loop-nth.queries c.in_ok-query.query now.index new.index inv.so_far here);
@@ -38,8 +38,8 @@ loop-nth-preserved c =
 pub returns-in_err-query-clause-decided : goal.returns-in_err-query-clause-decided
 returns-in_err-query-clause-decided c = λ none. absurd (omega (arith, c.loop-nth-test.true, none))
 
-pub returns-in_err-push-clause-decided : goal.returns-in_err-push-clause-decided
-returns-in_err-push-clause-decided c = λ none. absurd (omega (arith, c.loop-nth-test.true, none))
+pub returns-in_err-push_expected-clause-decided : goal.returns-in_err-push_expected-clause-decided
+returns-in_err-push_expected-clause-decided c = λ none. absurd (omega (arith, c.loop-nth-test.true, none))
 
 nothing : (xs : List Query) → length xs ≡ 0 → xs ≡ []
 nothing [] e = refl

@@ -6,6 +6,6 @@ use Rattle.dns_messages.proofs.read.read_questions.Given as goal
 abbrev pub invariant-loop-nth : goal.invariant-loop-nth
 invariant-loop-nth l = record {
   so_far : Follow (ReadsQuestion l.fn.decoder.bytes) l.fn.decoder.index l.queries l.decoder.index;
-  count_is : length l.queries ≡ l._nth;
+  count_is : length l.queries ≡ l.nth;
   same_bytes : l.decoder.bytes ≡ l.fn.decoder.bytes;
 }

@@ -1,77 +1,103 @@
-use Rattle.std.proofs.Common.{◌≡◌, ℕ, List, ◌+◌, ◌≤◌, true, false, [], ◌∷◌, ◌++◌, length, Ok, Err, refl, ap, sym, ◌∙◌, arith}
-use Rattle.std.specs.Prelude.{unwrap_or}
+use Rattle.std.proofs.Common.{◌≡◌, ℕ, List, ◌+◌, ◌-◌, ◌≤◌, true, false, [], ◌++◌, length, Option, Ok, Err, ap, sym, subst, ◌∙◌, arith}
 use Rattle.std.proofs.lemmas.Result.{err_from_is_err_and}
-use Rattle.dns_wire.specs.Decoder.{Decoder}
 use Rattle.dns_wire.specs.declared.error.DecodeError.{DecodeError}
 use Rattle.dns_wire.proofs.ReadingLaws.{reads_not_refused}
-use Rattle.dns_wire.specs.Element.{Closing, Label, Pointer, element_at}
+use Rattle.dns_wire.specs.Element.{element_at}
 use Rattle.dns_wire.specs.Name.{name_len}
-use Rattle.dns_names.specs.Name.{DomainName}
-use Rattle.dns_names.specs.internal.Wire.{element_of, part_len}
-use Rattle.dns_names.specs.declared.name.wire.Part.{Part}
-use Rattle.dns_names.proofs.Underway.{starts, on_closing, on_label, on_pointer, on_pointers, on_fault, on_long_name, on_forward_pointer, name_len-push, unwrap_or-within}
-use Rattle.dns_names.proofs.Leading.{leads_start, leads_label, leads_pointer, leads_pointers, inline_next, fault_is, no_fault}
+use Rattle.dns_names.specs.Name.{DomainName, IsInline}
+use Rattle.dns_names.specs.internal.Wire.{RunIs, RunFails, element_of, element_len}
+use Rattle.dns_names.proofs.Underway.{Underway, starts, on_closing, on_pointer, on_pointers, on_fault, on_forward_pointer, unwrap_or-within}
+use Rattle.dns_names.proofs.Leading.{Leads, leads_start, leads_pointer, leads_pointers, fault_is}
+use Rattle.dns_names.proofs.RunLaws.{run-end, run-within, refuses_run, inline_run, first_fault, fits_after, underway_after, leads_after, run_labels, run_of, at_first}
 use Rattle.dns_names.proofs.name.wire.read_at.Goals as goal
-use Rattle.dns_names.proofs.name.wire.read_at.Goals.{In-Label, In-Pointer, In_ok-push-in-Label}
+use Rattle.dns_names.proofs.name.wire.read_at.Goals.{In_err-last, In_ok-last, In_ok-push_run, In_err-read_target, In_ok-read_target}
 
--- ---- what stands at the reader's place
+-- ---- what the run is, in the decoder's bytes
 
-label_here : (c : In-Label) → element_at c.args.decoder.bytes c.loop-name.reader.index ≡ Ok (Label c.in-Label.label.now)
-label_here c = ap (λ (bytes : List ℕ). element_at bytes c.loop-name.reader.index) (sym c.loop-name.invariant.same_bytes) ∙ c.in_ok-read_part.ensures.shows ∙ ap (λ (p : Part). Ok (element_of p)) c.in-Label.is
+the_run : {buffer bytes : List ℕ} {place len n last count : ℕ} → len ≡ n → buffer ≡ bytes → RunIs buffer place (255 - len) last count → RunIs bytes place (255 - n) last count
+the_run {buffer} {bytes} {place} {len} {n} {last} {count} same bytes_same r =
+    subst (λ (m : ℕ). RunIs bytes place (255 - m) last count) same (subst (λ (bs : List ℕ). RunIs bs place (255 - len) last count) bytes_same r)
 
-pointer_here : (c : In-Pointer) → element_at c.args.decoder.bytes c.loop-name.reader.index ≡ Ok (Pointer c.in-Pointer.target)
-pointer_here c = ap (λ (bytes : List ℕ). element_at bytes c.loop-name.reader.index) (sym c.loop-name.invariant.same_bytes) ∙ c.in_ok-read_part.ensures.shows ∙ ap (λ (p : Part). Ok (element_of p)) c.in-Pointer.is
+fails : (c : In_err-last) → RunFails c.args.decoder.bytes c.loop-name.place (255 - name_len c.loop-name.name.labels) c.in_err-last.field-0.0
+fails c =
+    subst (λ (n : ℕ). RunFails c.args.decoder.bytes c.loop-name.place (255 - n) c.in_err-last.field-0.0) c.encoded_len-room.ensures.value
+    (subst (λ (bytes : List ℕ). RunFails bytes c.loop-name.place (255 - c.encoded_len-room.result) c.in_err-last.field-0.0) c.all_bytes-bytes.ensures c.in_err-last.ensures.refused)
+
+run : (c : In_ok-last) → RunIs c.args.decoder.bytes c.loop-name.place (255 - name_len c.loop-name.name.labels) c.in_ok-last.last c.in_ok-last.count
+run c = the_run c.encoded_len-room.ensures.value c.all_bytes-bytes.ensures c.in_ok-last.ensures.ok
+
+run_pushed : (c : In_ok-push_run) → RunIs c.args.decoder.bytes c.loop-name.place (255 - name_len c.loop-name.name.labels) c.in_ok-last.last c.in_ok-last.count
+run_pushed c = the_run c.encoded_len-room.ensures.value c.all_bytes-bytes.ensures c.in_ok-last.ensures.ok
+
+run_ended : (c : In_ok-read_target) → RunIs c.args.decoder.bytes c.loop-name.place (255 - name_len c.loop-name.name.labels) c.in_ok-last.last c.in_ok-last.count
+run_ended c = the_run c.encoded_len-room.ensures.value c.all_bytes-bytes.ensures c.in_ok-last.ensures.ok
+
+labels_are : (c : In_ok-push_run) → c.push_run.new.self.labels ≡ c.loop-name.name.labels ++ (run_pushed c).labels
+labels_are c =
+    ap (λ (n : DomainName). n.labels) c.in_ok-push_run.ensures.ok
+    ∙ ap (λ (ls : List (List ℕ)). c.loop-name.name.labels ++ ls) (run_labels c.loop-name.invariant.underway (run_pushed c) c.all_bytes-bytes.result.now c.all_bytes-bytes.ensures)
+
+underway : (c : In_ok-push_run) → Underway c.args.decoder.bytes c.args.decoder.index c.in_ok-last.last c.loop-name.place c.push_run.new.self.labels c.loop-name.end
+underway c = rw (labels_are c) (underway_after c.loop-name.invariant.underway (run_pushed c))
+
+leads : (c : In_ok-push_run) → Leads c.args.decoder.bytes c.args.decoder.index c.in_ok-last.last c.loop-name.place c.push_run.new.self.labels
+leads c = rw (labels_are c) (leads_after c.loop-name.invariant.underway (run_pushed c) c.loop-name.invariant.leads)
+
+-- ---- what ends it
+
+fault_here : (c : In_err-read_target) → element_at c.args.decoder.bytes c.in_ok-last.last ≡ Err c.in_err-read_target.field-0.0
+fault_here c = ap (λ (bytes : List ℕ). element_at bytes c.in_ok-last.last) (sym c.all_bytes-bytes.ensures) ∙ c.in_err-read_target.ensures.shows
+
+element_here : (c : In_ok-read_target) → element_at c.args.decoder.bytes c.in_ok-last.last ≡ Ok (element_of c.in_ok-read_target.field-0)
+element_here c = ap (λ (bytes : List ℕ). element_at bytes c.in_ok-last.last) (sym c.all_bytes-bytes.ensures) ∙ c.in_ok-read_target.ensures.shows
+
+-- where an element is read, the first one has no fault
+not_first : (c : In_ok-read_target) (error : DecodeError) → element_at c.args.decoder.bytes c.args.decoder.index ≡ Err error → ⊥
+not_first c error e =
+    let first = at_first c.loop-name.invariant.underway (run_ended c) (c.loop-name.invariant.first error e) e in
+    let clash : Err error ≡ Ok (element_of c.in_ok-read_target.field-0) = sym e ∙ ap (element_at c.args.decoder.bytes) (sym first.0) ∙ element_here c in
+    cc
 
 -- ---- refusals
 
-pub returns-in_err-read_part-clause-refused : goal.returns-in_err-read_part-clause-refused
-returns-in_err-read_part-clause-refused c =
+pub returns-in_err-last-clause-refused : goal.returns-in_err-last-clause-refused
+returns-in_err-last-clause-refused c =
     let p = err_from_is_err_and c.from_residual.result c.from_residual.ensures.1 in
-    let here = ap (λ (bytes : List ℕ). element_at bytes c.loop-name.reader.index) (sym c.loop-name.invariant.same_bytes) ∙ c.in_err-read_part.ensures.shows in
-    rw (p.1, p.2) (λ _. on_fault c.loop-name.invariant.underway _ here)
+    rw (p.1, p.2) (λ _. refuses_run c.loop-name.invariant.underway (fails (goal.at.returns-in_err-last-clause-refused c).In_err-last))
 
-pub returns-then-encoded_len-label-gt-MAX_LENGTH-clause-refused :
-    goal.returns-then-encoded_len-label-gt-MAX_LENGTH-clause-refused
-returns-then-encoded_len-label-gt-MAX_LENGTH-clause-refused c =
-    let at = (goal.at.returns-then-encoded_len-label-gt-MAX_LENGTH-clause-refused c).In-Label in
-    let len = c.encoded_len.ensures.value in
-    let over = c.if-encoded_len-label-gt-MAX_LENGTH.true in
-    λ _. on_long_name c.loop-name.invariant.underway c.in-Label.label.now (label_here at) (omega arith)
+pub returns-in_err-read_target-clause-refused : goal.returns-in_err-read_target-clause-refused
+returns-in_err-read_target-clause-refused c =
+    let at = goal.at.returns-in_err-read_target-clause-refused c in
+    let p = err_from_is_err_and c.from_residual-in_err-read_target.result c.from_residual-in_err-read_target.ensures.1 in
+    rw (p.1, p.2) (λ _. on_fault (underway at.In_ok-push_run) _ (fault_here at.In_err-read_target))
 
-pub returns-then-target-segment-clause-refused : goal.returns-then-target-segment-clause-refused
-returns-then-target-segment-clause-refused c =
-    let at = (goal.at.returns-then-target-segment-clause-refused c).In-Pointer in
-    λ _. on_forward_pointer c.loop-name.invariant.underway c.in-Pointer.target (pointer_here at) c.if-target-segment.true
+pub returns-then-target-place-clause-refused : goal.returns-then-target-place-clause-refused
+returns-then-target-place-clause-refused c =
+    let at = goal.at.returns-then-target-place-clause-refused c in
+    let here = element_here at.In_ok-read_target ∙ ap (λ (t : Option ℕ). Ok (element_of t)) c.in-Some.is in
+    λ _. on_forward_pointer (underway at.In_ok-push_run) c.in-Some.target here c.if-target-place.true
 
--- ---- past a label
+-- ---- the run is appended
 
-labels_are : (c : In_ok-push-in-Label) → c.push.new.self.labels ≡ c.loop-name.name.labels ++ c.in-Label.label.now ∷ []
-labels_are c = ap (λ (n : DomainName). n.labels) c.in_ok-push-in-Label.ensures.ok
+pub push_run-requires-clause-run : goal.push_run-requires-clause-run
+push_run-requires-clause-run c =
+    let at = (goal.at.push_run-requires-clause-run c).In_ok-last in
+    run_of c.loop-name.invariant.underway (run at) c.all_bytes-bytes.result.now c.all_bytes-bytes.ensures
 
-pub loop-name-smaller-in-Continue-branch-3 : goal.loop-name-smaller-in-Continue-branch-3
-loop-name-smaller-in-Continue-branch-3 c =
-    let at = (goal.at.loop-name-smaller-in-Continue-branch-3 c).In_ok-push-in-Label in
-    let len = c.encoded_len.ensures.value in
-    let room = c.if-encoded_len-label-gt-MAX_LENGTH.false in
-    omega (arith, ap name_len (labels_are at), name_len-push c.loop-name.name.labels c.in-Label.label.now)
+pub push_run-requires-clause-fits : goal.push_run-requires-clause-fits
+push_run-requires-clause-fits c =
+    let at = (goal.at.push_run-requires-clause-fits c).In_ok-last in
+    rw (run_labels c.loop-name.invariant.underway (run at) c.all_bytes-bytes.result.now c.all_bytes-bytes.ensures) (fits_after c.loop-name.invariant.underway (run at))
 
-pub loop-name-preserved-in-Continue-branch-3 : goal.loop-name-preserved-in-Continue-branch-3
-loop-name-preserved-in-Continue-branch-3 c =
-    let at = goal.at.loop-name-preserved-in-Continue-branch-3 c in
-    let inv = c.loop-name.invariant in
-    let len = c.encoded_len.ensures.value in
-    let room = c.if-encoded_len-label-gt-MAX_LENGTH.false in
-    let moved = c.in_ok-read_part.ensures.moved in
-    let index_is = ap (λ (d : Decoder). d.index) moved ∙ ap (λ (p : Part). c.loop-name.reader.index + part_len p) c.in-Label.is in
-    record {
-      underway = rw (index_is, labels_are at.In_ok-push-in-Label) (on_label inv.underway c.in-Label.label.now (label_here at.In-Label) (omega arith));
-      leads = rw (index_is, labels_are at.In_ok-push-in-Label) (leads_label inv.leads c.in-Label.label.now (label_here at.In-Label));
-      first = λ error e. absurd (no_fault c.args.decoder.bytes c.loop-name.reader.index c.args.decoder.index (Label c.in-Label.label.now) error (label_here at.In-Label) (inv.first error e) e);
-      same_bytes = ap (λ (d : Decoder). d.bytes) moved ∙ inv.same_bytes;
-      within = inv.within;
-      end_within = inv.end_within;
-      is_fqdn = ap (λ (n : DomainName). n.is_fqdn) c.in_ok-push-in-Label.ensures.ok ∙ inv.is_fqdn;
-    }
+pub slice_bounds-push_run-count : goal.slice_bounds-push_run-count
+slice_bounds-push_run-count c = omega (arith, run-end (run (goal.at.slice_bounds-push_run-count c).In_ok-last).run)
+
+pub slice_bounds-push_run-start : goal.slice_bounds-push_run-start
+slice_bounds-push_run-start c = omega (arith, run-end (run (goal.at.slice_bounds-push_run-start c).In_ok-last).run)
+
+pub slice_bounds-push_run-end : goal.slice_bounds-push_run-end
+slice_bounds-push_run-end c =
+    omega (arith, run-within (run (goal.at.slice_bounds-push_run-end c).In_ok-last).run c.loop-name.invariant.within, ap (λ (xs : List ℕ). length xs) c.all_bytes-bytes.ensures)
 
 -- ---- past a pointer
 
@@ -79,86 +105,84 @@ pub loop-name-preserved : goal.loop-name-preserved
 loop-name-preserved c =
     let at = goal.at.loop-name-preserved c in
     let inv = c.loop-name.invariant in
-    let moved = c.in_ok-read_part.ensures.moved in
-    let index_is = c.index.ensures.value ∙ ap (λ (d : Decoder). d.index) moved ∙ ap (λ (p : Part). c.loop-name.reader.index + part_len p) c.in-Pointer.is in
-    let bytes_are = ap (λ (d : Decoder). d.bytes) moved ∙ inv.same_bytes in
-    let end_is = c.unwrap_or.ensures ∙ ap (λ (n : ℕ). unwrap_or c.loop-name.end n) index_is in
-    let within : c.index.result ≤ length c.args.decoder.bytes = rw bytes_are at c.index.ensures.within in
-    let follows = rw bytes_are at c.follow_pointers-segment.ensures.follows in
+    let here = element_here at.In_ok-read_target ∙ ap (λ (t : Option ℕ). Ok (element_of t)) c.in-Some.is in
+    let follows = c.follow_pointers-place.ensures.follows in
+    let len : element_len c.in_ok-read_target.field-0 ≡ 2 = ap element_len c.in-Some.is in
+    let within : c.in_ok-last.last + 2 ≤ length c.args.decoder.bytes = omega (arith, c.in_ok-read_target.ensures.within, len, ap (λ (xs : List ℕ). length xs) c.all_bytes-bytes.ensures) in
     record {
-      underway = rw (ap (λ (d : Decoder). d.index) c.clone-reader.ensures, end_is) (on_pointers follows (on_pointer inv.underway c.in-Pointer.target (pointer_here at.In-Pointer) (omega arith)));
-      leads = rw (ap (λ (d : Decoder). d.index) c.clone-reader.ensures) (leads_pointers follows (leads_pointer inv.leads c.in-Pointer.target (pointer_here at.In-Pointer)));
-      first = λ error e. absurd (no_fault c.args.decoder.bytes c.loop-name.reader.index c.args.decoder.index (Pointer c.in-Pointer.target) error (pointer_here at.In-Pointer) (inv.first error e) e);
-      same_bytes = ap (λ (d : Decoder). d.bytes) c.clone-reader.ensures ∙ bytes_are;
-      within = omega (arith, inv.within);
-      end_within = rw c.unwrap_or.ensures (unwrap_or-within c.loop-name.end c.index.result _ inv.end_within within);
-      is_fqdn = inv.is_fqdn;
+      underway = rw c.unwrap_or-in-Some.ensures (on_pointers follows (on_pointer (underway at.In_ok-push_run) c.in-Some.target here (omega (arith, c.if-target-place.false))));
+      leads = leads_pointers follows (leads_pointer (leads at.In_ok-push_run) c.in-Some.target here);
+      first = λ error e. absurd (not_first at.In_ok-read_target error e);
+      within = omega (arith, inv.within, c.follow_pointers-place.ensures.within, c.if-target-place.false);
+      end_within = rw c.unwrap_or-in-Some.ensures (unwrap_or-within c.loop-name.end (c.in_ok-last.last + 2) (length c.args.decoder.bytes) inv.end_within within);
+      is_fqdn = ap (λ (n : DomainName). n.is_fqdn) c.in_ok-push_run.ensures.ok ∙ inv.is_fqdn;
     }
 
 -- ---- at the end
 
-pub returns-clause-read : goal.returns-clause-read
-returns-clause-read c =
-    let inv = c.loop-name.invariant in
-    let moved = c.in_ok-read_part.ensures.moved in
-    let index_is = c.index-2.ensures.value ∙ ap (λ (d : Decoder). d.index) moved ∙ ap (λ (p : Part). c.loop-name.reader.index + part_len p) c.in-Closing.is in
-    let closing = ap (λ (bytes : List ℕ). element_at bytes c.loop-name.reader.index) (sym inv.same_bytes) ∙ c.in_ok-read_part.ensures.shows ∙ ap (λ (p : Part). Ok (element_of p)) c.in-Closing.is in
-    rw (c.unwrap_or-2.ensures ∙ ap (λ (n : ℕ). unwrap_or c.loop-name.end n) index_is) (on_closing inv.underway closing)
+pub returns-in-None-clause-read : goal.returns-in-None-clause-read
+returns-in-None-clause-read c =
+    let at = goal.at.returns-in-None-clause-read c in
+    let here = element_here at.In_ok-read_target ∙ ap (λ (t : Option ℕ). Ok (element_of t)) c.in-None.is in
+    rw c.unwrap_or.ensures (on_closing (underway at.In_ok-push_run) here)
 
-pub returns-clause-fault : goal.returns-clause-fault
-returns-clause-fault c =
-    let inv = c.loop-name.invariant in
-    let closing = ap (λ (bytes : List ℕ). element_at bytes c.loop-name.reader.index) (sym inv.same_bytes) ∙ c.in_ok-read_part.ensures.shows ∙ ap (λ (p : Part). Ok (element_of p)) c.in-Closing.is in
-    λ error e. absurd (no_fault c.args.decoder.bytes c.loop-name.reader.index c.args.decoder.index Closing error closing (inv.first error e) e)
+pub returns-in-None-clause-fault : goal.returns-in-None-clause-fault
+returns-in-None-clause-fault c = λ error e. absurd (not_first (goal.at.returns-in-None-clause-fault c).In_ok-read_target error e)
 
 -- ---- a name that is stored inline
 
-pub returns-in_err-read_part-clause-inline : goal.returns-in_err-read_part-clause-inline
-returns-in_err-read_part-clause-inline c =
-    let here = ap (λ (bytes : List ℕ). element_at bytes c.loop-name.reader.index) (sym c.loop-name.invariant.same_bytes) ∙ c.in_err-read_part.ensures.shows in
-    λ labels end r is. absurd (reads_not_refused r (on_fault c.loop-name.invariant.underway _ here))
+pub returns-in_err-last-clause-inline : goal.returns-in_err-last-clause-inline
+returns-in_err-last-clause-inline c =
+    λ labels end r is. absurd (reads_not_refused r (refuses_run c.loop-name.invariant.underway (fails (goal.at.returns-in_err-last-clause-inline c).In_err-last)))
 
-pub returns-then-encoded_len-label-gt-MAX_LENGTH-clause-inline : goal.returns-then-encoded_len-label-gt-MAX_LENGTH-clause-inline
-returns-then-encoded_len-label-gt-MAX_LENGTH-clause-inline c =
-    let at = (goal.at.returns-then-encoded_len-label-gt-MAX_LENGTH-clause-inline c).In-Label in
-    let len = c.encoded_len.ensures.value in
-    let over = c.if-encoded_len-label-gt-MAX_LENGTH.true in
-    λ labels end r is. absurd (reads_not_refused r (on_long_name c.loop-name.invariant.underway c.in-Label.label.now (label_here at) (omega arith)))
-
-pub returns-then-target-segment-clause-inline : goal.returns-then-target-segment-clause-inline
-returns-then-target-segment-clause-inline c =
-    let at = (goal.at.returns-then-target-segment-clause-inline c).In-Pointer in
-    λ labels end r is. absurd (reads_not_refused r (on_forward_pointer c.loop-name.invariant.underway c.in-Pointer.target (pointer_here at) c.if-target-segment.true))
-
-pub returns-in_err-push-in-Label-clause-inline : goal.returns-in_err-push-in-Label-clause-inline
-returns-in_err-push-in-Label-clause-inline c =
-    let at = (goal.at.returns-in_err-push-in-Label-clause-inline c).In-Label in
+pub returns-in_err-push_run-clause-inline : goal.returns-in_err-push_run-clause-inline
+returns-in_err-push_run-clause-inline c =
+    let at = (goal.at.returns-in_err-push_run-clause-inline c).In_ok-last in
+    let same = run_labels c.loop-name.invariant.underway (run at) c.all_bytes-bytes.result.now c.all_bytes-bytes.ensures in
     λ labels end r is.
-    let clash : false ≡ true = c.in_err-push-in-Label.ensures.inline (inline_next c.loop-name.invariant.leads c.in-Label.label.now (label_here at) labels end r is) in
+    let inline : IsInline (c.loop-name.name.labels ++ (run at).labels) = inline_run (leads_after c.loop-name.invariant.underway (run at) c.loop-name.invariant.leads) labels end r is in
+    let clash : false ≡ true = c.in_err-push_run.ensures.inline (subst (λ (ls : List (List ℕ)). IsInline (c.loop-name.name.labels ++ ls)) (sym same) inline) in
     absurd (cc)
+
+pub returns-in_err-read_target-clause-inline : goal.returns-in_err-read_target-clause-inline
+returns-in_err-read_target-clause-inline c =
+    let at = goal.at.returns-in_err-read_target-clause-inline c in
+    λ labels end r is. absurd (reads_not_refused r (on_fault (underway at.In_ok-push_run) _ (fault_here at.In_err-read_target)))
+
+pub returns-then-target-place-clause-inline : goal.returns-then-target-place-clause-inline
+returns-then-target-place-clause-inline c =
+    let at = goal.at.returns-then-target-place-clause-inline c in
+    let here = element_here at.In_ok-read_target ∙ ap (λ (t : Option ℕ). Ok (element_of t)) c.in-Some.is in
+    λ labels end r is. absurd (reads_not_refused r (on_forward_pointer (underway at.In_ok-push_run) c.in-Some.target here c.if-target-place.true))
 
 -- ---- a fault of the first element
 
-pub returns-in_err-read_part-clause-fault : goal.returns-in_err-read_part-clause-fault
-returns-in_err-read_part-clause-fault c =
+pub returns-in_err-last-clause-fault : goal.returns-in_err-last-clause-fault
+returns-in_err-last-clause-fault c =
+    let at = (goal.at.returns-in_err-last-clause-fault c).In_err-last in
     let p = err_from_is_err_and c.from_residual.result c.from_residual.ensures.1 in
-    let here = ap (λ (bytes : List ℕ). element_at bytes c.loop-name.reader.index) (sym c.loop-name.invariant.same_bytes) ∙ c.in_err-read_part.ensures.shows in
-    rw (p.1, p.2) (λ error e. ap (λ (x : DecodeError). Err x) (fault_is (ap (element_at c.args.decoder.bytes) (sym (c.loop-name.invariant.first error e)) ∙ here) e))
+    rw (p.1, p.2) (λ error e. ap (λ (x : DecodeError). Err x) (first_fault (fails at) (ap (element_at c.args.decoder.bytes) (c.loop-name.invariant.first error e).0 ∙ e)))
 
-pub returns-then-encoded_len-label-gt-MAX_LENGTH-clause-fault : goal.returns-then-encoded_len-label-gt-MAX_LENGTH-clause-fault
-returns-then-encoded_len-label-gt-MAX_LENGTH-clause-fault c =
-    let at = (goal.at.returns-then-encoded_len-label-gt-MAX_LENGTH-clause-fault c).In-Label in
-    λ error e. absurd (no_fault c.args.decoder.bytes c.loop-name.reader.index c.args.decoder.index (Label c.in-Label.label.now) error (label_here at) (c.loop-name.invariant.first error e) e)
+pub returns-in_err-push_run-clause-fault : goal.returns-in_err-push_run-clause-fault
+returns-in_err-push_run-clause-fault c =
+    let at = (goal.at.returns-in_err-push_run-clause-fault c).In_ok-last in
+    let same = run_labels c.loop-name.invariant.underway (run at) c.all_bytes-bytes.result.now c.all_bytes-bytes.ensures in
+    λ error e.
+    let none = (at_first c.loop-name.invariant.underway (run at) (c.loop-name.invariant.first error e) e).1 in
+    let inline : IsInline (c.loop-name.name.labels ++ (run at).labels) = subst IsInline (sym none) (record { few = omega arith; short = omega arith }) in
+    let clash : false ≡ true = c.in_err-push_run.ensures.inline (subst (λ (ls : List (List ℕ)). IsInline (c.loop-name.name.labels ++ ls)) (sym same) inline) in
+    absurd (cc)
 
-pub returns-then-target-segment-clause-fault : goal.returns-then-target-segment-clause-fault
-returns-then-target-segment-clause-fault c =
-    let at = (goal.at.returns-then-target-segment-clause-fault c).In-Pointer in
-    λ error e. absurd (no_fault c.args.decoder.bytes c.loop-name.reader.index c.args.decoder.index (Pointer c.in-Pointer.target) error (pointer_here at) (c.loop-name.invariant.first error e) e)
+pub returns-in_err-read_target-clause-fault : goal.returns-in_err-read_target-clause-fault
+returns-in_err-read_target-clause-fault c =
+    let at = goal.at.returns-in_err-read_target-clause-fault c in
+    let p = err_from_is_err_and c.from_residual-in_err-read_target.result c.from_residual-in_err-read_target.ensures.1 in
+    rw (p.1, p.2) (λ error e.
+    let first = at_first c.loop-name.invariant.underway (run at.In_ok-last) (c.loop-name.invariant.first error e) e in
+    ap (λ (x : DecodeError). Err x) (fault_is (ap (element_at c.args.decoder.bytes) (sym first.0) ∙ fault_here at.In_err-read_target) e))
 
-pub returns-in_err-push-in-Label-clause-fault : goal.returns-in_err-push-in-Label-clause-fault
-returns-in_err-push-in-Label-clause-fault c =
-    let at = (goal.at.returns-in_err-push-in-Label-clause-fault c).In-Label in
-    λ error e. absurd (no_fault c.args.decoder.bytes c.loop-name.reader.index c.args.decoder.index (Label c.in-Label.label.now) error (label_here at) (c.loop-name.invariant.first error e) e)
+pub returns-then-target-place-clause-fault : goal.returns-then-target-place-clause-fault
+returns-then-target-place-clause-fault c = λ error e. absurd (not_first (goal.at.returns-then-target-place-clause-fault c).In_ok-read_target error e)
 
 -- ---- at the start
 
@@ -166,11 +190,10 @@ pub loop-name-init : goal.loop-name-init
 loop-name-init c =
     let labels : c.root-name.result.labels ≡ [] = ap (λ (n : DomainName). n.labels) c.root-name.ensures in
     record {
-      underway = rw (c.index-segment.ensures.value, labels) (starts c.args.decoder.bytes c.args.decoder.index);
-      leads = rw (c.index-segment.ensures.value, labels) (leads_start c.args.decoder.bytes c.args.decoder.index);
-      first = λ error e. refl;
-      same_bytes = refl;
-      within = c.index-segment.ensures.within;
+      underway = rw (c.index-place.ensures.value, labels) (starts c.args.decoder.bytes c.args.decoder.index);
+      leads = rw (c.index-place.ensures.value, labels) (leads_start c.args.decoder.bytes c.args.decoder.index);
+      first = λ error e. (c.index-place.ensures.value, labels);
+      within = c.index-place.ensures.within;
       end_within = tt;
       is_fqdn = ap (λ (n : DomainName). n.is_fqdn) c.root-name.ensures;
     }

@@ -1,6 +1,5 @@
-use Rattle.std.proofs.Common.{◌≡◌, ◌+◌, ◌-◌, ◌*◌, ◌≤◌, length, true, Err}
+use Rattle.std.proofs.Common.{◌≡◌, ◌≤◌, [], length, true, Err}
 use Rattle.std.specs.Prelude.{IfSome}
-use Rattle.dns_wire.specs.Name.{name_len}
 use Rattle.dns_wire.specs.Element.{element_at}
 use Rattle.dns_wire.specs.declared.error.DecodeError.{DecodeError}
 use Rattle.dns_names.proofs.Underway.{Underway}
@@ -9,15 +8,14 @@ use Rattle.dns_names.proofs.name.wire.read_at.Given as goal
 
 abbrev pub invariant-loop-name : goal.invariant-loop-name
 invariant-loop-name l = record {
-  underway : Underway l.fn.decoder.bytes l.fn.decoder.index l.reader.index l.segment l.name.labels l.end;
-  leads : Leads l.fn.decoder.bytes l.fn.decoder.index l.reader.index l.segment l.name.labels;
-  first : (error : DecodeError) → element_at l.fn.decoder.bytes l.fn.decoder.index ≡ Err error → l.reader.index ≡ l.fn.decoder.index;
-  same_bytes : l.reader.bytes ≡ l.fn.decoder.bytes;
-  within : l.segment ≤ length l.fn.decoder.bytes;
+  underway : Underway l.fn.decoder.bytes l.fn.decoder.index l.place l.place l.name.labels l.end;
+  leads : Leads l.fn.decoder.bytes l.fn.decoder.index l.place l.place l.name.labels;
+  first : (error : DecodeError) → element_at l.fn.decoder.bytes l.fn.decoder.index ≡ Err error → (l.place ≡ l.fn.decoder.index) × (l.name.labels ≡ []);
+  within : l.place ≤ length l.fn.decoder.bytes;
   end_within : IfSome l.end (λ e. e ≤ length l.fn.decoder.bytes);
   is_fqdn : l.name.is_fqdn ≡ true;
 }
 
--- a pointer leads to a lower segment, and a label leaves less room in the same
+-- a pointer leads to a lower place
 abbrev pub decreases-loop-name : goal.decreases-loop-name
-decreases-loop-name l = l.segment * 256 + (256 - name_len l.name.labels)
+decreases-loop-name l = l.place
