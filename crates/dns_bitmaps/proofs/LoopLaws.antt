@@ -1,11 +1,12 @@
 -- Octets, blocks and types, one after another.
-use Rattle.std.proofs.Common.{◌≡◌, ℕ, zero, suc, ◌+◌, ◌-◌, ◌*◌, ◌%◌, ◌<◌, ◌≤◌, min, Bool, true, false, ◌&&◌, List, [], ◌∷◌, ◌++◌, length, take, drop, get_or, Option, Some, None, refl, sym, ap, ◌∙◌, append_assoc, arith, length-drop}
+use Rattle.std.proofs.Common.{◌≡◌, ◌≢◌, ℕ, zero, suc, ◌+◌, ◌-◌, ◌*◌, ◌/◌, ◌%◌, ◌<◌, ◌≤◌, ◌||◌, set, min, Bool, true, false, ◌&&◌, List, [], ◌∷◌, ◌++◌, length, take, drop, get_or, Option, Some, None, refl, sym, ap, subst, ◌∙◌, append_assoc, arith, length-drop}
 use Rattle.std.specs.Prelude.{◌==◌, not, nat_le, nat_lt, if◌then◌else◌}
 use Rattle.std.proofs.Math.Seq.{drop-cons}
 use Rattle.std.proofs.lemmas.Bool.Decides.{nat_tests}
-use Rattle.std.proofs.lemmas.List.{append-nil}
+use Rattle.std.proofs.lemmas.List.{append-nil, get_or-set_other, drop_all, length-set}
+use Rattle.std.proofs.lemmas.Grind.{get_or-set_at}
 use Rattle.dns_bitmaps.specs.TypeWord.{word_of_type}
-use Rattle.dns_bitmaps.specs.Bitmap.{weights, has_type, weight_if, octet_of, octets_from, block, blocks, types_of_octet, types_of_octets, types_of, is_bitmap, has_block, block_len, spaced_types, bit_types, without}
+use Rattle.dns_bitmaps.specs.Bitmap.{AreTypes, weights, has_type, octets_needed, block_of, weight_if, octet_of, octets_from, block, blocks, types_of_octet, types_of_octets, types_of, is_bitmap, has_block, block_len, spaced_types, bit_types, without}
 
 pub at_place : (xs : List ℕ) (i : ℕ) → i < length xs → drop i xs ≡ get_or xs i 0 ∷ drop (i + 1) xs
 at_place xs i within = let one : suc i ≡ i + 1 = omega arith in drop-cons xs i 0 within ∙ ap (λ (n : ℕ). get_or xs i 0 ∷ drop n xs) one
@@ -19,7 +20,7 @@ bit_further ws types i octet number whole here e =
     ap (λ (l : List ℕ). octet_of l types number) (at_place ws i here) in
     omega arith
 
-abbrev total : List ℕ → ℕ
+abbrev pub total : List ℕ → ℕ
 total [] = 0
 total (w ∷ ws) = w + total ws
 
@@ -241,3 +242,110 @@ take_whole (suc n) (x ∷ xs) le = ap (λ (l : List ℕ). x ∷ l) (take_whole n
 -- the slice that is handed down
 pub slice_is : (xs : List ℕ) (n : ℕ) → take (length xs - n) (drop n xs) ≡ drop n xs
 slice_is xs n = take_whole (length xs - n) (drop n xs) (omega (arith, length-drop n xs))
+
+-- ---- tables of types
+
+-- the weights that are left fit, once one more is taken
+pub total_further : (ws : List ℕ) (i octet : ℕ) → i < length ws → octet + total (drop i ws) ≤ 255 → octet + get_or ws i 0 + total (drop (i + 1) ws) ≤ 255
+total_further ws i octet here e =
+    let at : total (drop i ws) ≡ get_or ws i 0 + total (drop (i + 1) ws) = ap total (at_place ws i here) in
+    omega arith
+
+-- a bit is at most its weight
+pub bit_small : (b : Bool) (weight bit : ℕ) → bit ≡ (if b then weight else 0) → bit ≤ weight
+bit_small true weight bit e = omega (arith, e)
+bit_small false weight bit e = omega (arith, e)
+
+-- the bit of a place in a table is that of its type
+pub bit_noted : (ws types : List ℕ) (present : List Bool) (base place i octet bit whole : ℕ) → i < length ws → place < 256 → AreTypes present types base
+    → bit ≡ (if get_or present place false then get_or ws i 0 else 0) → octet + octet_of (drop i ws) types (base + place) ≡ whole
+    → octet + bit + octet_of (drop (i + 1) ws) types (base + (place + 1)) ≡ whole
+bit_noted ws types present base place i octet bit whole here small are is e =
+    let next : base + (place + 1) ≡ base + place + 1 = omega arith in
+    ap (λ (n : ℕ). octet + n + octet_of (drop (i + 1) ws) types (base + (place + 1)))
+    (is ∙ ap (λ (b : Bool). if b then get_or ws i 0 else 0) (are place small))
+    ∙ ap (λ (n : ℕ). octet + weight_if types (base + place) (get_or ws i 0) + octet_of (drop (i + 1) ws) types n) next
+    ∙ bit_further ws types i octet (base + place) whole here e
+
+or_true : (b : Bool) → (b || true) ≡ true
+or_true true = refl
+or_true false = refl
+
+-- the types up to here are in a table
+abbrev pub Noted : List Bool → List ℕ → ℕ → ℕ → Type 0
+Noted present types i window =
+    (place : ℕ) → place < 256 → (get_or present place false || has_type (drop i types) (256 * window + place)) ≡ has_type types (256 * window + place)
+
+module _ (types : List ℕ) (present : List Bool) (i window : ℕ) (here : i < length types) (so_far : Noted present types i window) where
+  first_is : (number : ℕ) → has_type (drop i types) number ≡ (get_or types i 0 == number || has_type (drop (i + 1) types) number)
+  first_is number = ap (λ (l : List ℕ). has_type l number) (at_place types i here)
+
+  -- one that is of no window's place is passed
+  passed : (place : ℕ) → place < 256 → (get_or types i 0 == 256 * window + place) ≡ false
+      → (get_or present place false || has_type (drop (i + 1) types) (256 * window + place)) ≡ has_type types (256 * window + place)
+  passed place small other =
+      sym (ap (λ (b : Bool). get_or present place false || (b || has_type (drop (i + 1) types) (256 * window + place))) other)
+      ∙ sym (ap (λ (b : Bool). get_or present place false || b) (first_is (256 * window + place)))
+      ∙ so_far place small
+
+  -- what is noted of one
+  abbrev pub noting : Bool → List Bool
+  noting inside = if inside then set present (get_or types i 0 % 256) true else present
+
+  type_passed : (get_or types i 0 / 256 == window) ≡ false → Noted present types (i + 1) window
+  type_passed outside place small = passed place small (grind (arith, nat_tests))
+
+  type_put : length present ≡ 256 → (get_or types i 0 / 256 == window) ≡ true → Noted (noting true) types (i + 1) window
+  type_put len inside place small = by (get_or types i 0 == 256 * window + place) refl
+    where
+      by : (b : Bool) → (get_or types i 0 == 256 * window + place) ≡ b
+          → (get_or (noting true) place false || has_type (drop (i + 1) types) (256 * window + place)) ≡ has_type types (256 * window + place)
+      by true e =
+          let same : place ≡ get_or types i 0 % 256 = grind (arith, nat_tests) in
+          let put : get_or (noting true) place false ≡ true =
+          get_or-set_at present (get_or types i 0 % 256) place true false same (omega (arith, len)) in
+          let there : has_type types (256 * window + place) ≡ true =
+          sym (so_far place small) ∙ ap (λ (b : Bool). get_or present place false || b) (first_is (256 * window + place) ∙ ap (λ (b : Bool). b || has_type (drop (i + 1) types) (256 * window + place)) e)
+          ∙ or_true (get_or present place false) in
+          ap (λ (b : Bool). b || has_type (drop (i + 1) types) (256 * window + place)) put ∙ sym there
+      by false e =
+          let other : place ≢ get_or types i 0 % 256 = λ same. absurd (grind (arith, nat_tests)) in
+          let kept : get_or (noting true) place false ≡ get_or present place false =
+          get_or-set_other present (get_or types i 0 % 256) place true false other in
+          ap (λ (b : Bool). b || has_type (drop (i + 1) types) (256 * window + place)) kept ∙ passed place small e
+
+  -- one more type is noted
+  pub type_noted : (after : List Bool) → length present ≡ 256 → after ≡ noting (get_or types i 0 / 256 == window)
+      → Noted after types (i + 1) window
+  type_noted after len is = subst (λ (l : List Bool). Noted l types (i + 1) window) (sym is) (by (get_or types i 0 / 256 == window) refl)
+    where
+      by : (b : Bool) → (get_or types i 0 / 256 == window) ≡ b → Noted (noting b) types (i + 1) window
+      by true e = type_put len e
+      by false e = type_passed e
+
+-- a table keeps its length
+pub noting_len : (inside : Bool) (present : List Bool) (place : ℕ) (after : List Bool)
+    → after ≡ (if inside then set present place true else present) → length after ≡ length present
+noting_len true present place after is = ap (λ (l : List Bool). length l) is ∙ length-set present place true
+noting_len false present place after is = ap (λ (l : List Bool). length l) is
+
+-- a table with no type left is whole
+pub all_noted : (present : List Bool) (types : List ℕ) (i window : ℕ) → length types ≤ i → Noted present types i window → AreTypes present types (256 * window)
+all_noted present types i window past noted place small =
+    sym (or_false (get_or present place false)) ∙ sym none ∙ noted place small
+  where
+    or_false : (b : Bool) → (b || false) ≡ b
+    or_false true = refl
+    or_false false = refl
+
+    none : (get_or present place false || has_type (drop i types) (256 * window + place)) ≡ (get_or present place false || false)
+    none = ap (λ (l : List ℕ). get_or present place false || has_type l (256 * window + place)) (drop_all i types past)
+
+-- the block of a window that needs octets
+pub block_is : (types : List ℕ) (window needed : ℕ) (out now : List ℕ) → needed ≡ octets_needed 0 types window → needed ≢ 0
+    → now ≡ ((out ++ window ∷ []) ++ needed ∷ []) ++ octets_from types (256 * window) needed → now ≡ out ++ block types window
+block_is types window zero out now is some e = absurd (some refl)
+block_is types window (suc n) out now is some e =
+    e ∙ append_assoc (out ++ window ∷ []) (suc n ∷ []) (octets_from types (256 * window) (suc n))
+    ∙ append_assoc out (window ∷ []) (suc n ∷ octets_from types (256 * window) (suc n))
+    ∙ ap (λ (k : ℕ). out ++ block_of types window k) is

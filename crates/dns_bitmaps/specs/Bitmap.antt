@@ -1,5 +1,5 @@
 -- Sets of record types as bitmaps (RFC 4034 section 4.1.2).
-use Rattle.std.specs.Prelude.{ℕ, zero, suc, ◌+◌, ◌-◌, ◌*◌, ◌/◌, ◌%◌, max, ◌==◌, ◌&&◌, ◌||◌, not, nat_le, nat_lt, if◌then◌else◌, Bool, true, false, List, [], ◌∷◌, ◌++◌, length, get_or, flat_map, Option, Some, None}
+use Rattle.std.specs.Prelude.{◌≡◌, ◌<◌, ℕ, zero, suc, ◌+◌, ◌-◌, ◌*◌, ◌/◌, ◌%◌, max, ◌==◌, ◌&&◌, ◌||◌, not, nat_le, nat_lt, if◌then◌else◌, Bool, true, false, List, [], ◌∷◌, ◌++◌, length, get_or, flat_map, Option, Some, None}
 use Rattle.dns_bitmaps.specs.TypeWord.{word_of_type}
 
 -- the weights of the bits of an octet: the first bit is the most significant (RFC 1035 section 2.3.2)
@@ -12,6 +12,10 @@ weights = 128 ∷ 64 ∷ 32 ∷ 16 ∷ 8 ∷ 4 ∷ 2 ∷ 1 ∷ []
 abbrev pub has_type : List ℕ → ℕ → Bool
 has_type [] number = false
 has_type (other ∷ types) number = other == number || has_type types number
+
+-- the table says which of the 256 types from a number on are among others
+abbrev pub AreTypes : List Bool → List ℕ → ℕ → Type 0
+AreTypes present types base = (place : ℕ) → place < 256 → get_or present place false ≡ has_type types (base + place)
 
 -- the weight of a bit, if its type is among others
 abbrev pub weight_if : List ℕ → ℕ → ℕ → ℕ

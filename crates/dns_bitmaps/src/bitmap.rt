@@ -1,7 +1,7 @@
 //! The bitmap of a set of record types (RFC 4034 section 4.1.2).
 
-ghost use Rattle.std.specs.Prelude.{◌≡◌, ◌++◌, ◌<◌, ◌≤◌, ◌+◌, OnOk, IfSome, length, get_or};
-ghost use Rattle.dns_bitmaps.specs.Bitmap.{has_type, weight_if, octet_of, weights, octets_needed, octets_from, block, blocks, bitmap_of, block_len, is_bitmap};
+ghost use Rattle.std.specs.Prelude.{◌≡◌, ◌==◌, ◌++◌, ◌<◌, ◌≤◌, ◌+◌, ◌*◌, ◌/◌, ◌%◌, ℕ, List, true, false, if◌then◌else◌, OnOk, IfSome, length, get_or, set};
+ghost use Rattle.dns_bitmaps.specs.Bitmap.{AreTypes, octet_of, weights, octets_needed, octets_from, block, blocks, bitmap_of, block_len, is_bitmap};
 
 use std::alloc::AllocError;
 
@@ -29,7 +29,8 @@ fn push_block(types: &[u16], window: u16, out: &mut Vec<u8>) -> Result<(), Alloc
     }
     out.push(window as u8)?;
     out.push(needed as u8)?;
-    push_octets(types, 256 * window, needed, out)
+    push_octets(&types_in(types, window), needed, out)?;
+    Ok(())
 }
 
 /// Returns how many octets the greatest type of a window needs.
@@ -46,49 +47,60 @@ fn octets_needed(types: &[u16], window: u16) -> u16
     needed
 }
 
-/// Appends the octets of a bitmap whose first bit is the type with number `base`.
-fn push_octets(types: &[u16], base: u16, count: u16, out: &mut Vec<u8>) -> Result<(), AllocError>
-    requires few { count ≤ 32 }
-    requires low { base + 256 ≤ 65536 }
-    ensures { OnOk result (out.new.items ≡ out.old.items ++ octets_from types.now base count) }
+/// Returns which of the 256 types of a window are among others, so that a bit is found without a search.
+fn types_in(types: &[u16], window: u16) -> [bool; 256]
+    ensures { AreTypes result types.now (256 * window) }
+{
+    let mut present = [false; 256];
+    for number in types {
+        note_type(&mut present, window, *number);
+    }
+    present
+}
+
+/// Notes a type, if it is in a window.
+fn note_type(present: &mut [bool; 256], window: u16, number: u16)
+    ensures { present.new ≡ (if number / 256 == window then set present.old (number % 256) true
+        else present.old) }
+{
+    if number / 256 == window {
+        present[usize::from(number % 256)] = true;
+    }
+}
+
+/// Appends the first octets of a window.
+fn push_octets(present: &[bool; 256], count: u16, out: &mut Vec<u8>) -> Result<(), AllocError>
+    requires { count ≤ 32 }
+    ensures { OnOk result ((types : List ℕ) (base : ℕ) → AreTypes present.now types base
+        → out.new.items ≡ out.old.items ++ octets_from types base count) }
 {
     for index in 0..count {
-        out.push(octet_of(types, base + 8 * index))?;
+        out.push(octet_of(present, 8 * index))?;
     }
     Ok(())
 }
 
-/// Returns the octet whose first bit is the type with number `base`.
-fn octet_of(types: &[u16], base: u16) -> u8
-    requires { base + 8 ≤ 65536 }
-    ensures { result ≡ octet_of weights types.now base }
+/// Returns the octet whose first bit is at a place of a window.
+fn octet_of(present: &[bool; 256], first: u16) -> u8
+    requires { first + 8 ≤ 256 }
+    ensures { (types : List ℕ) (base : ℕ) → AreTypes present.now types base
+        → result ≡ octet_of weights types (base + first) }
 {
     let mut octet = 0;
-    let mut number = u32::from(base);
+    let mut place = usize::from(first);
     for weight in &WEIGHTS {
-        octet += weight_if(types, number, *weight);
-        number += 1;
+        octet += weight_if(present, place, *weight);
+        place += 1;
     }
     octet
 }
 
-/// Returns the weight of the bit of a type, if the type is among others, or 0.
-fn weight_if(types: &[u16], number: u32, weight: u8) -> u8
-    ensures { result ≡ weight_if types.now number weight }
+/// Returns the weight of a bit, if the type at its place is there, or 0.
+fn weight_if(present: &[bool; 256], place: usize, weight: u8) -> u8
+    requires { place < 256 }
+    ensures { result ≡ if get_or present.now place false then weight else 0 }
 {
-    if has_type(types, number) { weight } else { 0 }
-}
-
-/// Returns `true` if a type is among others.
-fn has_type(types: &[u16], number: u32) -> bool
-    ensures { result ≡ has_type types.now number }
-{
-    for other in types {
-        if u32::from(*other) == number {
-            return true;
-        }
-    }
-    false
+    if present[place] { weight } else { 0 }
 }
 
 /// Returns `true` if bytes are the bitmap of a set of types: windows in ascending order, each with 1 to 32 octets, of
