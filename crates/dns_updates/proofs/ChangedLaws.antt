@@ -5,7 +5,6 @@ use Rattle.std.specs.Cmp.Lexicographic.{slice_cmp}
 use Rattle.std.specs.Map.{values_of, lookup, set_value}
 use Rattle.std.specs.BTreeMap.{insert_entry, is_at}
 use Rattle.std.specs.Ordering.{eq_by_cmp, is_eq, nat_cmp, ordering_then, match_ordering}
-use Rattle.arrayvec.specs.ArrayVec.{ArrayVec}
 use Rattle.dns_codes.specs.declared.record_type.RecordType.{RecordType}
 use Rattle.dns_records.specs.Record.{Record}
 use Rattle.dns_records.specs.Rows.{Key, key, key_cmp}
@@ -28,13 +27,13 @@ either_first false false x y z h = refl
 
 -- a key as it is stored, and the order of these
 abbrev pub Stored : Type 0
-Stored = ArrayVec ℕ × ℕ
+Stored = List ℕ × ℕ
 
 abbrev pub place_of : Stored → Place
-place_of k = (k.0.items, k.1)
+place_of k = (k.0, k.1)
 
 abbrev pub stored_cmp : Stored → Stored → Ordering
-stored_cmp a b = ordering_then (slice_cmp nat_cmp a.0.items b.0.items) (nat_cmp a.1 b.1)
+stored_cmp a b = ordering_then (slice_cmp nat_cmp a.0 b.0) (nat_cmp a.1 b.1)
 
 abbrev pub Entries : Type 0
 Entries = List (Stored × ChangedSet)

@@ -8,6 +8,7 @@ pub mod ChangedLaws
 pub mod ListingLaws
 pub mod OwnerCodeLaws
 pub mod PlaceLaws
+pub mod FrontLaws
 pub mod UpdateLaws
 pub mod PutLaws
 mod UpdateRows

@@ -23,6 +23,10 @@ label_code label = map byte_code label ++ 0 ∷ []
 abbrev pub owner_code : List (List ℕ) → List ℕ
 owner_code labels = flat_map label_code (reverse labels)
 
+-- the order of these bytes
+abbrev pub bytes_cmp : List ℕ → List ℕ → Ordering
+bytes_cmp = slice_cmp nat_cmp
+
 -- the number of a type in the order: SOA comes first
 abbrev pub number_code : ℕ → ℕ
 number_code number = cond (number == 6) 0 (number + 1)

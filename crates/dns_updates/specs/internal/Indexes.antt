@@ -5,7 +5,6 @@ use Rattle.std.specs.List.{AllByRecursion}
 use Rattle.std.specs.Map.{lookup}
 use Rattle.std.specs.Cmp.Lexicographic.{slice_cmp}
 use Rattle.std.specs.Ordering.{eq_by_cmp, nat_cmp}
-use Rattle.arrayvec.specs.ArrayVec.{ArrayVec}
 use Rattle.dns_codes.specs.declared.record_type.RecordType.{RecordType}
 use Rattle.dns_records.specs.Record.{Record}
 use Rattle.dns_records.specs.Rows.{Key, Rows}
@@ -20,8 +19,8 @@ abbrev pub changed_place : ChangedSet → Place
 changed_place s = (owner_code s.name.labels, type_code s.record_type)
 
 -- each changed set is kept at the key of its place
-abbrev pub HaveTheirKeys : List ((ArrayVec ℕ × ℕ) × ChangedSet) → Type 0
-HaveTheirKeys entries = AllByRecursion (λ e. ◌≡◌ {A = Place} (e.0.0.items, e.0.1) (changed_place e.1)) entries
+abbrev pub HaveTheirKeys : List (Place × ChangedSet) → Type 0
+HaveTheirKeys entries = AllByRecursion (λ e. e.0 ≡ changed_place e.1) entries
 
 -- the changed set with other records, if there is one
 abbrev pub with_records : List Record → Option ChangedSet → Option ChangedSet
@@ -38,7 +37,7 @@ is_code = eq_by_cmp (slice_cmp nat_cmp)
 
 -- the listing of the owner with these bytes
 abbrev pub listing_at : OwnerTypes → List ℕ → Option Listing
-listing_at types code = lookup (λ k. is_code code k.items) types.map.entries
+listing_at types code = lookup (λ k. is_code code k) types.map.entries
 
 -- whether a key is among those of a listing, where a zone has rows
 abbrev pub is_in_listing : Rows → Key → Option Listing → Bool

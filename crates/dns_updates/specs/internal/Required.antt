@@ -37,7 +37,7 @@ is_place = eq_by_cmp place_cmp
 -- the data that is kept for a place
 abbrev pub data_at : RequiredData → Place → Option (List RData)
 data_at required p =
-    option_map (λ ds. lent ds.items) (lookup (λ k. is_place p (k.0.items, k.1)) required.map.entries)
+    option_map (λ ds. lent ds.items) (lookup (λ k. is_place p k) required.map.entries)
 
 -- the same, or none
 abbrev pub all_data_at : RequiredData → Place → List RData

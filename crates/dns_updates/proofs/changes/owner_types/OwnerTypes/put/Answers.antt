@@ -4,5 +4,5 @@ use Rattle.dns_updates.proofs.changes.owner_types.OwnerTypes.put.Goals as goal
 
 pub returns : goal.returns
 returns c = λ code.
-    c.in_ok-insert.ensures.updates.0 (record { items = code })
+    c.in_ok-insert.ensures.updates.0 code
     ∙ ap (λ (own : List ℕ). cond (is_code own code) (Some c.args.listing) (listing_at c.args.self.now code)) c.owner_key.ensures.bytes

@@ -7,5 +7,5 @@ returns-clause-value c = c.remove.ensures.value ∙ ap (listing_at c.args.self.n
 
 pub returns-clause-others : goal.returns-clause-others
 returns-clause-others c = λ code.
-    c.remove.ensures.updates.0 (record { items = code })
+    c.remove.ensures.updates.0 code
     ∙ ap (λ (own : List ℕ). cond (is_code own code) None (listing_at c.args.self.now code)) c.owner_key.ensures.bytes

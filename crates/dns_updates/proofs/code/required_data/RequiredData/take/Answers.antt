@@ -11,6 +11,6 @@ returns-clause-value c =
 
 pub returns-clause-others : goal.returns-clause-others
 returns-clause-others c = λ p.
-    ap (option_map (λ ds. lent ds.items)) (c.remove.ensures.updates.0 (record { items = p.0 }, p.1))
+    ap (option_map (λ ds. lent ds.items)) (c.remove.ensures.updates.0 p)
     ∙ map_of_cond (λ ds. lent ds.items) _ None _
     ∙ ap (λ (own : Place). cond (is_place own p) None (data_at c.args.self.now p)) (λ i. (c.set_key.ensures.owner i, c.set_key.ensures.of_type i))

@@ -1,6 +1,6 @@
 use Rattle.std.proofs.Common.{◌≡◌, ◌++◌, length}
 use Rattle.dns_updates.specs.Keys.{owner_code}
-use Rattle.dns_updates.proofs.keys.owner_key.Given as goal
+use Rattle.dns_updates.proofs.keys.owner_bytes.Given as goal
 
 abbrev pub invariant-loop-label : goal.invariant-loop-label
 invariant-loop-label l = owner_code l.owner.labels ≡ l.key.items ++ owner_code l.labels
