@@ -84,24 +84,24 @@ is_of start end e = range_contains stored_cmp (Included start) (Excluded end) e.
 abbrev same : List (List ℕ) → RecordSetValue → Bool
 same name s = same_labels name s.name.labels
 
-module _ (name : List (List ℕ)) (start end : Stored) (first : start.0.items ≡ owner_code name) (least : start.1 ≡ 0) (last : end.0.items ≡ owner_code name ++ 0 ∷ []) (none : end.1 ≡ 0) where
-  from_is : (k : Stored) → is_le (stored_cmp start k) ≡ not (is_gt (slice_cmp nat_cmp (owner_code name) k.0.items))
-  from_is k = (λ i. is_le (ordering_then (slice_cmp nat_cmp (first i) k.0.items) (nat_cmp (least i) k.1))) ∙ from_start (slice_cmp nat_cmp (owner_code name) k.0.items) k.1
+module _ (name : List (List ℕ)) (start end : Stored) (first : start.0 ≡ owner_code name) (least : start.1 ≡ 0) (last : end.0 ≡ owner_code name ++ 0 ∷ []) (none : end.1 ≡ 0) where
+  from_is : (k : Stored) → is_le (stored_cmp start k) ≡ not (is_gt (slice_cmp nat_cmp (owner_code name) k.0))
+  from_is k = (λ i. is_le (ordering_then (slice_cmp nat_cmp (first i) k.0) (nat_cmp (least i) k.1))) ∙ from_start (slice_cmp nat_cmp (owner_code name) k.0) k.1
 
-  to_is : (k : Stored) → not (is_le (stored_cmp end k)) ≡ is_gt (slice_cmp nat_cmp (owner_code name ++ 0 ∷ []) k.0.items)
+  to_is : (k : Stored) → not (is_le (stored_cmp end k)) ≡ is_gt (slice_cmp nat_cmp (owner_code name ++ 0 ∷ []) k.0)
   to_is k =
-      ap not ((λ i. is_le (ordering_then (slice_cmp nat_cmp (last i) k.0.items) (nat_cmp (none i) k.1))) ∙ from_start (slice_cmp nat_cmp (owner_code name ++ 0 ∷ []) k.0.items) k.1)
-      ∙ twice_not (is_gt (slice_cmp nat_cmp (owner_code name ++ 0 ∷ []) k.0.items))
+      ap not ((λ i. is_le (ordering_then (slice_cmp nat_cmp (last i) k.0) (nat_cmp (none i) k.1))) ∙ from_start (slice_cmp nat_cmp (owner_code name ++ 0 ∷ []) k.0) k.1)
+      ∙ twice_not (is_gt (slice_cmp nat_cmp (owner_code name ++ 0 ∷ []) k.0))
 
-  one_of : (k : Stored) (s : RecordSetValue) → k.0.items ≡ owner_code s.name.labels → is_of start end (k, s) ≡ same name s
+  one_of : (k : Stored) (s : RecordSetValue) → k.0 ≡ owner_code s.name.labels → is_of start end (k, s) ≡ same name s
   one_of k s e =
       (λ i. from_is k i && to_is k i)
       ∙ tied_both _ (same name s)
       (λ h.
       let both = and_is _ _ h in
-      same_of_code name s.name.labels (sym e ∙ only_owner (owner_code name) k.0.items (not_is _ both.0) both.1))
+      same_of_code name s.name.labels (sym e ∙ only_owner (owner_code name) k.0 (not_is _ both.0) both.1))
       (λ h.
-      let code : owner_code name ≡ k.0.items = sym (e ∙ code_of_same name s.name.labels h) in
+      let code : owner_code name ≡ k.0 = sym (e ∙ code_of_same name s.name.labels h) in
       ap (λ (c : List ℕ). not (is_gt (slice_cmp nat_cmp (owner_code name) c)) && is_gt (slice_cmp nat_cmp (owner_code name ++ 0 ∷ []) c)) (sym code)
       ∙ (λ i. not (from_itself (owner_code name) i) && before_end (owner_code name) i))
 

@@ -11,7 +11,6 @@ use Rattle.std.specs.BTreeMap.{insert_entry, is_at}
 use Rattle.std.specs.BTreeMap.Range.{range_contains}
 use Rattle.std.specs.Ordering.{eq_by_cmp, is_eq, is_gt, is_le, nat_cmp, ordering_then, ordering_reverse, match_ordering}
 use Rattle.std.specs.declared.ops.Bound.TheVariants.{Included, Unbounded}
-use Rattle.arrayvec.specs.ArrayVec.{ArrayVec}
 use Rattle.dns_codes.specs.declared.record_type.RecordType.{RecordType}
 use Rattle.dns_names.specs.Compare.{at_or_below}
 use Rattle.dns_records.specs.RecordSet.{RecordSetValue}
@@ -26,13 +25,13 @@ use Rattle.dns_zone.proofs.RowLaws.{key_total, tied}
 
 -- a key as it is stored, and the order of these
 abbrev pub Stored : Type 0
-Stored = ArrayVec ℕ × ℕ
+Stored = List ℕ × ℕ
 
 abbrev pub place_of : Stored → Place
-place_of k = (k.0.items, k.1)
+place_of k = (k.0, k.1)
 
 abbrev pub stored_cmp : Stored → Stored → Ordering
-stored_cmp a b = ordering_then (slice_cmp nat_cmp a.0.items b.0.items) (nat_cmp a.1 b.1)
+stored_cmp a b = ordering_then (slice_cmp nat_cmp a.0 b.0) (nat_cmp a.1 b.1)
 
 abbrev pub Entries : Type 0
 Entries = List (Stored × RecordSetValue)
@@ -212,22 +211,22 @@ is_from start e = range_contains stored_cmp (Included start) Unbounded e.0
 -- whether the owner of the first entry from a name's first key on is at or below the name is whether that of some entry is
 abbrev pub IsFirst : List (List ℕ) → Bool → Entries → Type 0
 IsFirst name some [] = some ≡ false
-IsFirst name some (e ∷ es) = (some ≡ at_or_below name e.1.name.labels) × (e.0.0.items ≡ owner_code e.1.name.labels)
+IsFirst name some (e ∷ es) = (some ≡ at_or_below name e.1.name.labels) × (e.0.0 ≡ owner_code e.1.name.labels)
 
 none_after : (name : List (List ℕ)) (x : Entry) (es : Entries) → place_of x.0 ≡ set_place x.1 → HaveTheirKeys es → AllByRecursion (λ k. stored_cmp x.0 k ≡ Less) (keys_of es)
-    → is_gt (slice_cmp nat_cmp (owner_code name) x.0.0.items) ≡ false → below name x.1 ≡ false → list_any (below name) (values_of es) ≡ false
+    → is_gt (slice_cmp nat_cmp (owner_code name) x.0.0) ≡ false → below name x.1 ≡ false → list_any (below name) (values_of es) ≡ false
 none_after name x [] e all after g other = refl
 none_after name x (y ∷ es) e all after g other = by (below name y.1) refl (none_after name x es e all.1 after.1 g other)
   where
-    owner_is : y.0.0.items ≡ owner_code y.1.name.labels
+    owner_is : y.0.0 ≡ owner_code y.1.name.labels
     owner_is = ap (λ (p : Place). p.0) all.0
 
     by : (b : Bool) → below name y.1 ≡ b → list_any (below name) (values_of es) ≡ false → (below name y.1 || list_any (below name) (values_of es)) ≡ false
     by true h more =
         let ahead = below_begins name y.1.name.labels h in
-        let up_to : is_gt (slice_cmp nat_cmp x.0.0.items (owner_code name ++ ahead.0)) ≡ false =
-        ap (λ (l : List ℕ). is_gt (slice_cmp nat_cmp x.0.0.items l)) (sym ahead.1 ∙ sym owner_is) ∙ less_not_greater _ _ after.0 in
-        let mid = between (owner_code name) x.0.0.items ahead.0 g up_to in
+        let up_to : is_gt (slice_cmp nat_cmp x.0.0 (owner_code name ++ ahead.0)) ≡ false =
+        ap (λ (l : List ℕ). is_gt (slice_cmp nat_cmp x.0.0 l)) (sym ahead.1 ∙ sym owner_is) ∙ less_not_greater _ _ after.0 in
+        let mid = between (owner_code name) x.0.0 ahead.0 g up_to in
         let here : below name x.1 ≡ true = begins_below name x.1.name.labels mid.0 (sym (ap (λ (p : Place). p.0) e) ∙ mid.1) in
         let never : true ≡ false = sym here ∙ other in
         absurd (cc)
@@ -242,29 +241,29 @@ and_true true = refl
 and_true false = refl
 
 -- a set below the name is from its first key on
-from_below : (name : List (List ℕ)) (start : Stored) (x : Entry) → start.0.items ≡ owner_code name → start.1 ≡ 0 → place_of x.0 ≡ set_place x.1 → below name x.1 ≡ true → is_from start x ≡ true
+from_below : (name : List (List ℕ)) (start : Stored) (x : Entry) → start.0 ≡ owner_code name → start.1 ≡ 0 → place_of x.0 ≡ set_place x.1 → below name x.1 ≡ true → is_from start x ≡ true
 from_below name start x e zero all h =
     let ahead = below_begins name x.1.name.labels h in
-    let after : is_gt (slice_cmp nat_cmp start.0.items x.0.0.items) ≡ false =
+    let after : is_gt (slice_cmp nat_cmp start.0 x.0.0) ≡ false =
     (λ i. is_gt (slice_cmp nat_cmp (e i) ((ap (λ (p : Place). p.0) all ∙ ahead.1) i))) ∙ front_first (owner_code name) ahead.0 in
-    and_true _ ∙ ap (λ n. is_le (ordering_then (slice_cmp nat_cmp start.0.items x.0.0.items) (nat_cmp n x.0.1))) zero
-    ∙ from_start (slice_cmp nat_cmp start.0.items x.0.0.items) x.0.1 ∙ ap not after
+    and_true _ ∙ ap (λ n. is_le (ordering_then (slice_cmp nat_cmp start.0 x.0.0) (nat_cmp n x.0.1))) zero
+    ∙ from_start (slice_cmp nat_cmp start.0 x.0.0) x.0.1 ∙ ap not after
 
-pub first_below : (name : List (List ℕ)) (start : Stored) (es : Entries) → start.0.items ≡ owner_code name → start.1 ≡ 0 → HaveTheirKeys es → IsStrictlySortedBy stored_cmp (keys_of es)
+pub first_below : (name : List (List ℕ)) (start : Stored) (es : Entries) → start.0 ≡ owner_code name → start.1 ≡ 0 → HaveTheirKeys es → IsStrictlySortedBy stored_cmp (keys_of es)
     → IsFirst name (list_any (below name) (values_of es)) (filter (is_from start) es)
 unfolding IsStrictlySortedBy
 first_below name start [] e zero all sorted = refl
 first_below name start (x ∷ es) e zero all sorted = by (is_from start x) refl (first_below name start es e zero all.1 sorted.1)
   where
-    owner_is : x.0.0.items ≡ owner_code x.1.name.labels
+    owner_is : x.0.0 ≡ owner_code x.1.name.labels
     owner_is = ap (λ (p : Place). p.0) all.0
 
     at_first : (b : Bool) → below name x.1 ≡ b → is_from start x ≡ true → (below name x.1 || list_any (below name) (values_of es)) ≡ below name x.1
     at_first true h from = (λ i. h i || list_any (below name) (values_of es)) ∙ sym h
     at_first false h from =
-        let after : not (is_gt (slice_cmp nat_cmp start.0.items x.0.0.items)) ≡ true =
-        sym (and_true _ ∙ ap (λ n. is_le (ordering_then (slice_cmp nat_cmp start.0.items x.0.0.items) (nat_cmp n x.0.1))) zero ∙ from_start (slice_cmp nat_cmp start.0.items x.0.0.items) x.0.1) ∙ from in
-        (λ i. h i || none_after name x es all.0 all.1 sorted.0 (ap (λ (l : List ℕ). is_gt (slice_cmp nat_cmp l x.0.0.items)) (sym e) ∙ not_true _ after) h i) ∙ sym h
+        let after : not (is_gt (slice_cmp nat_cmp start.0 x.0.0)) ≡ true =
+        sym (and_true _ ∙ ap (λ n. is_le (ordering_then (slice_cmp nat_cmp start.0 x.0.0) (nat_cmp n x.0.1))) zero ∙ from_start (slice_cmp nat_cmp start.0 x.0.0) x.0.1) ∙ from in
+        (λ i. h i || none_after name x es all.0 all.1 sorted.0 (ap (λ (l : List ℕ). is_gt (slice_cmp nat_cmp l x.0.0)) (sym e) ∙ not_true _ after) h i) ∙ sym h
 
     skipped : (b : Bool) → below name x.1 ≡ b → is_from start x ≡ false → list_any (below name) (values_of es) ≡ (below name x.1 || list_any (below name) (values_of es))
     skipped true h from =
@@ -277,8 +276,8 @@ first_below name start (x ∷ es) e zero all sorted = by (is_from start x) refl 
     by true from more = (at_first (below name x.1) refl from, owner_is)
     by false from more = subst (λ b. IsFirst name b (filter (is_from start) es)) (skipped (below name x.1) refl from) more
 
-begins_same : (name : List (List ℕ)) (x : Entry) (starts : Bool) (s p : List ℕ) → starts ≡ pointwise (λ (c d : ℕ). c == d) p (take (length p) s) → s ≡ x.0.0.items → p ≡ owner_code name
-    → x.0.0.items ≡ owner_code x.1.name.labels → starts ≡ below name x.1
+begins_same : (name : List (List ℕ)) (x : Entry) (starts : Bool) (s p : List ℕ) → starts ≡ pointwise (λ (c d : ℕ). c == d) p (take (length p) s) → s ≡ x.0.0 → p ≡ owner_code name
+    → x.0.0 ≡ owner_code x.1.name.labels → starts ≡ below name x.1
 begins_same name x starts s p e is of owner =
     let decides = starts_is {E = λ (c d : ℕ). c == d} Decides-eqb s p starts e in
     tied_both starts (below name x.1)
@@ -289,15 +288,15 @@ begins_same name x starts s p e is of owner =
 
 -- the first entry from a name's first key on tells whether the owner of some set is at or below the name
 pub below_some : (name : List (List ℕ)) (start : Stored) (es r more : Entries) (x : Entry) (starts : Bool) (s p : List ℕ) → HaveTheirKeys es → IsStrictlySortedBy stored_cmp (keys_of es)
-    → start.0.items ≡ owner_code name → start.1 ≡ 0 → r ≡ filter (is_from start) es → r ≡ x ∷ more
-    → starts ≡ pointwise (λ (c d : ℕ). c == d) p (take (length p) s) → s ≡ x.0.0.items → p ≡ start.0.items → starts ≡ list_any (below name) (values_of es)
+    → start.0 ≡ owner_code name → start.1 ≡ 0 → r ≡ filter (is_from start) es → r ≡ x ∷ more
+    → starts ≡ pointwise (λ (c d : ℕ). c == d) p (take (length p) s) → s ≡ x.0.0 → p ≡ start.0 → starts ≡ list_any (below name) (values_of es)
 below_some name start es r more x starts s p all sorted e zero between first h is of =
     let found : IsFirst name (list_any (below name) (values_of es)) (x ∷ more) =
     subst (IsFirst name (list_any (below name) (values_of es))) (sym between ∙ first) (first_below name start es e zero all sorted) in
     begins_same name x starts s p h is (of ∙ e) found.1 ∙ sym found.0
 
 pub below_none : (name : List (List ℕ)) (start : Stored) (es r : Entries) → HaveTheirKeys es → IsStrictlySortedBy stored_cmp (keys_of es)
-    → start.0.items ≡ owner_code name → start.1 ≡ 0 → r ≡ filter (is_from start) es → r ≡ [] → false ≡ list_any (below name) (values_of es)
+    → start.0 ≡ owner_code name → start.1 ≡ 0 → r ≡ filter (is_from start) es → r ≡ [] → false ≡ list_any (below name) (values_of es)
 below_none name start es r all sorted e zero between none =
     let found : IsFirst name (list_any (below name) (values_of es)) [] =
     subst (IsFirst name (list_any (below name) (values_of es))) (sym between ∙ none) (first_below name start es e zero all sorted) in

@@ -1,9 +1,8 @@
 -- The record sets of a zone, and the order in which they are kept.
-use Rattle.std.specs.Prelude.{◌≡◌, map, find, List, ℕ, Option, Some, None}
+use Rattle.std.specs.Prelude.{◌≡◌, map, find, List, Option, Some, None}
 use Rattle.std.specs.List.{AllByRecursion}
 use Rattle.std.specs.List.Sorted.{IsStrictlySortedBy}
 use Rattle.std.specs.Ordering.{eq_by_cmp}
-use Rattle.arrayvec.specs.ArrayVec.{ArrayVec}
 use Rattle.dns_records.specs.Record.{Record}
 use Rattle.dns_records.specs.RecordSet.{RecordSetValue, put, record_data}
 use Rattle.dns_updates.specs.Keys.{Place, owner_code, place_cmp, type_code}
@@ -34,5 +33,5 @@ abbrev pub AreInOrder : List RecordSetValue → Type 0
 AreInOrder sets = IsStrictlySortedBy place_cmp (map set_place sets)
 
 -- each set is kept at the key of its place
-abbrev pub HaveTheirKeys : List ((ArrayVec ℕ × ℕ) × RecordSetValue) → Type 0
-HaveTheirKeys entries = AllByRecursion (λ e. ◌≡◌ {A = Place} (e.0.0.items, e.0.1) (set_place e.1)) entries
+abbrev pub HaveTheirKeys : List (Place × RecordSetValue) → Type 0
+HaveTheirKeys entries = AllByRecursion (λ e. e.0 ≡ set_place e.1) entries
