@@ -28,6 +28,7 @@ use Rattle.dns_zone_file.specs.declared.types.Types.{Types}
 use Rattle.zone_generate.specs.Range.{number_at}
 use Rattle.zone_generate.specs.Template.{expanded}
 use Rattle.zone_generate.specs.declared.fault.GenerateFault.{GenerateFault}
+use Rattle.zone_lines.specs.Dotless.{has_dotless_name}
 use Rattle.zone_lines.specs.Skip.{Resumes}
 use Rattle.zone_lines.specs.Source.{FileText, source_of}
 use Rattle.zone_lines.specs.Word.{HasFaultyToken, names_start}
@@ -60,14 +61,15 @@ earlier_of sets r = record {
   is_no_more = option_eq ◌==◌ (count_of (inserted_in sets r) r) (count_of sets r);
 }
 
--- a record at a place
-abbrev pub record_on : Position → List RecordSetValue → Record → RecordLine
-record_on at sets r = record {
+-- a record at a place, and whether it has a name without a dot
+abbrev pub record_on : Position → List RecordSetValue → Bool → Record → RecordLine
+record_on at sets dotless r = record {
   at = at;
   owner = r.name;
   ttl = r.ttl;
   dns_class = r.dns_class;
   rdata = r.rdata;
+  has_dotless_name = dotless;
   earlier = earlier_of sets r;
 }
 
@@ -77,7 +79,7 @@ pub record AddsLine (c : Context) (at : Position) (tokens : List Lexeme) (found 
   pub added : Record
   pub reads : ReadsRecord c tokens stated added
   pub class_fits : has_other_class c.sets added ≡ false
-  pub found_is : found ≡ record_on at c.sets added
+  pub found_is : found ≡ record_on at c.sets (has_dotless_name c.types tokens) added
   pub after : then ≡ after_record c stated added
 
 -- ---- faults

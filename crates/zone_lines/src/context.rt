@@ -8,9 +8,11 @@ ghost use Rattle.dns_zone_file.specs.Context.{RefusesRecord, after_record};
 ghost use Rattle.dns_zone_file.specs.Entry.{entry_of, record_entry};
 ghost use Rattle.dns_zone_file.specs.RecordSets.{IsNamedType, has_other_class, inserted_in};
 ghost use Rattle.dns_zone_file.specs.internal.Error.{IsFault};
+ghost use Rattle.zone_lines.specs.Dotless.{has_dotless_name};
 ghost use Rattle.zone_lines.specs.Reading.{AddsLine, RefusesAlone, after_fault, count_of, earlier_of, has_other_ttl, record_on, ttl_after};
 ghost use Rattle.zone_lines.specs.internal.Context.{EffectIs};
 
+use crate::dotless::has_dotless_name;
 use crate::generate::add_generated;
 use crate::record_line::{Earlier, EntryLine, Position, RecordLine};
 use dns_records::Record;
@@ -100,18 +102,20 @@ pub(crate) fn add_record(
         RefusesRecord context.old (map lexeme tokens.now) fault × (context.new ≡ context.old))) }
 {
     let added = context.parse_record(alloc, tokens)?;
-    insert_record(context, at, added)
+    insert_record(context, at, tokens, added)
 }
 
-/// Adds a record, of the class of the others of its set. A fault leaves the context unchanged.
+/// Adds the record of an entry, of the class of the others of its set. A fault leaves the context unchanged.
 fn insert_record(
     context: &mut Context,
     at: Position,
+    tokens: &[Token<'_>],
     added: ParsedRecord,
 ) -> Result<RecordLine, EntryError>
     requires { IsNamedType (data_type added.parsed.rdata) }
     ensures fits { OnOk result (has_other_class context.old.sets added.parsed ≡ false) }
-    ensures found { IfOk result (λ found. found ≡ record_on at context.old.sets added.parsed) }
+    ensures found { IfOk result (λ found. found ≡ record_on at context.old.sets
+        (has_dotless_name context.old.types (map lexeme tokens.now)) added.parsed) }
     ensures ok { OnOk result (context.new ≡ after_record context.old added.stated added.parsed) }
     ensures refused { IfErr result (IsFault (λ fault. (fault ≡ EntryFault.ClassMismatch)
         × (has_other_class context.old.sets added.parsed ≡ true)
@@ -120,6 +124,7 @@ fn insert_record(
     if context.sets.has_other_class(&added.parsed) {
         return Err(EntryError::Fault(EntryFault::ClassMismatch));
     }
+    let has_dotless_name = has_dotless_name(context.types, tokens);
     context.note_record(added.stated, &added.parsed)?;
     let earlier = insert_copy(context, &added.parsed)?;
     let parts = added.parsed.into_parts();
@@ -129,6 +134,7 @@ fn insert_record(
         ttl: parts.ttl,
         dns_class: parts.dns_class,
         rdata: parts.rdata,
+        has_dotless_name,
         earlier,
     })
 }

@@ -3,11 +3,13 @@
 //! - `reading`: the entries of a file and of those that it includes, in order; `context`: what an entry adds, and what a fault
 //!   leaves; `generate`: the records of a `$GENERATE`; `skip`: where a text is read on after a fault of it; `source`: the texts
 //!   of a file;
-//! - `line`: the lines of the texts; `fault`: the faults of entries; `word`: the token at fault in an entry;
+//! - `line`: the lines of the texts; `fault`: the faults of entries; `word`: the token at fault in an entry; `dotless`: names
+//!   without a dot;
 //! - `record_line`: records and faults with their lines.
 #![tactic(auto)]
 
 mod context;
+mod dotless;
 mod fault;
 mod generate;
 mod line;

@@ -34,6 +34,8 @@ pub struct RecordLine {
     pub ttl: u32,
     pub dns_class: DNSClass,
     pub rdata: RData,
+    /// Whether a name in the data is written without a dot, so that the origin completed it.
+    pub has_dotless_name: bool,
     pub earlier: Earlier,
 }
 
@@ -45,6 +47,7 @@ impl Drop for RecordLine {
             ttl: _ttl,
             dns_class: _dns_class,
             rdata,
+            has_dotless_name: _has_dotless_name,
             earlier: _earlier,
         } = self;
         drop(owner);
