@@ -26,7 +26,7 @@ server_of (of.NS ns) = Some ns.0
 server_of (of.MX mx) = Some mx.exchange
 server_of other = None
 
--- whether some name in data has one label, as one that the root completed
+-- whether some name in data has one label
 abbrev pub has_top_name : RData → Bool
 has_top_name rdata = list_any (λ name. length name.labels == 1) (names_of rdata)
 

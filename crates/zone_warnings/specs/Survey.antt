@@ -31,12 +31,12 @@ facts_view f = record {
   texts = lines_view f.texts.now;
 }
 
--- whether an entry is a record with a name in its data that has one label
+-- whether an entry is a record with a name in its data that the root completed: it has one label, and is written without a dot
 abbrev pub has_top_entry : EntryLine → Bool
-has_top_entry (entry.Record r) = has_top_name r.rdata
+has_top_entry (entry.Record r) = r.has_dotless_name && has_top_name r.rdata
 has_top_entry (entry.Fault f) = false
 
--- whether some name in data has one label
+-- whether the root completed some name in data
 abbrev pub names_top : List EntryLine → Bool
 names_top entries = list_any has_top_entry entries
 

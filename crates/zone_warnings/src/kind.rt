@@ -9,7 +9,7 @@ use zone_lines::Position;
 pub enum WarningKind {
     /// An SOA record of a zone whose origin is the root: the text has no `$ORIGIN` above it, and none was given.
     RootZone,
-    /// An SOA record of a zone without a `$ORIGIN` and without an origin that was given, with a name of one label in the data
+    /// An SOA record of a zone without a `$ORIGIN` and without an origin that was given, with a name without a dot in the data
     /// of a record: the root completed it (RFC 1035 section 5.1).
     NoOrigin,
     /// A CNAME record, of whose owner there is other data (RFC 1034 section 3.6.2, RFC 2181 section 10.1) than that of a signed

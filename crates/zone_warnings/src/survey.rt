@@ -69,12 +69,13 @@ fn lacks_origin(facts: &ZoneFacts<'_>, entries: &[EntryLine]) -> bool
     !facts.is_given && !has_directive(facts.texts) && names_top(entries)
 }
 
-/// Returns `true` if some name in data has one label.
+/// Returns `true` if the root completed some name in data.
 fn names_top(entries: &[EntryLine]) -> bool
     ensures { result ≡ names_top entries.now }
 {
     for entry in entries {
         if let EntryLine::Record(record_line) = entry
+            && record_line.has_dotless_name
             && has_top_name(&record_line.rdata)
         {
             return true;
