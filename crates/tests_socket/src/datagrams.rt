@@ -132,6 +132,35 @@ fn asked_elsewhere<R: Net<Listener = TcpListener, Stream = TcpStream> + Drop>(
     Ok(text)
 }
 
+/// A question of another socket, which waits in front of the link's own.
+pub(crate) fn behind_another<R: Net<Listener = TcpListener, Stream = TcpStream> + Drop>(
+    net: R,
+    rt: &HostRuntime,
+    alloc: Global,
+) -> Answer {
+    let socket = other_socket(rt)?;
+    let Some(mut link) = link_to(net, alloc, ONE_ADDRESS, 1232) else {
+        return Err(RowFault::Lacks("a link"));
+    };
+    asked_behind(alloc, &socket, &mut link)
+}
+
+/// Sends a question from another socket, asks over the link, and returns what the link receives.
+fn asked_behind<R: Net<Listener = TcpListener, Stream = TcpStream> + Drop>(
+    alloc: Global,
+    socket: &UdpSocket,
+    link: &mut SocketLink<R>,
+) -> Answer {
+    let request = bytes_of(alloc, QUESTION)?;
+    if socket
+        .send_to(request.as_slice(), link.server_addr())
+        .is_err()
+    {
+        return Err(RowFault::Lacks("a datagram that can be sent"));
+    }
+    exchange(alloc, link, QUESTION)
+}
+
 /// What a socket receives from a server, in digits.
 fn received_elsewhere(alloc: Global, socket: &UdpSocket, server: SocketAddr) -> Answer {
     let mut buffer = vec![in alloc; 0u8; 512]?;

@@ -14,8 +14,8 @@ mod runs;
 mod streams;
 
 use crate::datagrams::{
-    first_datagram, forged_datagram, many_datagrams, other_asker, quiet_link, too_long_datagram,
-    truncated_datagram,
+    behind_another, first_datagram, forged_datagram, many_datagrams, other_asker, quiet_link,
+    too_long_datagram, truncated_datagram,
 };
 use crate::long_replies::{longest_reply, truncated_reply};
 use crate::lookups::{first_lookup, missing_name, truncated_lookup, update};
@@ -27,7 +27,7 @@ use std::io;
 use std::net::{Net, TcpListener, TcpStream};
 
 /// The names of the scenarios, in order.
-const SCENARIOS: [&str; 19] = [
+const SCENARIOS: [&str; 20] = [
     "first datagram",
     "first lookup",
     "missing name",
@@ -39,6 +39,7 @@ const SCENARIOS: [&str; 19] = [
     "quiet link",
     "forged datagram",
     "other asker",
+    "behind another",
     "many datagrams",
     "too long datagram",
     "foreign connections",
@@ -78,6 +79,7 @@ fn outcome<R: Net<Listener = TcpListener, Stream = TcpStream> + Drop>(
         "quiet link" => quiet_link(net, alloc),
         "forged datagram" => forged_datagram(net, rt, alloc),
         "other asker" => other_asker(net, rt, alloc),
+        "behind another" => behind_another(net, rt, alloc),
         "many datagrams" => many_datagrams(net, alloc),
         "too long datagram" => too_long_datagram(net, alloc),
         "foreign connections" => foreign_connections(net, rt, alloc),
