@@ -30,6 +30,12 @@ pub(crate) struct Arguments {
     pub(crate) updaters: AddressList,
     /// How requests are answered that are not updates.
     pub(crate) answering: Answering,
+    /// The addresses to which zones are transferred.
+    pub(crate) secondaries: AddressList,
+    /// Whether the serial number of a zone rises with each change of its rows.
+    pub(crate) raises_serials: bool,
+    /// The secondaries that are notified of changes.
+    pub(crate) notify: Vec<SocketAddr>,
     /// The maximum size of datagrams.
     pub(crate) limit: DatagramLimit,
     /// Which files the zone files may include.
@@ -53,6 +59,9 @@ impl Drop for Arguments {
             addresses,
             updaters,
             answering: _answering,
+            secondaries,
+            raises_serials: _raises_serials,
+            notify,
             limit: _limit,
             reach: _reach,
             until: _until,
@@ -64,6 +73,8 @@ impl Drop for Arguments {
         drop(files);
         drop(addresses);
         drop(updaters);
+        drop(secondaries);
+        drop(notify);
         drop(origin);
         drop(faults);
         drop(log);
@@ -72,13 +83,16 @@ impl Drop for Arguments {
 }
 
 impl Arguments {
-    /// Returns the addresses from which updates are taken.
-    pub(crate) fn into_updaters(self) -> AddressList {
+    /// Returns the addresses from which updates are taken, and those to which zones are transferred.
+    pub(crate) fn into_lists(self) -> (AddressList, AddressList) {
         let Arguments {
             files,
             addresses,
             updaters,
             answering: _answering,
+            secondaries,
+            raises_serials: _raises_serials,
+            notify,
             limit: _limit,
             reach: _reach,
             until: _until,
@@ -89,11 +103,12 @@ impl Arguments {
         } = self;
         drop(files);
         drop(addresses);
+        drop(notify);
         drop(origin);
         drop(faults);
         drop(log);
         drop(durable);
-        updaters
+        (updaters, secondaries)
     }
 }
 
@@ -117,6 +132,8 @@ fn arguments_of(alloc: Global, matches: &ArgMatches<'_>) -> Result<Arguments, En
     let files = texts_in(alloc, matches, "FILE")?;
     let addresses = addresses_in(alloc, matches)?;
     let updaters = updaters_in(alloc, matches)?;
+    let secondaries = loopback_and(alloc, matches, "allow-transfer")?;
+    let notify = socket_addresses_in(alloc, matches, "notify")?;
     let durable = durable_in(alloc, matches, files.len())?;
     let origin = origin_in(alloc, matches, files.len())?;
     Ok(Arguments {
@@ -124,6 +141,9 @@ fn arguments_of(alloc: Global, matches: &ArgMatches<'_>) -> Result<Arguments, En
         addresses,
         updaters,
         answering,
+        secondaries,
+        raises_serials: raises_serials_in(matches),
+        notify,
         limit,
         reach: reach_in(matches),
         until: until_in(matches),
@@ -174,6 +194,13 @@ fn command<'a>(alloc: Global) -> Result<Command<'a>, AllocError> {
         ))?
         .arg(flag(alloc, "no-updates", "Refuse all dynamic updates"))?
         .arg(updaters_option(alloc))?
+        .arg(secondaries_option(alloc))?
+        .arg(notify_option(alloc))?
+        .arg(flag(
+            alloc,
+            "keep-serials",
+            "Let no serial number rise but by an update that raises it",
+        ))?
         .arg(flag(alloc, "until-stdin-closes", "End when standard input ends"))?;
     with_durable_options(alloc, command)
 }
@@ -210,6 +237,28 @@ fn updaters_option<'a>(alloc: Global) -> Arg<'a> {
         "allow-update",
         "ADDRESS/LENGTH",
         "Addresses from which updates are taken, beside those of the local host",
+    )
+    .action(ArgAction::Append)
+}
+
+/// Returns the option of the addresses to which zones are transferred.
+fn secondaries_option<'a>(alloc: Global) -> Arg<'a> {
+    option(
+        alloc,
+        "allow-transfer",
+        "ADDRESS/LENGTH",
+        "Addresses to which zones are transferred, beside those of the local host",
+    )
+    .action(ArgAction::Append)
+}
+
+/// Returns the option of the secondaries that are notified of changes.
+fn notify_option<'a>(alloc: Global) -> Arg<'a> {
+    option(
+        alloc,
+        "notify",
+        "ADDRESS:PORT",
+        "A secondary that is notified of each new serial number of a zone",
     )
     .action(ArgAction::Append)
 }
@@ -294,6 +343,13 @@ fn reach_in(matches: &ArgMatches<'_>) -> Reach {
     }
 }
 
+/// Returns whether the serial number of a zone rises with each change of its rows.
+fn raises_serials_in(matches: &ArgMatches<'_>) -> bool {
+    let is_plain = matches.get_str("plain") == Some("true");
+    let keeps = matches.get_str("keep-serials") == Some("true");
+    !is_plain && !keeps
+}
+
 /// Returns how requests are answered that are not updates.
 fn answering_in(alloc: Global, matches: &ArgMatches<'_>) -> Result<Answering, Ending> {
     let is_plain = matches.get_str("plain") == Some("true");
@@ -311,10 +367,7 @@ fn answering_in(alloc: Global, matches: &ArgMatches<'_>) -> Result<Answering, En
 
 /// Returns the addresses at which the server listens.
 fn addresses_in(alloc: Global, matches: &ArgMatches<'_>) -> Result<Vec<SocketAddr>, Ending> {
-    let mut addresses = Vec::new(alloc);
-    for text in texts_in(alloc, matches, "listen")?.as_slice() {
-        addresses.push(address_of(alloc, text.as_str())?)?;
-    }
+    let mut addresses = socket_addresses_in(alloc, matches, "listen")?;
     if addresses.is_empty() {
         let local = SocketAddrV4::new(Ipv4Addr::LOCALHOST, DEFAULT_PORT);
         addresses.push(SocketAddr::V4(local))?;
@@ -322,19 +375,39 @@ fn addresses_in(alloc: Global, matches: &ArgMatches<'_>) -> Result<Vec<SocketAdd
     Ok(addresses)
 }
 
-/// Returns the address that a text stands for.
-fn address_of(alloc: Global, text: &str) -> Result<SocketAddr, Ending> {
+/// Returns the addresses and ports of an option.
+fn socket_addresses_in(
+    alloc: Global,
+    matches: &ArgMatches<'_>,
+    option: &str,
+) -> Result<Vec<SocketAddr>, Ending> {
+    let mut addresses = Vec::new(alloc);
+    for text in texts_in(alloc, matches, option)?.as_slice() {
+        addresses.push(address_of(alloc, option, text.as_str())?)?;
+    }
+    Ok(addresses)
+}
+
+/// Returns the address that the text of an option stands for.
+fn address_of(alloc: Global, option: &str, text: &str) -> Result<SocketAddr, Ending> {
     let Ok(address) = text.parse::<SocketAddr>() else {
         let reason = "it is not an address and a port, such as 127.0.0.1:5300 or [::1]:5300";
-        return Err(Ending::invalid(alloc, "listen", text, reason));
+        return Err(Ending::invalid(alloc, option, text, reason));
     };
     if address.ip().is_unspecified() {
-        // A socket for all addresses does not say to which of them a datagram came, and the reply has to leave from that one.
-        let reason =
-            "replies could leave from another address than the one that was asked; list each address";
-        return Err(Ending::invalid(alloc, "listen", text, reason));
+        return Err(Ending::invalid(alloc, option, text, unspecified(option)));
     }
     Ok(address)
+}
+
+/// Returns why the address of an option may not be the unspecified one.
+fn unspecified(option: &str) -> &'static str {
+    if option == "notify" {
+        "nothing can be sent to it; name the address of the secondary"
+    } else {
+        // A socket for all addresses does not say to which of them a datagram came, and the reply has to leave from that one.
+        "replies could leave from another address than the one that was asked; list each address"
+    }
 }
 
 /// Returns the maximum size of datagrams.
@@ -353,20 +426,29 @@ fn updaters_in(alloc: Global, matches: &ArgMatches<'_>) -> Result<AddressList, E
     if matches.get_str("no-updates") == Some("true") {
         return Ok(AddressList::new(alloc));
     }
-    let mut updaters = AddressList::loopback(alloc)?;
-    for text in texts_in(alloc, matches, "allow-update")?.as_slice() {
-        updaters.add(prefix_of(alloc, text.as_str())?)?;
-    }
-    Ok(updaters)
+    loopback_and(alloc, matches, "allow-update")
 }
 
-/// Returns the prefix that a text stands for.
-fn prefix_of(alloc: Global, text: &str) -> Result<AddrPrefix, Ending> {
+/// Returns the addresses of the local host, and those of an option.
+fn loopback_and(
+    alloc: Global,
+    matches: &ArgMatches<'_>,
+    option: &str,
+) -> Result<AddressList, Ending> {
+    let mut addresses = AddressList::loopback(alloc)?;
+    for text in texts_in(alloc, matches, option)?.as_slice() {
+        addresses.add(prefix_of(alloc, option, text.as_str())?)?;
+    }
+    Ok(addresses)
+}
+
+/// Returns the prefix that the text of an option stands for.
+fn prefix_of(alloc: Global, option: &str, text: &str) -> Result<AddrPrefix, Ending> {
     match parse_prefix(text.as_bytes()) {
         Ok(prefix) => Ok(prefix),
         Err(_) => {
             let reason = "it is not an address and a length, such as 192.0.2.0/24";
-            Err(Ending::invalid(alloc, "allow-update", text, reason))
+            Err(Ending::invalid(alloc, option, text, reason))
         }
     }
 }

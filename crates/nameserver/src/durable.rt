@@ -4,6 +4,7 @@ use crate::arguments::Arguments;
 use crate::ending::Ending;
 use crate::files::text_of;
 use crate::includes::refuse_includes;
+use crate::raises::{Watch, raise_with_journal};
 use crate::zones::{add_zone, milliseconds_since, read_zones, tell, zone_of};
 use dns_durable::{CompactError, DurableServer, ReplayError, replay};
 use dns_journal::{Journal, Position, State, Storage, StorageError, StoredFiles};
@@ -69,11 +70,12 @@ impl<'a> Stored<'a> {
         self,
         rt: &HostRuntime,
         server: &mut Server,
+        watch: &mut Watch,
         path: &str,
     ) -> Result<Journal<FileStorage<'a>>, Ending> {
         let Stored { storage, files } = self;
         let mut storage = storage;
-        let position = replay_journal(rt, &mut storage, &files, server, path)?;
+        let position = replay_journal(rt, &mut storage, &files, server, watch, path)?;
         drop(files);
         Ok(Journal { storage, position })
     }
@@ -88,8 +90,14 @@ fn open_with_journal<'a>(
 ) -> Result<DurableServer<FileStorage<'a>>, Ending> {
     let stored = Stored::read(rt, file, path)?;
     let mut server = server_of(rt, arguments, file, &stored.files)?;
-    let journal = stored.into_journal(rt, &mut server, path)?;
-    Ok(DurableServer { server, journal })
+    let mut watch = Watch::new(rt.alloc());
+    let journal = stored.into_journal(rt, &mut server, &mut watch, path)?;
+    let mut durable = DurableServer { server, journal };
+    if arguments.raises_serials {
+        // A crash may have come between the last updates and the rise of the serial number.
+        raise_with_journal(rt.alloc(), &mut durable, &watch)?;
+    }
+    Ok(durable)
 }
 
 /// Returns a server of the zone of files that were read. Standard error has a line for it.
@@ -119,19 +127,21 @@ fn stored_zone(
     zone_of(rt, file, text.as_str(), &[], arguments.origin.as_ref())
 }
 
-/// Opens the journal of files that were read, and serves its updates again. Standard error has a line for it.
+/// Opens the journal of files that were read, and serves its updates again, of which the last ones are watched. Standard error has a
+/// line for it.
 fn replay_journal(
     rt: &HostRuntime,
     storage: &mut FileStorage<'_>,
     files: &StoredFiles,
     server: &mut Server,
+    watch: &mut Watch,
     path: &str,
 ) -> Result<Position, Ending> {
     let Opened { updates, position } = match open_journal(storage, rt.alloc(), files) {
         Ok(opened) => opened,
         Err(error) => return Err(open_ending(rt, storage, path, error)),
     };
-    match replay(server, rt.alloc(), updates.as_slice()) {
+    match replay_watched(rt, server, watch, updates.as_slice()) {
         Ok(()) => {}
         // Memory for an update was refused.
         Err(ReplayError::Memory) => return Err(Ending::Memory),
@@ -140,6 +150,24 @@ fn replay_journal(
     // A failure to write to standard error can't be reported.
     let _written = eprintln!(rt; "{path}: {} entries", updates.len());
     Ok(position)
+}
+
+/// Serves the updates of a journal again, of which the last entry's are watched.
+fn replay_watched(
+    rt: &HostRuntime,
+    server: &mut Server,
+    watch: &mut Watch,
+    updates: &[&[u8]],
+) -> Result<(), ReplayError> {
+    let Some((last, others)) = updates.split_last() else {
+        return Ok(());
+    };
+    replay(server, rt.alloc(), others)?;
+    watch.add_frames(server.zones(), last)?;
+    match replay(server, rt.alloc(), &[*last]) {
+        Err(ReplayError::NotUpdates(_)) => Err(ReplayError::NotUpdates(updates.len())),
+        replayed => replayed,
+    }
 }
 
 /// Says why a journal is not opened.

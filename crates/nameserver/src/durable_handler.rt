@@ -1,13 +1,16 @@
 //! What the program does with requests, if there are keys or a journal.
 
 use crate::log_file::LogFile;
+use crate::notices::Notices;
+use crate::raises::{Watch, raise_with_journal};
+use crate::transfers::Transfers;
 use dns_durable::{CompactError, DurableServer, Incoming, Policy, Terms, is_update};
 use dns_faults::Delivery;
 use dns_journal::State;
 use dns_journal_files::FileStorage;
 use dns_nameserver::{Answered, is_accepted, road_of, updates_of};
 use dns_server::AddressList;
-use dns_sockets::{Handler, Request};
+use dns_sockets::{Handler, Milliseconds, Notice, Request};
 use dns_zone::DatagramLimit;
 use std::alloc::AllocError;
 use std::time::Clock;
@@ -25,6 +28,12 @@ pub(crate) struct DurableHandler<'a> {
     pub(crate) limit: DatagramLimit,
     /// The addresses from which updates are taken without a key.
     pub(crate) updaters: AddressList,
+    /// Whether serial numbers rise by themselves.
+    pub(crate) raises_serials: bool,
+    /// To whom zones are transferred.
+    pub(crate) transfers: Transfers,
+    /// The notifications of secondaries.
+    pub(crate) notices: Notices,
     /// The length of the journal from which on it is begun anew.
     pub(crate) journal_limit: usize,
     /// The log, if there is one.
@@ -40,6 +49,43 @@ impl Handler for DurableHandler<'_> {
     }
 
     fn handle(&mut self, requests: &[Request<'_>]) -> Result<Vec<Delivery>, AllocError> {
+        let watch = self.watch(requests)?;
+        let replies = self.respond(requests)?;
+        if replies.iter().any(|reply| is_update_made(reply)) {
+            // Without memory, the next change raises the serial number.
+            let _raised = raise_with_journal(self.rt.alloc(), &mut self.server, &watch);
+        }
+        self.tend_journal();
+        self.deliver(requests, replies)
+    }
+
+    fn transfer(
+        &mut self,
+        request: &Request<'_>,
+        is_busy: bool,
+    ) -> Result<Option<Vec<Vec<u8>>>, AllocError> {
+        let zones = self.server.server.zones();
+        let keys = self.policy.keys.as_slice();
+        self.transfers
+            .over_stream(self.rt, zones, keys, request, is_busy, &mut self.log)
+    }
+
+    fn take_response(&mut self, response: &Request<'_>) -> bool {
+        self.notices.take_response(response)
+    }
+
+    fn next_moment(&self) -> Option<Milliseconds> {
+        self.notices.next_moment()
+    }
+
+    fn next_notice(&mut self, now: Milliseconds) -> Option<Notice> {
+        self.notices.next_notice(self.rt, now)
+    }
+}
+
+impl DurableHandler<'_> {
+    /// Returns the replies to requests that arrived together.
+    fn respond(&mut self, requests: &[Request<'_>]) -> Result<Vec<Option<Vec<u8>>>, AllocError> {
         let mut terms = Vec::new(self.rt.alloc());
         for request in requests {
             terms.push(self.terms(request))?;
@@ -53,14 +99,21 @@ impl Handler for DurableHandler<'_> {
         }
         let replies = self
             .server
-            .respond_all(self.rt.alloc(), &self.policy, incoming.as_slice())?
-            .replies;
-        self.tend_journal();
-        self.deliver(requests, replies)
+            .respond_all(self.rt.alloc(), &self.policy, incoming.as_slice())?;
+        Ok(replies.replies)
     }
-}
 
-impl DurableHandler<'_> {
+    /// Copies what requests name, if serial numbers rise by themselves.
+    fn watch(&self, requests: &[Request<'_>]) -> Result<Watch, AllocError> {
+        let mut watch = Watch::new(self.rt.alloc());
+        if self.raises_serials {
+            for request in requests {
+                watch.add(self.server.server.zones(), request.bytes)?;
+            }
+        }
+        Ok(watch)
+    }
+
     /// Returns what decides on the reply to a request, beside its bytes.
     fn terms(&self, request: &Request<'_>) -> Terms {
         Terms {
@@ -78,18 +131,32 @@ impl DurableHandler<'_> {
         replies: Vec<Option<Vec<u8>>>,
     ) -> Result<Vec<Delivery>, AllocError> {
         let mut deliveries = Vec::new(self.rt.alloc());
+        let mut has_updated = false;
         for (request, reply) in requests.iter().zip(replies) {
-            deliveries.push(self.logged(request, reply))?;
+            let answered = self.logged(request, reply)?;
+            has_updated = has_updated || answered.has_updated;
+            deliveries.push(answered.delivery)?;
+        }
+        if let Some(last) = requests.last() {
+            if has_updated {
+                self.notices
+                    .follow(self.rt, self.server.server.zones(), last.moment);
+            }
         }
         Ok(deliveries)
     }
 
-    /// Logs a request with its reply, and returns what is sent.
-    fn logged(&mut self, request: &Request<'_>, reply: Option<Vec<u8>>) -> Delivery {
-        let has_updated = match &reply {
-            Some(bytes) => is_accepted(bytes.as_slice()),
-            None => false,
+    /// Logs a request with its reply, and returns what it leads to.
+    fn logged(
+        &mut self,
+        request: &Request<'_>,
+        reply: Option<Vec<u8>>,
+    ) -> Result<Answered, AllocError> {
+        let reply = match self.transferred(request)? {
+            Some(transferred) => Some(transferred),
+            None => reply,
         };
+        let has_updated = is_update_made(&reply);
         let answered = Answered {
             delivery: Delivery::plain(reply),
             line: None,
@@ -98,7 +165,16 @@ impl DurableHandler<'_> {
         if let Some(log) = &mut self.log {
             log.append_request(self.rt, request, &answered);
         }
-        answered.delivery
+        Ok(answered)
+    }
+
+    /// Returns the reply to a request for an incremental transfer in a datagram.
+    fn transferred(&self, request: &Request<'_>) -> Result<Option<Vec<u8>>, AllocError> {
+        let zones = self.server.server.zones();
+        let road = road_of(request.transport, self.limit);
+        let keys = self.policy.keys.as_slice();
+        self.transfers
+            .by_datagram(self.rt, zones, keys, request, road)
     }
 
     /// Lets the zone file take the place of a journal that is long, and tells the first failure on standard error.
@@ -140,5 +216,13 @@ impl DurableHandler<'_> {
                 "nameserver: journal: out of memory; updates are refused until a restart"
             ),
         };
+    }
+}
+
+/// Returns `true` for the reply to an update that was made.
+fn is_update_made(reply: &Option<Vec<u8>>) -> bool {
+    match reply {
+        Some(bytes) => is_accepted(bytes.as_slice()),
+        None => false,
     }
 }

@@ -1,9 +1,14 @@
 //! What the program does with requests, if it makes faults.
 
 use crate::log_file::LogFile;
+use crate::notices::Notices;
+use crate::raises::Watch;
+use crate::transfers::Transfers;
 use dns_faults::Delivery;
-use dns_nameserver::NameServer;
-use dns_sockets::{Handler, Request};
+use dns_nameserver::{Answered, NameServer, road_of};
+use dns_server::Updates;
+use dns_sockets::{Handler, Milliseconds, Notice, Request};
+use dns_zone::Road;
 use std::alloc::AllocError;
 
 /// Answers requests by a name server, and logs them.
@@ -13,6 +18,12 @@ pub(crate) struct LoggedServer<'a> {
     pub(crate) rt: &'a HostRuntime,
     /// The name server.
     pub(crate) server: NameServer,
+    /// Whether serial numbers rise by themselves.
+    pub(crate) raises_serials: bool,
+    /// To whom zones are transferred.
+    pub(crate) transfers: Transfers,
+    /// The notifications of secondaries.
+    pub(crate) notices: Notices,
     /// The log, if there is one.
     pub(crate) log: Option<LogFile>,
 }
@@ -30,20 +41,84 @@ impl Handler for LoggedServer<'_> {
         }
         Ok(deliveries)
     }
+
+    fn transfer(
+        &mut self,
+        request: &Request<'_>,
+        is_busy: bool,
+    ) -> Result<Option<Vec<Vec<u8>>>, AllocError> {
+        let zones = self.server.zones.server.zones();
+        self.transfers
+            .over_stream(self.rt, zones, &[], request, is_busy, &mut self.log)
+    }
+
+    fn take_response(&mut self, response: &Request<'_>) -> bool {
+        self.notices.take_response(response)
+    }
+
+    fn next_moment(&self) -> Option<Milliseconds> {
+        self.notices.next_moment()
+    }
+
+    fn next_notice(&mut self, now: Milliseconds) -> Option<Notice> {
+        self.notices.next_notice(self.rt, now)
+    }
 }
 
 impl LoggedServer<'_> {
     /// Answers a request, and logs it.
     fn answer(&mut self, request: &Request<'_>) -> Result<Delivery, AllocError> {
-        let answered = self.server.answer(
+        let watch = self.watch(request)?;
+        let answered = self.answered(request)?;
+        if let Some(log) = &mut self.log {
+            log.append_request(self.rt, request, &answered);
+        }
+        if answered.has_updated {
+            // Without memory, the next change raises the serial number.
+            let _raised = self.raise_serials(&watch);
+            self.notices
+                .follow(self.rt, self.server.zones.server.zones(), request.moment);
+        }
+        Ok(answered.delivery)
+    }
+
+    /// Copies what a request names, if serial numbers rise by themselves.
+    fn watch(&self, request: &Request<'_>) -> Result<Watch, AllocError> {
+        let mut watch = Watch::new(self.rt.alloc());
+        if self.raises_serials {
+            watch.add(self.server.zones.server.zones(), request.bytes)?;
+        }
+        Ok(watch)
+    }
+
+    /// Raises the serial numbers of the zones whose rows have changed, unless they have risen.
+    fn raise_serials(&mut self, watch: &Watch) -> Result<(), AllocError> {
+        let server = &mut self.server.zones.server;
+        for raise in watch.raises(server.zones())? {
+            let _reply = server.respond(raise.as_slice(), Road::Stream, Updates::Allowed)?;
+        }
+        Ok(())
+    }
+
+    /// Returns what a request leads to.
+    fn answered(&mut self, request: &Request<'_>) -> Result<Answered, AllocError> {
+        let zones = self.server.zones.server.zones();
+        let road = road_of(request.transport, self.server.limit);
+        if let Some(reply) = self
+            .transfers
+            .by_datagram(self.rt, zones, &[], request, road)?
+        {
+            return Ok(Answered {
+                delivery: Delivery::plain(Some(reply)),
+                line: None,
+                has_updated: false,
+            });
+        }
+        self.server.answer(
             self.rt.alloc(),
             request.bytes,
             request.peer.ip(),
             request.transport,
-        )?;
-        if let Some(log) = &mut self.log {
-            log.append_request(self.rt, request, &answered);
-        }
-        Ok(answered.delivery)
+        )
     }
 }

@@ -16,7 +16,10 @@ mod files;
 mod handler;
 mod includes;
 mod log_file;
+mod notices;
 mod policy;
+mod raises;
+mod transfers;
 mod zones;
 
 use crate::arguments::{Arguments, read_arguments};
@@ -26,7 +29,9 @@ use crate::ending::Ending;
 use crate::files::{read_file, text_of};
 use crate::handler::LoggedServer;
 use crate::log_file::LogFile;
+use crate::notices::Notices;
 use crate::policy::read_policy;
+use crate::transfers::Transfers;
 use crate::zones::{read_former, read_zones};
 use dns_durable::DurableServer;
 use dns_fault_rules::{FaultTable, Service as FaultService};
@@ -35,6 +40,7 @@ use dns_journal_files::FileStorage;
 use dns_nameserver::{NameServer, ZoneServer};
 use dns_server::AddressList;
 use dns_sockets::Service;
+use dns_zone_service::Answering;
 use std::process::ExitCode;
 use std::{env, io};
 
@@ -70,11 +76,28 @@ fn run_program(rt: &HostRuntime) -> Result<(), Ending> {
 /// Serves zones, some requests by faults on demand.
 fn run_with_faults(rt: &HostRuntime, arguments: Arguments) -> Result<(), Ending> {
     let until = arguments.until;
+    let raises_serials = arguments.raises_serials;
+    let are_offered = offers_transfers(&arguments);
     let log = open_log(rt, &arguments)?;
     let mut server = name_server(rt, &arguments)?;
     let mut service = open_service(rt, &arguments)?;
-    server.updaters = arguments.into_updaters();
-    let mut handler = LoggedServer { rt, server, log };
+    let notices = Notices::new(rt, server.zones.server.zones(), arguments.notify.as_slice())?;
+    let (updaters, secondaries) = arguments.into_lists();
+    server.updaters = updaters;
+    let transfers = Transfers {
+        are_offered,
+        secondaries,
+    };
+    // The zones from before the last update would be those from before the rise.
+    let raises_serials = raises_serials && server.zones.former.is_none();
+    let mut handler = LoggedServer {
+        rt,
+        server,
+        raises_serials,
+        transfers,
+        notices,
+        log,
+    };
     match service.run(rt, &mut handler, until) {
         Ok(()) => Ok(()),
         Err(error) => Err(Ending::Failed(error)),
@@ -101,8 +124,14 @@ fn run_durable(rt: &HostRuntime, arguments: Arguments) -> Result<(), Ending> {
     }
     let mut handler = handler_of(rt, &arguments, server)?;
     let until = arguments.until;
+    let are_offered = offers_transfers(&arguments);
     let mut service = open_service(rt, &arguments)?;
-    handler.updaters = arguments.into_updaters();
+    let (updaters, secondaries) = arguments.into_lists();
+    handler.updaters = updaters;
+    handler.transfers = Transfers {
+        are_offered,
+        secondaries,
+    };
     match service.run(rt, &mut handler, until) {
         Ok(()) => Ok(()),
         Err(error) => Err(Ending::Failed(error)),
@@ -117,12 +146,19 @@ fn handler_of<'a>(
 ) -> Result<DurableHandler<'a>, Ending> {
     let policy = read_policy(rt, arguments)?;
     let log = open_log(rt, arguments)?;
+    let notices = Notices::new(rt, server.server.zones(), arguments.notify.as_slice())?;
     Ok(DurableHandler {
         rt,
         server,
         policy,
         limit: arguments.limit,
         updaters: AddressList::new(rt.alloc()),
+        raises_serials: arguments.raises_serials,
+        transfers: Transfers {
+            are_offered: offers_transfers(arguments),
+            secondaries: AddressList::new(rt.alloc()),
+        },
+        notices,
         journal_limit: arguments.durable.journal_limit,
         log,
         has_failed: false,
@@ -153,6 +189,14 @@ fn zone_server(
 /// Returns `true` if a rule answers by the rows from before the last update.
 fn has_stale(faults: &FaultTable) -> bool {
     faults.rules().iter().any(|counted| matches!(counted.rule.fault.service, FaultService::Stale))
+}
+
+/// Returns `true` if transfers are offered: not if each question is answered by its zone alone.
+fn offers_transfers(arguments: &Arguments) -> bool {
+    match arguments.answering {
+        Answering::Plain => false,
+        Answering::Whole(_) => true,
+    }
 }
 
 /// Returns the arguments of the program.

@@ -1,0 +1,4 @@
+pub mod Request
+pub mod Incremental
+pub mod Signing
+pub mod Reply

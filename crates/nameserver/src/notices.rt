@@ -1,0 +1,110 @@
+//! Notifications of secondaries.
+
+use dns_names::Name;
+use dns_notifier::{Follower, Notifier, Retries};
+use dns_sockets::{Milliseconds, Notice, Request};
+use dns_wire::RecordType;
+use dns_zone::Zone;
+use std::alloc::AllocError;
+use std::net::SocketAddr;
+use std::random::RandomSource;
+
+/// How often a notification is repeated: after 1, 2, 4, 8, 16, 32 and 60 seconds.
+const RETRIES: Retries = Retries {
+    copies: 8,
+    first_interval: 1_000,
+    max_interval: 60_000,
+};
+
+/// The secondaries, and what they are notified of: a follower for each zone, or none if there are no secondaries.
+#[derive(Drop)]
+pub(crate) struct Notices {
+    followers: Vec<Follower>,
+}
+
+impl Notices {
+    /// Creates the notifications of zones. The secondaries are notified of each zone at once.
+    pub(crate) fn new(
+        rt: &HostRuntime,
+        zones: &[Zone],
+        secondaries: &[SocketAddr],
+    ) -> Result<Notices, AllocError> {
+        let mut followers = Vec::new(rt.alloc());
+        if !secondaries.is_empty() {
+            for zone in zones {
+                followers.push(follower_of(rt, zone.origin(), secondaries)?)?;
+            }
+        }
+        let mut notices = Notices { followers };
+        notices.follow(rt, zones, 0);
+        Ok(notices)
+    }
+
+    /// Notifies the secondaries of the zones that have another serial number than before. Without memory or random bytes, the next
+    /// call does.
+    pub(crate) fn follow(&mut self, rt: &HostRuntime, zones: &[Zone], now: Milliseconds) {
+        for (follower, zone) in self.followers.as_mut_slice().iter_mut().zip(zones) {
+            if let Some(start) = zone.records_at(zone.origin(), RecordType::SOA).first() {
+                if let Some(id) = random_id(rt) {
+                    let _followed = follower.follow(id, start, now);
+                }
+            }
+        }
+    }
+
+    /// Takes a response to a notification. Returns `false` if it is none that was expected.
+    pub(crate) fn take_response(&mut self, response: &Request<'_>) -> bool {
+        for follower in self.followers.as_mut_slice() {
+            if follower.notifier.receive(response.bytes, response.peer) == Ok(true) {
+                return true;
+            }
+        }
+        false
+    }
+
+    /// Returns the earliest moment at which a notification is due.
+    pub(crate) fn next_moment(&self) -> Option<Milliseconds> {
+        let mut first: Option<Milliseconds> = None;
+        for follower in self.followers.as_slice() {
+            first = match (first, follower.notifier.next_moment()) {
+                (Some(first), Some(moment)) => Some(first.min(moment)),
+                (None, moment) => moment,
+                (first, None) => first,
+            };
+        }
+        first
+    }
+
+    /// Returns the next notification that is due. Without memory, it is lost, as any datagram may be.
+    pub(crate) fn next_notice(&mut self, rt: &HostRuntime, now: Milliseconds) -> Option<Notice> {
+        for follower in self.followers.as_mut_slice() {
+            if let Some(peer) = follower.notifier.next_due(now) {
+                let bytes = Vec::from_slice(rt.alloc(), follower.notifier.message()).ok()?;
+                return Some(Notice { peer, bytes });
+            }
+        }
+        None
+    }
+}
+
+/// Creates the follower of a zone.
+fn follower_of(
+    rt: &HostRuntime,
+    origin: &Name,
+    secondaries: &[SocketAddr],
+) -> Result<Follower, AllocError> {
+    let mut notifier = Notifier::new(rt.alloc(), origin.clone()?, RETRIES);
+    for secondary in secondaries {
+        notifier.add(*secondary)?;
+    }
+    Ok(Follower::new(notifier))
+}
+
+/// Draws an id at random (RFC 5452 section 9.2).
+fn random_id(rt: &HostRuntime) -> Option<u16> {
+    let mut bytes = [0u8; 2];
+    match rt.fill_bytes(&mut bytes) {
+        Ok(()) => Some(u16::from_be_bytes(bytes)),
+        Err(_) => None,
+    }
+}

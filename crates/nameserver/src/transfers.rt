@@ -1,0 +1,97 @@
+//! Transfers of zones.
+
+use crate::log_file::LogFile;
+use dns_faults::Delivery;
+use dns_nameserver::Answered;
+use dns_server::AddressList;
+use dns_sockets::{Request, Transport};
+use dns_transfer_replies::{Terms, may_ask_by_datagram, transfer_reply};
+use dns_tsig::Key;
+use dns_zone::{Road, Zone};
+use std::alloc::AllocError;
+use std::time::Clock;
+
+/// To whom zones are transferred.
+#[derive(Drop)]
+pub(crate) struct Transfers {
+    /// Whether transfers are offered. If not, requests for them are questions like any others.
+    pub(crate) are_offered: bool,
+    /// The addresses to which zones are transferred.
+    pub(crate) secondaries: AddressList,
+}
+
+impl Transfers {
+    /// Returns the messages of the reply to a request for a transfer over a stream, and logs it. While many transfers wait to be
+    /// written, a further one is refused.
+    pub(crate) fn over_stream(
+        &self,
+        rt: &HostRuntime,
+        zones: &[Zone],
+        keys: &[Key],
+        request: &Request<'_>,
+        is_busy: bool,
+        log: &mut Option<LogFile>,
+    ) -> Result<Option<Vec<Vec<u8>>>, AllocError> {
+        if !self.are_offered {
+            return Ok(None);
+        }
+        let is_permitted = !is_busy && self.secondaries.contains(request.peer.ip());
+        let terms = terms(rt, Road::Stream, is_permitted);
+        let found = transfer_reply(rt.alloc(), zones, keys, request.bytes, &terms)?;
+        if let (Some(messages), Some(log)) = (&found, log) {
+            log_first(rt, log, request, messages.as_slice())?;
+        }
+        Ok(found)
+    }
+
+    /// Returns the reply to a request for an incremental transfer in a datagram.
+    pub(crate) fn by_datagram(
+        &self,
+        rt: &HostRuntime,
+        zones: &[Zone],
+        keys: &[Key],
+        request: &Request<'_>,
+        road: Road,
+    ) -> Result<Option<Vec<u8>>, AllocError> {
+        let may_ask = request.transport == Transport::Datagram
+            && may_ask_by_datagram(request.bytes);
+        if !self.are_offered || !may_ask {
+            return Ok(None);
+        }
+        let terms = terms(rt, road, self.secondaries.contains(request.peer.ip()));
+        match transfer_reply(rt.alloc(), zones, keys, request.bytes, &terms)? {
+            Some(mut messages) => Ok(messages.pop()),
+            None => Ok(None),
+        }
+    }
+}
+
+/// Returns what decides on the reply to a request for a transfer.
+fn terms(rt: &HostRuntime, road: Road, is_permitted: bool) -> Terms {
+    Terms {
+        road,
+        is_permitted,
+        // Without a clock, no signature is in time.
+        time: rt.since_1970().map_or(0, |time| time.as_secs()),
+    }
+}
+
+/// Logs a request with the first message of its reply.
+fn log_first(
+    rt: &HostRuntime,
+    log: &mut LogFile,
+    request: &Request<'_>,
+    messages: &[Vec<u8>],
+) -> Result<(), AllocError> {
+    let first = match messages.first() {
+        Some(message) => Some(message.clone()?),
+        None => None,
+    };
+    let answered = Answered {
+        delivery: Delivery::plain(first),
+        line: None,
+        has_updated: false,
+    };
+    log.append_request(rt, request, &answered);
+    Ok(())
+}
