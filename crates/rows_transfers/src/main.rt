@@ -1,11 +1,13 @@
 //! `rows_transfers FILE..`: tries each row of the files, as the library `rows` describes, on zone transfers and notifications.
 //!
 //! - `operation`: the operations by their words;
-//! - `transferring`: transfers of whole zones; `notifying`: notifications of secondaries, and serial numbers.
+//! - `transferring`: transfers of zones; `notifying`: notifications of secondaries, and serial numbers; `raising`: serial numbers that
+//!   rise with updates.
 #![tactic(auto)]
 
 mod notifying;
 mod operation;
+mod raising;
 mod transferring;
 
 use rows::{Answer, Notation, Operations};

@@ -1,6 +1,7 @@
 //! Notifications of secondaries, and serial numbers.
 
-use dns_notifier::{Notifier, Retries};
+use dns_names::Name;
+use dns_notifier::{Follower, Notifier, Retries};
 use dns_serials::serial_after;
 use dns_wire::RecordType;
 use dns_zone::Zone;
@@ -77,6 +78,33 @@ pub(crate) fn response(alloc: Global, input: &str) -> Answer {
     let mut shown = String::new(alloc);
     write!(shown, "{was_expected} {}", notifier.next_moment().is_some())?;
     Ok(shown)
+}
+
+/// `follow TEXT || TEXT..`: whether each of some versions of a zone is announced, one after another.
+pub(crate) fn followed(alloc: Global, input: &str) -> Answer {
+    let retries = Retries {
+        copies: 1,
+        first_interval: 0,
+        max_interval: 0,
+    };
+    let mut follower = Follower::new(Notifier::new(alloc, Name::root(alloc), retries));
+    let mut shown = String::new(alloc);
+    for text in input.split(" || ") {
+        let is_new = is_announced(alloc, &mut follower, text)?;
+        write!(shown, "{is_new} ")?;
+    }
+    Ok(shown)
+}
+
+/// Whether the version of a zone of a text is announced.
+fn is_announced(alloc: Global, follower: &mut Follower, text: &str) -> Result<bool, RowFault> {
+    let Ok(zone) = Zone::from_text_with(alloc, text, &[], None, Types::All) else {
+        return Err(RowFault::Lacks("a zone"));
+    };
+    let [start] = zone.records_at(zone.origin(), RecordType::SOA) else {
+        return Err(RowFault::Lacks("an SOA record"));
+    };
+    Ok(follower.follow(ID, start, 0)?)
 }
 
 /// `serial BEFORE AFTER`: the serial number after a change.

@@ -1,6 +1,7 @@
 //! Transfers of whole zones.
 
-use dns_zone::{Road, Zone};
+use dns_transfer_replies::{Terms, may_ask_by_datagram, transfer_reply};
+use dns_zone::{DatagramLimit, Road, Zone};
 use dns_zone_file::Types;
 use dns_zone_transfers::transfer;
 use rows::{Answer, RowFault, bytes_of, digits_of, split};
@@ -49,6 +50,59 @@ pub(crate) fn wide_sent(alloc: Global, input: &str) -> Answer {
     }
     let mut shown = String::new(alloc);
     write!(shown, "{messages_len} {records_len}")?;
+    Ok(shown)
+}
+
+/// `ixfr HEX || TEXT`: the messages that reply to a request for an incremental transfer, over a stream and with leave, if the server
+/// has the zone of a text.
+pub(crate) fn incremental_sent(alloc: Global, input: &str) -> Answer {
+    incremental(alloc, input, Road::Stream, true)
+}
+
+/// `refused HEX || TEXT`: the same without leave.
+pub(crate) fn incremental_refused(alloc: Global, input: &str) -> Answer {
+    incremental(alloc, input, Road::Stream, false)
+}
+
+/// `datagram LIMIT HEX || TEXT`: the same with leave, in a datagram of so many bytes at most.
+pub(crate) fn incremental_datagram(alloc: Global, input: &str) -> Answer {
+    let (limit, input) = split(input, " ", "a limit and an input")?;
+    match limit.parse::<u16>() {
+        Ok(limit) => match DatagramLimit::new(limit) {
+            Ok(limit) => incremental(alloc, input, Road::Datagram(limit), true),
+            Err(_) => Err(RowFault::Lacks("a limit")),
+        },
+        Err(_) => Err(RowFault::Lacks("a limit")),
+    }
+}
+
+/// The messages that reply to a request, after the word that says whether its header is one of an incremental transfer.
+fn incremental(alloc: Global, input: &str, road: Road, is_permitted: bool) -> Answer {
+    let (digits, text) = split(input, " || ", "a request and a zone")?;
+    let bytes = bytes_of(alloc, digits)?;
+    let Ok(zone) = Zone::from_text_with(alloc, text, &[], None, Types::All) else {
+        return Err(RowFault::Lacks("a zone"));
+    };
+    let zones = Vec::from_array(alloc, [zone])?;
+    let terms = Terms {
+        road,
+        is_permitted,
+        time: 0,
+    };
+    let mut shown = String::new(alloc);
+    write!(shown, "{}", may_ask_by_datagram(bytes.as_slice()))?;
+    if let Some(messages) = transfer_reply(
+        alloc,
+        zones.as_slice(),
+        &[],
+        bytes.as_slice(),
+        &terms,
+    )? {
+        for message in messages {
+            let digits = digits_of(alloc, message.as_slice())?;
+            write!(shown, " {digits}")?;
+        }
+    }
     Ok(shown)
 }
 
