@@ -10,16 +10,26 @@ use stub_config::{DnsRequestOptions, ResolverOpts};
 /// The capacity of a cache whose settings have none.
 const CAPACITY: u64 = 32;
 
-/// The cache of settings: `capacity:NUMBER`, and the bounds of TTLs.
+/// The cache of settings: `capacity:NUMBER`, `stamps:NUMBER` for how many insertions there are before its entries are numbered
+/// from 0 again, and the bounds of TTLs.
 pub(crate) fn cache_of(alloc: Global, settings: &str) -> Result<ResponseCache, RowFault> {
-    let mut capacity = CAPACITY;
+    let capacity = number_in(settings, "capacity", CAPACITY)?;
+    let stamps = number_in(settings, "stamps", u64::MAX)?;
+    let config = config_of(alloc, settings)?;
+    Ok(ResponseCache::with_stamp_limit(alloc, capacity, config, stamps))
+}
+
+/// The number of the word `NAME:NUMBER` of settings, or the default one.
+fn number_in(settings: &str, name: &str, default: u64) -> Result<u64, RowFault> {
+    let mut found = default;
     for word in settings.split(' ') {
-        if let Some(("capacity", number)) = word.split_once(':') {
-            capacity = parsed::<u64>(number)?;
+        if let Some((left, number)) = word.split_once(':')
+            && left == name
+        {
+            found = parsed::<u64>(number)?;
         }
     }
-    let config = config_of(alloc, settings)?;
-    Ok(ResponseCache::new(alloc, capacity, config))
+    Ok(found)
 }
 
 /// The bounds of TTLs of settings: `bounds:BOUNDS`, or `opts:BOUNDS` as the options of a resolver set them, and behind these
@@ -35,7 +45,7 @@ pub(crate) fn config_of(alloc: Global, settings: &str) -> Result<TtlConfig, RowF
 /// Sets the bounds of TTLs that a word names. Other words set none.
 fn set_config(alloc: Global, config: &mut TtlConfig, word: &str) -> Result<(), RowFault> {
     match word.split_once(':') {
-        None | Some(("capacity", _)) => {}
+        None | Some(("capacity" | "stamps", _)) => {}
         Some(("bounds", bounds)) => *config = TtlConfig::from(alloc, bounds_of(bounds)?),
         Some(("opts", bounds)) => *config = config_of_opts(alloc, bounds)?,
         Some((kind, bounds)) => {
