@@ -2,11 +2,11 @@
 import contextlib
 import os
 import shutil
-import subprocess
 import tempfile
 from pathlib import Path
 
 from crates import lines_of, parts_of
+from processes import start_apart
 
 # What commands leave in a crate, and what they try on copies of it.
 LEFT_OUT = ("out", "must-fail", "wrong-bodies")
@@ -32,7 +32,7 @@ def folder_for_a_while(prefix):
     try:
         yield room
     except BaseException:
-        subprocess.Popen(["rm", "-rf", "--", room], start_new_session=True, stdin=subprocess.DEVNULL, stdout=subprocess.DEVNULL, stderr=subprocess.DEVNULL)
+        start_apart(["rm", "-rf", "--", room])
         raise
     shutil.rmtree(room, ignore_errors=True)
 

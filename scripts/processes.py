@@ -25,8 +25,22 @@ class Told(Exception):
 
 def start(words, **how):
     """Starts a command in a session of its own, which no signal of the terminal reaches."""
-    ctypes.CDLL(None).prctl(PR_SET_CHILD_SUBREAPER, 1, 0, 0, 0)
+    adopt_orphans(True)
     return subprocess.Popen(words, start_new_session=True, stdin=subprocess.DEVNULL, **how)
+
+
+def start_apart(words):
+    """Starts a command that goes on when this program ends all that it started."""
+    # It becomes an orphan at once, which is no child of this process.
+    adopt_orphans(False)
+    silent = dict.fromkeys(("stdin", "stdout", "stderr"), subprocess.DEVNULL)
+    subprocess.run(["setsid", "--fork", *words], **silent)
+    adopt_orphans(True)
+
+
+def adopt_orphans(adopts):
+    """Makes the orphans of what this process started its children, or those of its parents."""
+    ctypes.CDLL(None).prctl(PR_SET_CHILD_SUBREAPER, int(adopts), 0, 0, 0)
 
 
 def output_of(words):
