@@ -14,8 +14,8 @@
 # nameserver_start ARGUMENT..
 #
 # Starts the program with these arguments, mostly a zone file, and waits until it can be asked. Sets NAMESERVER_ADDRESS,
-# NAMESERVER_PORT and NAMESERVER_LOG, the path of the log. The limit is NAMESERVER_SECONDS, 10 unless it is set. If the server
-# does not start, prints why and returns 1.
+# NAMESERVER_PORT and NAMESERVER_LOG, the path of the log. The limit is NAMESERVER_SECONDS, 10 unless it is set; while the
+# front of a checkout compiles the program, it does not count. If the server does not start, prints why and returns 1.
 nameserver_start() {
     if [ -n "${NAMESERVER_FOLDER:-}" ]; then
         echo "nameserver_start: there is a server already" >&2
@@ -28,18 +28,33 @@ nameserver_start() {
         <"$NAMESERVER_FOLDER/stdin" >"$NAMESERVER_FOLDER/stdout" 2>"$NAMESERVER_FOLDER/stderr" &
     NAMESERVER_PID=$!
     exec 9>"$NAMESERVER_FOLDER/stdin"
-    nameserver_end_of_wait=$(($(date +%s) + ${NAMESERVER_SECONDS:-10}))
+    nameserver_begin_wait
     until nameserver_read_address; do
         if ! kill -0 "$NAMESERVER_PID" 2>/dev/null; then
             nameserver_give_up "ended before it could be asked"
             return 1
         fi
-        if [ "$(date +%s)" -gt "$nameserver_end_of_wait" ]; then
+        if nameserver_is_compiling; then
+            nameserver_begin_wait
+        elif [ "$(date +%s)" -gt "$nameserver_end_of_wait" ]; then
             nameserver_give_up "printed no address in time"
             return 1
         fi
         nameserver_pause
     done
+}
+
+# Sets the end of the time in which the server has to start.
+nameserver_begin_wait() {
+    nameserver_end_of_wait=$(($(date +%s) + ${NAMESERVER_SECONDS:-10}))
+}
+
+# Whether the front of a checkout is compiling the program.
+nameserver_is_compiling() {
+    case $(tail -n 1 "$NAMESERVER_FOLDER/stderr" 2>/dev/null) in
+    *": compiling"* | *": waiting for another start"*) return 0 ;;
+    *) return 1 ;;
+    esac
 }
 
 # Prints why a server did not start, and ends it.
