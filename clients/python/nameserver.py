@@ -207,11 +207,12 @@ class NameServer:
 def find_program(given=None):
     """The path of the program, and how long it may take to start, in seconds."""
     front = Path(__file__).resolve().parent.parent.parent / "nameserver"
-    if given or os.environ.get("NAMESERVER"):
-        return os.fspath(given or os.environ["NAMESERVER"]), START_LIMIT
-    if os.access(front, os.X_OK):
-        return str(front), COMPILE_LIMIT
-    found = shutil.which("nameserver")
-    if found:
-        return found, START_LIMIT
-    raise NameServerError("no nameserver: pass `program`, or set NAMESERVER, or copy it to the PATH")
+    found = given or os.environ.get("NAMESERVER") or (front if os.access(front, os.X_OK) else shutil.which("nameserver"))
+    if not found:
+        raise NameServerError("no nameserver: pass `program`, or set NAMESERVER, or copy it to the PATH")
+    return os.fspath(found), COMPILE_LIMIT if is_front(found) else START_LIMIT
+
+
+def is_front(program):
+    """Whether a program is the front of a checkout, which may have to compile it."""
+    return (Path(program).resolve().parent / "scripts" / "run_program.py").is_file()
