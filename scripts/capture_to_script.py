@@ -11,8 +11,9 @@ Each FILE, or standard input, is one of these, and the script goes to standard o
                    unless given, and `-x ADDRESS` is the question for the name of an address. '#' and ';' begin comments
     a log          of BIND's queries, or of `nameserver --log`
 
-Moments are whole seconds from the first message on; those of a list are its own, or else that of the line before. N is the
-port of the servers, 53 unless given. With --losses, a question of a capture to which no reply came is lost in the script, too.
+Moments are whole seconds from the first message on; those of a list are its own, or else that of the line before, and those of
+`nameserver --log` begin with the server. N is the port of the servers, 53 unless given. With --losses, a question of a capture
+to which no reply came is lost in the script, too.
 What a script cannot say becomes a comment, such as a question of another class, or an update with several prerequisites.
 
 The status is 0, 1 if a file cannot be read or has no question, and 2 for wrong arguments.
