@@ -1,1 +1,2 @@
+mod LookupLaws
 mod ReplayLaws

@@ -1,13 +1,11 @@
 -- The exchange for one question.
-use Rattle.std.specs.Prelude.{◌≡◌, ◌==◌, ◌++◌, if◌then◌else◌, max, false, List, [], ◌∷◌, ℕ, Option, Some, None, Result}
-use Rattle.dns_messages.specs.declared.query.Query.{Query}
+use Rattle.std.specs.Prelude.{◌≡◌, ◌==◌, ◌++◌, if◌then◌else◌, max, false, List, [], ◌∷◌, ℕ, Option, Some, None}
 use Rattle.stub_client.specs.Handle.{Outcome}
 use Rattle.stub_client.specs.Request.{request_of}
 use Rattle.stub_servers.specs.Servers.{Servers}
 use Rattle.stub_net.specs.Ids.{DrawsFirst}
 use Rattle.stub_net.specs.Network.{NetworkCalls, network_calls}
 use Rattle.stub_net.specs.Pool.{Gives}
-use Rattle.stub_net.specs.Try.{first_counts}
 use Rattle.stub_net.specs.declared.pool.NameServerPool.{NameServerPool}
 use Rattle.api_resolver.specs.Replay.{ReadsClock, Receives, ReplayState, Sends, Streams, first_replay}
 use Rattle.api_resolver.specs.declared.event.Event.{Event}

@@ -30,6 +30,7 @@ impl Operations for NetOperations {
             "attempts" => resolv_conf::attempts(alloc, input),
             "schedule" => schedules::schedule(alloc, input),
             "update" => schedules::update(alloc, input),
+            "steps" => schedules::steps(alloc, input),
             "line" => updates::line(alloc, input),
             "update-text" => updates::update(alloc, input, Types::Nine),
             "update-text-all" => updates::update(alloc, input, Types::All),

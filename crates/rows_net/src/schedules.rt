@@ -1,9 +1,10 @@
 //! Schedules: which servers a handle over a network asks, and when, and what it returns.
 //!
-//! - `pool`: the handle of a row; `event`: the events of its script.
+//! - `pool`: the handle of a row; `event`: the events of its script; `steps`: the same as steps of a resolver.
 
 mod event;
 mod pool;
+mod steps;
 
 use dns_messages::{DnsResponse, Message, MessageType, OpCode};
 use event::{Request, push_events};
@@ -13,6 +14,7 @@ use rows_text::{error_text, question_of};
 use std::alloc::{AllocError, Global};
 use std::fmt::Write;
 use std::net::{IpAddr, SocketAddr};
+pub(crate) use steps::steps;
 use stub_client::{DnsHandle, DnsRequest};
 use stub_config::{DnsRequestOptions, Protocol};
 use stub_link::UpdateEvent;

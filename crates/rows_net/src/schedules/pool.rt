@@ -14,8 +14,8 @@ pub(crate) type Pool = NameServerPool<ScriptedNetwork, ListedIds>;
 const IDS: u16 = 99;
 
 /// What the settings of a row say.
-struct Settings {
-    options: Box<ResolverOpts>,
+pub(crate) struct Settings {
+    pub(crate) options: Box<ResolverOpts>,
     ids: u16,
     streams_alone: bool,
 }
@@ -31,6 +31,18 @@ impl Drop for Settings {
     }
 }
 
+impl Settings {
+    /// The options, whatever else is set.
+    pub(crate) fn into_options(self) -> Box<ResolverOpts> {
+        let Settings {
+            options,
+            ids: _ids,
+            streams_alone: _streams_alone,
+        } = self;
+        options
+    }
+}
+
 /// The handle of settings and servers, over a network with these events.
 ///
 /// The settings are words: `timeout:N` in seconds, `attempts:N`, `rotate`, `streams` for streams alone, and `ids:N` for
@@ -42,7 +54,8 @@ pub(crate) fn pool_of(
     events: Vec<TimedEvent>,
 ) -> Result<Box<Pool>, RowFault> {
     let settings = settings_of(alloc, settings)?;
-    let servers = servers_of(alloc, servers, &settings.options)?;
+    let config = config_of(alloc, servers)?;
+    let servers = ServerList::from_config(alloc, &config, &settings.options)?;
     let ids = ListedIds::new(ids_up_to(alloc, settings.ids)?);
     let network = ScriptedNetwork::new(alloc, events);
     let pool = NameServerPool::new(alloc, network, ids, servers, &settings.options);
@@ -63,7 +76,7 @@ fn ids_up_to(alloc: Global, last: u16) -> Result<Vec<u16>, RowFault> {
 }
 
 /// What words set.
-fn settings_of(alloc: Global, text: &str) -> Result<Settings, RowFault> {
+pub(crate) fn settings_of(alloc: Global, text: &str) -> Result<Settings, RowFault> {
     let mut settings = Settings {
         options: Box::new(alloc, ResolverOpts::default(alloc))?,
         ids: IDS,
@@ -100,16 +113,15 @@ fn set_flag(settings: &mut Settings, word: &str) -> Result<(), RowFault> {
     Ok(())
 }
 
-/// The servers that commas part. `-` is no server.
-fn servers_of(alloc: Global, text: &str, options: &ResolverOpts) -> Result<ServerList, RowFault> {
+/// The configuration with the servers that commas part. `-` is no server.
+pub(crate) fn config_of(alloc: Global, text: &str) -> Result<ResolverConfig, RowFault> {
     let mut servers = Vec::new(alloc);
     for word in text.split(',') {
         if word != "-" {
             servers.push(server_of(alloc, word)?)?;
         }
     }
-    let config = ResolverConfig::from_name_servers(alloc, servers);
-    Ok(ServerList::from_config(alloc, &config, options)?)
+    Ok(ResolverConfig::from_name_servers(alloc, servers))
 }
 
 /// The server of a number, which is asked over UDP and TCP, or of a number and `/udp`, `/tcp` or, if its negative
