@@ -1,8 +1,8 @@
 //! The messages of an incremental transfer (RFC 1995 section 4).
 
-ghost use Rattle.std.specs.Prelude.{◌≡◌, ◌≤◌, length, map, IfOk};
+ghost use Rattle.std.specs.Prelude.{◌≡◌, ◌≤◌, length, map, Err, IfOk};
 ghost use Rattle.dns_difference_transfers.specs.DifferenceRecords.{incremental_records, remaining};
-ghost use Rattle.dns_difference_transfers.specs.Messages.{soa_records, SendsDifferences};
+ghost use Rattle.dns_difference_transfers.specs.Messages.{soa_records, CannotSendDifferences, SendsDifferences};
 
 use crate::difference_records::DifferenceRecords;
 use dns_differences::Difference;
@@ -26,8 +26,10 @@ pub fn incremental_transfer(
     request: &Message,
 ) -> Result<Vec<Vec<u8>>, TransferError>
     requires { length request.now.queries ≤ 1 }
-    ensures { IfOk result (λ messages. SendsDifferences zone.now differences.now request.now
-        (map (λ bytes. bytes.items) messages.items)) }
+    ensures messages { IfOk result (λ messages. SendsDifferences zone.now differences.now
+        request.now (map (λ bytes. bytes.items) messages.items)) }
+    ensures too_long { result ≡ Err TransferError.TooLong
+        → CannotSendDifferences zone.now differences.now request.now }
 {
     let transfer = Transfer::new(alloc, request, records_of(zone, differences));
     transfer.into_messages()

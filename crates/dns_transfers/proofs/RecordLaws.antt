@@ -1,7 +1,7 @@
 -- Records that are taken from a source, up to the first that has no room.
-use Rattle.std.proofs.Common.{◌≡◌, ◌<◌, ◌≤◌, ◌+◌, ◌-◌, ◌∙◌, ℕ, Bool, true, false, cond, ltb, List, [], ◌∷◌, ◌++◌, map, length, refl, sym, ap, subst, arith, Option, Some, None, option_map}
+use Rattle.std.proofs.Common.{◌≡◌, ◌<◌, ◌≤◌, ◌+◌, ◌-◌, ◌∙◌, ℕ, Bool, true, false, cond, ltb, List, [], ◌∷◌, ◌++◌, map, length, refl, sym, ap, arith, Option, Some, None, option_map}
 use Rattle.std.proofs.lemmas.Bool.{lt-ltb, le-ltb, ltb-false}
-use Rattle.std.proofs.lemmas.List.{append_assoc, append-nil, map-append, length-map}
+use Rattle.std.proofs.lemmas.List.{append_assoc, append-nil, map-append}
 use Rattle.dns_messages.specs.Cut.{items_len, listed, record_item}
 use Rattle.dns_records.specs.Record.{Record}
 use Rattle.dns_soundness.specs.Size.{record_len}

@@ -1,5 +1,5 @@
 -- Messages that are made one after another have all records.
-use Rattle.std.proofs.Common.{◌≡◌, ◌==◌, ◌<◌, ◌+◌, ◌-◌, ◌∙◌, ℕ, Bool, true, false, List, [], ◌∷◌, ◌++◌, flat_map, map, length, refl, sym, ap, subst, arith, length-append, Option, Some, None}
+use Rattle.std.proofs.Common.{◌≡◌, ◌==◌, ◌<◌, ◌+◌, ◌-◌, ◌∙◌, ℕ, Bool, false, List, [], ◌∷◌, ◌++◌, flat_map, map, length, sym, ap, subst, arith, length-append, Option, Some, None, Result, Ok, Err}
 use Rattle.std.proofs.lemmas.Bool.Decides.{nat_tests}
 use Rattle.std.proofs.lemmas.List.{append_assoc, append-nil, length-map}
 use Rattle.std.specs.List.{AllByRecursion}
@@ -12,7 +12,7 @@ use Rattle.dns_records.specs.Record.{Record}
 use Rattle.dns_transfers.specs.declared.lent_record.LentRecord.{LentRecord}
 use Rattle.dns_transfers.specs.Message.{with_answers}
 use Rattle.dns_transfers.specs.Records.{front, lent_record}
-use Rattle.dns_transfers.specs.Sending.{Sending, next_records, room_of, start, AreRead, IsStuck, Sends, SendsAll, SendsNext}
+use Rattle.dns_transfers.specs.Sending.{Sending, next_records, room_of, start, AreRead, CannotSend, GetsStuck, IsStuck, Sends, SendsAll, SendsNext}
 use Rattle.dns_transfers.proofs.MessageLaws.{first_sound, message_uncut, with_records, without_question, IsEmpty}
 
 both_parts : {A : Type 0} (P : A → Type 0) (xs ys : List A) → AllByRecursion P (xs ++ ys) → AllByRecursion P xs × AllByRecursion P ys
@@ -40,19 +40,34 @@ all_arrive request records messages sound all sends = arrive (start request reco
 -- some messages were made, and a transfer is left
 pub record Made (old now : Sending) (messages : List (List ℕ)) : Type 0 where
   pub leads : (more : List (List ℕ)) → SendsAll now more → SendsAll old (messages ++ more)
+  pub sticks : (more : List (List ℕ)) → GetsStuck now more → GetsStuck old (messages ++ more)
 
 pub none_made : (s : Sending) → Made s s []
-none_made s = record { leads = λ more all. all }
+none_made s = record { leads = λ more all. all; sticks = λ more stuck. stuck }
 
 pub one_made : (old now new : Sending) (messages after : List (List ℕ)) (bytes : List ℕ) → Made old now messages → SendsNext now bytes new → after ≡ messages ++ bytes ∷ [] → Made old new after
 one_made old now new messages after bytes made sent e = record {
   leads = λ more all.
       subst (λ (l : List (List ℕ)). SendsAll old (l ++ more)) (sym e)
       (subst (SendsAll old) (sym (append_assoc messages (bytes ∷ []) more)) (made.leads (bytes ∷ more) (new, (sent, all))));
+  sticks = λ more stuck.
+      subst (λ (l : List (List ℕ)). GetsStuck old (l ++ more)) (sym e)
+      (subst (GetsStuck old) (sym (append_assoc messages (bytes ∷ []) more)) (made.sticks (bytes ∷ more) (new, (sent, stuck))));
 }
 
 pub all_made : (old now : Sending) (messages : List (List ℕ)) → Made old now messages → now.records ≡ [] → SendsAll old messages
 all_made old now messages made over = subst (SendsAll old) (append-nil messages) (made.leads [] over)
+
+pub cannot_send : (old now : Sending) (messages : List (List ℕ)) → Made old now messages → IsStuck now → CannotSend old
+cannot_send old now messages made stuck = (messages ++ [], made.sticks [] stuck)
+
+-- an error is the same one whatever the value of the result would be
+abbrev with_error : {T U E : Type 0} → E → Result T E → Result U E
+with_error other (Ok x) = Err other
+with_error other (Err e) = Err e
+
+pub same_error : {T U E : Type 0} (a b : E) → ◌≡◌ {A = Result T E} (Err a) (Err b) → ◌≡◌ {A = Result U E} (Err a) (Err b)
+same_error {T} {U} {E} a b same = ap (with_error {T = T} {U = U} {E = E} a) same
 
 pub fewer_left : (old : Sending) (bytes : List ℕ) (new : Sending) → SendsNext old bytes new → length new.records < length old.records
 fewer_left old bytes new sent = omega (arith, sent.some, ap length sent.left, length-append (next_records old) new.records)

@@ -52,6 +52,15 @@ pub record IsStuck (s : Sending) : Type 0 where
   pub none : next_records s ≡ []
   pub some : 0 < length s.records
 
+-- messages are made, one after another, until the next record has no room
+abbrev pub GetsStuck : Sending → List (List ℕ) → Type 0
+GetsStuck s [] = IsStuck s
+GetsStuck s (bytes ∷ more) = (next : Sending) × (SendsNext s bytes next × GetsStuck next more)
+
+-- a record has no room in a message, after as many messages as those before it need
+abbrev pub CannotSend : Sending → Type 0
+CannotSend s = (messages : List (List ℕ)) × GetsStuck s messages
+
 -- messages are made, one after another, until no record is left
 abbrev pub SendsAll : Sending → List (List ℕ) → Type 0
 SendsAll s [] = s.records ≡ []

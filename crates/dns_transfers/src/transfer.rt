@@ -23,7 +23,7 @@ pub struct Transfer<'a, S> {
 
 impl<'a, S: RecordSource<'a> + Drop> Transfer<'a, S> {
     ghost use Rattle.std.specs.Prelude.{◌≡◌, ◌≤◌, ◌<◌, [], None, length, map, IfOk, Err, option_map};
-    ghost use Rattle.dns_transfers.specs.Sending.{sending, start, IsStuck, Sends, SendsAll};
+    ghost use Rattle.dns_transfers.specs.Sending.{sending, start, CannotSend, IsStuck, Sends, SendsAll};
 
     /// Creates the reply to a request with the records of a source.
     pub fn new(alloc: Global, request: &'a Message, source: S) -> Transfer<'a, S>
@@ -82,9 +82,16 @@ impl<'a, S: RecordSource<'a> + Drop> Transfer<'a, S> {
     }
 
     /// Returns all messages that are left.
+    ///
+    /// # Errors
+    ///
+    /// - [`TransferError::TooLong`] if a record has no room in a message;
+    /// - [`TransferError::Memory`] if memory is refused.
     pub fn into_messages(mut self) -> Result<Vec<Vec<u8>>, TransferError>
-        ensures { IfOk result (λ messages. SendsAll (sending S.left self.entry)
+        ensures messages { IfOk result (λ messages. SendsAll (sending S.left self.entry)
             (map (λ bytes. bytes.items) messages.items)) }
+        ensures too_long { result ≡ Err TransferError.TooLong
+            → CannotSend (sending S.left self.entry) }
     {
         let mut messages = Vec::new(self.alloc);
         loop {

@@ -1,4 +1,4 @@
-use Rattle.std.proofs.Common.{◌≡◌, ◌∙◌, ℕ, length, subst, map}
+use Rattle.std.proofs.Common.{◌≡◌, ◌∙◌, length, subst, map}
 use Rattle.dns_wire.specs.Encoder.{state_of}
 use Rattle.dns_wire.specs.Encodable.{AreWritable}
 use Rattle.dns_wire.specs.Items.{fitting_items}
