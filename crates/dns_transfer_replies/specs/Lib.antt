@@ -1,4 +1,5 @@
 pub mod Request
+pub mod ZoneHistory
 pub mod Incremental
 pub mod Signing
 pub mod Reply

@@ -1,24 +1,33 @@
 -- Replies to requests for transfers, by their signatures (RFC 5936, RFC 1995, RFC 8945 sections 5.2 and 5.3).
-use Rattle.std.specs.Prelude.{◌≡◌, ◌==◌, ◌&&◌, ◌||◌, not, is_some, Bool, true, false, List, [], ◌∷◌, ℕ, Option, Some, None}
+use Rattle.std.specs.Prelude.{◌≡◌, ◌⊎◌, ◌==◌, ◌&&◌, ◌||◌, not, is_some, slice_get, Bool, true, false, List, [], ◌∷◌, ℕ, Option, Some, None}
 use Rattle.dns_messages.specs.Header.{peeked_metadata}
 use Rattle.dns_messages.specs.declared.header.Metadata.{Metadata}
 use Rattle.dns_messages.specs.declared.message.Message.{Message}
 use Rattle.dns_messages.specs.declared.op_code.OpCode.{OpCode}
 use Rattle.dns_messages.specs.declared.op_code.OpCode.TheVariants as ops
 use Rattle.dns_messages.specs.declared.response_code.ResponseCode.{ResponseCode}
-use Rattle.dns_messages.specs.declared.response_code.ResponseCode.TheVariants.{FormErr, NotAuth}
+use Rattle.dns_messages.specs.declared.response_code.ResponseCode.TheVariants.{FormErr, NotAuth, ServFail}
+use Rattle.dns_tsig.specs.Found.{Finds}
 use Rattle.dns_tsig.specs.Reply.{IsReply as IsSignedReply}
+use Rattle.dns_tsig.specs.Verify.{verdict_of}
+use Rattle.dns_tsig.specs.declared.covered.Coverage.TheVariants.{Variables}
+use Rattle.dns_tsig.specs.declared.found.Found.{Found}
+use Rattle.dns_tsig.specs.declared.found.Found.TheVariants as found
 use Rattle.dns_tsig.specs.declared.key.Key.{Key}
 use Rattle.dns_tsig.specs.declared.verify.Checked.{Checked}
 use Rattle.dns_tsig.specs.declared.verify.Verdict.{Verdict}
 use Rattle.dns_tsig.specs.declared.verify.Verdict.TheVariants as verdicts
-use Rattle.dns_zone.specs.Request.{reply_without_zone, IsEncodedReply}
+use Rattle.dns_zone.specs.Request.{reply_without_zone, DecodesRequest, IsEncodedReply}
 use Rattle.dns_zone.specs.Rows.{ZoneContent}
 use Rattle.dns_zone.specs.declared.road.Road.{Road}
+use Rattle.dns_zone.specs.declared.road.Road.TheVariants.{Datagram, Stream}
 use Rattle.dns_zone_transfers.specs.Reply.{IsReply}
 use Rattle.dns_zone_transfers.specs.Request.{is_transfer}
 use Rattle.dns_transfer_replies.specs.Incremental.{SendsIncremental}
 use Rattle.dns_transfer_replies.specs.Request.{incremental_question}
+use Rattle.dns_transfer_replies.specs.Signing.{GetsFull, SignsEach}
+use Rattle.dns_transfer_replies.specs.declared.reply.Terms.{Terms}
+use Rattle.dns_transfer_replies.specs.declared.zone_history.ZoneHistory.{ZoneHistory}
 
 -- whether a request is for a transfer, whole or incremental
 abbrev pub asks_for_transfer : Message → Bool
@@ -35,14 +44,26 @@ refusal_of (verdicts.BadTime index) = Some NotAuth
 refusal_of (verdicts.BadTrunc index) = Some NotAuth
 
 -- the messages of the reply to a request, by whether it is for a whole transfer
-abbrev pub SendsBy : Bool → List ZoneContent → Road → Bool → Message → Option (List (List ℕ)) → Type 0
-SendsBy true zones road is_permitted m None = ⊥
-SendsBy true zones road is_permitted m (Some messages) = IsReply zones road is_permitted m messages
-SendsBy false zones road is_permitted m found = SendsIncremental zones road is_permitted m found
+abbrev pub SendsBy : Bool → List ZoneContent → List ZoneHistory → Road → Bool → Message → Option (List (List ℕ)) → Type 0
+SendsBy true zones histories road is_permitted m None = ⊥
+SendsBy true zones histories road is_permitted m (Some messages) = IsReply zones road is_permitted m messages
+SendsBy false zones histories road is_permitted m found = SendsIncremental zones histories road is_permitted m found
 
 -- the messages of the reply to a request for a transfer, before they are signed; none to another request
-abbrev pub SendsPlain : List ZoneContent → Road → Bool → Message → Option (List (List ℕ)) → Type 0
-SendsPlain zones road is_permitted m found = SendsBy (is_transfer m) zones road is_permitted m found
+abbrev pub SendsPlain : List ZoneContent → List ZoneHistory → Road → Bool → Message → Option (List (List ℕ)) → Type 0
+SendsPlain zones histories road is_permitted m found =
+    SendsBy (is_transfer m) zones histories road is_permitted m found
+
+-- the histories, unless the reply is signed
+abbrev pub unless_signed : Verdict → List ZoneHistory → List ZoneHistory
+unless_signed (verdicts.Verified index) histories = []
+unless_signed other histories = histories
+
+-- The histories by which a request is answered: none in a datagram that is signed, where a signature follows the message that has to
+-- fit.
+abbrev pub histories_for : Road → Verdict → List ZoneHistory → List ZoneHistory
+histories_for Stream verdict histories = histories
+histories_for (Datagram limit) verdict histories = unless_signed verdict histories
 
 -- one message, with a code and no records, signed as the request allows
 pub record IsSignedRefusal (keys : List Key) (checked : Checked) (time : ℕ) (road : Road) (m : Message)
@@ -51,6 +72,75 @@ pub record IsSignedRefusal (keys : List Key) (checked : Checked) (time : ℕ) (r
   pub mac : List ℕ
   pub refuses : IsEncodedReply (reply_without_zone m code) road m plain
   pub signed : IsSignedReply keys checked.found checked.verdict time plain mac out
+
+-- that message alone
+abbrev pub IsSignedAlone : List Key → Checked → ℕ → Road → Message → ResponseCode → List (List ℕ) → Type 0
+IsSignedAlone keys checked time road m code [] = ⊥
+IsSignedAlone keys checked time road m code (out ∷ []) = IsSignedRefusal keys checked time road m code out
+IsSignedAlone keys checked time road m code (out ∷ other ∷ more) = ⊥
+
+-- the key whose holder signed a request
+abbrev pub verified_key : List Key → Verdict → Option Key
+verified_key keys (verdicts.Verified index) = slice_get keys index
+verified_key keys verdict = None
+
+-- the code of a request, or none
+abbrev pub code_of_request : Found → List ℕ
+code_of_request (found.Signed signature) = signature.tsig.mac
+code_of_request other = []
+
+-- The messages of a reply, of which each is signed with the key of the request (RFC 8945 section 5.3.1). If one of them has no room
+-- for a signature, one with the code ServFail takes the place of all.
+abbrev pub SignsWith : Option Key → List Key → Checked → ℕ → Road → Message → List (List ℕ) → List (List ℕ) → Type 0
+SignsWith None keys checked time road m plain out = out ≡ plain
+SignsWith (Some key) keys checked time road m plain out =
+    SignsEach key time (code_of_request checked.found) Variables plain out
+    ⊎ (GetsFull key time (code_of_request checked.found) Variables plain × IsSignedAlone keys checked time road m ServFail out)
+
+-- the messages of the reply to a request that is not refused for its TSIG record
+abbrev pub SendsSigned : List ZoneContent → List ZoneHistory → List Key → Checked → Terms → Message → Option (List (List ℕ)) → Type 0
+SendsSigned zones histories keys checked terms m None =
+    SendsPlain zones (histories_for terms.road checked.verdict histories) terms.road terms.is_permitted m None
+SendsSigned zones histories keys checked terms m (Some out) =
+    (plain : List (List ℕ))
+    × (SendsPlain zones (histories_for terms.road checked.verdict histories) terms.road terms.is_permitted m (Some plain)
+    × SignsWith (verified_key keys checked.verdict) keys checked terms.time terms.road m plain out)
+
+-- the messages of the reply to a request for a transfer, by the code with which it is refused for its TSIG record
+abbrev pub SendsChecked : Option ResponseCode → List ZoneContent → List ZoneHistory → List Key → Checked → Terms → Message
+    → Option (List (List ℕ)) → Type 0
+SendsChecked None zones histories keys checked terms m sent = SendsSigned zones histories keys checked terms m sent
+SendsChecked (Some code) zones histories keys checked terms m None = ⊥
+SendsChecked (Some code) zones histories keys checked terms m (Some out) =
+    IsSignedAlone keys checked terms.time terms.road m code out
+
+-- what is checked of the bytes of a request, and the messages of its reply
+pub record RepliesChecked (zones : List ZoneContent) (histories : List ZoneHistory) (keys : List Key) (terms : Terms)
+    (bytes : List ℕ) (m : Message) (sent : Option (List (List ℕ))) : Type 0 where
+  pub checked : Checked
+  pub found : Finds bytes checked.found
+  pub verdict : checked.verdict ≡ verdict_of keys bytes checked.found terms.time
+  pub sends : SendsChecked (refusal_of checked.verdict) zones histories keys checked terms m sent
+
+-- the messages of the reply to a request, if it is for a transfer
+abbrev pub RepliesIf : Bool → List ZoneContent → List ZoneHistory → List Key → Terms → List ℕ → Message → Option (List (List ℕ))
+    → Type 0
+RepliesIf false zones histories keys terms bytes m sent = sent ≡ None
+RepliesIf true zones histories keys terms bytes m sent = RepliesChecked zones histories keys terms bytes m sent
+
+-- the messages of the reply to a request, if bytes are one
+abbrev pub RepliesFor : Option Message → List ZoneContent → List ZoneHistory → List Key → Terms → List ℕ → Option (List (List ℕ))
+    → Type 0
+RepliesFor None zones histories keys terms bytes sent = sent ≡ None
+RepliesFor (Some m) zones histories keys terms bytes sent =
+    RepliesIf (asks_for_transfer m) zones histories keys terms bytes m sent
+
+-- the messages of the reply to bytes
+pub record Replies (zones : List ZoneContent) (histories : List ZoneHistory) (keys : List Key) (terms : Terms) (bytes : List ℕ)
+    (sent : Option (List (List ℕ))) : Type 0 where
+  pub request : Option Message
+  pub decodes : DecodesRequest bytes request
+  pub sends : RepliesFor request zones histories keys terms bytes sent
 
 -- the opcode is QUERY
 abbrev pub is_query : OpCode → Bool

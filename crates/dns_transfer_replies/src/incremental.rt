@@ -1,44 +1,47 @@
 //! Replies to requests for incremental transfers (RFC 1995 sections 2 and 4).
 
-ghost use Rattle.std.specs.Prelude.{◌≡◌, ◌≤◌, ◌<◌, length, map, IfOk, IsTrue, option_copied, option_map};
+ghost use Rattle.std.specs.Prelude.{◌≡◌, ◌≤◌, ◌<◌, length, map, IfOk, option_copied, option_map};
 ghost use Rattle.dns_messages.specs.Header.{code_number, code_of};
 ghost use Rattle.dns_messages.specs.Sound.{IsSound};
 ghost use Rattle.dns_zone.specs.Rows.{rows_of};
 ghost use Rattle.dns_zone.specs.Serving.{reply_limit};
-ghost use Rattle.dns_zone_transfers.specs.Reply.{IsRefusal, TransfersOrFails};
-ghost use Rattle.dns_transfer_replies.specs.Incremental.{FitsAlone, SendsFound, SendsIf, SendsIncremental, SendsSince, SendsZone, StartsOrFails};
-ghost use Rattle.dns_transfer_replies.specs.Request.{wants_zone};
+ghost use Rattle.dns_zone_transfers.specs.Reply.{IsRefusal};
+ghost use Rattle.dns_transfer_replies.specs.Incremental.{fits_alone, DiffersOrFails, DiffersOrStarts, SendsFound, SendsFrom, SendsIf, SendsIncremental, SendsKnown, SendsLacking, SendsSince, SendsUnknown, StartsOrFails, TriesAlone};
+ghost use Rattle.dns_transfer_replies.specs.ZoneHistory.{known_differences};
 ghost use Rattle.dns_zone_serials.specs.ZoneSerial.{rows_serial, zone_serial};
 
-use crate::request::{incremental_question, wants_zone, zone_at};
-use crate::start_records::StartRecords;
+use crate::request::{incremental_question, zone_at};
+use crate::zone_history::{ZoneHistory, lacking};
+use dns_difference_transfers::incremental_transfer;
+use dns_differences::Difference;
 use dns_messages::{Message, ResponseCode};
-use dns_transfers::{Transfer, TransferError};
-use dns_wire::RecordType;
+use dns_transfers::TransferError;
 use dns_zone::{Road, Zone, bare_reply_bytes};
-use dns_zone_serials::first_serial;
-use dns_zone_transfers::ZoneRecords;
+use dns_zone_serials::{first_serial, zone_serial};
+use dns_zone_transfers::reply_with_zone;
 use std::alloc::{AllocError, Global};
 
 /// Returns the messages of the reply to a request for an incremental transfer, or `None` for another request.
 ///
-/// Over a stream, the requestor of an older version is sent the whole zone. That of another version, and any over UDP, is sent the SOA
-/// record alone. A transfer that is refused, or whose records have no room, has one message with a response code.
+/// The requestor is sent the differences that it lacks, or the SOA record alone if it lacks none. If they are not known, it is sent the
+/// whole zone over a stream. In a datagram, what has no room in one message is the SOA record alone. A transfer that is refused, or
+/// whose records have no room in a message, has one message with a response code.
 pub(crate) fn reply_to_incremental(
     alloc: Global,
     zones: &[Zone],
+    histories: &[ZoneHistory],
     request: &Message,
     road: Road,
     is_permitted: bool,
 ) -> Result<Option<Vec<Vec<u8>>>, AllocError>
     requires { IsSound request.now }
-    ensures { IfOk result (λ found. SendsIncremental zones.now road is_permitted request.now
-        (option_map (λ messages. map (λ bytes. bytes.items) messages.items) found)) }
+    ensures { IfOk result (λ found. SendsIncremental zones.now histories.now road is_permitted
+        request.now (option_map (λ messages. map (λ bytes. bytes.items) messages.items) found)) }
 {
     match incremental_question(request) {
         Some(query) => {
             let zone = zone_at(zones, query);
-            let messages = reply_for(alloc, zone, request, road, is_permitted)?;
+            let messages = reply_for(alloc, zone, histories, request, road, is_permitted)?;
             Ok(Some(messages))
         }
         None => Ok(None),
@@ -49,17 +52,18 @@ pub(crate) fn reply_to_incremental(
 fn reply_for(
     alloc: Global,
     zone: Option<&Zone>,
+    histories: &[ZoneHistory],
     request: &Message,
     road: Road,
     is_permitted: bool,
 ) -> Result<Vec<Vec<u8>>, AllocError>
     requires sound { IsSound request.now }
     requires few { length request.now.queries ≤ 1 }
-    ensures { IfOk result (λ messages. SendsFound (option_copied zone.entry) road is_permitted
-        request.now (map (λ bytes. bytes.items) messages.items)) }
+    ensures { IfOk result (λ messages. SendsFound (option_copied zone.entry) histories.now road
+        is_permitted request.now (map (λ bytes. bytes.items) messages.items)) }
 {
     match zone {
-        Some(zone) => reply_if(alloc, zone, request, road, is_permitted),
+        Some(zone) => reply_if(alloc, zone, histories, request, road, is_permitted),
         None => refused(alloc, request, road, ResponseCode::NotAuth),
     }
 }
@@ -68,17 +72,19 @@ fn reply_for(
 fn reply_if(
     alloc: Global,
     zone: &Zone,
+    histories: &[ZoneHistory],
     request: &Message,
     road: Road,
     is_permitted: bool,
 ) -> Result<Vec<Vec<u8>>, AllocError>
     requires sound { IsSound request.now }
     requires few { length request.now.queries ≤ 1 }
-    ensures { IfOk result (λ messages. SendsIf is_permitted zone.now road request.now
+    ensures { IfOk result (λ messages. SendsIf is_permitted
+        (known_differences histories.now zone.now.origin) zone.now road request.now
         (map (λ bytes. bytes.items) messages.items)) }
 {
     if is_permitted {
-        reply_since(alloc, zone, request, road)
+        reply_since(alloc, zone, histories, request, road)
     } else {
         refused(alloc, request, road, ResponseCode::Refused)
     }
@@ -88,42 +94,86 @@ fn reply_if(
 fn reply_since(
     alloc: Global,
     zone: &Zone,
+    histories: &[ZoneHistory],
     request: &Message,
     road: Road,
 ) -> Result<Vec<Vec<u8>>, AllocError>
     requires sound { IsSound request.now }
     requires few { length request.now.queries ≤ 1 }
     ensures { IfOk result (λ messages. SendsSince (rows_serial (rows_of request.now.authorities))
-        zone.now road request.now (map (λ bytes. bytes.items) messages.items)) }
+        (known_differences histories.now zone.now.origin) zone.now road request.now
+        (map (λ bytes. bytes.items) messages.items)) }
 {
     match first_serial(request.authorities.as_slice()) {
-        Some(serial) => reply_to_version(alloc, zone, request, road, serial),
+        Some(serial) => reply_from(alloc, zone, histories, request, road, serial),
         None => refused(alloc, request, road, ResponseCode::FormErr),
     }
 }
 
-/// Returns the messages for a zone and the requestor of a version of it.
-fn reply_to_version(
+/// Returns the messages for a zone and the requestor of the version with a serial number.
+fn reply_from(
     alloc: Global,
     zone: &Zone,
+    histories: &[ZoneHistory],
     request: &Message,
     road: Road,
     serial: u32,
 ) -> Result<Vec<Vec<u8>>, AllocError>
     requires sound { IsSound request.now }
     requires few { length request.now.queries ≤ 1 }
-    ensures { IfOk result (λ messages. SendsZone (wants_zone road serial (zone_serial zone.now))
-        zone.now road request.now (map (λ bytes. bytes.items) messages.items)) }
+    ensures { IfOk result (λ messages. SendsFrom (zone_serial zone.now) serial
+        (known_differences histories.now zone.now.origin) zone.now road request.now
+        (map (λ bytes. bytes.items) messages.items)) }
 {
-    if wants_zone(&road, serial, zone) {
-        whole(alloc, zone, request, road)
-    } else {
-        start_alone(alloc, zone, request, road)
+    match zone_serial(zone) {
+        Some(current) => {
+            let differences = lacking(histories, zone.origin(), current, serial);
+            reply_with(alloc, zone, differences, request, road)
+        }
+        None => start_alone(alloc, zone, request, road),
     }
 }
 
-/// Returns the messages with the records of a zone, or the one that says that they have no room.
-fn whole(
+/// Returns the messages for a zone, by the differences that the requestor lacks, if they are known.
+fn reply_with(
+    alloc: Global,
+    zone: &Zone,
+    lacking: Option<&[Difference]>,
+    request: &Message,
+    road: Road,
+) -> Result<Vec<Vec<u8>>, AllocError>
+    requires sound { IsSound request.now }
+    requires few { length request.now.queries ≤ 1 }
+    ensures { IfOk result (λ messages. SendsLacking (option_copied lacking.entry) zone.now road
+        request.now (map (λ bytes. bytes.items) messages.items)) }
+{
+    match lacking {
+        Some(differences) => reply_with_known(alloc, zone, differences, request, road),
+        None => reply_with_unknown(alloc, zone, request, road),
+    }
+}
+
+/// Returns the messages with the differences that the requestor lacks.
+fn reply_with_known(
+    alloc: Global,
+    zone: &Zone,
+    differences: &[Difference],
+    request: &Message,
+    road: Road,
+) -> Result<Vec<Vec<u8>>, AllocError>
+    requires sound { IsSound request.now }
+    requires few { length request.now.queries ≤ 1 }
+    ensures { IfOk result (λ messages. SendsKnown road zone.now differences.now request.now
+        (map (λ bytes. bytes.items) messages.items)) }
+{
+    match road {
+        Road::Stream => differences_or_failure(alloc, zone, differences, request, road),
+        Road::Datagram(_) => differences_or_start(alloc, zone, differences, request, road),
+    }
+}
+
+/// Returns the messages if the differences that the requestor lacks are not known.
+fn reply_with_unknown(
     alloc: Global,
     zone: &Zone,
     request: &Message,
@@ -131,15 +181,52 @@ fn whole(
 ) -> Result<Vec<Vec<u8>>, AllocError>
     requires sound { IsSound request.now }
     requires few { length request.now.queries ≤ 1 }
-    ensures { IfOk result (λ messages. TransfersOrFails zone.now road request.now
+    ensures { IfOk result (λ messages. SendsUnknown road zone.now request.now
         (map (λ bytes. bytes.items) messages.items)) }
 {
-    let transfer = Transfer::new(alloc, request, ZoneRecords::new(zone));
-    match transfer.into_messages() {
+    match road {
+        Road::Stream => reply_with_zone(alloc, zone, request, road),
+        Road::Datagram(_) => start_alone(alloc, zone, request, road),
+    }
+}
+
+/// Returns the messages with differences, or the one that says that a record has no room in any.
+fn differences_or_failure(
+    alloc: Global,
+    zone: &Zone,
+    differences: &[Difference],
+    request: &Message,
+    road: Road,
+) -> Result<Vec<Vec<u8>>, AllocError>
+    requires sound { IsSound request.now }
+    requires few { length request.now.queries ≤ 1 }
+    ensures { IfOk result (λ messages. DiffersOrFails zone.now differences.now road request.now
+        (map (λ bytes. bytes.items) messages.items)) }
+{
+    match incremental_transfer(alloc, zone, differences, request) {
         Ok(messages) => Ok(messages),
         Err(TransferError::TooLong) => refused(alloc, request, road, ResponseCode::ServFail),
         // The memory for a message was refused.
         Err(TransferError::Memory) => Err(AllocError),
+    }
+}
+
+/// Returns the message with differences, or, if they have no room in one, that with the SOA record alone.
+fn differences_or_start(
+    alloc: Global,
+    zone: &Zone,
+    differences: &[Difference],
+    request: &Message,
+    road: Road,
+) -> Result<Vec<Vec<u8>>, AllocError>
+    requires sound { IsSound request.now }
+    requires few { length request.now.queries ≤ 1 }
+    ensures { IfOk result (λ messages. DiffersOrStarts zone.now differences.now road request.now
+        (map (λ bytes. bytes.items) messages.items)) }
+{
+    match alone(alloc, zone, differences, request, &road)? {
+        Some(messages) => Ok(messages),
+        None => start_alone(alloc, zone, request, road),
     }
 }
 
@@ -155,19 +242,41 @@ fn start_alone(
     ensures { IfOk result (λ messages. StartsOrFails zone.now road request.now
         (map (λ bytes. bytes.items) messages.items)) }
 {
-    let records = zone.records_at(zone.origin(), RecordType::SOA);
-    let transfer = Transfer::new(alloc, request, StartRecords::new(zone.origin(), records));
-    match transfer.into_messages() {
-        Ok(messages) if fits_alone(messages.as_slice(), limit_of(&road, request)) => Ok(messages),
+    match alone(alloc, zone, &[], request, &road)? {
+        Some(messages) => Ok(messages),
+        None => refused(alloc, request, road, ResponseCode::ServFail),
+    }
+}
+
+/// Returns the message with differences, or that with the SOA record alone if there is none, or `None` if they have no room in one.
+fn alone(
+    alloc: Global,
+    zone: &Zone,
+    differences: &[Difference],
+    request: &Message,
+    road: &Road,
+) -> Result<Option<Vec<Vec<u8>>>, AllocError>
+    requires { length request.now.queries ≤ 1 }
+    ensures { IfOk result (λ found. TriesAlone zone.now differences.now road.now
+        request.now (option_map (λ messages. map (λ bytes. bytes.items) messages.items) found)) }
+{
+    match incremental_transfer(alloc, zone, differences, request) {
+        Ok(messages) => {
+            if fits_alone(messages.as_slice(), limit_of(road, request)) {
+                Ok(Some(messages))
+            } else {
+                Ok(None)
+            }
+        }
+        Err(TransferError::TooLong) => Ok(None),
         // The memory for a message was refused.
         Err(TransferError::Memory) => Err(AllocError),
-        _ => refused(alloc, request, road, ResponseCode::ServFail),
     }
 }
 
 /// Returns `true` for one message that is not longer than a limit.
 fn fits_alone(messages: &[Vec<u8>], limit: usize) -> bool
-    ensures { IsTrue result → FitsAlone limit (map (λ bytes. bytes.items) messages.now) }
+    ensures { result ≡ fits_alone limit (map (λ bytes. bytes.items) messages.now) }
 {
     match messages {
         [bytes] => bytes.len() <= limit,

@@ -1,13 +1,14 @@
 //! Replies to bytes that have arrived.
 
-ghost use Rattle.std.specs.Prelude.{◌≡◌, ◌<◌, ◌&&◌, map, IfOk, IfSome, option_map};
+ghost use Rattle.std.specs.Prelude.{◌≡◌, ◌<◌, ◌&&◌, length, map, IfOk, IfSome, option_copied, option_map};
 ghost use Rattle.dns_messages.specs.Header.{code_number, code_of, peeked_metadata};
 ghost use Rattle.dns_messages.specs.Sound.{IsSound};
-ghost use Rattle.dns_transfer_replies.specs.Reply.{IsSignedRefusal, SendsPlain, asks_for_transfer, has_authorities, has_query, is_query, refusal_of};
+ghost use Rattle.dns_transfer_replies.specs.Reply.{IsSignedAlone, IsSignedRefusal, Replies, RepliesChecked, RepliesIf, SendsChecked, SendsPlain, SendsSigned, SignsWith, asks_for_transfer, code_of_request, has_authorities, has_query, histories_for, is_query, refusal_of, unless_signed, verified_key};
 
 use crate::incremental::reply_to_incremental;
 use crate::request::incremental_question;
-use crate::signing::StreamSigner;
+use crate::signed_stream::sign_each;
+use crate::zone_history::ZoneHistory;
 use dns_messages::{Message, Metadata, OpCode, ResponseCode};
 use dns_tsig::{Checked, Found, Key, Verdict, sign_reply, verify_request};
 use dns_zone::{Road, Zone, bare_reply_bytes, decode_request};
@@ -25,30 +26,90 @@ pub struct Terms {
     pub time: u64,
 }
 
-/// Returns the messages of the reply to bytes that are a request for a transfer, or `None` for any others.
+/// Returns the messages of the reply to bytes that are a request for a transfer, or `None` for any others. The histories have the last
+/// differences of zones, by their origins; a zone without one has no differences.
 ///
 /// If the request is signed by the holder of a key, each message is signed. A request with another TSIG record is refused with
 /// `FormErr` or `NotAuth`, as any is (RFC 8945 section 5.2).
 pub fn transfer_reply(
     alloc: Global,
     zones: &[Zone],
+    histories: &[ZoneHistory],
     keys: &[Key],
     bytes: &[u8],
     terms: &Terms,
-) -> Result<Option<Vec<Vec<u8>>>, AllocError> {
-    let Some(request) = decode_request(alloc, bytes)? else {
-        return Ok(None);
-    };
-    if !asks_for_transfer(&request) {
-        return Ok(None);
+) -> Result<Option<Vec<Vec<u8>>>, AllocError>
+    ensures { IfOk result (λ found. Replies zones.now histories.now keys.now terms.now bytes.now
+        (option_map (λ messages. map (λ bytes. bytes.items) messages.items) found)) }
+{
+    match decode_request(alloc, bytes)? {
+        Some(request) => reply_to(alloc, zones, histories, keys, bytes, &request, terms),
+        None => Ok(None),
     }
+}
+
+/// Returns the messages of the reply to a request, if it is for a transfer.
+fn reply_to(
+    alloc: Global,
+    zones: &[Zone],
+    histories: &[ZoneHistory],
+    keys: &[Key],
+    bytes: &[u8],
+    request: &Message,
+    terms: &Terms,
+) -> Result<Option<Vec<Vec<u8>>>, AllocError>
+    requires { IsSound request.now }
+    ensures { IfOk result (λ found. RepliesIf (asks_for_transfer request.now) zones.now
+        histories.now keys.now terms.now bytes.now request.now
+        (option_map (λ messages. map (λ bytes. bytes.items) messages.items) found)) }
+{
+    if asks_for_transfer(request) {
+        checked_reply(alloc, zones, histories, keys, bytes, request, terms)
+    } else {
+        Ok(None)
+    }
+}
+
+/// Returns the messages of the reply to a request for a transfer, whose TSIG record is checked.
+fn checked_reply(
+    alloc: Global,
+    zones: &[Zone],
+    histories: &[ZoneHistory],
+    keys: &[Key],
+    bytes: &[u8],
+    request: &Message,
+    terms: &Terms,
+) -> Result<Option<Vec<Vec<u8>>>, AllocError>
+    requires { IsSound request.now }
+    ensures { IfOk result (λ found. RepliesChecked zones.now histories.now keys.now terms.now
+        bytes.now request.now
+        (option_map (λ messages. map (λ bytes. bytes.items) messages.items) found)) }
+{
     let checked = verify_request(alloc, keys, bytes, terms.time)?;
+    reply_by_verdict(alloc, zones, histories, keys, request, &checked, terms)
+}
+
+/// Returns the messages of the reply to a request for a transfer, by the verdict on it.
+fn reply_by_verdict(
+    alloc: Global,
+    zones: &[Zone],
+    histories: &[ZoneHistory],
+    keys: &[Key],
+    request: &Message,
+    checked: &Checked<'_>,
+    terms: &Terms,
+) -> Result<Option<Vec<Vec<u8>>>, AllocError>
+    requires { IsSound request.now }
+    ensures { IfOk result (λ found. SendsChecked (refusal_of checked.now.verdict) zones.now
+        histories.now keys.now checked.now terms.now request.now
+        (option_map (λ messages. map (λ bytes. bytes.items) messages.items) found)) }
+{
     match refusal_of(checked.verdict) {
         Some(code) => {
-            let messages = refused(alloc, keys, &request, &checked, terms, code)?;
+            let messages = refused(alloc, keys, request, checked, terms, code)?;
             Ok(Some(messages))
         }
-        None => permitted_reply(alloc, zones, keys, &request, &checked, terms),
+        None => permitted_reply(alloc, zones, histories, keys, request, checked, terms),
     }
 }
 
@@ -78,21 +139,23 @@ fn refusal_of(verdict: Verdict) -> Option<ResponseCode>
 fn permitted_reply(
     alloc: Global,
     zones: &[Zone],
+    histories: &[ZoneHistory],
     keys: &[Key],
     request: &Message,
     checked: &Checked<'_>,
     terms: &Terms,
 ) -> Result<Option<Vec<Vec<u8>>>, AllocError>
     requires { IsSound request.now }
+    ensures { IfOk result (λ found. SendsSigned zones.now histories.now keys.now checked.now
+        terms.now request.now
+        (option_map (λ messages. map (λ bytes. bytes.items) messages.items) found)) }
 {
     let (road, is_permitted) = (terms.road, terms.is_permitted);
-    let Some(mut messages) = plain_reply(alloc, zones, request, road, is_permitted)? else {
+    let known = histories_for(&road, checked.verdict, histories);
+    let Some(messages) = plain_reply(alloc, zones, known, request, road, is_permitted)? else {
         return Ok(None);
     };
-    if sign_all(alloc, keys, checked, messages.as_mut_slice(), terms.time)? {
-        return Ok(Some(messages));
-    }
-    let messages = refused(alloc, keys, request, checked, terms, ResponseCode::ServFail)?;
+    let messages = signed_reply(alloc, keys, request, checked, terms, messages)?;
     Ok(Some(messages))
 }
 
@@ -100,43 +163,89 @@ fn permitted_reply(
 fn plain_reply(
     alloc: Global,
     zones: &[Zone],
+    histories: &[ZoneHistory],
     request: &Message,
     road: Road,
     is_permitted: bool,
 ) -> Result<Option<Vec<Vec<u8>>>, AllocError>
     requires { IsSound request.now }
-    ensures { IfOk result (λ found. SendsPlain zones.now road is_permitted request.now
-        (option_map (λ messages. map (λ bytes. bytes.items) messages.items) found)) }
+    ensures { IfOk result (λ found. SendsPlain zones.now histories.now road is_permitted
+        request.now (option_map (λ messages. map (λ bytes. bytes.items) messages.items) found)) }
 {
     if is_transfer(request) {
         let messages = reply_to_transfer(alloc, zones, request, road, is_permitted)?;
         return Ok(Some(messages));
     }
-    reply_to_incremental(alloc, zones, request, road, is_permitted)
+    reply_to_incremental(alloc, zones, histories, request, road, is_permitted)
 }
 
-/// Signs messages with the key of their request, if it is signed. Returns `false` if one has no room for a signature.
-fn sign_all(
+/// Returns the histories by which a request with a verdict is answered: none in a datagram that is signed.
+fn histories_for<'a>(
+    road: &Road,
+    verdict: Verdict,
+    histories: &'a [ZoneHistory],
+) -> &'a [ZoneHistory]
+    ensures { result.now ≡ histories_for road.now verdict histories.now }
+{
+    match road {
+        Road::Stream => histories,
+        Road::Datagram(_) => unless_signed(verdict, histories),
+    }
+}
+
+/// Returns histories, or none for the verdict on a request of the holder of a key.
+fn unless_signed(verdict: Verdict, histories: &[ZoneHistory]) -> &[ZoneHistory]
+    ensures { result.now ≡ unless_signed verdict histories.now }
+{
+    match verdict {
+        Verdict::Verified(_) => &[],
+        _ => histories,
+    }
+}
+
+/// Returns messages, signed with the key of their request if it is signed, or one message if one of them has no room for a signature.
+fn signed_reply(
     alloc: Global,
     keys: &[Key],
+    request: &Message,
     checked: &Checked<'_>,
-    messages: &mut [Vec<u8>],
-    time: u64,
-) -> Result<bool, AllocError> {
-    let (Verdict::Verified(index), Found::Signed(signature)) = (checked.verdict, &checked.found)
-    else {
-        return Ok(true);
+    terms: &Terms,
+    mut messages: Vec<Vec<u8>>,
+) -> Result<Vec<Vec<u8>>, AllocError>
+    requires { IsSound request.now }
+    ensures { IfOk result (λ signed. SignsWith (verified_key keys.now checked.now.verdict) keys.now
+        checked.now terms.now.time terms.now.road request.now
+        (map (λ bytes. bytes.items) messages.items) (map (λ bytes. bytes.items) signed.items)) }
+{
+    let Some(key) = verified_key(keys, checked.verdict) else {
+        return Ok(messages);
     };
-    let Some(key) = keys.get(index) else {
-        return Ok(true);
-    };
-    let mut signer = StreamSigner::new(alloc, key, signature.tsig.mac(), time)?;
-    for message in messages.iter_mut() {
-        if !signer.sign_next(alloc, message)? {
-            return Ok(false);
-        }
+    let code = code_of_request(&checked.found);
+    if sign_each(alloc, key, code, terms.time, messages.as_mut_slice())? {
+        return Ok(messages);
     }
-    Ok(true)
+    refused(alloc, keys, request, checked, terms, ResponseCode::ServFail)
+}
+
+/// Returns the key whose holder signed a request.
+fn verified_key(keys: &[Key], verdict: Verdict) -> Option<&Key>
+    ensures { option_copied result ≡ verified_key keys.now verdict }
+{
+    match verdict {
+        Verdict::Verified(index) => keys.get(index),
+        _ => None,
+    }
+}
+
+/// Returns the code of a request, which is empty if it has none.
+fn code_of_request<'m>(found: &Found<'m>) -> &'m [u8]
+    ensures value { result.now ≡ code_of_request found.now }
+    ensures short { length result.now < 65536 }
+{
+    match found {
+        Found::Signed(signature) => signature.tsig.mac(),
+        _ => &[],
+    }
 }
 
 /// Returns one message with a response code and no records, signed as the request allows.
@@ -151,6 +260,8 @@ fn refused(
     requires sound { IsSound request.now }
     requires fits { code_number code < 16 }
     requires named { code_of (code_number code) ≡ code }
+    ensures { IfOk result (λ messages. IsSignedAlone keys.now checked.now terms.now.time
+        terms.now.road request.now code (map (λ bytes. bytes.items) messages.items)) }
 {
     let bytes = signed_refusal(alloc, keys, request, checked, terms, code)?;
     let mut messages = Vec::new(alloc);

@@ -1,17 +1,13 @@
 //! Requests for incremental transfers (RFC 1995 section 3).
 
 ghost use Rattle.std.specs.Prelude.{◌≡◌, ◌≤◌, length, IfSome, option_copied};
-ghost use Rattle.dns_codes.specs.SerialNumber.{serial_order};
 ghost use Rattle.dns_zone_transfers.specs.Request.{has_origin, zone_at, zone_of};
-ghost use Rattle.dns_transfer_replies.specs.Request.{if_incremental, incremental_of, incremental_question, is_newer, wants_zone};
-ghost use Rattle.dns_zone_serials.specs.ZoneSerial.{zone_serial};
+ghost use Rattle.dns_transfer_replies.specs.Request.{if_incremental, incremental_of, incremental_question};
 
-use dns_codes::{SerialNumber, SerialOrder};
 use dns_messages::{Message, OpCode, Query};
 use dns_names::Name;
 use dns_wire::{DNSClass, RecordType};
-use dns_zone::{Road, Zone};
-use dns_zone_serials::zone_serial;
+use dns_zone::Zone;
 
 /// Returns the question of a request for an incremental transfer: the only one of a query, of the type IXFR, without a version of EDNS
 /// above 0 (RFC 6891 section 6.1.3). Other requests have none.
@@ -72,24 +68,4 @@ fn has_origin(zone: &Zone, origin: &Name) -> bool
     ensures { result ≡ has_origin origin.now zone.now }
 {
     zone.origin().eq_ignore_root(origin)
-}
-
-/// Returns `true` if a requestor is to have the whole zone: it asks over a stream, and its version is older (RFC 1982 section 3.2).
-pub(crate) fn wants_zone(road: &Road, theirs: u32, zone: &Zone) -> bool
-    ensures { result ≡ wants_zone road.now theirs (zone_serial zone.now) }
-{
-    match (road, zone_serial(zone)) {
-        (Road::Stream, Some(ours)) => is_newer(ours, theirs),
-        _ => false,
-    }
-}
-
-/// Returns `true` if a serial number is greater than another.
-fn is_newer(ours: u32, theirs: u32) -> bool
-    ensures { result ≡ is_newer (serial_order theirs ours) }
-{
-    match SerialNumber::new(theirs).compare(SerialNumber::new(ours)) {
-        SerialOrder::Less => true,
-        SerialOrder::Equal | SerialOrder::Greater | SerialOrder::Undecided => false,
-    }
 }

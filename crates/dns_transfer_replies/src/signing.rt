@@ -1,6 +1,6 @@
 //! Messages that are signed one after another (RFC 8945 section 5.3.1).
 
-ghost use Rattle.std.specs.Prelude.{◌≡◌, ◌<◌, length, IfOk, IsTrue};
+ghost use Rattle.std.specs.Prelude.{◌≡◌, ◌<◌, length, false, IfOk, IsTrue};
 ghost use Rattle.dns_tsig.specs.declared.covered.Coverage.TheVariants as covers;
 
 use dns_tsig::{Coverage, Key, SignError, Terms, sign};
@@ -37,7 +37,7 @@ impl Drop for StreamSigner<'_> {
 }
 
 impl<'k> StreamSigner<'k> {
-    ghost use Rattle.dns_transfer_replies.specs.Signing.{SignsNext};
+    ghost use Rattle.dns_transfer_replies.specs.Signing.{IsFull, SignsNext};
 
     /// Creates a signer for the reply to a request with a code, which has signed nothing.
     pub(crate) fn new(
@@ -66,8 +66,10 @@ impl<'k> StreamSigner<'k> {
         alloc: Global,
         message: &mut Vec<u8>,
     ) -> Result<bool, AllocError>
-        ensures { IfOk result (λ has_room. IsTrue has_room
+        ensures signed { IfOk result (λ has_room. IsTrue has_room
             → SignsNext self.old message.old.items self.new message.new.items) }
+        ensures full { IfOk result (λ has_room. has_room ≡ false → IsFull self.old.key.now
+            self.old.time self.old.prior.items self.old.coverage message.old.items) }
     {
         let terms = Terms {
             time: self.time,
@@ -84,7 +86,7 @@ impl<'k> StreamSigner<'k> {
             }
             // The memory for the record was refused.
             Err(SignError::Memory) => Err(AllocError),
-            Err(_) => Ok(false),
+            Err(SignError::NoHeader | SignError::Full | SignError::NoKey) => Ok(false),
         }
     }
 }

@@ -5,7 +5,7 @@ use Rattle.dns_messages.specs.declared.message.Message.{Message}
 use Rattle.dns_messages.specs.declared.response_code.ResponseCode.{ResponseCode}
 use Rattle.dns_messages.specs.declared.response_code.ResponseCode.TheVariants.{ServFail}
 use Rattle.dns_records.specs.RecordSet.{RecordSetValue}
-use Rattle.dns_transfers.specs.Sending.{start, SendsAll}
+use Rattle.dns_transfers.specs.Sending.{start, CannotSend, SendsAll}
 use Rattle.dns_zone.specs.Lookup.{AreSetsOf}
 use Rattle.dns_zone.specs.Request.{reply_without_zone, IsEncodedReply, IsRequest}
 use Rattle.dns_zone.specs.Rows.{ZoneContent}
@@ -25,9 +25,16 @@ pub record IsTransfer (zone : ZoneContent) (m : Message) (messages : List (List 
   pub of_zone : AreSetsOf zone sets
   pub sends : SendsAll (start m (transfer_records zone.origin sets)) messages
 
+-- a record of a zone has no room in a message of its transfer
+pub record HasNoRoom (zone : ZoneContent) (m : Message) : Type 0 where
+  pub sets : List RecordSetValue
+  pub of_zone : AreSetsOf zone sets
+  pub stuck : CannotSend (start m (transfer_records zone.origin sets))
+
 -- the messages of a transfer, or, if a record has no room in a message, the one with the code ServFail
 abbrev pub TransfersOrFails : ZoneContent → Road → Message → List (List ℕ) → Type 0
-TransfersOrFails zone road m messages = IsTransfer zone m messages ⊎ IsRefusal m road ServFail messages
+TransfersOrFails zone road m messages =
+    IsTransfer zone m messages ⊎ (HasNoRoom zone m × IsRefusal m road ServFail messages)
 
 -- the messages for a zone that was found, or not, unless the transfer is refused
 abbrev pub IsReplyBy : Option ResponseCode → Option ZoneContent → Road → Message → List (List ℕ) → Type 0

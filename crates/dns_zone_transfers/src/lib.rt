@@ -10,6 +10,6 @@ mod reply;
 mod request;
 mod zone_records;
 
-pub use reply::{reply_to_transfer, transfer};
+pub use reply::{reply_to_transfer, reply_with_zone, transfer};
 pub use request::is_transfer;
 pub use zone_records::ZoneRecords;

@@ -1,6 +1,6 @@
 //! Replies to requests for transfers of zones (RFC 5936 section 2.2).
 
-ghost use Rattle.std.specs.Prelude.{◌≡◌, ◌<◌, true, is_some, map, Some, None, IfOk, option_copied, option_map};
+ghost use Rattle.std.specs.Prelude.{◌≡◌, ◌<◌, ◌≤◌, true, length, is_some, map, Some, None, IfOk, option_copied, option_map};
 ghost use Rattle.dns_messages.specs.Header.{code_number, code_of};
 ghost use Rattle.dns_messages.specs.Sound.{IsSound};
 ghost use Rattle.dns_zone_transfers.specs.Reply.{IsReply, IsReplyBy, IsRefusal, Transfers, TransfersOrFails, TransfersTo};
@@ -89,21 +89,22 @@ fn reply_for(
     match refusal(&road, is_permitted, zone.is_some()) {
         Some(code) => refused(alloc, request, road, code),
         None => match zone {
-            Some(zone) => transferred(alloc, zone, request, road),
+            Some(zone) => reply_with_zone(alloc, zone, request, road),
             None => unreachable!(),
         },
     }
 }
 
-/// Returns the messages with the records of a zone, or the one that says that they have no room.
-fn transferred(
+/// Returns the messages of the reply to a request with the records of a zone. If a record has no room in a message, there is one with
+/// the code `ServFail`.
+pub fn reply_with_zone(
     alloc: Global,
     zone: &Zone,
     request: &Message,
     road: Road,
 ) -> Result<Vec<Vec<u8>>, AllocError>
     requires sound { IsSound request.now }
-    requires asks { is_transfer request.now ≡ true }
+    requires few { length request.now.queries ≤ 1 }
     ensures { IfOk result (λ messages. TransfersOrFails zone.now road request.now
         (map (λ bytes. bytes.items) messages.items)) }
 {

@@ -95,6 +95,7 @@ fn incremental(alloc: Global, input: &str, road: Road, is_permitted: bool) -> An
         alloc,
         zones.as_slice(),
         &[],
+        &[],
         bytes.as_slice(),
         &terms,
     )? {
