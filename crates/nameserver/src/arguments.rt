@@ -17,6 +17,9 @@ use zone_includes::Reach;
 /// The port at which the server listens, unless another one is given.
 const DEFAULT_PORT: u16 = 5300;
 
+/// How many records of differences are kept of each zone, unless another number is given.
+const DEFAULT_DIFFERENCES: usize = 10_000;
+
 /// The version of the program.
 const VERSION: &str = "0.1.0";
 
@@ -34,6 +37,8 @@ pub(crate) struct Arguments {
     pub(crate) secondaries: AddressList,
     /// Whether the serial number of a zone rises with each change of its rows.
     pub(crate) raises_serials: bool,
+    /// How many records of differences are kept of each zone, at most.
+    pub(crate) differences: usize,
     /// The secondaries that are notified of changes.
     pub(crate) notify: Vec<SocketAddr>,
     /// The maximum size of datagrams.
@@ -61,6 +66,7 @@ impl Drop for Arguments {
             answering: _answering,
             secondaries,
             raises_serials: _raises_serials,
+            differences: _differences,
             notify,
             limit: _limit,
             reach: _reach,
@@ -92,6 +98,7 @@ impl Arguments {
             answering: _answering,
             secondaries,
             raises_serials: _raises_serials,
+            differences: _differences,
             notify,
             limit: _limit,
             reach: _reach,
@@ -143,6 +150,7 @@ fn arguments_of(alloc: Global, matches: &ArgMatches<'_>) -> Result<Arguments, En
         answering,
         secondaries,
         raises_serials: raises_serials_in(matches),
+        differences: differences_in(alloc, matches)?,
         notify,
         limit,
         reach: reach_in(matches),
@@ -196,6 +204,12 @@ fn command<'a>(alloc: Global) -> Result<Command<'a>, AllocError> {
         .arg(updaters_option(alloc))?
         .arg(secondaries_option(alloc))?
         .arg(notify_option(alloc))?
+        .arg(option(
+            alloc,
+            "differences",
+            "N",
+            "How many records of differences are kept of each zone for incremental transfers, 10000 if none is given",
+        ))?
         .arg(flag(
             alloc,
             "keep-serials",
@@ -348,6 +362,17 @@ fn raises_serials_in(matches: &ArgMatches<'_>) -> bool {
     let is_plain = matches.get_str("plain") == Some("true");
     let keeps = matches.get_str("keep-serials") == Some("true");
     !is_plain && !keeps
+}
+
+/// Returns how many records of differences are kept of each zone.
+fn differences_in(alloc: Global, matches: &ArgMatches<'_>) -> Result<usize, Ending> {
+    let Some(text) = matches.get_str("differences") else {
+        return Ok(DEFAULT_DIFFERENCES);
+    };
+    match text.parse::<usize>() {
+        Ok(count) => Ok(count),
+        Err(_) => Err(Ending::invalid(alloc, "differences", text, "it is not a number")),
+    }
 }
 
 /// Returns how requests are answered that are not updates.

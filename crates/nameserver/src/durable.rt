@@ -4,7 +4,7 @@ use crate::arguments::Arguments;
 use crate::ending::Ending;
 use crate::files::text_of;
 use crate::includes::refuse_includes;
-use crate::raises::{Watch, raise_with_journal};
+use crate::watch::{Watch, raise_with_journal};
 use crate::zones::{add_zone, milliseconds_since, read_zones, tell, zone_of};
 use dns_durable::{CompactError, DurableServer, ReplayError, replay};
 use dns_journal::{Journal, Position, State, Storage, StorageError, StoredFiles};

@@ -1,9 +1,10 @@
 //! What the program does with requests, if there are keys or a journal.
 
+use crate::histories::Histories;
 use crate::log_file::LogFile;
 use crate::notices::Notices;
-use crate::raises::{Watch, raise_with_journal};
-use crate::transfers::Transfers;
+use crate::transfers::{Sources, Transfers};
+use crate::watch::{Watch, raise_with_journal};
 use dns_durable::{CompactError, DurableServer, Incoming, Policy, Terms, is_update};
 use dns_faults::Delivery;
 use dns_journal::State;
@@ -30,6 +31,8 @@ pub(crate) struct DurableHandler<'a> {
     pub(crate) updaters: AddressList,
     /// Whether serial numbers rise by themselves.
     pub(crate) raises_serials: bool,
+    /// The last differences of each zone.
+    pub(crate) histories: Histories,
     /// To whom zones are transferred.
     pub(crate) transfers: Transfers,
     /// The notifications of secondaries.
@@ -50,13 +53,11 @@ impl Handler for DurableHandler<'_> {
 
     fn handle(&mut self, requests: &[Request<'_>]) -> Result<Vec<Delivery>, AllocError> {
         let watch = self.watch(requests)?;
-        let replies = self.respond(requests)?;
-        if replies.iter().any(|reply| is_update_made(reply)) {
-            // Without memory, the next change raises the serial number.
-            let _raised = raise_with_journal(self.rt.alloc(), &mut self.server, &watch);
-        }
+        let replies = self.respond(requests);
+        // Updates may have been made even if there was no memory for their replies.
+        self.settle(&watch);
         self.tend_journal();
-        self.deliver(requests, replies)
+        self.deliver(requests, replies?)
     }
 
     fn transfer(
@@ -64,10 +65,13 @@ impl Handler for DurableHandler<'_> {
         request: &Request<'_>,
         is_busy: bool,
     ) -> Result<Option<Vec<Vec<u8>>>, AllocError> {
-        let zones = self.server.server.zones();
-        let keys = self.policy.keys.as_slice();
+        let sources = Sources {
+            zones: self.server.server.zones(),
+            histories: self.histories.as_slice(),
+            keys: self.policy.keys.as_slice(),
+        };
         self.transfers
-            .over_stream(self.rt, zones, keys, request, is_busy, &mut self.log)
+            .over_stream(self.rt, sources, request, is_busy, &mut self.log)
     }
 
     fn take_response(&mut self, response: &Request<'_>) -> bool {
@@ -103,15 +107,22 @@ impl DurableHandler<'_> {
         Ok(replies.replies)
     }
 
-    /// Copies what requests name, if serial numbers rise by themselves.
+    /// Copies what requests name.
     fn watch(&self, requests: &[Request<'_>]) -> Result<Watch, AllocError> {
         let mut watch = Watch::new(self.rt.alloc());
-        if self.raises_serials {
-            for request in requests {
-                watch.add(self.server.server.zones(), request.bytes)?;
-            }
+        for request in requests {
+            watch.add(self.server.server.zones(), request.bytes)?;
         }
         Ok(watch)
+    }
+
+    /// Raises the serial numbers of the zones that are watched, if they rise by themselves, and keeps the differences.
+    fn settle(&mut self, watch: &Watch) {
+        if self.raises_serials {
+            // Without memory, the next change raises the serial number.
+            let _raised = raise_with_journal(self.rt.alloc(), &mut self.server, watch);
+        }
+        self.histories.record(self.server.server.zones(), watch);
     }
 
     /// Returns what decides on the reply to a request, beside its bytes.
@@ -170,11 +181,13 @@ impl DurableHandler<'_> {
 
     /// Returns the reply to a request for an incremental transfer in a datagram.
     fn transferred(&self, request: &Request<'_>) -> Result<Option<Vec<u8>>, AllocError> {
-        let zones = self.server.server.zones();
+        let sources = Sources {
+            zones: self.server.server.zones(),
+            histories: self.histories.as_slice(),
+            keys: self.policy.keys.as_slice(),
+        };
         let road = road_of(request.transport, self.limit);
-        let keys = self.policy.keys.as_slice();
-        self.transfers
-            .by_datagram(self.rt, zones, keys, request, road)
+        self.transfers.by_datagram(self.rt, sources, request, road)
     }
 
     /// Lets the zone file take the place of a journal that is long, and tells the first failure on standard error.

@@ -1,9 +1,10 @@
 //! What the program does with requests, if it makes faults.
 
+use crate::histories::Histories;
 use crate::log_file::LogFile;
 use crate::notices::Notices;
-use crate::raises::Watch;
-use crate::transfers::Transfers;
+use crate::transfers::{Sources, Transfers};
+use crate::watch::Watch;
 use dns_faults::Delivery;
 use dns_nameserver::{Answered, NameServer, road_of};
 use dns_server::Updates;
@@ -20,6 +21,8 @@ pub(crate) struct LoggedServer<'a> {
     pub(crate) server: NameServer,
     /// Whether serial numbers rise by themselves.
     pub(crate) raises_serials: bool,
+    /// The last differences of each zone.
+    pub(crate) histories: Histories,
     /// To whom zones are transferred.
     pub(crate) transfers: Transfers,
     /// The notifications of secondaries.
@@ -47,9 +50,13 @@ impl Handler for LoggedServer<'_> {
         request: &Request<'_>,
         is_busy: bool,
     ) -> Result<Option<Vec<Vec<u8>>>, AllocError> {
-        let zones = self.server.zones.server.zones();
+        let sources = Sources {
+            zones: self.server.zones.server.zones(),
+            histories: self.histories.as_slice(),
+            keys: &[],
+        };
         self.transfers
-            .over_stream(self.rt, zones, &[], request, is_busy, &mut self.log)
+            .over_stream(self.rt, sources, request, is_busy, &mut self.log)
     }
 
     fn take_response(&mut self, response: &Request<'_>) -> bool {
@@ -68,27 +75,30 @@ impl Handler for LoggedServer<'_> {
 impl LoggedServer<'_> {
     /// Answers a request, and logs it.
     fn answer(&mut self, request: &Request<'_>) -> Result<Delivery, AllocError> {
-        let watch = self.watch(request)?;
-        let answered = self.answered(request)?;
+        let mut watch = Watch::new(self.rt.alloc());
+        watch.add(self.server.zones.server.zones(), request.bytes)?;
+        let answered = self.answered(request);
+        // An update may have been made even if there was no memory for its reply.
+        self.settle(&watch);
+        let answered = answered?;
         if let Some(log) = &mut self.log {
             log.append_request(self.rt, request, &answered);
         }
         if answered.has_updated {
-            // Without memory, the next change raises the serial number.
-            let _raised = self.raise_serials(&watch);
             self.notices
                 .follow(self.rt, self.server.zones.server.zones(), request.moment);
         }
         Ok(answered.delivery)
     }
 
-    /// Copies what a request names, if serial numbers rise by themselves.
-    fn watch(&self, request: &Request<'_>) -> Result<Watch, AllocError> {
-        let mut watch = Watch::new(self.rt.alloc());
+    /// Raises the serial numbers of the zones that are watched, if they rise by themselves, and keeps the differences.
+    fn settle(&mut self, watch: &Watch) {
         if self.raises_serials {
-            watch.add(self.server.zones.server.zones(), request.bytes)?;
+            // Without memory, the next change raises the serial number.
+            let _raised = self.raise_serials(watch);
         }
-        Ok(watch)
+        self.histories
+            .record(self.server.zones.server.zones(), watch);
     }
 
     /// Raises the serial numbers of the zones whose rows have changed, unless they have risen.
@@ -102,12 +112,13 @@ impl LoggedServer<'_> {
 
     /// Returns what a request leads to.
     fn answered(&mut self, request: &Request<'_>) -> Result<Answered, AllocError> {
-        let zones = self.server.zones.server.zones();
+        let sources = Sources {
+            zones: self.server.zones.server.zones(),
+            histories: self.histories.as_slice(),
+            keys: &[],
+        };
         let road = road_of(request.transport, self.server.limit);
-        if let Some(reply) = self
-            .transfers
-            .by_datagram(self.rt, zones, &[], request, road)?
-        {
+        if let Some(reply) = self.transfers.by_datagram(self.rt, sources, request, road)? {
             return Ok(Answered {
                 delivery: Delivery::plain(Some(reply)),
                 line: None,

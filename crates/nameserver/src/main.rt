@@ -4,6 +4,8 @@
 //! - `arguments`: the arguments; `files`, `zones`, `includes`: the files; `handler`: what is done with a request; `log_file`: the log;
 //! - `durable_arguments`, `policy`: keys and grants; `durable`: zones with a journal; `durable_handler`: what is done with a request, if
 //!   there are keys or a journal;
+//! - `watch`: what updates change; `histories`: the differences that are kept; `transfers`: transfers of zones; `notices`: notifications
+//!   of secondaries;
 //! - `ending`: how the program ends.
 #![tactic(auto)]
 
@@ -14,12 +16,13 @@ mod durable_handler;
 mod ending;
 mod files;
 mod handler;
+mod histories;
 mod includes;
 mod log_file;
 mod notices;
 mod policy;
-mod raises;
 mod transfers;
+mod watch;
 mod zones;
 
 use crate::arguments::{Arguments, read_arguments};
@@ -28,6 +31,7 @@ use crate::durable_handler::DurableHandler;
 use crate::ending::Ending;
 use crate::files::{read_file, text_of};
 use crate::handler::LoggedServer;
+use crate::histories::Histories;
 use crate::log_file::LogFile;
 use crate::notices::Notices;
 use crate::policy::read_policy;
@@ -81,7 +85,9 @@ fn run_with_faults(rt: &HostRuntime, arguments: Arguments) -> Result<(), Ending>
     let log = open_log(rt, &arguments)?;
     let mut server = name_server(rt, &arguments)?;
     let mut service = open_service(rt, &arguments)?;
-    let notices = Notices::new(rt, server.zones.server.zones(), arguments.notify.as_slice())?;
+    let zones = server.zones.server.zones();
+    let notices = Notices::new(rt, zones, arguments.notify.as_slice())?;
+    let histories = Histories::new(rt.alloc(), zones, arguments.differences)?;
     let (updaters, secondaries) = arguments.into_lists();
     server.updaters = updaters;
     let transfers = Transfers {
@@ -94,6 +100,7 @@ fn run_with_faults(rt: &HostRuntime, arguments: Arguments) -> Result<(), Ending>
         rt,
         server,
         raises_serials,
+        histories,
         transfers,
         notices,
         log,
@@ -146,7 +153,9 @@ fn handler_of<'a>(
 ) -> Result<DurableHandler<'a>, Ending> {
     let policy = read_policy(rt, arguments)?;
     let log = open_log(rt, arguments)?;
-    let notices = Notices::new(rt, server.server.zones(), arguments.notify.as_slice())?;
+    let zones = server.server.zones();
+    let notices = Notices::new(rt, zones, arguments.notify.as_slice())?;
+    let histories = Histories::new(rt.alloc(), zones, arguments.differences)?;
     Ok(DurableHandler {
         rt,
         server,
@@ -154,6 +163,7 @@ fn handler_of<'a>(
         limit: arguments.limit,
         updaters: AddressList::new(rt.alloc()),
         raises_serials: arguments.raises_serials,
+        histories,
         transfers: Transfers {
             are_offered: offers_transfers(arguments),
             secondaries: AddressList::new(rt.alloc()),

@@ -5,11 +5,22 @@ use dns_faults::Delivery;
 use dns_nameserver::Answered;
 use dns_server::AddressList;
 use dns_sockets::{Request, Transport};
-use dns_transfer_replies::{Terms, may_ask_by_datagram, transfer_reply};
+use dns_transfer_replies::{Terms, ZoneHistory, may_ask_by_datagram, transfer_reply};
 use dns_tsig::Key;
 use dns_zone::{Road, Zone};
 use std::alloc::AllocError;
 use std::time::Clock;
+
+/// What is transferred.
+#[derive(Clone, Copy)]
+pub(crate) struct Sources<'a> {
+    /// The zones.
+    pub(crate) zones: &'a [Zone],
+    /// Their last differences.
+    pub(crate) histories: &'a [ZoneHistory],
+    /// The keys with which requests may be signed.
+    pub(crate) keys: &'a [Key],
+}
 
 /// To whom zones are transferred.
 #[derive(Drop)]
@@ -26,8 +37,7 @@ impl Transfers {
     pub(crate) fn over_stream(
         &self,
         rt: &HostRuntime,
-        zones: &[Zone],
-        keys: &[Key],
+        sources: Sources<'_>,
         request: &Request<'_>,
         is_busy: bool,
         log: &mut Option<LogFile>,
@@ -37,7 +47,7 @@ impl Transfers {
         }
         let is_permitted = !is_busy && self.secondaries.contains(request.peer.ip());
         let terms = terms(rt, Road::Stream, is_permitted);
-        let found = transfer_reply(rt.alloc(), zones, keys, request.bytes, &terms)?;
+        let found = reply_to(rt, sources, request, &terms)?;
         if let (Some(messages), Some(log)) = (&found, log) {
             log_first(rt, log, request, messages.as_slice())?;
         }
@@ -48,8 +58,7 @@ impl Transfers {
     pub(crate) fn by_datagram(
         &self,
         rt: &HostRuntime,
-        zones: &[Zone],
-        keys: &[Key],
+        sources: Sources<'_>,
         request: &Request<'_>,
         road: Road,
     ) -> Result<Option<Vec<u8>>, AllocError> {
@@ -59,11 +68,26 @@ impl Transfers {
             return Ok(None);
         }
         let terms = terms(rt, road, self.secondaries.contains(request.peer.ip()));
-        match transfer_reply(rt.alloc(), zones, keys, request.bytes, &terms)? {
+        match reply_to(rt, sources, request, &terms)? {
             Some(mut messages) => Ok(messages.pop()),
             None => Ok(None),
         }
     }
+}
+
+/// Returns the messages of the reply to a request for a transfer.
+fn reply_to(
+    rt: &HostRuntime,
+    sources: Sources<'_>,
+    request: &Request<'_>,
+    terms: &Terms,
+) -> Result<Option<Vec<Vec<u8>>>, AllocError> {
+    let Sources {
+        zones,
+        histories,
+        keys,
+    } = sources;
+    transfer_reply(rt.alloc(), zones, histories, keys, request.bytes, terms)
 }
 
 /// Returns what decides on the reply to a request for a transfer.

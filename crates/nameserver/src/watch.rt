@@ -1,4 +1,4 @@
-//! Serial numbers that rise with updates.
+//! What updates may change: it is copied before they are served, so that serial numbers rise, and differences are kept.
 
 use dns_authority::AnyAnswer;
 use dns_durable::{DurableServer, Incoming, Policy, Terms, is_update};
@@ -6,6 +6,7 @@ use dns_journal::Storage;
 use dns_messages::{Message, Query};
 use dns_server::Updates;
 use dns_zone::{Road, Zone, decode_request};
+use dns_zone_differences::NamedRecords;
 use dns_zone_serials::NamedRows;
 use dns_zone_service::Answering;
 use std::alloc::{AllocError, Global};
@@ -13,11 +14,14 @@ use std::alloc::{AllocError, Global};
 /// The id of an update that raises a serial number, which is sent to nobody.
 const RAISE_ID: u16 = 0;
 
-/// The rows of a zone that updates name, as they were before the updates.
-struct WatchedZone {
+/// What updates name of a zone, as it was before them.
+pub(crate) struct WatchedZone {
     /// The index of the zone.
-    index: usize,
+    pub(crate) index: usize,
+    /// The rows.
     rows: NamedRows,
+    /// All records of their owners.
+    pub(crate) records: NamedRecords,
 }
 
 impl Drop for WatchedZone {
@@ -25,8 +29,28 @@ impl Drop for WatchedZone {
         let WatchedZone {
             index: _index,
             rows,
+            records,
         } = self;
         drop(rows);
+        drop(records);
+    }
+}
+
+impl WatchedZone {
+    /// Copies nothing but the serial number of the zone with an index, and the records of its origin.
+    fn new(alloc: Global, index: usize, zone: &Zone) -> Result<WatchedZone, AllocError> {
+        let records = NamedRecords::new(alloc, zone)?;
+        Ok(WatchedZone {
+            index,
+            rows: NamedRows::new(alloc, zone),
+            records,
+        })
+    }
+
+    /// Copies what an update names.
+    fn add(&mut self, alloc: Global, zone: &Zone, update: &Message) -> Result<(), AllocError> {
+        self.rows.add(zone, update)?;
+        self.records.add(alloc, zone, update)
     }
 }
 
@@ -34,7 +58,7 @@ impl Drop for WatchedZone {
 #[derive(Drop)]
 pub(crate) struct Watch {
     alloc: Global,
-    watched: Vec<WatchedZone>,
+    pub(crate) watched: Vec<WatchedZone>,
 }
 
 impl Watch {
@@ -46,7 +70,7 @@ impl Watch {
         }
     }
 
-    /// Copies the rows that a request names, if it is an update of a zone.
+    /// Copies what a request names, if it is an update of a zone.
     pub(crate) fn add(&mut self, zones: &[Zone], request: &[u8]) -> Result<(), AllocError> {
         if !is_update(request) {
             return Ok(());
@@ -57,23 +81,23 @@ impl Watch {
         }
     }
 
-    /// Copies the rows that an update names, if it is one of a zone.
+    /// Copies what an update names, if it is one of a zone.
     fn add_update(&mut self, zones: &[Zone], update: &Message) -> Result<(), AllocError> {
         let Some((index, zone)) = zone_of(zones, update.queries.as_slice()) else {
             return Ok(());
         };
         for watched in self.watched.as_mut_slice() {
             if watched.index == index {
-                return watched.rows.add(zone, update);
+                return watched.add(self.alloc, zone, update);
             }
         }
-        let mut rows = NamedRows::new(self.alloc, zone);
-        rows.add(zone, update)?;
-        self.watched.push(WatchedZone { index, rows })?;
+        let mut added = WatchedZone::new(self.alloc, index, zone)?;
+        added.add(self.alloc, zone, update)?;
+        self.watched.push(added)?;
         Ok(())
     }
 
-    /// Copies the rows that the updates of an entry of a journal name.
+    /// Copies what the updates of an entry of a journal name.
     pub(crate) fn add_frames(&mut self, zones: &[Zone], entry: &[u8]) -> Result<(), AllocError> {
         let mut rest = entry;
         // Each frame has a byte at least.
