@@ -38,7 +38,7 @@ WRONG = [
     [], ["zone", "--listen"], ["zone", "--listen", "here"], ["zone", "--listen", "127.0.0.1"], ["zone", "--listen", "127.0.0.1:65536"],
     ["zone", "--limit", "511"], ["zone", "--limit", "65536"], ["zone", "--limit", "x"], ["zone", "--unknown"], ["zone", "--origin", "a..b"],
     ["zone", "--allow-update", "10.0.0.0/33"], ["zone", "--allow-update", "x"], ["zone", "--limit", "600", "--limit", "600"],
-    ["zone", "--plain", "--minimal-any"],
+    ["zone", "--plain", "--minimal-any"], ["zone", "--differences", "x"],
 ]  # fmt: skip
 
 
@@ -59,7 +59,7 @@ def try_arguments(report: Report, program: str) -> None:
         status, output, errors = run(program, {"zone": ZONE}, words)
         wanted = "nameserver " if words[0] in ("--version", "-V") else "Usage: "
         report.check(f"{words}: {output!r}", (0, True, ""), (status, wanted in output, errors))
-    options = "--origin --listen --limit --plain --minimal-any --faults --log --no-updates --allow-update --allow-transfer --notify --keep-serials --until-stdin-closes".split()
+    options = "--origin --listen --limit --plain --minimal-any --faults --log --no-updates --allow-update --allow-transfer --notify --differences --keep-serials --until-stdin-closes".split()
     report.check("all options in --help", [], [it for it in options if it not in run(program, {}, ["--help"])[1]])
     for words in WRONG:
         status, output, errors = run(program, {"zone": ZONE}, words)
