@@ -51,8 +51,8 @@ impl NamedRows {
     /// Copies the rows of a zone that an update names: for each record of its update section, those of its owner and type, or of all
     /// types of the owner if it names no type (RFC 2136 section 2.5.3). After an error some may be copied.
     pub fn add(&mut self, zone: &Zone, update: &Message) -> Result<(), AllocError>
-        ensures named { IfOk result (λ _. NamesAll zone.now update.now.authorities self.old.sets.items
-            self.new.sets.items) }
+        ensures named { IfOk result (λ _. NamesAll zone.now update.now.authorities
+            self.old.sets.items self.new.sets.items) }
         ensures serial { self.new.serial ≡ self.old.serial }
     {
         for change in update.authorities.as_slice() {

@@ -137,7 +137,8 @@ impl fmt::Display for ReplyCode<'_> {
 
 /// Writes the response code of an error, if it has one.
 fn write_error_code<W: fmt::Write>(error: &NetError, f: &mut fmt::Formatter<W>) -> fmt::Result
-    ensures { WritesOnOk W.write_str_gives f.old result (text_or_null (error_code error.now)) f.new }
+    ensures { WritesOnOk W.write_str_gives f.old result
+        (text_or_null (error_code error.now)) f.new }
 {
     match error {
         NetError::Dns(DnsError::NoRecordsFound(none)) => {

@@ -121,7 +121,8 @@ fn read_lines(
     origin: &Name,
     types: Types,
 ) -> Result<ScriptText, ScriptFault>
-    ensures ok { IfOk result (λ script. IsScriptFrom types origin.now 0 1 (map (λ line. line.now) all.now)
+    ensures ok { IfOk result (λ script. IsScriptFrom types origin.now 0 1
+        (map (λ line. line.now) all.now)
         (Ok (contents_of (side_by_side script.lines.items script.events.items)))) }
     ensures beside { IfOk result (λ script.
         length script.lines.items ≡ length script.events.items) }

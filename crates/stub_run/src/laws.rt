@@ -74,8 +74,8 @@ pub fn handles_ask_few_questions<L: Link>()
         (outcome : Outcome)
         → Asks L.sends L.receives L.streams L.failure_count old request now outcome new
         → AreFew 1 (asker_of old) (asker_of new) }
-    ensures lookup { (options : DnsRequestOptions) (now : ℕ) (old new : CachingClient (WireHandle L))
-        (q : Query) (reply : Reply)
+    ensures lookup { (options : DnsRequestOptions) (now : ℕ)
+        (old new : CachingClient (WireHandle L)) (q : Query) (reply : Reply)
         → Answers (Asks L.sends L.receives L.streams L.failure_count)
         options now old q reply new
         → AreFew 8 (asker_of old.handle) (asker_of new.handle) }
