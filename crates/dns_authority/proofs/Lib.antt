@@ -7,4 +7,5 @@ pub mod CopyLaws
 pub mod ExistenceLaws
 pub mod OriginLaws
 pub mod PlainLaws
+pub mod SourceLaws
 pub mod StepLaws

@@ -1,9 +1,11 @@
 //! What a zone has for a question at a name (RFC 1034 section 4.3.2 step 3).
 
-ghost use Rattle.std.specs.Prelude.{◌≡◌, IfOk, Option, option_copied};
+ghost use Rattle.std.specs.Prelude.{◌≡◌, ◌&&◌, [], false, not, IfOk, Option, Some, option_copied};
 ghost use Rattle.dns_names.specs.Name.{DomainName};
-ghost use Rattle.dns_zone.specs.Rows.{row_of};
-ghost use Rattle.dns_authority.specs.Step.{alias_step, alias_target, followed, is_followed, step, step_from, step_over, step_with};
+ghost use Rattle.dns_zone.specs.Rows.{row_of, rows_at, some_row_below};
+ghost use Rattle.dns_lookup_steps.specs.Barrier.{cut_at, is_cut, is_ds};
+ghost use Rattle.dns_lookup_steps.specs.Wildcard.{if_exists, source_of_synthesis};
+ghost use Rattle.dns_authority.specs.Step.{alias_step, alias_target, followed, is_followed, negative, step, step_at, step_by, step_from, step_over, step_with};
 
 use crate::answer::AuthorityAnswer;
 use crate::asked::{Asked, asked_records};
@@ -11,7 +13,7 @@ use crate::copies::copy;
 use crate::redirection::step_below;
 use crate::zones::{closest_zone, zone_for};
 use dns_data::RData;
-use dns_lookup_steps::{answering_name, barrier, is_cut};
+use dns_lookup_steps::{barrier_above, is_cut, is_ds, source_of_synthesis};
 use dns_messages::ResponseCode;
 use dns_names::Name;
 use dns_records::{Record, Sequence};
@@ -42,31 +44,9 @@ pub(crate) fn next_step(
         let refusal = AuthorityAnswer::refusal(alloc, ResponseCode::Refused);
         return Ok(Step::End(refusal));
     };
-    let at = barrier(zone, asked.record_type, owner)?;
-    step_with(alloc, zones, zone, asked, owner, at.as_ref())
-}
-
-/// Returns the step in a zone, by the barrier on the way to the name.
-fn step_with(
-    alloc: Global,
-    zones: &[Zone],
-    zone: &Zone,
-    asked: Asked,
-    owner: &Name,
-    at: Option<&Name>,
-) -> Result<Step, AllocError>
-    ensures { IfOk result (λ made. made
-        ≡ step_with zones.now zone.now asked owner.now (option_copied at.entry)) }
-{
-    if let Some(at) = at {
-        return step_over(alloc, zones, zone, asked.record_type, owner, at);
-    }
-    match answering_name(zone, owner)? {
-        Some(source) => step_from(alloc, zones, zone, asked, owner, &source),
-        None => {
-            let answer = AuthorityAnswer::negative(alloc, zone, ResponseCode::NXDomain)?;
-            Ok(Step::End(answer))
-        }
+    match barrier_above(zone, owner)? {
+        Some(at) => step_over(alloc, zones, zone, asked.record_type, owner, &at),
+        None => step_at_name(alloc, zones, zone, asked, owner),
     }
 }
 
@@ -89,7 +69,87 @@ fn step_over(
     step_below(alloc, zones, record_type, owner, at, stored)
 }
 
-/// Returns the step from the records of a name or a wildcard: those that are asked for, or else an alias, or else no data.
+/// Returns the step at a name above which there is no barrier. It may be a zone cut itself.
+fn step_at_name(
+    alloc: Global,
+    zones: &[Zone],
+    zone: &Zone,
+    asked: Asked,
+    owner: &Name,
+) -> Result<Step, AllocError>
+    ensures { IfOk result (λ made. made ≡ step_with zones.now zone.now asked owner.now
+        (cut_at zone.now asked.record_type owner.now)) }
+{
+    if !zone.has_row_below(owner) {
+        return step_beside(alloc, zones, zone, asked, owner);
+    }
+    if is_cut_for(zone, asked.record_type, owner) {
+        return Ok(Step::End(AuthorityAnswer::referral(alloc, zone, owner)?));
+    }
+    step_from(alloc, zones, zone, asked, owner, owner)
+}
+
+/// Returns `true` if a name is a zone cut for a type: for all but DS, whose records are above it (RFC 4035 section 3.1.4.1).
+fn is_cut_for(zone: &Zone, record_type: RecordType, name: &Name) -> bool
+    ensures { result ≡ (is_cut zone.now name.now && not (is_ds record_type)) }
+{
+    is_cut(zone, name) && !is_ds(record_type)
+}
+
+/// Returns the step at a name that does not exist: from the records of the wildcard beside it, if there is one (RFC 4592 section
+/// 3.3).
+fn step_beside(
+    alloc: Global,
+    zones: &[Zone],
+    zone: &Zone,
+    asked: Asked,
+    owner: &Name,
+) -> Result<Step, AllocError>
+    ensures { IfOk result (λ made. made ≡ step_at zones.now zone.now asked owner.now
+        (if_exists zone.now.rows (source_of_synthesis zone.now.rows owner.now.labels))) }
+{
+    match source_of_synthesis(zone, owner)? {
+        Some(source) => step_of_source(alloc, zones, zone, asked, owner, &source),
+        None => no_name(alloc, zone),
+    }
+}
+
+/// Returns the step from a wildcard, if it exists. That its records are looked up first spares a look-up where there are some.
+fn step_of_source(
+    alloc: Global,
+    zones: &[Zone],
+    zone: &Zone,
+    asked: Asked,
+    owner: &Name,
+    source: &Name,
+) -> Result<Step, AllocError>
+    ensures { IfOk result (λ made. made ≡ step_at zones.now zone.now asked owner.now
+        (if_exists zone.now.rows (Some source.now))) }
+{
+    let synthesized = asked_records(alloc, zone, asked, owner, source)?;
+    if !exists(zone, source, synthesized.as_slice()) {
+        return no_name(alloc, zone);
+    }
+    step_by(alloc, zones, zone, owner, source, synthesized)
+}
+
+/// Returns `true` if a name with these records exists (RFC 4592 section 2.2.2).
+fn exists(zone: &Zone, name: &Name, records: &[Record]) -> bool
+    requires { some_row_below zone.now.rows name.now.labels ≡ false → records.now ≡ [] }
+    ensures { result ≡ some_row_below zone.now.rows name.now.labels }
+{
+    !records.is_empty() || zone.has_row_below(name)
+}
+
+/// Returns the step at a name that does not exist, nor does a wildcard beside it.
+fn no_name(alloc: Global, zone: &Zone) -> Result<Step, AllocError>
+    ensures { IfOk result (λ made. made ≡ Step.End (negative zone.now ResponseCode.NXDomain)) }
+{
+    let answer = AuthorityAnswer::negative(alloc, zone, ResponseCode::NXDomain)?;
+    Ok(Step::End(answer))
+}
+
+/// Returns the step from the records of a name or a wildcard.
 fn step_from(
     alloc: Global,
     zones: &[Zone],
@@ -102,6 +162,22 @@ fn step_from(
         ≡ step_from zones.now zone.now asked owner.now source.now) }
 {
     let records = asked_records(alloc, zone, asked, owner, source)?;
+    step_by(alloc, zones, zone, owner, source, records)
+}
+
+/// Returns the step by the records of a name or a wildcard that are asked for: with these, or else along its alias, or else without
+/// data.
+fn step_by(
+    alloc: Global,
+    zones: &[Zone],
+    zone: &Zone,
+    owner: &Name,
+    source: &Name,
+    records: Sequence<Record>,
+) -> Result<Step, AllocError>
+    ensures { IfOk result (λ made. made ≡ step_by zones.now zone.now owner.now records
+        (rows_at zone.now.rows source.now.labels RecordType.CNAME)) }
+{
     if !records.is_empty() {
         return Ok(Step::End(AuthorityAnswer::authoritative(
             alloc,

@@ -40,8 +40,8 @@ pub fn has_rows(zone: &Zone, name: &Name, record_type: RecordType) -> bool
     !zone.records_at(name, record_type).is_empty()
 }
 
-/// Returns the first barrier above a name, from the origin down.
-fn barrier_above(zone: &Zone, name: &Name) -> Result<Option<Name>, AllocError>
+/// Returns the first barrier above a name, from the origin of a zone down: a zone cut or the owner of a DNAME record.
+pub fn barrier_above(zone: &Zone, name: &Name) -> Result<Option<Name>, AllocError>
     ensures { IfOk result (λ found. found ≡ barrier_above zone.now name.now) }
 {
     for kept in label_count(zone.origin())..label_count(name) {

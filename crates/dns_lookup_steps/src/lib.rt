@@ -11,6 +11,6 @@ mod barriers;
 mod redirection;
 mod wildcard;
 
-pub use barriers::{barrier, has_rows, is_cut, is_ds};
+pub use barriers::{barrier, barrier_above, has_rows, is_cut, is_ds};
 pub use redirection::{dname_target, with_target};
-pub use wildcard::{answering_name, source_of_synthesis};
+pub use wildcard::source_of_synthesis;

@@ -1,29 +1,12 @@
 //! Wildcards (RFC 4592).
 
 ghost use Rattle.std.specs.Prelude.{◌≡◌, ◌<◌, ◌+◌, IfOk, length, drop};
-ghost use Rattle.dns_lookup_steps.specs.Wildcard.{answering_name, closest_encloser, source_of_synthesis, wildcard_below};
+ghost use Rattle.dns_lookup_steps.specs.Wildcard.{closest_encloser, source_of_synthesis, wildcard_below};
 
 use crate::barriers::label_count;
 use dns_names::Name;
 use dns_zone::Zone;
 use std::alloc::AllocError;
-
-/// Returns the name from whose records a name is answered: itself if it exists, or else the source of synthesis if that exists
-/// (RFC 4592 section 3.3).
-pub fn answering_name(zone: &Zone, name: &Name) -> Result<Option<Name>, AllocError>
-    ensures { IfOk result (λ found. found ≡ answering_name zone.now.rows name.now) }
-{
-    if zone.has_row_below(name) {
-        return Ok(Some(name.clone()?));
-    }
-    let Some(source) = source_of_synthesis(zone, name)? else {
-        return Ok(None);
-    };
-    if zone.has_row_below(&source) {
-        return Ok(Some(source));
-    }
-    Ok(None)
-}
 
 /// Returns the source of synthesis of a name that does not exist: `*` below the longest name above it that exists (RFC 4592
 /// section 3.3.1).
