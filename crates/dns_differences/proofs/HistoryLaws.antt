@@ -1,6 +1,6 @@
 -- Histories of a zone, and what clients lack.
 use Rattle.std.proofs.Common.{◌≡◌, ◌==◌, ◌≤◌, ◌<◌, ◌+◌, ◌-◌, ◌∙◌, ℕ, Bool, true, false, cond, not, ◌&&◌, ◌||◌, List, [], ◌∷◌, ◌++◌, length, drop, refl, sym, ap, subst, arith, Option, Some, None, zero, suc, get_or, length-drop}
-use Rattle.std.specs.Prelude.{nat_le}
+use Rattle.std.specs.Prelude.{nat_le, map}
 use Rattle.std.proofs.lemmas.Bool.{eqb-true, leb-true, le-leb, lt-leb}
 use Rattle.std.proofs.Math.Seq.{drop-cons, drop-length}
 use Rattle.dns_codes.specs.SerialNumber.{serial_order}
@@ -10,8 +10,8 @@ use Rattle.dns_records.specs.Record.{Record}
 use Rattle.dns_records.specs.Rows.{Rows}
 use Rattle.dns_differences.specs.declared.difference.Difference.{Difference}
 use Rattle.dns_differences.specs.declared.history.Limits.{Limits}
-use Rattle.dns_differences.specs.Difference.{applied_all, first_serial, in_zone, is_among, is_empty, is_numbered, same_in_zone, serial_of, size, AreAlike, AreRecordsOf, HasSerial, IsDifference, Lead}
-use Rattle.dns_differences.specs.History.{extended, fits, from_serial, if_any, kept, known_since, last_serial, recorded, same_serial, since, since_by, sizes, IsHistoryOf}
+use Rattle.dns_differences.specs.Difference.{applied_all, first_serial, in_zone, is_among, is_empty, is_numbered, octets, size, AreAlike, AreRecordsOf, HasSerial, IsDifference, Lead}
+use Rattle.dns_differences.specs.History.{all_octets, extended, fits, from_serial, if_any, kept, known_since, last_serial, recorded, same_serial, since, since_by, sizes, IsHistoryOf}
 use Rattle.dns_differences.proofs.DifferenceLaws.{all_lead}
 use Rattle.dns_differences.proofs.RecordLaws.{record_equiv, two}
 
@@ -84,7 +84,8 @@ recorded_history limits ds current new d h is = by (is_empty d) refl (is_numbere
 -- ---- limits
 
 pub none_fit : (limits : Limits) → fits limits [] ≡ true
-none_fit limits = λ i. le-leb 0 limits.differences (omega arith) i && le-leb 0 limits.records (omega arith) i
+none_fit limits =
+    λ i. le-leb 0 limits.differences (omega arith) i && (le-leb 0 limits.records (omega arith) i && le-leb 0 limits.octets (omega arith) i)
 
 kept_fit : (limits : Limits) (ds : List Difference) → fits limits (kept limits ds) ≡ true
 kept_fit limits [] = none_fit limits
@@ -106,13 +107,27 @@ and_false : (a : Bool) → (a && false) ≡ false
 and_false true = refl
 and_false false = refl
 
+too_many_octets : (limits : Limits) (ds : List Difference) → limits.octets < all_octets ds → fits limits ds ≡ false
+too_many_octets limits ds octets =
+    ap (λ (b : Bool). nat_le (length ds) limits.differences && (nat_le (sizes ds) limits.records && b)) (lt-leb (all_octets ds) limits.octets octets)
+    ∙ ap (λ (b : Bool). nat_le (length ds) limits.differences && b) (and_false (nat_le (sizes ds) limits.records))
+    ∙ and_false (nat_le (length ds) limits.differences)
+
+-- differences fit by number, records and octets
+all_fit : (limits : Limits) (ds : List Difference) → length ds ≤ limits.differences → sizes ds ≤ limits.records → all_octets ds ≤ limits.octets
+    → fits limits ds ≡ true
+all_fit limits ds number records octets =
+    λ i. le-leb (length ds) limits.differences number i && (le-leb (sizes ds) limits.records records i && le-leb (all_octets ds) limits.octets octets i)
+
 -- fewer differences fit
 fewer_fit : (limits : Limits) (d : Difference) (ds : List Difference) → fits limits (d ∷ ds) ≡ true → fits limits ds ≡ true
 fewer_fit limits d ds e =
-    let both = two (nat_le (length (d ∷ ds)) limits.differences) (nat_le (sizes (d ∷ ds)) limits.records) e in
-    let number : length ds ≤ limits.differences = omega (arith, leb-true (length (d ∷ ds)) limits.differences both.0) in
-    let records : sizes ds ≤ limits.records = omega (arith, leb-true (sizes (d ∷ ds)) limits.records both.1) in
-    λ i. le-leb (length ds) limits.differences number i && le-leb (sizes ds) limits.records records i
+    let first = two (nat_le (length (d ∷ ds)) limits.differences) (nat_le (sizes (d ∷ ds)) limits.records && nat_le (all_octets (d ∷ ds)) limits.octets) e in
+    let others = two (nat_le (sizes (d ∷ ds)) limits.records) (nat_le (all_octets (d ∷ ds)) limits.octets) first.1 in
+    let number : length ds ≤ limits.differences = omega (arith, leb-true (length (d ∷ ds)) limits.differences first.0) in
+    let records : sizes ds ≤ limits.records = omega (arith, leb-true (sizes (d ∷ ds)) limits.records others.0) in
+    let octets : all_octets ds ≤ limits.octets = omega (arith, leb-true (all_octets (d ∷ ds)) limits.octets others.1) in
+    all_fit limits ds number records octets
 
 drop_fits : (limits : Limits) (s : ℕ) (ds : List Difference) → fits limits ds ≡ true → fits limits (drop s ds) ≡ true
 drop_fits limits zero ds e = e
@@ -139,62 +154,107 @@ kept_from limits (suc s) (d ∷ ds) fit before =
     kept_from limits s ds fit (λ t e. subst (λ (n : ℕ). fits limits (drop n (d ∷ ds)) ≡ false) e (before s refl))
     ∙ sym (ap (λ (b : Bool). cond b (d ∷ ds) (kept limits ds)) (more_too_many limits s (d ∷ ds) (before s refl)))
 
--- the differences from a place on leave room
-pub record Leaves (limits : Limits) (ds : List Difference) (s room : ℕ) : Type 0 where
+-- the differences from a place on leave room for so many records and octets
+pub record Leaves (limits : Limits) (ds : List Difference) (s room octets_room : ℕ) : Type 0 where
   pub within : s ≤ length ds
   pub records : sizes (drop s ds) + room ≡ limits.records
+  pub octets_are : all_octets (drop s ds) + octets_room ≡ limits.octets
   pub number : length ds ≤ s + limits.differences
 
-leaves_fit : (limits : Limits) (ds : List Difference) (s room : ℕ) → Leaves limits ds s room → fits limits (drop s ds) ≡ true
-leaves_fit limits ds s room leaves =
-    let number : length (drop s ds) ≤ limits.differences = omega (arith, length-drop s ds, leaves.number, leaves.within) in
-    let records : sizes (drop s ds) ≤ limits.records = omega (arith, leaves.records) in
-    λ i. le-leb (length (drop s ds)) limits.differences number i && le-leb (sizes (drop s ds)) limits.records records i
+leaves_fit : (limits : Limits) (ds : List Difference) (s room octets_room : ℕ) → Leaves limits ds s room octets_room → fits limits (drop s ds) ≡ true
+leaves_fit limits ds s room octets_room leaves =
+    all_fit limits (drop s ds) (omega (arith, length-drop s ds, leaves.number, leaves.within)) (omega (arith, leaves.records)) (omega (arith, leaves.octets_are))
 
-pub none_leave : (limits : Limits) (ds : List Difference) (s room : ℕ) → s ≡ length ds → room ≡ limits.records → Leaves limits ds s room
-none_leave limits ds s room e is = record {
-  within = omega (arith, e);
-  records = omega (arith, ap (λ (n : ℕ). sizes (drop n ds)) e, ap sizes (drop-length ds), is);
-  number = omega (arith, e);
-}
+pub none_leave : (limits : Limits) (ds : List Difference) (s room octets_room : ℕ) → s ≡ length ds → room ≡ limits.records → octets_room ≡ limits.octets
+    → Leaves limits ds s room octets_room
+none_leave limits ds s room octets_room e is octets_is =
+    let none : drop s ds ≡ [] = ap (λ (n : ℕ). drop n ds) e ∙ drop-length ds in
+    record {
+      within = omega (arith, e);
+      records = omega (arith, ap sizes none, is);
+      octets_are = omega (arith, ap all_octets none, octets_is);
+      number = omega (arith, e);
+    }
 
-pub one_leaves : (limits : Limits) (ds : List Difference) (s t room left : ℕ) (d : Difference) → Leaves limits ds s room → t + 1 ≡ s → d ≡ get_or ds t d
-    → length ds - s < limits.differences → left + size d ≡ room → Leaves limits ds t left
-one_leaves limits ds s t room left d leaves e is number fit =
-    let first : drop t ds ≡ d ∷ drop s ds =
-    drop-cons ds t d (omega (arith, e, leaves.within)) ∙ (λ i. sym is i ∷ drop (after i) ds) in
+one_more_kept : (ds : List Difference) (s t : ℕ) (d : Difference) → s ≤ length ds → t + 1 ≡ s → d ≡ get_or ds t d → drop t ds ≡ d ∷ drop s ds
+one_more_kept ds s t d within e is = drop-cons ds t d (omega (arith, e, within)) ∙ (λ i. sym is i ∷ drop (after i) ds)
+  where
+    after : suc t ≡ s
+    after = omega (arith, e)
+
+-- the octets at a place are those of the difference there
+octets_at : (ds : List Difference) (t len : ℕ) (d : Difference) → t < length ds → d ≡ get_or ds t d → len ≡ get_or (map octets ds) t 0 → len ≡ octets d
+octets_at [] t len d within is len_is = absurd (omega (arith, within))
+octets_at (x ∷ ds) zero len d within is len_is = len_is ∙ ap octets (sym is)
+octets_at (x ∷ ds) (suc t) len d within is len_is = octets_at ds t len d (omega (arith, within)) is len_is
+
+pub one_leaves : (limits : Limits) (ds : List Difference) (s t room octets_room left octets_left len : ℕ) (d : Difference) → Leaves limits ds s room octets_room
+    → t + 1 ≡ s → d ≡ get_or ds t d → len ≡ get_or (map octets ds) t 0 → length ds - s < limits.differences → left + size d ≡ room
+    → octets_left + len ≡ octets_room → Leaves limits ds t left octets_left
+one_leaves limits ds s t room octets_room left octets_left len d leaves e is len_is number fit octets_fit =
+    let first : drop t ds ≡ d ∷ drop s ds = one_more_kept ds s t d leaves.within e is in
+    let len_of : len ≡ octets d = octets_at ds t len d (omega (arith, e, leaves.within)) is len_is in
     record {
       within = omega (arith, e, leaves.within);
       records = omega (arith, ap sizes first, leaves.records, fit);
+      octets_are = omega (arith, ap all_octets first, leaves.octets_are, octets_fit, len_of);
       number = omega (arith, e, number, leaves.within);
     }
-  where
-    after : suc t ≡ s
-    after = omega (arith, e)
 
-pub kept_at_start : (limits : Limits) (ds : List Difference) (s room : ℕ) → Leaves limits ds s room → s ≡ 0 → drop s ds ≡ kept limits ds
-kept_at_start limits ds s room leaves e = kept_from limits s ds (leaves_fit limits ds s room leaves) (λ t f. absurd (omega (arith, e, f)))
+pub kept_at_start : (limits : Limits) (ds : List Difference) (s room octets_room : ℕ) → Leaves limits ds s room octets_room → s ≡ 0 → drop s ds ≡ kept limits ds
+kept_at_start limits ds s room octets_room leaves e =
+    kept_from limits s ds (leaves_fit limits ds s room octets_room leaves) (λ t f. absurd (omega (arith, e, f)))
 
-pub kept_for_records : (limits : Limits) (ds : List Difference) (s t room : ℕ) (d : Difference) → Leaves limits ds s room → t + 1 ≡ s → d ≡ get_or ds t d
-    → room < size d → drop s ds ≡ kept limits ds
-kept_for_records limits ds s t room d leaves e is full =
-    let first : drop t ds ≡ d ∷ drop s ds =
-    drop-cons ds t d (omega (arith, e, leaves.within)) ∙ (λ i. sym is i ∷ drop (after i) ds) in
+-- the differences from a place on are kept if those from the place before do not fit
+kept_before : (limits : Limits) (ds : List Difference) (s t room octets_room : ℕ) → Leaves limits ds s room octets_room → t + 1 ≡ s
+    → fits limits (drop t ds) ≡ false → drop s ds ≡ kept limits ds
+kept_before limits ds s t room octets_room leaves e past =
+    kept_from limits s ds (leaves_fit limits ds s room octets_room leaves) (λ u f. subst (λ (n : ℕ). fits limits (drop n ds) ≡ false) (omega (arith, e, f)) past)
+
+pub kept_for_records : (limits : Limits) (ds : List Difference) (s t room octets_room : ℕ) (d : Difference) → Leaves limits ds s room octets_room → t + 1 ≡ s
+    → d ≡ get_or ds t d → room < size d → drop s ds ≡ kept limits ds
+kept_for_records limits ds s t room octets_room d leaves e is full =
+    let first : drop t ds ≡ d ∷ drop s ds = one_more_kept ds s t d leaves.within e is in
     let records : limits.records < sizes (drop t ds) = omega (arith, ap sizes first, leaves.records, full) in
-    let no : fits limits (drop t ds) ≡ false =
-    ap (λ (b : Bool). nat_le (length (drop t ds)) limits.differences && b) (lt-leb (sizes (drop t ds)) limits.records records) ∙ and_false (nat_le (length (drop t ds)) limits.differences) in
-    kept_from limits s ds (leaves_fit limits ds s room leaves) (λ u f. subst (λ (n : ℕ). fits limits (drop n ds) ≡ false) (omega (arith, e, f)) no)
-  where
-    after : suc t ≡ s
-    after = omega (arith, e)
+    kept_before limits ds s t room octets_room leaves e
+    (ap (λ (b : Bool). nat_le (length (drop t ds)) limits.differences && (b && nat_le (all_octets (drop t ds)) limits.octets)) (lt-leb (sizes (drop t ds)) limits.records records)
+    ∙ and_false (nat_le (length (drop t ds)) limits.differences))
 
-pub kept_for_number : (limits : Limits) (ds : List Difference) (s t room : ℕ) → Leaves limits ds s room → t + 1 ≡ s → limits.differences ≤ length ds - s
-    → drop s ds ≡ kept limits ds
-kept_for_number limits ds s t room leaves e full =
+pub kept_for_octets : (limits : Limits) (ds : List Difference) (s t room octets_room len : ℕ) (d : Difference) → Leaves limits ds s room octets_room → t + 1 ≡ s
+    → d ≡ get_or ds t d → len ≡ get_or (map octets ds) t 0 → octets_room < len → drop s ds ≡ kept limits ds
+kept_for_octets limits ds s t room octets_room len d leaves e is len_is full =
+    let first : drop t ds ≡ d ∷ drop s ds = one_more_kept ds s t d leaves.within e is in
+    let len_of : len ≡ octets d = octets_at ds t len d (omega (arith, e, leaves.within)) is len_is in
+    let octets : limits.octets < all_octets (drop t ds) = omega (arith, ap all_octets first, leaves.octets_are, full, len_of) in
+    kept_before limits ds s t room octets_room leaves e (too_many_octets limits (drop t ds) octets)
+
+pub kept_for_number : (limits : Limits) (ds : List Difference) (s t room octets_room : ℕ) → Leaves limits ds s room octets_room → t + 1 ≡ s
+    → limits.differences ≤ length ds - s → drop s ds ≡ kept limits ds
+kept_for_number limits ds s t room octets_room leaves e full =
     let number : limits.differences < length (drop t ds) = omega (arith, length-drop t ds, e, full, leaves.within) in
-    let no : fits limits (drop t ds) ≡ false =
-    ap (λ (b : Bool). b && nat_le (sizes (drop t ds)) limits.records) (lt-leb (length (drop t ds)) limits.differences number) in
-    kept_from limits s ds (leaves_fit limits ds s room leaves) (λ u f. subst (λ (n : ℕ). fits limits (drop n ds) ≡ false) (omega (arith, e, f)) no)
+    kept_before limits ds s t room octets_room leaves e
+    (ap (λ (b : Bool). b && (nat_le (sizes (drop t ds)) limits.records && nat_le (all_octets (drop t ds)) limits.octets))
+    (lt-leb (length (drop t ds)) limits.differences number))
+
+-- ---- a difference that is beyond the limits alone
+
+last_octets : (ds : List Difference) (d : Difference) → octets d ≤ all_octets (ds ++ d ∷ [])
+last_octets [] d = omega arith
+last_octets (e ∷ ds) d = omega (arith, last_octets ds d)
+
+none_kept : (limits : Limits) (ds : List Difference) (d : Difference) → limits.octets < octets d → kept limits (ds ++ d ∷ []) ≡ []
+none_kept limits [] d more = ap (λ (b : Bool). cond b (d ∷ []) []) (too_many_octets limits (d ∷ []) (omega (arith, last_octets [] d, more)))
+none_kept limits (e ∷ ds) d more =
+    ap (λ (b : Bool). cond b (e ∷ (ds ++ d ∷ [])) (kept limits (ds ++ d ∷ [])))
+    (too_many_octets limits (e ∷ (ds ++ d ∷ [])) (omega (arith, last_octets (e ∷ ds) d, more)))
+    ∙ none_kept limits ds d more
+
+pub none_recorded : (limits : Limits) (ds : List Difference) (d : Difference) → limits.octets < octets d → kept limits (extended ds d) ≡ []
+none_recorded limits ds d more = by (same_serial (last_serial ds) (first_serial d.deleted.items))
+  where
+    by : (b : Bool) → kept limits (cond b (ds ++ d ∷ []) (d ∷ [])) ≡ []
+    by true = none_kept limits ds d more
+    by false = none_kept limits [] d more
 
 -- ---- what a client lacks
 

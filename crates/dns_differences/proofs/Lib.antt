@@ -1,3 +1,4 @@
 pub mod RecordLaws
 pub mod DifferenceLaws
 pub mod HistoryLaws
+pub mod OctetLaws

@@ -1,13 +1,14 @@
 -- Differences between two versions of a zone (RFC 1995 section 4).
-use Rattle.std.specs.Prelude.{◌≡◌, ◌==◌, ◌&&◌, ◌+◌, ◌++◌, not, length, Bool, true, false, List, [], ◌∷◌, ℕ, Option, Some, None}
+use Rattle.std.specs.Prelude.{◌≡◌, ◌==◌, ◌&&◌, ◌+◌, ◌++◌, not, length, sum_by, Bool, true, false, List, [], ◌∷◌, ℕ, Option, Some, None}
 use Rattle.std.specs.List.{filter, list_any}
 use Rattle.std.specs.Ordering.{eq_by_cmp}
 use Rattle.dns_data.specs.declared.rdata.RData.{RData}
 use Rattle.dns_data.specs.declared.rdata.RData.TheVariants as of
-use Rattle.dns_data.specs.rdata.{same_data}
+use Rattle.dns_data.specs.rdata.{same_data, whole_len}
 use Rattle.dns_records.specs.Record.{Record}
 use Rattle.dns_records.specs.Rows.{Rows, key_cmp, key_of, row_of, set_of}
 use Rattle.dns_records.specs.declared.row.Row.{Row}
+use Rattle.dns_wire.specs.Name.{name_len}
 use Rattle.dns_differences.specs.declared.difference.Difference.{Difference}
 
 -- ---- the records of a zone, as a set
@@ -92,6 +93,14 @@ is_empty d = (length d.deleted.items == 0) && (length d.added.items == 0)
 -- the number of records
 abbrev pub size : Difference → ℕ
 size d = length d.deleted.items + length d.added.items
+
+-- the octets of a record without compression: owner, type, class, TTL, data length and data (RFC 1035 section 4.1.3)
+abbrev pub record_octets : Record → ℕ
+record_octets r = (name_len r.name.labels + 10) + whole_len r.rdata
+
+-- the octets of all records
+abbrev pub octets : Difference → ℕ
+octets d = sum_by record_octets d.deleted.items + sum_by record_octets d.added.items
 
 -- ---- serial numbers of versions
 

@@ -7,7 +7,7 @@ use Rattle.dns_codes.specs.declared.serial_number.SerialOrder.TheVariants as ord
 use Rattle.dns_records.specs.Rows.{Rows}
 use Rattle.dns_differences.specs.declared.difference.Difference.{Difference}
 use Rattle.dns_differences.specs.declared.history.Limits.{Limits}
-use Rattle.dns_differences.specs.Difference.{first_serial, is_empty, is_numbered, size, Lead}
+use Rattle.dns_differences.specs.Difference.{first_serial, is_empty, is_numbered, octets, size, Lead}
 
 -- ---- bounds
 
@@ -16,9 +16,16 @@ abbrev pub sizes : List Difference → ℕ
 sizes [] = 0
 sizes (d ∷ ds) = size d + sizes ds
 
+-- the octets of the records of differences
+abbrev pub all_octets : List Difference → ℕ
+all_octets [] = 0
+all_octets (d ∷ ds) = octets d + all_octets ds
+
 -- whether differences are within limits
 abbrev pub fits : Limits → List Difference → Bool
-fits limits ds = nat_le (length ds) limits.differences && nat_le (sizes ds) limits.records
+fits limits ds =
+    nat_le (length ds) limits.differences
+    && (nat_le (sizes ds) limits.records && nat_le (all_octets ds) limits.octets)
 
 -- differences without the oldest ones, so that the others are within limits
 abbrev pub kept : Limits → List Difference → List Difference

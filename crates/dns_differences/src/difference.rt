@@ -1,11 +1,14 @@
 //! Differences between two versions of a zone (RFC 1995 section 4).
 
-ghost use Rattle.std.specs.Prelude.{◌≡◌, ◌+◌, ◌<◌, [], None, IfSome, length};
-ghost use Rattle.dns_differences.specs.Difference.{first_serial, is_empty, is_numbered, serial_of, size};
+ghost use Rattle.std.specs.Prelude.{◌≡◌, ◌+◌, ◌<◌, ◌≤◌, [], None, IfSome, length, sum_by};
+ghost use Rattle.dns_differences.specs.Difference.{first_serial, is_empty, is_numbered, octets, record_octets, serial_of, size};
 
 use dns_data::RData;
 use dns_records::Record;
 use std::alloc::Global;
+
+/// The length of type, class, TTL and data length of a record, in octets (RFC 1035 section 4.1.3).
+const RECORD_FIELDS_LEN: u128 = 10;
 
 /// The difference between two versions of a zone: the records that only the old one has, and those that only the new one has. If
 /// the SOA record changes, it is the first in both parts (RFC 1995 section 4).
@@ -68,10 +71,54 @@ impl Difference {
         let left = left_after(room, self.deleted.len())?;
         left_after(left, self.added.len())
     }
+
+    /// Returns the octets of the records without compression, or `None` if they are more than `most`.
+    pub(crate) fn octets_within(&self, most: usize) -> Option<usize>
+        ensures some { IfSome result (λ count. count ≡ octets self.now) }
+        ensures within { IfSome result (λ count. count ≤ most) }
+        ensures none { result ≡ None → most < octets self.now }
+    {
+        let left = left_after_records(most, self.deleted.as_slice())?;
+        let left = left_after_records(left, self.added.as_slice())?;
+        Some(most - left)
+    }
+}
+
+/// Returns how many of `room` octets are left after records without compression, or `None` if they have no room.
+fn left_after_records(room: usize, records: &[Record]) -> Option<usize>
+    ensures some { IfSome result (λ left. left + sum_by record_octets records.now ≡ room) }
+    ensures none { result ≡ None → room < sum_by record_octets records.now }
+{
+    let mut left = room;
+    for present in records {
+        left = left_after_record(left, present)?;
+    }
+    Some(left)
+}
+
+/// Returns how many of `room` octets are left after a record without compression, or `None` if it has no room.
+fn left_after_record(room: usize, resource_record: &Record) -> Option<usize>
+    ensures some { IfSome result (λ left. left + record_octets resource_record.now ≡ room) }
+    ensures none { result ≡ None → room < record_octets resource_record.now }
+{
+    let head_len = resource_record.name.encoded_len() as u128 + RECORD_FIELDS_LEN;
+    let left = left_after_octets(room, head_len)?;
+    left_after_octets(left, resource_record.rdata.encoded_len())
+}
+
+/// Returns how many of `room` octets are left after `len` octets, or `None` if there are fewer.
+fn left_after_octets(room: usize, len: u128) -> Option<usize>
+    ensures some { IfSome result (λ left. left + len ≡ room) }
+    ensures none { result ≡ None → room < len }
+{
+    if len > room as u128 {
+        return None;
+    }
+    Some(room - len as usize)
 }
 
 /// Returns `room` without `count`, or `None` if it is less.
-fn left_after(room: usize, count: usize) -> Option<usize>
+pub(crate) fn left_after(room: usize, count: usize) -> Option<usize>
     ensures some { IfSome result (λ left. left + count ≡ room) }
     ensures none { result ≡ None → room < count }
 {

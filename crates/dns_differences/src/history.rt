@@ -1,10 +1,10 @@
 //! The last differences of a zone (RFC 1995 section 5).
 
-ghost use Rattle.std.specs.Prelude.{◌≡◌, ◌≤◌, [], drop, length, true, not, ◌||◌, if◌then◌else◌, IsOk, OnErr, OnOk, option_copied};
-ghost use Rattle.dns_differences.specs.Difference.{is_empty, is_numbered};
+ghost use Rattle.std.specs.Prelude.{◌≡◌, ◌≤◌, ◌++◌, [], ◌∷◌, drop, length, map, true, not, ◌||◌, if◌then◌else◌, IsOk, OnErr, OnOk, option_copied};
+ghost use Rattle.dns_differences.specs.Difference.{is_empty, is_numbered, octets};
 ghost use Rattle.dns_differences.specs.History.{extended, from_serial, kept, known_since, last_serial, recorded, same_serial, since};
 
-use crate::difference::Difference;
+use crate::difference::{Difference, left_after};
 use dns_codes::{SerialNumber, SerialOrder};
 use std::alloc::{AllocError, Global};
 
@@ -15,6 +15,8 @@ pub struct Limits {
     pub differences: usize,
     /// The number of records in all differences.
     pub records: usize,
+    /// The octets of these records without compression (RFC 1035 section 4.1.3).
+    pub octets: usize,
 }
 
 /// The last differences of a zone, each of which is from the version to which the one before it leads.
@@ -22,6 +24,9 @@ pub struct Limits {
 pub struct History {
     limits: Limits,
     differences: Vec<Difference>,
+    /// The octets of each difference's records.
+    lengths: Vec<usize>,
+    ghost counted: { lengths.items ≡ map octets differences.items },
 }
 
 impl History {
@@ -33,6 +38,7 @@ impl History {
         History {
             limits,
             differences: Vec::new(alloc),
+            lengths: Vec::new(alloc),
         }
     }
 
@@ -42,13 +48,15 @@ impl History {
         ensures limits { self.new.limits ≡ self.old.limits }
     {
         self.differences.clear();
+        self.lengths.clear();
     }
 
     /// Adds the difference that a change of the zone has made.
     ///
     /// The oldest ones are dropped if there are too many, and those before it if it is not from the version to which they lead.
-    /// All are dropped if the records have changed, but not the serial number. An error drops all, so that none is left out
-    /// before a later one.
+    /// All are dropped if the records have changed, but not the serial number, or if the difference alone is beyond the limits.
+    /// An error drops all, so that none is left out before a later one.
+    #[tactic(auto, using(crate::proofs::HistoryLaws::none_recorded))]
     pub fn record(&mut self, difference: Difference) -> Result<(), AllocError>
         ensures ok { OnOk result (self.new.differences.items
             ≡ recorded self.old.limits self.old.differences.items difference) }
@@ -64,24 +72,31 @@ impl History {
             self.clear();
             return Ok(());
         }
-        self.extend(difference)?;
+        let Some(len) = difference.octets_within(self.limits.octets) else {
+            // No history with this difference is within the limits.
+            self.clear();
+            return Ok(());
+        };
+        self.extend(difference, len)?;
         self.drop_oldest();
         Ok(())
     }
 
-    /// Adds a difference as the last. Those before it are dropped if it is not from the version to which they lead.
-    fn extend(&mut self, difference: Difference) -> Result<(), AllocError>
+    /// Adds a difference, whose records have `len` octets, as the last. Those before it are dropped if it is not from the version to
+    /// which they lead.
+    fn extend(&mut self, difference: Difference, len: usize) -> Result<(), AllocError>
+        requires { len ≡ octets difference }
         ensures ok { OnOk result (self.new.differences.items
             ≡ extended self.old.differences.items difference) }
         ensures err { OnErr result (self.new.differences.items ≡ []) }
         ensures limits { self.new.limits ≡ self.old.limits }
     {
         self.clear_unless_at(difference.old_serial());
-        match self.differences.push(difference) {
+        match push_both(&mut self.differences, &mut self.lengths, difference, len) {
             Ok(()) => Ok(()),
-            Err(_refused) => {
-                self.clear();
-                // The memory for a further difference was refused.
+            Err(AllocError) => {
+                self.differences.clear();
+                self.lengths.clear();
                 Err(AllocError)
             }
         }
@@ -105,10 +120,13 @@ impl History {
             ≡ kept self.old.limits self.old.differences.items }
         ensures limits { self.new.limits ≡ self.old.limits }
     {
-        let start = first_kept(&self.limits, self.differences.as_slice());
+        let (differences, lengths) = (self.differences.as_slice(), self.lengths.as_slice());
+        let start = first_kept(&self.limits, differences, lengths);
         let count = self.differences.len() - start;
         self.differences.rotate_left(start);
         self.differences.truncate(count);
+        self.lengths.rotate_left(start);
+        self.lengths.truncate(count);
     }
 
     /// Returns what a client lacks that has the version with a serial number, where the zone has the one with the serial number
@@ -156,18 +174,41 @@ fn last_serial(differences: &[Difference]) -> Option<u32>
     }
 }
 
-/// Returns the place of the first difference that is kept: from it on they are within the limits.
-fn first_kept(limits: &Limits, differences: &[Difference]) -> usize
+/// Adds a difference, and the octets of its records. An error may leave one of the two added.
+fn push_both(
+    differences: &mut Vec<Difference>,
+    lengths: &mut Vec<usize>,
+    difference: Difference,
+    len: usize,
+) -> Result<(), AllocError>
+    ensures differences { OnOk result (differences.new.items
+        ≡ differences.old.items ++ difference ∷ []) }
+    ensures lengths { OnOk result (lengths.new.items ≡ lengths.old.items ++ len ∷ []) }
+{
+    lengths.push(len)?;
+    differences.push(difference)?;
+    Ok(())
+}
+
+/// Returns the place of the first difference that is kept: from it on they are within the limits. Each difference has the octets at
+/// its place.
+fn first_kept(limits: &Limits, differences: &[Difference], lengths: &[usize]) -> usize
+    requires { lengths.now ≡ map octets differences.now }
     ensures within { result ≤ length differences.now }
     ensures kept { drop result differences.now ≡ kept limits.now differences.now }
 {
     let mut start = differences.len();
     let mut room = limits.records;
+    let mut octets_room = limits.octets;
     while start > 0 && differences.len() - start < limits.differences {
         let Some(left) = differences[start - 1].room_after(room) else {
             return start;
         };
+        let Some(octets_left) = left_after(octets_room, lengths[start - 1]) else {
+            return start;
+        };
         room = left;
+        octets_room = octets_left;
         start -= 1;
     }
     start

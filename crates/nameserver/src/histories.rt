@@ -10,6 +10,9 @@ use std::alloc::{AllocError, Global};
 /// How many differences are kept of a zone at most.
 const MAX_DIFFERENCES: usize = 1_000;
 
+/// How many octets the records of a zone's differences have at most without compression: 64 MiB.
+const MAX_OCTETS: usize = 67_108_864;
+
 /// The last differences of each zone.
 #[derive(Drop)]
 pub(crate) struct Histories {
@@ -27,6 +30,7 @@ impl Histories {
         let limits = Limits {
             differences: MAX_DIFFERENCES,
             records,
+            octets: MAX_OCTETS,
         };
         let mut histories = Vec::new(alloc);
         for zone in zones {

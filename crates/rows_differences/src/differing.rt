@@ -26,6 +26,7 @@ pub(crate) fn sent(alloc: Global, input: &str) -> Answer {
     let limits = Limits {
         differences: 3,
         records: 12,
+        octets: 1_000,
     };
     let mut history = History::new(alloc, limits);
     let last = record_all(alloc, &mut history, names, texts)?;
@@ -38,18 +39,17 @@ pub(crate) fn sent(alloc: Global, input: &str) -> Answer {
     }
 }
 
-/// `kept DIFFERENCES RECORDS NAMES || TEXT || TEXT ..`: the serial numbers of which a history with these limits has the differences.
+/// `kept DIFFERENCES RECORDS OCTETS NAMES || TEXT || TEXT ..`: the serial numbers of which a history with these limits has the
+/// differences.
 pub(crate) fn kept(alloc: Global, input: &str) -> Answer {
     let (words, texts) = split(input, " || ", "limits, names and zones")?;
     let (differences, words) = two_words(words)?;
-    let (records, names) = two_words(words)?;
-    let (Ok(differences), Ok(records)) = (differences.parse::<usize>(), records.parse::<usize>())
-    else {
-        return Err(RowFault::Lacks("limits"));
-    };
+    let (records, words) = two_words(words)?;
+    let (octets, names) = two_words(words)?;
     let limits = Limits {
-        differences,
-        records,
+        differences: limit_of(differences)?,
+        records: limit_of(records)?,
+        octets: limit_of(octets)?,
     };
     let mut history = History::new(alloc, limits);
     let last = record_all(alloc, &mut history, names, texts)?;
@@ -62,6 +62,14 @@ pub(crate) fn kept(alloc: Global, input: &str) -> Answer {
         }
     }
     Ok(shown)
+}
+
+/// Parses a limit.
+fn limit_of(word: &str) -> Result<usize, RowFault> {
+    match word.parse::<usize>() {
+        Ok(limit) => Ok(limit),
+        Err(_) => Err(RowFault::Lacks("a limit")),
+    }
 }
 
 /// Records the differences from each zone to the next, and returns the last.
