@@ -97,7 +97,7 @@ impl History {
             Err(AllocError) => {
                 self.differences.clear();
                 self.lengths.clear();
-                Err(AllocError)
+                Err(AllocError) // The memory for a further difference was refused.
             }
         }
     }
