@@ -1,1 +1,2 @@
 pub mod UndecidedLaws
+pub mod LeftLaws

@@ -1,7 +1,9 @@
 -- What a name server for tests answers.
-use Rattle.std.specs.Prelude.{◌≡◌, Bool, true, false, List, ℕ, Option, Some, None, option_map, MatchOption}
+use Rattle.std.specs.Prelude.{◌≡◌, ◌⊎◌, Bool, true, false, List, ℕ, Option, Some, None, option_map, MatchOption}
 use Rattle.dns_messages.specs.declared.op_code.OpCode.TheVariants as ops
 use Rattle.dns_messages.specs.declared.message.Message.{Message}
+use Rattle.dns_messages.specs.Grammar.{ReadsMessage}
+use Rattle.dns_zone.specs.Rows.{ZoneContent}
 use Rattle.dns_zone.specs.declared.road.Road.{Road}
 use Rattle.dns_zone.specs.declared.road.Road.TheVariants as roads
 use Rattle.dns_server.specs.Server.{zones_after}
@@ -85,6 +87,12 @@ IsSentForNone answering bytes None served sent = IsSentForOther answering bytes 
 abbrev pub IsSentIf : Option (List ℕ) → Answering → List ℕ → Option ℕ → Sending → Sending → Type 0
 IsSentIf (Some reply) answering bytes line served sent = sent ≡ served
 IsSentIf None answering bytes line served sent = IsSentForNone answering bytes line served sent
+
+-- The zones after a request, whatever becomes of its reply: they are unchanged, or as the request leaves them that the bytes are.
+abbrev pub LeavesZones : List ZoneContent → List ℕ → List ZoneContent → Type 0
+LeavesZones zones bytes after =
+    (after ≡ zones)
+    ⊎ ((m : Message) × (ReadsMessage bytes m × ((updates : Updates) × (after ≡ zones_after updates zones m))))
 
 -- What a request leads to: a reply and how it is sent, the line of the rule that made a fault, whether an update was applied,
 -- and the zones and rules after it. Only requestors whose address is covered may update.

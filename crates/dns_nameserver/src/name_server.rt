@@ -2,7 +2,7 @@
 
 ghost use Rattle.std.specs.Prelude.{◌≡◌, None, IfOk, OnErr};
 ghost use Rattle.dns_faults.specs.Delivery.{sending};
-ghost use Rattle.dns_nameserver.specs.NameServer.{AnswersRequest, IsSentIf, road_of, updates_of};
+ghost use Rattle.dns_nameserver.specs.NameServer.{AnswersRequest, LeavesZones, IsSentIf, road_of, updates_of};
 
 use crate::zone_server::{Context, ZoneServer};
 use dns_fault_rules::{FaultTable, Transport};
@@ -54,6 +54,7 @@ impl NameServer {
         ensures ok { IfOk result (λ answered. AnswersRequest self.old request.now address transport
             (sending answered.delivery) answered.line answered.has_updated self.new) }
         ensures err { OnErr result (self.new.faults ≡ self.old.faults) }
+        ensures zones { LeavesZones self.old.zones.server request.now self.new.zones.server }
     {
         let context = Context {
             road: road_of(transport, self.limit),

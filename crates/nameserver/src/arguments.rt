@@ -89,6 +89,14 @@ impl Drop for Arguments {
 }
 
 impl Arguments {
+    /// Returns `true` if transfers are offered: not if each question is answered by its zone alone.
+    pub(crate) fn offers_transfers(&self) -> bool {
+        match self.answering {
+            Answering::Plain => false,
+            Answering::Whole(_) => true,
+        }
+    }
+
     /// Returns the addresses from which updates are taken, and those to which zones are transferred.
     pub(crate) fn into_lists(self) -> (AddressList, AddressList) {
         let Arguments {

@@ -4,7 +4,7 @@ use crate::arguments::Arguments;
 use crate::ending::Ending;
 use crate::files::text_of;
 use crate::includes::refuse_includes;
-use crate::watch::{Watch, raise_with_journal};
+use crate::raising::raise_with_journal;
 use crate::zones::{add_zone, milliseconds_since, read_zones, tell, zone_of};
 use dns_durable::{CompactError, DurableServer, ReplayError, replay};
 use dns_journal::{Journal, Position, State, Storage, StorageError, StoredFiles};
@@ -12,6 +12,8 @@ use dns_journal_files::FileStorage;
 use dns_recovery::{OpenError, Opened, open_journal};
 use dns_server::Server;
 use dns_zone::Zone;
+use dns_zone_histories::{Wanted, Watch};
+use std::alloc::AllocError;
 use std::io;
 use std::time::Instant;
 
@@ -90,7 +92,11 @@ fn open_with_journal<'a>(
 ) -> Result<DurableServer<FileStorage<'a>>, Ending> {
     let stored = Stored::read(rt, file, path)?;
     let mut server = server_of(rt, arguments, file, &stored.files)?;
-    let mut watch = Watch::new(rt.alloc());
+    let wanted = Wanted {
+        rows: true,
+        records: false,
+    };
+    let mut watch = Watch::new(rt.alloc(), wanted);
     let journal = stored.into_journal(rt, &mut server, &mut watch, path)?;
     let mut durable = DurableServer { server, journal };
     if arguments.raises_serials {
@@ -163,11 +169,37 @@ fn replay_watched(
         return Ok(());
     };
     replay(server, rt.alloc(), others)?;
-    watch.add_frames(server.zones(), last)?;
+    watch_frames(server, watch, last)?;
     match replay(server, rt.alloc(), &[*last]) {
         Err(ReplayError::NotUpdates(_)) => Err(ReplayError::NotUpdates(updates.len())),
         replayed => replayed,
     }
+}
+
+/// Copies what the updates of an entry of a journal name.
+fn watch_frames(server: &Server, watch: &mut Watch, entry: &[u8]) -> Result<(), AllocError> {
+    let mut rest = entry;
+    // Each frame has a byte at least.
+    for _ in 0..entry.len() {
+        let Some((request, more)) = first_frame(rest) else {
+            return Ok(());
+        };
+        watch.add(server, request)?;
+        rest = more;
+    }
+    Ok(())
+}
+
+/// Returns the message of the first frame of bytes (RFC 1035 section 4.2.2) and what follows it, if the whole frame is there.
+fn first_frame(bytes: &[u8]) -> Option<(&[u8], &[u8])> {
+    let [high, low, behind @ ..] = bytes else {
+        return None;
+    };
+    let len = usize::from(u16::from_be_bytes([*high, *low]));
+    if behind.len() < len {
+        return None;
+    }
+    Some((&behind[..len], &behind[len..]))
 }
 
 /// Says why a journal is not opened.

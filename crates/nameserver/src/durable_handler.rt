@@ -1,10 +1,9 @@
 //! What the program does with requests, if there are keys or a journal.
 
-use crate::histories::Histories;
 use crate::log_file::LogFile;
 use crate::notices::Notices;
+use crate::raising::raise_with_journal;
 use crate::transfers::{Sources, Transfers};
-use crate::watch::{Watch, raise_with_journal};
 use dns_durable::{CompactError, DurableServer, Incoming, Policy, Terms, is_update};
 use dns_faults::Delivery;
 use dns_journal::State;
@@ -13,6 +12,7 @@ use dns_nameserver::{Answered, is_accepted, road_of, updates_of};
 use dns_server::AddressList;
 use dns_sockets::{Handler, Milliseconds, Notice, Request};
 use dns_zone::DatagramLimit;
+use dns_zone_histories::{Recorder, Watch};
 use std::alloc::AllocError;
 use std::time::Clock;
 
@@ -29,10 +29,8 @@ pub(crate) struct DurableHandler<'a> {
     pub(crate) limit: DatagramLimit,
     /// The addresses from which updates are taken without a key.
     pub(crate) updaters: AddressList,
-    /// Whether serial numbers rise by themselves.
-    pub(crate) raises_serials: bool,
-    /// The last differences of each zone.
-    pub(crate) histories: Histories,
+    /// What raises serial numbers, and keeps the last differences of each zone.
+    pub(crate) recorder: Recorder,
     /// To whom zones are transferred.
     pub(crate) transfers: Transfers,
     /// The notifications of secondaries.
@@ -67,7 +65,7 @@ impl Handler for DurableHandler<'_> {
     ) -> Result<Option<Vec<Vec<u8>>>, AllocError> {
         let sources = Sources {
             zones: self.server.server.zones(),
-            histories: self.histories.as_slice(),
+            histories: self.recorder.histories(),
             keys: self.policy.keys.as_slice(),
         };
         self.transfers
@@ -109,20 +107,21 @@ impl DurableHandler<'_> {
 
     /// Copies what requests name.
     fn watch(&self, requests: &[Request<'_>]) -> Result<Watch, AllocError> {
-        let mut watch = Watch::new(self.rt.alloc());
+        let mut watch = self.recorder.watch();
         for request in requests {
-            watch.add(self.server.server.zones(), request.bytes)?;
+            watch.add(&self.server.server, request.bytes)?;
         }
         Ok(watch)
     }
 
-    /// Raises the serial numbers of the zones that are watched, if they rise by themselves, and keeps the differences.
+    /// Raises the serial numbers of the zones that are watched, if they rise by themselves, and records their differences.
     fn settle(&mut self, watch: &Watch) {
-        if self.raises_serials {
+        if self.recorder.wanted().rows {
             // Without memory, the next change raises the serial number.
             let _raised = raise_with_journal(self.rt.alloc(), &mut self.server, watch);
         }
-        self.histories.record(self.server.server.zones(), watch);
+        // Without memory for a difference, the zone's history begins again.
+        let _recorded = self.recorder.record(&self.server.server, watch);
     }
 
     /// Returns what decides on the reply to a request, beside its bytes.
@@ -183,7 +182,7 @@ impl DurableHandler<'_> {
     fn transferred(&self, request: &Request<'_>) -> Result<Option<Vec<u8>>, AllocError> {
         let sources = Sources {
             zones: self.server.server.zones(),
-            histories: self.histories.as_slice(),
+            histories: self.recorder.histories(),
             keys: self.policy.keys.as_slice(),
         };
         let road = road_of(request.transport, self.limit);

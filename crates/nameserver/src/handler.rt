@@ -1,15 +1,12 @@
 //! What the program does with requests, if it makes faults.
 
-use crate::histories::Histories;
 use crate::log_file::LogFile;
 use crate::notices::Notices;
 use crate::transfers::{Sources, Transfers};
-use crate::watch::Watch;
 use dns_faults::Delivery;
 use dns_nameserver::{Answered, NameServer, road_of};
-use dns_server::Updates;
 use dns_sockets::{Handler, Milliseconds, Notice, Request};
-use dns_zone::Road;
+use dns_zone_histories::Recorder;
 use std::alloc::AllocError;
 
 /// Answers requests by a name server, and logs them.
@@ -19,10 +16,8 @@ pub(crate) struct LoggedServer<'a> {
     pub(crate) rt: &'a HostRuntime,
     /// The name server.
     pub(crate) server: NameServer,
-    /// Whether serial numbers rise by themselves.
-    pub(crate) raises_serials: bool,
-    /// The last differences of each zone.
-    pub(crate) histories: Histories,
+    /// What raises serial numbers, and keeps the last differences of each zone.
+    pub(crate) recorder: Recorder,
     /// To whom zones are transferred.
     pub(crate) transfers: Transfers,
     /// The notifications of secondaries.
@@ -52,7 +47,7 @@ impl Handler for LoggedServer<'_> {
     ) -> Result<Option<Vec<Vec<u8>>>, AllocError> {
         let sources = Sources {
             zones: self.server.zones.server.zones(),
-            histories: self.histories.as_slice(),
+            histories: self.recorder.histories(),
             keys: &[],
         };
         self.transfers
@@ -75,12 +70,7 @@ impl Handler for LoggedServer<'_> {
 impl LoggedServer<'_> {
     /// Answers a request, and logs it.
     fn answer(&mut self, request: &Request<'_>) -> Result<Delivery, AllocError> {
-        let mut watch = Watch::new(self.rt.alloc());
-        watch.add(self.server.zones.server.zones(), request.bytes)?;
-        let answered = self.answered(request);
-        // An update may have been made even if there was no memory for its reply.
-        self.settle(&watch);
-        let answered = answered?;
+        let answered = self.answered(request)?;
         if let Some(log) = &mut self.log {
             log.append_request(self.rt, request, &answered);
         }
@@ -91,30 +81,11 @@ impl LoggedServer<'_> {
         Ok(answered.delivery)
     }
 
-    /// Raises the serial numbers of the zones that are watched, if they rise by themselves, and keeps the differences.
-    fn settle(&mut self, watch: &Watch) {
-        if self.raises_serials {
-            // Without memory, the next change raises the serial number.
-            let _raised = self.raise_serials(watch);
-        }
-        self.histories
-            .record(self.server.zones.server.zones(), watch);
-    }
-
-    /// Raises the serial numbers of the zones whose rows have changed, unless they have risen.
-    fn raise_serials(&mut self, watch: &Watch) -> Result<(), AllocError> {
-        let server = &mut self.server.zones.server;
-        for raise in watch.raises(server.zones())? {
-            let _reply = server.respond(raise.as_slice(), Road::Stream, Updates::Allowed)?;
-        }
-        Ok(())
-    }
-
     /// Returns what a request leads to.
     fn answered(&mut self, request: &Request<'_>) -> Result<Answered, AllocError> {
         let sources = Sources {
             zones: self.server.zones.server.zones(),
-            histories: self.histories.as_slice(),
+            histories: self.recorder.histories(),
             keys: &[],
         };
         let road = road_of(request.transport, self.server.limit);
@@ -125,11 +96,22 @@ impl LoggedServer<'_> {
                 has_updated: false,
             });
         }
-        self.server.answer(
+        self.recorded(request)
+    }
+
+    /// Answers a request by the name server. Serial numbers rise, and the differences are recorded.
+    fn recorded(&mut self, request: &Request<'_>) -> Result<Answered, AllocError> {
+        let mut watch = self.recorder.watch();
+        watch.add(&self.server.zones.server, request.bytes)?;
+        let answered = self.server.answer(
             self.rt.alloc(),
             request.bytes,
             request.peer.ip(),
             request.transport,
-        )
+        );
+        // An update may have been made even if there was no memory for its reply. Without memory for a difference, the zone's history
+        // begins again.
+        let _settled = self.recorder.settle(&mut self.server.zones.server, &watch);
+        answered
     }
 }

@@ -4,8 +4,8 @@
 //! - `arguments`: the arguments; `files`, `zones`, `includes`: the files; `handler`: what is done with a request; `log_file`: the log;
 //! - `durable_arguments`, `policy`: keys and grants; `durable`: zones with a journal; `durable_handler`: what is done with a request, if
 //!   there are keys or a journal;
-//! - `watch`: what updates change; `histories`: the differences that are kept; `transfers`: transfers of zones; `notices`: notifications
-//!   of secondaries;
+//! - `recording`: the differences that are kept; `raising`: the rise of serial numbers with a journal; `transfers`: transfers of zones;
+//!   `notices`: notifications of secondaries;
 //! - `ending`: how the program ends.
 #![tactic(auto)]
 
@@ -16,13 +16,13 @@ mod durable_handler;
 mod ending;
 mod files;
 mod handler;
-mod histories;
 mod includes;
 mod log_file;
 mod notices;
 mod policy;
+mod raising;
+mod recording;
 mod transfers;
-mod watch;
 mod zones;
 
 use crate::arguments::{Arguments, read_arguments};
@@ -31,10 +31,10 @@ use crate::durable_handler::DurableHandler;
 use crate::ending::Ending;
 use crate::files::{read_file, text_of};
 use crate::handler::LoggedServer;
-use crate::histories::Histories;
 use crate::log_file::LogFile;
 use crate::notices::Notices;
 use crate::policy::read_policy;
+use crate::recording::recorder_of;
 use crate::transfers::Transfers;
 use crate::zones::{read_former, read_zones};
 use dns_durable::DurableServer;
@@ -80,27 +80,25 @@ fn run_program(rt: &HostRuntime) -> Result<(), Ending> {
 /// Serves zones, some requests by faults on demand.
 fn run_with_faults(rt: &HostRuntime, arguments: Arguments) -> Result<(), Ending> {
     let until = arguments.until;
-    let raises_serials = arguments.raises_serials;
-    let are_offered = offers_transfers(&arguments);
+    let are_offered = arguments.offers_transfers();
     let log = open_log(rt, &arguments)?;
     let mut server = name_server(rt, &arguments)?;
     let mut service = open_service(rt, &arguments)?;
     let zones = server.zones.server.zones();
     let notices = Notices::new(rt, zones, arguments.notify.as_slice())?;
-    let histories = Histories::new(rt.alloc(), zones, arguments.differences)?;
+    // The zones from before the last update would be those from before the rise.
+    let raises_serials = arguments.raises_serials && server.zones.former.is_none();
+    let recorder = recorder_of(rt.alloc(), zones, &arguments, raises_serials)?;
     let (updaters, secondaries) = arguments.into_lists();
     server.updaters = updaters;
     let transfers = Transfers {
         are_offered,
         secondaries,
     };
-    // The zones from before the last update would be those from before the rise.
-    let raises_serials = raises_serials && server.zones.former.is_none();
     let mut handler = LoggedServer {
         rt,
         server,
-        raises_serials,
-        histories,
+        recorder,
         transfers,
         notices,
         log,
@@ -131,7 +129,7 @@ fn run_durable(rt: &HostRuntime, arguments: Arguments) -> Result<(), Ending> {
     }
     let mut handler = handler_of(rt, &arguments, server)?;
     let until = arguments.until;
-    let are_offered = offers_transfers(&arguments);
+    let are_offered = arguments.offers_transfers();
     let mut service = open_service(rt, &arguments)?;
     let (updaters, secondaries) = arguments.into_lists();
     handler.updaters = updaters;
@@ -155,17 +153,16 @@ fn handler_of<'a>(
     let log = open_log(rt, arguments)?;
     let zones = server.server.zones();
     let notices = Notices::new(rt, zones, arguments.notify.as_slice())?;
-    let histories = Histories::new(rt.alloc(), zones, arguments.differences)?;
+    let recorder = recorder_of(rt.alloc(), zones, arguments, arguments.raises_serials)?;
     Ok(DurableHandler {
         rt,
         server,
         policy,
         limit: arguments.limit,
         updaters: AddressList::new(rt.alloc()),
-        raises_serials: arguments.raises_serials,
-        histories,
+        recorder,
         transfers: Transfers {
-            are_offered: offers_transfers(arguments),
+            are_offered: arguments.offers_transfers(),
             secondaries: AddressList::new(rt.alloc()),
         },
         notices,
@@ -199,14 +196,6 @@ fn zone_server(
 /// Returns `true` if a rule answers by the rows from before the last update.
 fn has_stale(faults: &FaultTable) -> bool {
     faults.rules().iter().any(|counted| matches!(counted.rule.fault.service, FaultService::Stale))
-}
-
-/// Returns `true` if transfers are offered: not if each question is answered by its zone alone.
-fn offers_transfers(arguments: &Arguments) -> bool {
-    match arguments.answering {
-        Answering::Plain => false,
-        Answering::Whole(_) => true,
-    }
 }
 
 /// Returns the arguments of the program.

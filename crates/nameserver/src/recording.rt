@@ -1,0 +1,32 @@
+//! The differences that are kept of zones, for incremental transfers (RFC 1995 section 5).
+
+use crate::arguments::Arguments;
+use dns_differences::Limits;
+use dns_zone::Zone;
+use dns_zone_histories::Recorder;
+use std::alloc::{AllocError, Global};
+
+/// How many differences are kept of a zone at most.
+const MAX_DIFFERENCES: usize = 1_000;
+
+/// How many octets the records of a zone's differences have at most without compression: 64 MiB.
+const MAX_OCTETS: usize = 67_108_864;
+
+/// Returns what keeps differences of zones, if any are sent, and lets serial numbers rise or not.
+pub(crate) fn recorder_of(
+    alloc: Global,
+    zones: &[Zone],
+    arguments: &Arguments,
+    raises_serials: bool,
+) -> Result<Recorder, AllocError> {
+    let limits = if arguments.offers_transfers() && arguments.differences > 0 {
+        Some(Limits {
+            differences: MAX_DIFFERENCES,
+            records: arguments.differences,
+            octets: MAX_OCTETS,
+        })
+    } else {
+        None
+    };
+    Recorder::new(alloc, zones, limits, raises_serials)
+}
