@@ -1,17 +1,15 @@
 -- The code of an answer, and whether names exist.
-use Rattle.std.proofs.Common.{◌≡◌, ◌+◌, ◌≤◌, ◌==◌, Bool, true, false, ◌&&◌, not, cond, ℕ, zero, suc, List, [], ◌∷◌, map, refl, sym, ap, ◌∙◌, subst, arith, Option, Some, None}
-use Rattle.dns_codes.specs.RecordType.{type_number}
+use Rattle.std.proofs.Common.{◌≡◌, ◌≤◌, ◌==◌, Bool, true, false, not, cond, ℕ, zero, suc, List, [], ◌∷◌, map, refl, ap, ◌∙◌, arith, Option, Some, None}
 use Rattle.dns_codes.specs.DNSClass.{class_number}
-use Rattle.dns_codes.specs.declared.record_type.RecordType.{RecordType}
 use Rattle.dns_codes.specs.declared.record_type.RecordType.TheVariants as types
 use Rattle.dns_names.specs.Name.{DomainName}
 use Rattle.dns_messages.specs.declared.query.Query.{Query}
 use Rattle.dns_messages.specs.declared.response_code.ResponseCode.{ResponseCode}
-use Rattle.dns_messages.specs.declared.response_code.ResponseCode.TheVariants.{NoError, NXDomain, NotImp, Refused, ServFail, YXDomain}
+use Rattle.dns_messages.specs.declared.response_code.ResponseCode.TheVariants.{NoError, NXDomain, NotImp, Refused}
 use Rattle.dns_records.specs.Record.{Record}
 use Rattle.dns_records.specs.declared.row.Row.{Row}
 use Rattle.dns_zone.specs.Rows.{ZoneContent, rows_at}
-use Rattle.dns_zone.specs.Answer.{is_no_row_type, max_aliases, record_of}
+use Rattle.dns_zone.specs.Answer.{max_aliases, record_of}
 use Rattle.dns_lookup_steps.specs.Barrier.{barrier, is_cut}
 use Rattle.dns_lookup_steps.specs.Redirection.{dname_target}
 use Rattle.dns_lookup_steps.specs.Wildcard.{answering_name}
@@ -20,8 +18,8 @@ use Rattle.dns_authority.specs.declared.asked.AnyAnswer.{AnyAnswer}
 use Rattle.dns_authority.specs.declared.asked.Asked.{Asked}
 use Rattle.dns_authority.specs.declared.step.Step.{Step}
 use Rattle.dns_authority.specs.declared.step.Step.TheVariants.{End, Links}
-use Rattle.dns_authority.specs.Asked.{asked_rows, is_any}
-use Rattle.dns_authority.specs.Step.{negative, positive, redirect, redirected, referral, refusal, step, step_at, step_below, step_by, step_from, step_in, step_over, step_to, step_with, zone_for}
+use Rattle.dns_authority.specs.Asked.{asked_rows}
+use Rattle.dns_authority.specs.Step.{negative, positive, redirect, redirected, referral, refusal, step, step_at, step_below, step_by, step_in, step_to, step_with, zone_for}
 use Rattle.dns_authority.specs.Answer.{after_records, after_step, answer_at, authority_answer, is_unanswered, rest_at}
 use Rattle.dns_authority.specs.Additional.{with_additionals}
 use Rattle.dns_authority.specs.Existence.{DoesNotExist, Leads, LeadsNowhere}

@@ -1,20 +1,19 @@
 -- Where the records of an answer come from.
-use Rattle.std.proofs.Common.{◌≡◌, ◌+◌, ◌<◌, ◌==◌, Bool, true, false, ◌&&◌, ◌||◌, not, cond, ℕ, zero, suc, List, [], ◌∷◌, ◌++◌, map, length, refl, sym, ap, ◌∙◌, subst, arith, Option, Some, None}
+use Rattle.std.proofs.Common.{◌≡◌, ◌+◌, ◌==◌, Bool, true, false, ◌||◌, not, cond, ℕ, zero, suc, List, [], ◌∷◌, ◌++◌, map, refl, sym, subst, arith, Option, Some, None}
 use Rattle.std.specs.List.{AllByRecursion, Contains, flat_map}
 use Rattle.std.proofs.lemmas.List.{map-append}
-use Rattle.dns_codes.specs.RecordType.{type_number, type_of}
+use Rattle.dns_codes.specs.RecordType.{type_of}
 use Rattle.dns_codes.specs.DNSClass.{class_number}
 use Rattle.dns_codes.specs.declared.record_type.RecordType.{RecordType}
 use Rattle.dns_codes.specs.declared.record_type.RecordType.TheVariants as types
 use Rattle.dns_names.specs.Name.{DomainName}
-use Rattle.dns_data.specs.rdata.{data_type}
 use Rattle.dns_messages.specs.declared.query.Query.{Query}
 use Rattle.dns_messages.specs.declared.response_code.ResponseCode.{ResponseCode}
 use Rattle.dns_messages.specs.declared.response_code.ResponseCode.TheVariants.{NoError, NXDomain, NotImp, Refused}
 use Rattle.dns_records.specs.Record.{Record}
 use Rattle.dns_records.specs.declared.row.Row.{Row}
 use Rattle.dns_zone.specs.Rows.{Rows, ZoneContent, rows_at}
-use Rattle.dns_zone.specs.Answer.{authority, authority_row, max_aliases, record_of}
+use Rattle.dns_zone.specs.Answer.{authority_row, max_aliases, record_of}
 use Rattle.dns_lookup_steps.specs.Barrier.{barrier, is_cut}
 use Rattle.dns_lookup_steps.specs.Redirection.{dname_target}
 use Rattle.dns_lookup_steps.specs.Wildcard.{answering_name}
@@ -27,9 +26,9 @@ use Rattle.dns_authority.specs.declared.asked.Asked.{Asked}
 use Rattle.dns_authority.specs.declared.step.Step.{Step}
 use Rattle.dns_authority.specs.declared.step.Step.TheVariants.{End, Links}
 use Rattle.dns_authority.specs.Asked.{any_numbers, any_rows, asked_rows, first_filled, is_any, rows_by_number}
-use Rattle.dns_authority.specs.Step.{alias_step, alias_target, authoritative_answer, closest_zone, followed, followed_for, negative, positive, redirect, redirected, referral, refusal, step, step_at, step_below, step_by, step_from, step_in, step_over, step_to, step_with, synthesized, zone_for}
+use Rattle.dns_authority.specs.Step.{closest_zone, negative, positive, redirect, redirected, referral, refusal, step, step_at, step_below, step_by, step_in, step_to, step_with, zone_for}
 use Rattle.dns_authority.specs.Answer.{after_records, after_step, answer_at, authority_answer, is_unanswered, rest_at}
-use Rattle.dns_authority.specs.Additional.{has_set, host_of, own_rows, rows_by, rows_in, rows_without, with_additionals, with_host, with_host_of, with_hosts, with_set}
+use Rattle.dns_authority.specs.Additional.{has_set, host_of, own_rows, rows_by, rows_in, rows_without, with_additionals, with_host_of, with_hosts, with_set}
 use Rattle.dns_authority.specs.Origin.{ComesFrom, IsAdditionalRecord, IsAnswerRecord, IsAuthorityRecord}
 use Rattle.dns_authority.specs.Origin.IsAnswerRecord.{stored, redirects, redirected as redirected_alias}
 use Rattle.dns_authority.specs.Origin.IsAuthorityRecord.{soa, delegates}

@@ -1,5 +1,5 @@
 -- Answers from a plain zone are the zone's own.
-use Rattle.std.proofs.Common.{◌≡◌, ◌≢◌, ◌==◌, Bool, true, false, ◌&&◌, ◌||◌, not, cond, ℕ, zero, suc, List, [], ◌∷◌, ◌++◌, length, map, refl, sym, ap, ◌∙◌, Option, Some, None}
+use Rattle.std.proofs.Common.{◌≡◌, ◌==◌, Bool, true, false, ◌&&◌, ◌||◌, not, cond, ℕ, zero, suc, List, [], ◌∷◌, length, map, refl, sym, ap, ◌∙◌, Option, Some, None}
 use Rattle.std.specs.Prelude.{is_some, unwrap_or, option_map, position}
 use Rattle.std.specs.Option.{option_or}
 use Rattle.std.specs.List.{find}
@@ -16,7 +16,6 @@ use Rattle.dns_text.specs.Usage.{is_loopback, is_nonexistent}
 use Rattle.dns_data.specs.declared.rdata.RData.{RData}
 use Rattle.dns_data.specs.declared.rdata.RData.TheVariants as of
 use Rattle.dns_messages.specs.declared.query.Query.{Query}
-use Rattle.dns_messages.specs.declared.response_code.ResponseCode.{ResponseCode}
 use Rattle.dns_messages.specs.declared.response_code.ResponseCode.TheVariants.{NoError, NXDomain, NotImp, Refused}
 use Rattle.dns_records.specs.Record.{Record}
 use Rattle.dns_records.specs.declared.row.Row.{Row}
@@ -28,16 +27,16 @@ use Rattle.dns_zone.specs.Rows.{Key, Rows, ZoneContent, key, key_cmp, rows_at, s
 use Rattle.dns_zone.specs.Answer as own
 use Rattle.dns_zone.specs.Answer.{answer_at as own_answer_at, authority, is_no_row_type, max_aliases, record_of}
 use Rattle.dns_server.specs.Zones.{closest, is_at}
-use Rattle.dns_lookup_steps.specs.Barrier.{barrier, cut_at, has_rows, is_barrier, is_cut, is_ds, names_above}
+use Rattle.dns_lookup_steps.specs.Barrier.{barrier, cut_at, has_rows, is_barrier, is_ds, names_above}
 use Rattle.dns_lookup_steps.specs.Wildcard.{answering_name, closest_encloser, if_exists, source_of_synthesis, wildcard_below}
 use Rattle.dns_authority.specs.declared.answer.AuthorityAnswer.{AuthorityAnswer}
 use Rattle.dns_authority.specs.declared.asked.AnyAnswer.{AnyAnswer}
 use Rattle.dns_authority.specs.declared.asked.Asked.{Asked}
 use Rattle.dns_authority.specs.declared.step.Step.{Step}
-use Rattle.dns_authority.specs.declared.step.Step.TheVariants.{End, Links}
+use Rattle.dns_authority.specs.declared.step.Step.TheVariants.{End}
 use Rattle.dns_authority.specs.Asked.{any_rows, asked_rows, is_any}
 use Rattle.dns_authority.specs.Step.{alias_target, closest_zone, followed, negative, positive, refusal, step, step_at, step_by, step_in, step_with, zone_at, zone_for}
-use Rattle.dns_authority.specs.Answer.{after_records, after_step, answer_at, authority_answer, is_unanswered, rest_at}
+use Rattle.dns_authority.specs.Answer.{after_records, after_step, answer_at, authority_answer, rest_at}
 use Rattle.dns_authority.specs.Additional.{with_additionals}
 use Rattle.dns_authority.specs.Plain.{IsPlain, zone_answer}
 

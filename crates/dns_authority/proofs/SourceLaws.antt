@@ -13,7 +13,7 @@ use Rattle.dns_records.specs.declared.row.Row.{Row}
 use Rattle.dns_zone.specs.Answer.{record_of}
 use Rattle.dns_zone.specs.Rows.{Rows, ZoneContent, rows_at, some_row_below}
 use Rattle.dns_lookup_steps.specs.Barrier.{barrier, barrier_above, cut_at, is_cut, is_ds}
-use Rattle.dns_lookup_steps.specs.Wildcard.{answering_name, if_exists, source_of_synthesis}
+use Rattle.dns_lookup_steps.specs.Wildcard.{if_exists, source_of_synthesis}
 use Rattle.dns_authority.specs.declared.asked.AnyAnswer.{AnyAnswer}
 use Rattle.dns_authority.specs.declared.asked.AnyAnswer.TheVariants.{AllSets, FirstSet}
 use Rattle.dns_authority.specs.declared.asked.Asked.{Asked}

@@ -1,16 +1,14 @@
 -- Steps by what a zone has.
-use Rattle.std.proofs.Common.{◌≡◌, ◌≢◌, ◌==◌, Bool, true, false, cond, ℕ, List, [], ◌∷◌, ◌++◌, length, map, refl, sym, ap, ◌∙◌, Option, Some, None, arith}
+use Rattle.std.proofs.Common.{◌≡◌, ◌≢◌, List, [], ◌∷◌, ◌++◌, length, refl, ap, ◌∙◌, Option, Some, arith}
 use Rattle.std.specs.Prelude.{IfOk, Result, Ok, Err}
-use Rattle.std.proofs.lemmas.Bool.Decides.{nat_tests}
 use Rattle.dns_codes.specs.declared.record_type.RecordType.{RecordType}
 use Rattle.dns_names.specs.Name.{DomainName}
 use Rattle.dns_records.specs.Record.{Record}
 use Rattle.dns_records.specs.declared.row.Row.{Row}
 use Rattle.dns_zone.specs.Answer.{record_of}
-use Rattle.dns_zone.specs.Rows.{ZoneContent, row_of, rows_of}
-use Rattle.dns_authority.specs.declared.step.Step.{Step}
+use Rattle.dns_zone.specs.Rows.{ZoneContent}
 use Rattle.dns_authority.specs.declared.step.Step.TheVariants.{End, Links}
-use Rattle.dns_authority.specs.Step.{followed_for, negative, positive, redirected, step_by, synthesized}
+use Rattle.dns_authority.specs.Step.{followed_for, positive, redirected, step_by, synthesized}
 
 module _ (zones : List ZoneContent) (zone : ZoneContent) (owner : DomainName) where
   -- there are records

@@ -1,42 +1,20 @@
 -- What is copied of a zone before further updates.
-use Rattle.std.proofs.Common.{◌≡◌, ◌∙◌, Bool, true, false, List, [], ◌∷◌, ◌++◌, refl, sym, subst, Option, Some, None}
+use Rattle.std.proofs.Common.{◌≡◌, ◌∙◌, true, false, List, [], ◌∷◌, ◌++◌, sym, subst, Option, Some, None}
 use Rattle.std.specs.Prelude.{IfOk, OnOk, Result, Ok, Err}
 use Rattle.dns_records.specs.Record.{Record}
 use Rattle.dns_zone.specs.Rows.{ZoneContent}
-use Rattle.dns_zone_differences.specs.NamedRecords.{AreNamed, NamesMore}
+use Rattle.dns_zone_differences.specs.NamedRecords.{NamesMore}
 use Rattle.dns_zone_differences.specs.declared.named_records.NamedRecords.{NamedRecords}
 use Rattle.dns_zone_serials.specs.NamedRows.{NamesAll}
-use Rattle.dns_zone_serials.specs.ZoneSerial.{zone_serial}
 use Rattle.dns_zone_serials.specs.declared.named_rows.NamedRows.{NamedRows}
 use Rattle.dns_zone_serials.specs.declared.named_set.NamedSet.{NamedSet}
-use Rattle.dns_zone_histories.specs.Watch.{AreRecordsFor, AreRowsFor, CopiesMore, RecordsMore, RowsMore}
-use Rattle.dns_zone_histories.specs.declared.watched_zone.WatchedZone.{WatchedZone}
+use Rattle.dns_zone_histories.specs.Watch.{RecordsMore, RowsMore}
 
 rows_apart : (rows : NamedRows) → Some rows ≡ None → ⊥
 rows_apart rows e = cc
 
 records_apart : (records : NamedRecords) → Some records ≡ None → ⊥
 records_apart records e = cc
-
--- ---- nothing yet
-
-pub rows_copied : (b : Bool) (zone : ZoneContent) (rows : NamedRows) → b ≡ true → rows.serial ≡ zone_serial zone → rows.sets.items ≡ []
-    → AreRowsFor b zone [] (Some rows)
-rows_copied true zone rows e serial sets = (serial, sets)
-rows_copied false zone rows e serial sets = absurd (cc)
-
-pub no_rows : (b : Bool) (zone : ZoneContent) → b ≡ false → AreRowsFor b zone [] None
-no_rows true zone e = absurd (cc)
-no_rows false zone e = refl
-
-pub records_copied : (b : Bool) (zone : ZoneContent) (records : NamedRecords) → b ≡ true → AreNamed zone [] records.owners.items
-    → AreRecordsFor b zone [] (Some records)
-records_copied true zone records e are = are
-records_copied false zone records e are = absurd (cc)
-
-pub no_records : (b : Bool) (zone : ZoneContent) → b ≡ false → AreRecordsFor b zone [] None
-no_records true zone e = absurd (cc)
-no_records false zone e = refl
 
 -- ---- one update more
 
@@ -51,18 +29,10 @@ rows_more zone more old new serial names true updates are =
     (serial ∙ are.0, names_append zone updates more [] old.sets.items new.sets.items are.1 names)
 rows_more zone more old new serial names false updates are = absurd (rows_apart old are)
 
-pub no_rows_more : (zone : ZoneContent) (more : List Record) → RowsMore zone more None None
-no_rows_more zone more true updates are = are
-no_rows_more zone more false updates are = are
-
 pub records_more : (zone : ZoneContent) (more : List Record) (old new : NamedRecords) → NamesMore zone more old.owners.items new.owners.items
     → RecordsMore zone more (Some old) (Some new)
 records_more zone more old new names true updates are = names updates are
 records_more zone more old new names false updates are = absurd (records_apart old are)
-
-pub no_records_more : (zone : ZoneContent) (more : List Record) → RecordsMore zone more None None
-no_records_more zone more true updates are = are
-no_records_more zone more false updates are = are
 
 -- the same of what is copied, unless memory is refused
 pub rows_more_if : {A E : Type 0} (r : Result A E) (zone : ZoneContent) (more : List Record) (found : Option NamedRows) (old new : NamedRows) → found ≡ Some old
@@ -76,10 +46,3 @@ pub records_more_if : {A E : Type 0} (r : Result A E) (zone : ZoneContent) (more
 records_more_if (Ok u) zone more found old new is names =
     subst (λ (o : Option NamedRecords). RecordsMore zone more o (Some new)) (sym is) (records_more zone more old new names)
 records_more_if (Err e) zone more found old new is names = tt
-
-pub copies_more : (zone : ZoneContent) (more : List Record) (old new : WatchedZone) → RowsMore zone more old.rows new.rows
-    → RecordsMore zone more old.records new.records → CopiesMore zone more old new
-copies_more zone more old new rows records wanted updates is = record {
-  rows = rows wanted.rows updates is.rows;
-  records = records wanted.records updates is.records;
-}

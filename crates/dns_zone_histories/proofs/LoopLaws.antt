@@ -33,11 +33,6 @@ next_new limits zones k zone old new h below at so_far is pushed =
     (ap (λ (z : ZoneContent). take k zones ++ z ∷ []) at ∙ sym (take_more zones k zone below))
     (subst (AreNewOf limits (take k zones ++ zone ∷ [])) (sym pushed) (append_new limits (take k zones) old zone h so_far is))
 
-pub all_new : (limits : Limits) (zones : List ZoneContent) (k : ℕ) (histories : List ZoneHistory) → length zones ≤ k
-    → AreNewOf limits (take k zones) histories → AreNewOf limits zones histories
-all_new limits zones k histories all so_far =
-    subst (λ (l : List ZoneContent). AreNewOf limits l histories) (take_all k zones all) so_far
-
 -- ---- updates that raise serial numbers
 
 before_more : (found : Option (List ℕ)) (old more : List (List ℕ)) → old ++ before_others found more ≡ (old ++ before_others found []) ++ more
@@ -58,13 +53,6 @@ pub raises_end : (zones : List ZoneContent) (xs : List WatchedZone) (watched : L
     → ((more : List (List ℕ)) → AreRaises zones xs more → AreRaises zones watched (raises ++ more)) → AreRaises zones watched raises
 raises_end zones [] watched raises none completes = subst (AreRaises zones watched) (append-nil raises) (completes [] refl)
 raises_end zones (x ∷ xs) watched raises none completes = absurd (omega (arith, none))
-
--- the map of a list with one more
-pub mapped_more : {T U : Type 0} (f : T → U) (l : List T) (x : T) (m : List T) → m ≡ l ++ x ∷ [] → map f m ≡ map f l ++ f x ∷ []
-mapped_more f l x m is = ap (map f) is ∙ mapped_append f l x where
-  mapped_append : {T U : Type 0} (f : T → U) (l : List T) (x : T) → map f (l ++ x ∷ []) ≡ map f l ++ f x ∷ []
-  mapped_append f [] x = refl
-  mapped_append f (y ∷ l) x = ap (λ (rest : _). f y ∷ rest) (mapped_append f l x)
 
 -- ---- updates that are made
 
@@ -87,14 +75,6 @@ module _ {V : Type 0} (f : V → List ℕ) where
     raises_are = front_of xs d some ∙ ap (λ (l : List (List ℕ)). f (get_or xs 0 d) ∷ l) rest.raises_are;
     made = (mid, (made, rest.made));
   }
-
-  pub made_end : (xs : List V) (zones : List ZoneContent) → length xs < 1 → AreMade zones (map f xs) zones
-  made_end [] zones none = refl
-  made_end (x ∷ xs) zones none = absurd (omega (arith, none))
-
--- an update that was not made
-pub front_stops : (zones after : List ZoneContent) (raises : List (List ℕ)) → after ≡ zones → IsFrontMade zones raises after
-front_stops zones after raises same = record { front = []; rest = raises; raises_are = refl; made = same }
 
 -- ---- what is at a place
 

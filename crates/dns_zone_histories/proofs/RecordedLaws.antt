@@ -1,5 +1,5 @@
 -- Differences that are recorded, zone by zone.
-use Rattle.std.proofs.Common.{◌≡◌, ◌∙◌, ◌<◌, ◌≤◌, ◌+◌, inl, inr, ℕ, Bool, true, false, List, [], ◌∷◌, length, refl, sym, ap, subst, zero, suc, arith, Option, Some, None}
+use Rattle.std.proofs.Common.{◌≡◌, ◌∙◌, ◌<◌, ◌≤◌, ◌+◌, inl, ℕ, Bool, true, false, List, [], ◌∷◌, length, refl, sym, ap, subst, zero, suc, arith, Option, Some, None}
 use Rattle.std.specs.Prelude.{nat_eq, slice_get, slice_set, IfSome, OnErr, OnOk, Result, Ok, Err}
 use Rattle.std.proofs.lemmas.Bool.Decides.{nat_tests}
 use Rattle.dns_differences.specs.declared.difference.Difference.{Difference}
@@ -8,7 +8,7 @@ use Rattle.dns_transfer_replies.specs.declared.zone_history.ZoneHistory.{ZoneHis
 use Rattle.dns_zone.specs.Rows.{ZoneContent}
 use Rattle.dns_zone_differences.specs.NamedRecords.{IsChange}
 use Rattle.dns_zone_differences.specs.declared.named_records.NamedRecords.{NamedRecords}
-use Rattle.dns_zone_histories.specs.Recording.{AreRecorded, Becomes, IsRecorded, IsRecordedBy, IsRecordedIf}
+use Rattle.dns_zone_histories.specs.Recording.{AreRecorded, IsRecorded, IsRecordedBy, IsRecordedIf}
 use Rattle.dns_zone_histories.specs.Watch.{watched_at}
 use Rattle.dns_zone_histories.specs.declared.watched_zone.WatchedZone.{WatchedZone}
 
@@ -67,14 +67,6 @@ pub record AreSoFar (b : Bool) (zones : List ZoneContent) (watched : List Watche
       → slice_get now place ≡ Some x → IsRecordedIf zone (watched_at watched place) b h x
   pub rest : (place : ℕ) → k ≤ place → slice_get now place ≡ slice_get old place
 
-pub none_so_far : (b : Bool) (zones : List ZoneContent) (watched : List WatchedZone) (old now : List ZoneHistory) (k : ℕ) → now ≡ old → k ≡ 0
-    → AreSoFar b zones watched old now k
-none_so_far b zones watched old now k same e = record {
-  count = ap (λ (l : List ZoneHistory). length l) same;
-  done = λ place zone h x lt. absurd (omega (arith, lt, e));
-  rest = λ place le. ap (λ (l : List ZoneHistory). slice_get l place) same;
-}
-
 -- by whether there was memory before, and up to now
 carried : (zone : ZoneContent) (found : Option WatchedZone) (b c : Bool) (old new : ZoneHistory) → (c ≡ true → b ≡ true) → IsRecordedIf zone found b old new
     → IsRecordedIf zone found c old new
@@ -129,17 +121,6 @@ all_recorded b zones watched old now k so_far end = record {
       so_far.done place zone h x (omega (arith, below now place x x_there, end)) z_there h_there x_there;
 }
 
--- ---- where nothing is watched
-
-pub none_recorded : (zones : List ZoneContent) (watched : List WatchedZone) (old new : List ZoneHistory) → watched ≡ [] → new ≡ old
-    → AreRecorded true zones watched old new
-none_recorded zones watched old new none same = record {
-  count = ap (λ (l : List ZoneHistory). length l) same;
-  each = λ place zone h x z_there h_there x_there.
-      subst (λ (ws : List WatchedZone). IsRecordedIf zone (watched_at ws place) true h x) (sym none)
-      (same_known (sym x_there ∙ ap (λ (l : List ZoneHistory). slice_get l place) same ∙ h_there));
-}
-
 -- ---- one difference
 
 pub difference_recorded : {A E : Type 0} (r : Result A E) (zone : ZoneContent) (copied : NamedRecords) (d : Difference) (old new : ZoneHistory)
@@ -148,16 +129,6 @@ pub difference_recorded : {A E : Type 0} (r : Result A E) (zone : ZoneContent) (
 difference_recorded (Ok u) zone copied d old new change origin limits is =
     record { difference = d; is_change = change; becomes = record { origin_is = origin; limits_are = limits; differences_are = is } }
 difference_recorded (Err e) zone copied d old new change origin limits is = tt
-
-pub difference_refused : {A E : Type 0} (r : Result A E) (old new : ZoneHistory) → new.origin ≡ old.origin → new.history.limits ≡ old.history.limits
-    → OnErr r (new.history.differences.items ≡ []) → OnErr r (Becomes old [] new)
-difference_refused (Ok u) old new origin limits is = tt
-difference_refused (Err e) old new origin limits is = record { origin_is = origin; limits_are = limits; differences_are = is }
-
-pub refused_by : {A E : Type 0} (r : Result A E) (zone : ZoneContent) (copied : NamedRecords) (old new : ZoneHistory) → OnErr r (Becomes old [] new)
-    → OnErr r (IsRecordedBy zone (Some copied) false old new)
-refused_by (Ok u) zone copied old new is = tt
-refused_by (Err e) zone copied old new is = inr is
 
 -- the outcome for what is at a place
 pub recorded_here : (o p : Option ZoneContent) (v w : Option WatchedZone) (b : Bool) (old new : ZoneHistory) → p ≡ o → v ≡ w

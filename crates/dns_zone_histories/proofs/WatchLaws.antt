@@ -21,7 +21,7 @@ use Rattle.dns_names.specs.internal.Compare.{same_labels-equivalence}
 use Rattle.dns_records.specs.Record.{Record}
 use Rattle.dns_server.specs.Zones.{is_at, place_at, AreServable}
 use Rattle.dns_zone.specs.Rows.{ZoneContent}
-use Rattle.dns_zone_histories.specs.Watch.{has_index, has_update_header, is_any, is_update_code, is_update_header, is_update_of, names_zone, place_named, update_section, updates_of, watched_at, with_request, AddsTo, CopiesMore, IsAdded, IsCopyFor, IsWatchFor, IsWatchOf, WatchesMore}
+use Rattle.dns_zone_histories.specs.Watch.{has_index, has_update_header, is_update_code, is_update_header, is_update_of, names_zone, place_named, update_section, updates_of, watched_at, with_request, AddsTo, CopiesMore, IsAdded, IsCopyFor, IsWatchFor, IsWatchOf, WatchesMore}
 use Rattle.dns_zone_histories.specs.declared.watch.Wanted.{Wanted}
 use Rattle.dns_zone_histories.specs.declared.watched_zone.WatchedZone.{WatchedZone}
 use Rattle.dns_zone_histories.proofs.RaisingLaws.{itself, same_place}
@@ -357,10 +357,6 @@ module _ (wanted : Wanted) (index : ℕ) (zone : ZoneContent) (more : List Recor
 
 -- ---- no request
 
-pub starts : (wanted : Wanted) (zones : List ZoneContent) (watched : List WatchedZone) → watched ≡ [] → IsWatchOf wanted zones [] watched
-starts wanted zones watched none any place zone there =
-    subst (λ (ws : List WatchedZone). IsWatchFor wanted zone [] (watched_at ws place)) (sym none) (record { is_watched = refl; copied = tt })
-
 -- a request that is none, or no update
 pub nothing_added : (wanted : Wanted) (zones : List ZoneContent) (requests : List Message) (found : Option Message) (old new : List WatchedZone)
     → new ≡ old → IfSome found (λ m. is_update_code m.metadata.op_code ≡ false) → IsWatchOf wanted zones requests old
@@ -417,10 +413,6 @@ pub no_header : (bytes : List ℕ) (wanted : Wanted) (zones : List ZoneContent) 
     → IsWatchOf wanted zones requests old → IsWatchOf wanted zones (with_request requests found) new
 no_header bytes wanted zones old new header same requests found decodes watch =
     nothing_added wanted zones requests found old new same (no_update bytes found header decodes) watch
-
-pub idle : (wanted : Wanted) (zones : List ZoneContent) (requests : List Message) (watched : List WatchedZone) → is_any wanted ≡ false
-    → IsWatchOf wanted zones requests watched
-idle wanted zones requests watched off any = absurd (never (sym any ∙ off))
 
 -- ---- unless memory is refused
 

@@ -85,7 +85,8 @@ fn raise_by(zone: &Zone, rows: &Option<NamedRows>) -> Result<Option<Vec<u8>>, Al
 
 /// Serves updates that the server makes itself. An error may leave the last of them out.
 fn make_all(server: &mut Server, raises: &[Vec<u8>]) -> Result<(), AllocError>
-    ensures ok { OnOk result (AreMade server.old (map (λ bytes. bytes.items) raises.now) server.new) }
+    ensures ok { OnOk result (AreMade server.old (map (λ bytes. bytes.items) raises.now)
+        server.new) }
     ensures err { OnErr result (IsFrontMade server.old (map (λ bytes. bytes.items) raises.now)
         server.new) }
 {

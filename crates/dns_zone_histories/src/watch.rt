@@ -48,7 +48,8 @@ impl Watch {
     pub fn new(alloc: Global, wanted: Wanted) -> Watch
         ensures wanted { result.wanted ≡ wanted }
         ensures watched { result.watched.items ≡ [] }
-        ensures watch { (zones : List ZoneContent) → IsWatchOf wanted zones [] result.watched.items }
+        ensures watch { (zones : List ZoneContent)
+            → IsWatchOf wanted zones [] result.watched.items }
     {
         Watch {
             alloc,

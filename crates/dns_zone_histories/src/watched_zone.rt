@@ -48,7 +48,8 @@ impl WatchedZone {
         update: &Message,
     ) -> Result<(), AllocError>
         ensures index { self.new.index ≡ self.old.index }
-        ensures copied { OnOk result (CopiesMore zone.now update.now.authorities self.old self.new) }
+        ensures copied { OnOk result (CopiesMore zone.now update.now.authorities self.old
+            self.new) }
     {
         add_rows(&mut self.rows, zone, update)?;
         add_records(alloc, &mut self.records, zone, update)

@@ -134,6 +134,7 @@ pub record IsFaultLine (c : Context) (at : Position) (tokens : List Lexeme) (ref
 abbrev pub include_fault : ℕ → ZoneFileError → FaultLine
 include_fault source refusal = record { source = source; error = refusal; word = None; record_type = None; may_be_start = false }
 
+-- the fault of an entry, at the text that the entry is in
 abbrev pub fault_at : Position → EntryFault → FaultLine
 fault_at at refusal = include_fault at.source (error.Entry at.line refusal)
 

@@ -27,5 +27,6 @@ source_from number [] name = None
 source_from number (i ∷ rest) name =
     if bytes_eq i.0 name then Some (record { number = number; text = i.1 }) else source_from (suc number) rest name
 
+-- the text of a name among those to include, the first of several; they are numbered from 1
 abbrev pub source_of : Includes → List ℕ → Option Source
 source_of includes name = source_from 1 includes name
