@@ -48,7 +48,7 @@ func ExampleZone() {
 
 func TestFaultHasItsLine(t *testing.T) {
 	sentence, line, err := rumstrait.ZoneFault("$TTL 60\n@ SOA ns h 1 1 1 1 1\nwww A 1\n", "t.")
-	if err != nil || line != 3 || !strings.HasPrefix(sentence, "line 3: ") {
+	if err != nil || line != 3 || !strings.HasPrefix(sentence, "an invalid value for this type; ") {
 		t.Fatalf("%q, %d, %v", sentence, line, err)
 	}
 	if sentence, line, err := rumstrait.ZoneFault(text, "t."); sentence != "" || line != 0 || err != nil {
