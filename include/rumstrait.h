@@ -1,4 +1,4 @@
-/* Rumstrait: DNS zones, messages and updates for C.
+/* Rumstrait: DNS zones, messages, updates and lookups for C.
  *
  * What the functions do is proved up to this border; docs/EMBEDDING.md says what that means and what a caller owes:
  *
@@ -22,6 +22,9 @@
  *
  * Memory. Each function that takes memory returns it before it returns, but for what is behind a handle, which its `_free`
  * function returns. Threads may call functions at once for different handles.
+ *
+ * Endpoints. The address and the port of a server are 18 bytes in network byte order: an IPv6 address, or an IPv4 address that
+ * is mapped to one (`::ffff:192.0.2.1`, RFC 4291 section 2.5.5.2), and the port.
  */
 #ifndef RUMSTRAIT_H
 #define RUMSTRAIT_H
@@ -71,10 +74,35 @@ enum rumstrait_code {
     /* No item of an update has this number. */
     RUMSTRAIT_INVALID_ITEM = 13,
     /* A text is not record data of the type. */
-    RUMSTRAIT_INVALID_DATA = 14
+    RUMSTRAIT_INVALID_DATA = 14,
+    /* Bytes are no endpoints: their number is wrong. */
+    RUMSTRAIT_INVALID_ENDPOINT = 15,
+    /* The resolver has no lookup with the number. */
+    RUMSTRAIT_NO_LOOKUP = 16,
+    /* The lookup waits for a reply. */
+    RUMSTRAIT_WAITING = 17,
+    /* The lookup has ended. */
+    RUMSTRAIT_ENDED = 18,
+    /* A lookup ended: the name does not exist (NXDOMAIN). */
+    RUMSTRAIT_NO_NAME = 19,
+    /* A lookup ended: the name has no records of the type. */
+    RUMSTRAIT_NO_RECORDS = 20,
+    /* A lookup ended: the last server that replied did so with an error, such as SERVFAIL. */
+    RUMSTRAIT_SERVER_ERROR = 21,
+    /* A lookup ended: no server gave a reply that is accepted. */
+    RUMSTRAIT_NO_SERVER = 22,
+    /* A lookup ended: it had no id left for its next question. */
+    RUMSTRAIT_NO_ID = 23,
+    /* A lookup ended: its question can't be asked. */
+    RUMSTRAIT_UNSUPPORTED = 24,
+    /* 2^64 - 2 lookups were begun. */
+    RUMSTRAIT_NO_NUMBER = 25
 };
 
-/* How a request arrived. */
+/* The bytes of an endpoint. */
+#define RUMSTRAIT_ENDPOINT_LEN 18
+
+/* How a request arrived, or is to be sent. */
 enum rumstrait_transport { RUMSTRAIT_DATAGRAM = 0, RUMSTRAIT_STREAM = 1 };
 
 /* ---- zones (RFC 1034 section 4.2) */
@@ -184,6 +212,101 @@ int32_t rumstrait_update_bytes(rumstrait_update *update, uint16_t id, uint8_t *o
 
 /* Frees an update, unless the handle is null. */
 void rumstrait_update_free(rumstrait_update *update);
+
+/* ---- lookups (RFC 1034 section 5.3.1)
+ *
+ * A stub resolver for programs that have sockets, a clock and an event loop of their own: it says what to send, to which server
+ * and until when to wait, and is told what came. Names are asked of recursive servers; aliases are followed, replies are cached,
+ * and a server that does not reply is asked after the others.
+ *
+ *     rumstrait_lookup_begin(resolver, name, name_len, type, ids, 8, now, &lookup);
+ *     while (rumstrait_lookup_wait(resolver, lookup, &wait, message, sizeof message, &len) == RUMSTRAIT_OK) {
+ *         if the message is new, send it to `wait.server`; wait until `wait.deadline`; then call one of
+ *         rumstrait_lookup_received, rumstrait_lookup_timed_out and rumstrait_lookup_failed
+ *     }
+ *     code = rumstrait_lookup_records(resolver, lookup, text, sizeof text, &len);
+ *     rumstrait_lookup_free(resolver, lookup);
+ *
+ * A moment is a number of milliseconds of a clock that the caller chooses and that does not go back. */
+
+/* A resolver, with its cache and its lookups. */
+typedef struct rumstrait_resolver rumstrait_resolver;
+
+/* What a lookup waits for. */
+typedef struct rumstrait_wait {
+    uint64_t exchanges;                       /* how many questions of the lookup have been answered or given up */
+    uint64_t number;                          /* how many messages were sent for the next question, with this one */
+    uint64_t deadline;                        /* the moment at which the wait ends */
+    uint32_t transport;                       /* how the message is sent: an enum rumstrait_transport */
+    uint8_t server[RUMSTRAIT_ENDPOINT_LEN];   /* where it is sent */
+} rumstrait_wait;
+
+/* Makes a resolver with an empty cache, and writes its handle to `*out`, which the caller owns and frees. `servers` are the
+ * endpoints of its name servers, one after another, in the order in which they are asked: over datagrams, and over a stream
+ * after a truncated reply (RFC 7766 section 5). `timeout` is how long to wait for a reply, in milliseconds, and `attempts` how
+ * many rounds are made through the servers, at least one. The cache has at most `cache_size` replies; with 0 nothing is cached.
+ *
+ * Refusals: RUMSTRAIT_INVALID_ENDPOINT (`servers_len` is not a multiple of 18), RUMSTRAIT_OUT_OF_MEMORY. Then `*out` is null. */
+int32_t rumstrait_resolver_new(const uint8_t *servers, size_t servers_len, uint32_t timeout, uint32_t attempts,
+                               uint32_t cache_size, rumstrait_resolver **out) RUMSTRAIT_NONNULL(1, 6);
+
+/* Frees a resolver and its lookups, unless the handle is null. */
+void rumstrait_resolver_free(rumstrait_resolver *resolver);
+
+/* Begins a lookup of the records of a name and a type, by its number, in the class IN, at the moment `clock`, and writes its
+ * number to `*lookup`, which is that of no other lookup of the resolver. The lookup may have ended at once, as where the answer
+ * is cached. `ids` are the ids of the messages to come: one for each question, of which there are at most eight, as aliases are
+ * followed. They must be unpredictable (RFC 5452 section 9.2). If there are fewer, a lookup may end with RUMSTRAIT_NO_ID.
+ *
+ * Refusals: RUMSTRAIT_NULL_HANDLE, RUMSTRAIT_INVALID_NAME, RUMSTRAIT_NO_NUMBER, RUMSTRAIT_OUT_OF_MEMORY (the cache may have
+ * changed). */
+int32_t rumstrait_lookup_begin(rumstrait_resolver *resolver, const uint8_t *name, size_t name_len, uint16_t type,
+                               const uint16_t *ids, size_t ids_len, uint64_t clock, uint64_t *lookup) RUMSTRAIT_NONNULL(2, 5, 8);
+
+/* Writes what a lookup waits for to `*wait`, and the message whose reply it awaits to `out`, without the two bytes of its length
+ * for a stream. 65,535 bytes of room always suffice.
+ *
+ * A message is sent once, from a port that is unpredictable (RFC 5452 section 9.2): it is a new one exactly if
+ * `wait->exchanges` or `wait->number` is another than before. Over a stream it is sent on a connection of its own, and one reply is
+ * read.
+ *
+ * Refusals: RUMSTRAIT_NULL_HANDLE, RUMSTRAIT_NO_LOOKUP, RUMSTRAIT_ENDED, RUMSTRAIT_TOO_SMALL (`*wait` is unchanged). */
+int32_t rumstrait_lookup_wait(rumstrait_resolver *resolver, uint64_t lookup, rumstrait_wait *wait, uint8_t *out, size_t room,
+                              size_t *len) RUMSTRAIT_NONNULL(3, 4, 6);
+
+/* Tells a lookup that a message was received from the endpoint `from`, at the moment `clock`. A datagram that is not the reply,
+ * by its sender, id or question, changes nothing, and the lookup waits on until the same deadline. A lookup that has ended does not
+ * change.
+ *
+ * Refusals: RUMSTRAIT_NULL_HANDLE, RUMSTRAIT_INVALID_ENDPOINT (`from_len` is not 18), RUMSTRAIT_NO_LOOKUP,
+ * RUMSTRAIT_OUT_OF_MEMORY (for the copy of the message; the lookup ends for want of any other memory). */
+int32_t rumstrait_lookup_received(rumstrait_resolver *resolver, uint64_t lookup, const uint8_t *message, size_t message_len,
+                                  const uint8_t *from, size_t from_len, uint64_t clock) RUMSTRAIT_NONNULL(3, 5);
+
+/* Tells a lookup that the deadline of its wait has passed, at the moment `clock`: the next server is asked, if there is one.
+ *
+ * Refusals: RUMSTRAIT_NULL_HANDLE, RUMSTRAIT_NO_LOOKUP. */
+int32_t rumstrait_lookup_timed_out(rumstrait_resolver *resolver, uint64_t lookup, uint64_t clock);
+
+/* Tells a lookup that its message could not be sent, or that no reply can be received, at the moment `clock`: the next server is
+ * asked, if there is one.
+ *
+ * Refusals: RUMSTRAIT_NULL_HANDLE, RUMSTRAIT_NO_LOOKUP. */
+int32_t rumstrait_lookup_failed(rumstrait_resolver *resolver, uint64_t lookup, uint64_t clock);
+
+/* Writes the records that a lookup found, each on a line as in a zone file: the owner, the TTL in seconds, the class, the type and
+ * the data. They are those of the name and the type, and the aliases that lead to them, in the order of the answer.
+ *
+ * Refusals: RUMSTRAIT_NULL_HANDLE, RUMSTRAIT_NO_LOOKUP, RUMSTRAIT_WAITING, and why the lookup found nothing:
+ * RUMSTRAIT_NO_NAME, RUMSTRAIT_NO_RECORDS, RUMSTRAIT_SERVER_ERROR, RUMSTRAIT_NO_SERVER, RUMSTRAIT_NO_ID,
+ * RUMSTRAIT_UNSUPPORTED. RUMSTRAIT_TOO_SMALL, RUMSTRAIT_OUT_OF_MEMORY (also if the lookup ended for want of memory). */
+int32_t rumstrait_lookup_records(rumstrait_resolver *resolver, uint64_t lookup, uint8_t *out, size_t room,
+                                 size_t *len) RUMSTRAIT_NONNULL(3, 5);
+
+/* Frees a lookup, whether it has ended or not. What it found stays in the cache.
+ *
+ * Refusals: RUMSTRAIT_NULL_HANDLE, RUMSTRAIT_NO_LOOKUP. */
+int32_t rumstrait_lookup_free(rumstrait_resolver *resolver, uint64_t lookup);
 
 #ifdef __cplusplus
 }

@@ -28,9 +28,10 @@ CRATE = "rumstrait_c"
 MAIN = """
 fn main(rt: HostRuntime) {{
     let alloc = rt.alloc();
-    let (mut number, mut line, mut bytes) = (0_usize, 0_usize, [0_u8; 4]);
-    let text = b"text".as_slice();
-    let (mut zone, mut update) = (std::ptr::null_mut(), std::ptr::null_mut());
+    let (mut number, mut line, mut bytes, mut lookup) = (0_usize, 0_usize, [0_u8; 4], 0_u64);
+    let (text, ids) = (b"text".as_slice(), [1_u16].as_slice());
+    let (mut zone, mut update, mut resolver) = (std::ptr::null_mut(), std::ptr::null_mut(), std::ptr::null_mut());
+    let mut wait = wait::Wait {{ exchanges: 0, number: 0, deadline: 0, transport: 0, server: [0; 18] }};
 {calls}
 }}
 """
@@ -41,7 +42,10 @@ EXPORT = re.compile(r'pub (?:unsafe )?extern "C" fn (rumstrait_\w+)\((.*?)\)', r
 VALUES = {
     "Global": "alloc",
     "&[u8]": "text",
+    "&[u16]": "ids",
     "&mut [u8]": "bytes.as_mut_slice()",
+    "&mut u64": "&mut lookup",
+    "&mut Wait": "&mut wait",
     "bool": "false",
     "u16": "1",
     "u32": "0",
@@ -50,6 +54,8 @@ VALUES = {
     "&mut *mut ZoneHandle": "&mut zone",
     "*mut UpdateHandle": "update",
     "&mut *mut UpdateHandle": "&mut update",
+    "*mut ResolverHandle": "resolver",
+    "&mut *mut ResolverHandle": "&mut resolver",
 }
 
 

@@ -89,6 +89,44 @@ static int serve(rumstrait_zone *zone, const uint8_t *request, size_t request_le
     return 0;
 }
 
+/* A whole lookup with all allocations from the n-th on refused, for each n: a code, until it finds its records. */
+static void refuse_lookup(rumstrait_zone *zone) {
+    static uint8_t message[512], reply[512], found[512];
+    const uint16_t ids[2] = {1, 2};
+    uint8_t server[RUMSTRAIT_ENDPOINT_LEN] = {0};
+    for (long n = 0;; n++) {
+        rumstrait_resolver *resolver = (rumstrait_resolver *)1;
+        rumstrait_wait wait;
+        uint64_t lookup = 77;
+        size_t len = 0, reply_len = 0;
+        left = n;
+        int32_t code = rumstrait_resolver_new(server, sizeof server, 5000, 1, 10, &resolver);
+        WANT(!code == !!resolver);
+        if (!code) code = rumstrait_lookup_begin(resolver, BYTES("alias.example.com"), 1, ids, 2, 0, &lookup);
+        WANT(!code || lookup == 77);
+        if (!code) {
+            while (!(code = rumstrait_lookup_wait(resolver, lookup, &wait, message, sizeof message, &len))) {
+                long kept = left;
+                left = -1;
+                WANT(!rumstrait_zone_serve(zone, wait.transport, 512, message, len, reply, sizeof reply, &reply_len));
+                left = kept;
+                code = rumstrait_lookup_received(resolver, lookup, reply, reply_len, wait.server, sizeof wait.server, 1);
+                if (code) break;
+            }
+            WANT(code == RUMSTRAIT_ENDED || code == RUMSTRAIT_OUT_OF_MEMORY);
+            if (code == RUMSTRAIT_ENDED) code = rumstrait_lookup_records(resolver, lookup, found, sizeof found, &len);
+        }
+        left = -1;
+        rumstrait_resolver_free(resolver);
+        if (code == RUMSTRAIT_OK) {
+            WANT(n > 10 && len > 60);
+            printf("lookup: %ld\n", n);
+            return;
+        }
+        WANT(code == RUMSTRAIT_OUT_OF_MEMORY);
+    }
+}
+
 int main(void) {
     static uint8_t text[4096], same[4096];
     rumstrait_zone *zone = NULL;
@@ -119,6 +157,7 @@ int main(void) {
         WANT(code == RUMSTRAIT_OUT_OF_MEMORY && told == 77);
     }
     printf("text: %ld\n", n);
+    refuse_lookup(zone);
     rumstrait_zone_free(zone);
     refuse_call("message text", text_of_query);
     refuse_call("message again", query_again);

@@ -1,4 +1,4 @@
-"""Rumstrait: DNS zones, served in the process of a test, messages and updates.
+"""Rumstrait: DNS zones, served in the process of a test, messages, updates, and lookups over asyncio.
 
     from rumstrait import Message, Zone
 
@@ -11,8 +11,9 @@ one that the system's linker finds. `./library PREFIX` of the repository makes i
 """
 from ._library import Refusal, RumstraitError
 from .message import Message
+from .resolver import Record, Resolver
 from .update import Item, Update
 from .zone import Transport, Zone
 
-__all__ = ["Item", "Message", "Refusal", "RumstraitError", "Transport", "Update", "Zone"]
+__all__ = ["Item", "Message", "Record", "Refusal", "Resolver", "RumstraitError", "Transport", "Update", "Zone"]
 __version__ = "0.1.0"

@@ -8,7 +8,7 @@ from typing import Callable, Optional
 Handle = ctypes.c_void_p
 Bytes, Room = ctypes.c_char_p, ctypes.c_void_p
 Size, SizePointer = ctypes.c_size_t, ctypes.POINTER(ctypes.c_size_t)
-Short, Number, Flag = ctypes.c_uint16, ctypes.c_uint32, ctypes.c_bool
+Short, Number, Long, Flag = ctypes.c_uint16, ctypes.c_uint32, ctypes.c_uint64, ctypes.c_bool
 # The room of the first call: most replies and texts fit it, and the call is made again for those that do not.
 FIRST_ROOM = 4096
 
@@ -30,6 +30,17 @@ class Refusal(IntEnum):
     INVALID_UPDATE = 12
     INVALID_ITEM = 13
     INVALID_DATA = 14
+    INVALID_ENDPOINT = 15
+    NO_LOOKUP = 16
+    WAITING = 17
+    ENDED = 18
+    NO_NAME = 19
+    NO_RECORDS = 20
+    SERVER_ERROR = 21
+    NO_SERVER = 22
+    NO_ID = 23
+    UNSUPPORTED = 24
+    NO_NUMBER = 25
 
 
 TEXTS = {
@@ -47,7 +58,30 @@ TEXTS = {
     Refusal.INVALID_UPDATE: "an item that no message can have",
     Refusal.INVALID_ITEM: "no such item of an update",
     Refusal.INVALID_DATA: "not record data of the type",
+    Refusal.INVALID_ENDPOINT: "not an address and a port",
+    Refusal.NO_LOOKUP: "no lookup has the number",
+    Refusal.WAITING: "the lookup waits for a reply",
+    Refusal.ENDED: "the lookup has ended",
+    Refusal.NO_NAME: "the name does not exist",
+    Refusal.NO_RECORDS: "the name has no records of the type",
+    Refusal.SERVER_ERROR: "the server replied with an error",
+    Refusal.NO_SERVER: "no server gave a reply",
+    Refusal.NO_ID: "no id is left",
+    Refusal.UNSUPPORTED: "the question can't be asked",
+    Refusal.NO_NUMBER: "no number is left for a lookup",
 }
+
+
+class Wait(ctypes.Structure):
+    """What a lookup waits for."""
+
+    _fields_ = [
+        ("exchanges", Long),
+        ("number", Long),
+        ("deadline", Long),
+        ("transport", Number),
+        ("server", ctypes.c_uint8 * 18),
+    ]
 
 
 class RumstraitError(Exception):
@@ -89,6 +123,16 @@ def load() -> ctypes.CDLL:
     declare(library, "rumstrait_update_bytes", Handle, Short, Room, Size, SizePointer)
     declare(library, "rumstrait_update_free", Handle)
     library.rumstrait_update_free.restype = None
+    declare(library, "rumstrait_resolver_new", Bytes, Size, Number, Number, Number, ctypes.POINTER(Handle))
+    declare(library, "rumstrait_resolver_free", Handle)
+    library.rumstrait_resolver_free.restype = None
+    declare(library, "rumstrait_lookup_begin", Handle, Bytes, Size, Short, ctypes.POINTER(Short), Size, Long, ctypes.POINTER(Long))
+    declare(library, "rumstrait_lookup_wait", Handle, Long, ctypes.POINTER(Wait), Room, Size, SizePointer)
+    declare(library, "rumstrait_lookup_received", Handle, Long, Bytes, Size, Bytes, Size, Long)
+    declare(library, "rumstrait_lookup_timed_out", Handle, Long, Long)
+    declare(library, "rumstrait_lookup_failed", Handle, Long, Long)
+    declare(library, "rumstrait_lookup_records", Handle, Long, Room, Size, SizePointer)
+    declare(library, "rumstrait_lookup_free", Handle, Long)
     return library
 
 

@@ -3,4 +3,5 @@ mod GivingLaws
 pub mod HandleSteps
 pub mod NullSteps
 mod PrintLaws
+pub mod ResolverSteps
 pub mod UpdateSteps

@@ -19,11 +19,14 @@ use types.Hole.{Holey}
 use types.SemTy.{Arr, Body}
 use Rattle.std.proofs.GlobalToken.{dealloc_token-Testable}
 use Rattle.std.specs.contracts.impls.GlobalAllocator.TheImpl as heap
+use Rattle.api_lookups.specs.declared.table.LookupTable.{LookupTable}
 use Rattle.dns_update_builder.specs.Parts.{UpdateParts}
 use Rattle.dns_zone.specs.Rows.{ZoneContent}
+use Rattle.rumstrait_c.specs.Lookups as lookups
 use Rattle.rumstrait_c.specs.Updates as updates
 use Rattle.rumstrait_c.specs.Zones as zones
 use Rattle.rumstrait_c.proofs.HandleSteps.{Global, Zone, zone_out}
+use Rattle.rumstrait_c.proofs.ResolverSteps.{Table, resolver_out}
 use Rattle.rumstrait_c.proofs.UpdateSteps.{Update, update_out}
 
 -- ---- references that a function has to its end, at the values that they were passed at
@@ -74,3 +77,12 @@ module _ {M : Type 1} {𝓤 : Ura M} {𝓛 : Logic 𝓤} {K : Type 0} {Γ : List
   update_cases t alloc p None null points = feq_l t (λ e. null refl e)
   update_cases t alloc p (Some z) null points = update_out t alloc p z (λ b o e. move t (1 ∷ []) $
       use1 𝓛 (given (Testable (block_ptr b o)) (‵ (Token 𝓛 alloc Update (block_ptr b o)))) (tested 𝓛 alloc Update (block_ptr b o)) $ learn t (λ may. move t (1 ∷ []) $ points z b o refl e may))
+
+  -- the same of a resolver
+  pub resolver_cases : K → (alloc : Global.Denot) (p : Ptr) (content : Option LookupTable) → (content ≡ None → p ≡ null_ptr → Seq K 𝓛 Γ G)
+      → ((z : LookupTable) (b o : ℕ) → content ≡ Some z → p ≡ block_ptr b o → Testable (block_ptr b o)
+      → Seq K 𝓛 (‵ (part_at Table full_share z b o) ∷ ‵ (Token 𝓛 alloc Table (block_ptr b o)) ∷ Γ) G)
+      → Seq K 𝓛 (‵ (lookups.handle_at alloc p content) ∷ Γ) G
+  resolver_cases t alloc p None null points = feq_l t (λ e. null refl e)
+  resolver_cases t alloc p (Some z) null points = resolver_out t alloc p z (λ b o e. move t (1 ∷ []) $
+      use1 𝓛 (given (Testable (block_ptr b o)) (‵ (Token 𝓛 alloc Table (block_ptr b o)))) (tested 𝓛 alloc Table (block_ptr b o)) $ learn t (λ may. move t (1 ∷ []) $ points z b o refl e may))

@@ -3,6 +3,8 @@ use Rattle.std.specs.Prelude.{◌≡◌, ℤ, pos, List, ℕ, Result, Ok, Err}
 use Rattle.api_buffer.specs.Buffer.{Delivers}
 use Rattle.api_buffer.specs.declared.refusal.Refusal.{Refusal}
 use Rattle.api_buffer.specs.declared.refusal.Refusal.TheVariants as refusal
+use Rattle.api_lookups.specs.declared.refusal.LookupRefusal.{LookupRefusal}
+use Rattle.api_lookups.specs.declared.refusal.LookupRefusal.TheVariants as lookup
 
 -- the number of a refusal
 abbrev pub code_of : Refusal → ℤ
@@ -48,3 +50,24 @@ pub record Gives (IsFound : List ℕ → Type 0) (IsRefused : Refusal → Type 0
   pub finds : Finds IsFound IsRefused found
   pub delivered : Delivers found buffer len outcome buffer' len'
   pub code_is : code ≡ result_code outcome
+
+-- the number of the refusal of a call on a resolver
+abbrev pub lookup_code : LookupRefusal → ℤ
+lookup_code lookup.Memory = pos 3
+lookup_code lookup.Name = pos 8
+lookup_code lookup.Endpoint = pos 15
+lookup_code lookup.NoLookup = pos 16
+lookup_code lookup.Waiting = pos 17
+lookup_code lookup.Ended = pos 18
+lookup_code lookup.NoName = pos 19
+lookup_code lookup.NoRecords = pos 20
+lookup_code lookup.ServerError = pos 21
+lookup_code lookup.NoReply = pos 22
+lookup_code lookup.NoId = pos 23
+lookup_code lookup.Unsupported = pos 24
+lookup_code lookup.NoNumber = pos 25
+
+-- the number of the outcome of a call on a resolver
+abbrev pub done_code : Result (Unit {0}) LookupRefusal → ℤ
+done_code (Ok done) = pos 0
+done_code (Err refused) = lookup_code refused

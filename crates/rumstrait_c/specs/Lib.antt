@@ -1,3 +1,5 @@
 pub mod Codes
-pub mod Updates
 pub mod Zones
+pub mod Updates
+pub mod Waits
+pub mod Lookups

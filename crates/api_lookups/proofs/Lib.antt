@@ -1,0 +1,2 @@
+mod ServerLaws
+mod TableLaws

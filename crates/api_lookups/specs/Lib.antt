@@ -1,0 +1,4 @@
+pub mod Endpoint
+pub mod Servers
+pub mod Answers
+pub mod Table
