@@ -1,3 +1,6 @@
+pub mod Answer
+pub mod Item
 pub mod Keys
+pub mod Session
 pub mod Settings
 pub mod Status

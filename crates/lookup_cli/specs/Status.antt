@@ -1,5 +1,6 @@
 -- What lookups led to, and the exit status.
-use Rattle.std.specs.Prelude.{◌==◌, if◌then◌else◌, length, ℕ, Result, Ok, Err}
+use Rattle.std.specs.Prelude as texts
+use Rattle.std.specs.Prelude.{◌==◌, if◌then◌else◌, length, ℕ, List, Result, Ok, Err}
 use Rattle.dns_messages.specs.declared.response_code.ResponseCode.{ResponseCode}
 use Rattle.dns_messages.specs.declared.response_code.ResponseCode.TheVariants as codes
 use Rattle.stub_lookup.specs.Lookup.{LookupContent}
@@ -31,3 +32,9 @@ abbrev pub exit_code : Status → ℕ
 exit_code Found = 0
 exit_code Nothing = 1
 exit_code Failed = 3
+
+-- the word for what a lookup led to
+abbrev pub status_word : Status → List ℕ
+status_word Found = texts.codes "found"
+status_word Nothing = texts.codes "nothing"
+status_word Failed = texts.codes "failed"

@@ -1,5 +1,9 @@
 //! What was looked up, and what was found.
 
+ghost use Rattle.std.specs.Prelude.{◌≡◌, ◌↔◌, IsTrue};
+ghost use Rattle.lookup_cli.specs.Answer.{code_of, denies_name, records_of};
+ghost use Rattle.lookup_cli.specs.Status.{status_of};
+
 use crate::item::{Item, Question};
 use crate::status::Status;
 use dns_messages::{Record, ResponseCode};
@@ -20,12 +24,16 @@ pub struct Answer {
 
 impl Answer {
     /// Returns what the lookup led to.
-    pub fn status(&self) -> Status {
+    pub fn status(&self) -> Status
+        ensures { result ≡ status_of self.now.outcome }
+    {
         Status::of(&self.outcome)
     }
 
     /// Returns the records that were found.
-    pub(crate) fn records(&self) -> &[Record] {
+    pub(crate) fn records(&self) -> &[Record]
+        ensures { result.now ≡ records_of self.now.outcome }
+    {
         match &self.outcome {
             Ok(lookup) => lookup.answers(),
             Err(_) => &[],
@@ -33,7 +41,9 @@ impl Answer {
     }
 
     /// Returns the response code, if a server replied.
-    pub(crate) fn code(&self) -> Option<ResponseCode> {
+    pub(crate) fn code(&self) -> Option<ResponseCode>
+        ensures { result ≡ code_of self.now.outcome }
+    {
         match &self.outcome {
             Ok(lookup) => Some(lookup.message().metadata.response_code),
             Err(NetError::Dns(DnsError::NoRecordsFound(none))) => Some(none.response_code),
@@ -43,12 +53,16 @@ impl Answer {
     }
 
     /// Returns `true` if the name does not exist (RFC 2308 section 2.1).
-    pub(crate) fn has_no_name(&self) -> bool {
+    pub(crate) fn has_no_name(&self) -> bool
+        ensures { result ≡ denies_name (code_of self.now.outcome) }
+    {
         matches!(self.code(), Some(ResponseCode::NXDomain))
     }
 
     /// Returns `true` if there was nothing to ask: what follows the name is not a type.
-    pub(crate) fn has_no_type(&self) -> bool {
-        self.item.question == Question::Unknown
+    pub(crate) fn has_no_type(&self) -> bool
+        ensures { IsTrue result ↔ (self.now.item.question ≡ Question.Unknown) }
+    {
+        matches!(self.item.question, Question::Unknown)
     }
 }

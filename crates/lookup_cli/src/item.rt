@@ -1,5 +1,9 @@
 //! What is looked up.
 
+ghost use Rattle.std.specs.Prelude.{◌≡◌, [], IfOk, IfSome, None, Ok};
+ghost use Rattle.std.specs.Str.{trim};
+ghost use Rattle.lookup_cli.specs.Item.{IsItemOf, SplitsAtSpace, question_of_type};
+
 use dns_wire::RecordType;
 use std::alloc::{AllocError, Global};
 use std::fmt;
@@ -30,21 +34,45 @@ pub fn item_of_line(
     alloc: Global,
     line: &str,
     default: Question,
-) -> Result<Option<Item>, AllocError> {
+) -> Result<Option<Item>, AllocError>
+    ensures empty { trim line.now ≡ [] → result ≡ Ok None }
+    ensures some { IfOk result (λ found. found ≡ None → trim line.now ≡ []) }
+    ensures item { IfOk result (λ found. IfSome found (IsItemOf (trim line.now) default)) }
+{
     let line = line.trim();
     if line.is_empty() {
         return Ok(None);
     }
-    let (name, question) = match line.split_once(|c: char| c.is_whitespace()) {
-        Some((name, rest)) => (name, question_of_type(rest.trim())),
-        None => (line, default),
-    };
-    let name = String::from_str(alloc, name)?;
-    Ok(Some(Item { name, question }))
+    Ok(Some(item_of(alloc, line, default)?))
+}
+
+/// Returns what a line asks that has no white space around it.
+fn item_of(alloc: Global, line: &str, default: Question) -> Result<Item, AllocError>
+    ensures { IfOk result (IsItemOf line.now default) }
+{
+    match split_at_space(line) {
+        Some((name, rest)) => Ok(Item {
+            name: String::from_str(alloc, name)?,
+            question: question_of_type(rest.trim()),
+        }),
+        None => Ok(Item {
+            name: String::from_str(alloc, line)?,
+            question: default,
+        }),
+    }
+}
+
+/// Divides a text at its first white space, if it has any.
+fn split_at_space(text: &str) -> Option<(&str, &str)>
+    ensures { SplitsAtSpace text.now result }
+{
+    text.split_once(|c: char| c.is_whitespace())
 }
 
 /// Returns the question for the records of a type.
-fn question_of_type(text: &str) -> Question {
+fn question_of_type(text: &str) -> Question
+    ensures { result ≡ question_of_type text.now }
+{
     match RecordType::from_ascii_bytes(text.as_bytes()) {
         Some(record_type) => Question::Records(record_type),
         None => Question::Unknown,

@@ -1,6 +1,15 @@
 //! Lookups over a resolver.
 
-ghost use Rattle.std.specs.Prelude.{◌≡◌, ◌/◌, ◌≤◌, ◌^◌, min};
+ghost use Rattle.std.specs.Prelude.{◌≡◌, ◌≢◌, ◌/◌, ◌≤◌, ◌^◌, min, string_bytes, true, IfErr, IfOk, IsErr, Result};
+ghost use Rattle.dns_messages.specs.declared.response_code.ResponseCode.{ResponseCode};
+ghost use Rattle.dns_names.specs.Parse.{name_of_text};
+ghost use Rattle.dns_text.specs.Address.{IsTextOf};
+ghost use Rattle.lookup_cli.specs.Session.{IsNewSession, IsPool, LooksUpItem, pool_gives, request_count, update_result};
+ghost use Rattle.stub_core.specs.Resolver.{ResolvesHost};
+ghost use Rattle.stub_core.specs.ResolverBuilder.{is_unsupported};
+ghost use Rattle.stub_lookup.specs.declared.error.NetError.{NetError};
+ghost use Rattle.stub_net.specs.Network.{network_calls};
+ghost use Rattle.stub_net.specs.Pool.{Updates};
 
 use crate::item::{Item, Question};
 use dns_messages::ResponseCode;
@@ -9,7 +18,7 @@ use stub_config::{ResolverConfig, ResolverOpts};
 use stub_core::Resolver;
 use stub_hosts::Hosts;
 use stub_link::UpdateEvent;
-use stub_lookup::{Lookup, Moment, NetError};
+use stub_lookup::{Lookup, LookupIp, Moment, NetError};
 use stub_net::{IdSource, NameServerPool, Network};
 use stub_servers::ServerList;
 use stub_signed::UpdateError;
@@ -34,7 +43,7 @@ pub struct Session<N, I> {
 impl<N: Network + Drop, I: IdSource + Drop> Session<N, I> {
     /// Creates a session with an empty cache. A time-out in milliseconds takes the place of that of the options.
     ///
-    /// The error is [`NetError::Unsupported`] if no resolver has these options.
+    /// The error is [`NetError::Unsupported`] if no resolver has these options, or [`NetError::Memory`].
     pub fn new(
         alloc: Global,
         network: N,
@@ -44,7 +53,13 @@ impl<N: Network + Drop, I: IdSource + Drop> Session<N, I> {
         timeout: u64,
         streams_alone: bool,
         hosts: Hosts,
-    ) -> Result<Session<N, I>, NetError> {
+    ) -> Result<Session<N, I>, NetError>
+        ensures refused { is_unsupported options ≡ true → IsErr result }
+        ensures faults { IfErr result (λ error. error ≢ NetError.Memory
+            → (error ≡ NetError.Unsupported) × (is_unsupported options ≡ true)) }
+        ensures session { IfOk result
+            (IsNewSession network ids config options timeout streams_alone hosts) }
+    {
         let servers = ServerList::from_config(alloc, &config, &options)?;
         let pool = pool_of(
             alloc,
@@ -55,30 +70,49 @@ impl<N: Network + Drop, I: IdSource + Drop> Session<N, I> {
             timeout,
             streams_alone,
         );
-        let resolver = Resolver::builder_with_config(alloc, config, pool)
+        let builder = Resolver::builder_with_config(alloc, config, pool)
             .with_options(options)
-            .with_hosts(hosts)
-            .build()?;
-        Ok(Session { resolver })
+            .with_hosts(hosts);
+        match builder.build() {
+            Ok(resolver) => Ok(Session { resolver }),
+            Err(error) => Err(error),
+        }
     }
 
     /// Looks up what an item asks, at a moment.
     pub fn look_up(&mut self, item: &Item, now: Moment) -> Result<Lookup, NetError>
         requires { now ≤ 2 ^ 62 }
+        ensures { LooksUpItem
+            (pool_gives (network_calls N.sends N.receives N.streams N.reads_clock) I.draws) now
+            (IsTextOf (string_bytes item.now.name)) (name_of_text (string_bytes item.now.name))
+            item.now.question
+            self.old.resolver result self.new.resolver }
     {
         let name = item.name.as_str();
         match item.question {
-            Question::Addresses => match self.resolver.lookup_ip(name, now) {
-                Ok(addresses) => Ok(Lookup::from(addresses)),
-                Err(error) => Err(error),
-            },
+            Question::Addresses => self.look_up_addresses(name, now),
             Question::Records(record_type) => self.resolver.lookup(name, record_type, now),
             Question::Unknown => Err(NetError::Unsupported),
         }
     }
 
+    /// Looks up the addresses of a host.
+    fn look_up_addresses(&mut self, host: &str, now: Moment) -> Result<Lookup, NetError>
+        requires { now ≤ 2 ^ 62 }
+        ensures { ResolvesHost
+            (pool_gives (network_calls N.sends N.receives N.streams N.reads_clock) I.draws) now
+            (IsTextOf host.now) (name_of_text host.now) self.old.resolver result self.new.resolver }
+    {
+        lookup_of(self.resolver.lookup_ip(host, now))
+    }
+
     /// Sends an update without a signature, and returns the response code of its reply, which anyone may have sent.
-    pub fn send_update(&mut self, update: &UpdateEvent) -> Result<ResponseCode, UpdateError> {
+    pub fn send_update(&mut self, update: &UpdateEvent) -> Result<ResponseCode, UpdateError>
+        ensures { (reply : Result ResponseCode NetError)
+            × Updates (network_calls N.sends N.receives N.streams N.reads_clock)
+            self.old.resolver.client.handle update.now reply self.new.resolver.client.handle
+            × (result ≡ update_result reply) }
+    {
         match self.resolver.handle_mut().send_update(update) {
             Ok(code) => Ok(code),
             Err(error) => Err(UpdateError::Net(error)),
@@ -86,9 +120,21 @@ impl<N: Network + Drop, I: IdSource + Drop> Session<N, I> {
     }
 
     /// Returns the number of requests that were sent to servers, or were to be.
-    pub fn questions(&self) -> u64 {
+    pub fn questions(&self) -> u64
+        ensures { result ≡ request_count self.now.resolver.client.handle.requester.counts }
+    {
         let counts = self.resolver.handle().counts();
         counts.datagrams.saturating_add(counts.streams)
+    }
+}
+
+/// Returns the records of the addresses that were looked up.
+fn lookup_of(addresses: Result<LookupIp, NetError>) -> Result<Lookup, NetError>
+    ensures { result ≡ addresses }
+{
+    match addresses {
+        Ok(addresses) => Ok(Lookup::from(addresses)),
+        Err(error) => Err(error),
     }
 }
 
@@ -102,7 +148,7 @@ pub(crate) fn pool_of<N: Network, I: IdSource>(
     timeout: u64,
     streams_alone: bool,
 ) -> NameServerPool<N, I>
-    ensures { result.requester.network ≡ network }
+    ensures { IsPool network ids servers options.now timeout streams_alone result }
 {
     let mut pool = NameServerPool::new(alloc, network, ids, servers, options);
     pool.set_timeout(timeout);

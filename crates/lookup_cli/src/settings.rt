@@ -1,7 +1,10 @@
 //! The configuration and the options of the resolver.
 
-ghost use Rattle.std.specs.Prelude.{◌≡◌};
-ghost use Rattle.lookup_cli.specs.Settings.{options_by};
+ghost use Rattle.std.specs.Prelude.{◌≡◌, IfOk, map};
+ghost use Rattle.std.specs.Option.{option_copied};
+ghost use Rattle.stub_resolv_conf.specs.Conf.{IsConfOf};
+ghost use Rattle.stub_resolv_conf.specs.declared.conf.SystemConf.{SystemConf};
+ghost use Rattle.lookup_cli.specs.Settings.{at_port, conf_path, config_by, options_by, server_at, with_search, with_servers};
 
 use crate::arguments::Arguments;
 use std::alloc::{AllocError, Global};
@@ -15,7 +18,9 @@ use stub_resolv_conf::{SystemConf, parse_resolv_conf};
 const SYSTEM_CONF: &str = "/etc/resolv.conf";
 
 /// Returns the path of the configuration that is read if the arguments name none. With a server among the arguments it is none.
-pub fn default_conf_path(arguments: &Arguments) -> Option<&'static str> {
+pub fn default_conf_path(arguments: &Arguments) -> Option<&'static str>
+    ensures { option_copied result ≡ conf_path arguments.now }
+{
     if arguments.servers.is_empty() {
         Some(SYSTEM_CONF)
     } else {
@@ -31,7 +36,11 @@ pub fn settings_of(
     alloc: Global,
     arguments: &Arguments,
     text: &[u8],
-) -> Result<SystemConf, AllocError> {
+) -> Result<SystemConf, AllocError>
+    ensures { IfOk result (λ conf. (read : SystemConf) × IsConfOf text.now read
+        × (conf.options ≡ options_by arguments.now read.options)
+        × (conf.config ≡ config_by arguments.now read.config)) }
+{
     let SystemConf {
         config,
         mut options,
@@ -65,28 +74,44 @@ fn config_of(
     alloc: Global,
     arguments: &Arguments,
     config: ResolverConfig,
-) -> Result<ResolverConfig, AllocError> {
-    let (domain, search, servers) = config.into_parts();
-    let servers = if arguments.servers.is_empty() {
-        servers
-    } else {
-        drop(servers);
-        servers_at(alloc, arguments.servers.as_slice())?
-    };
-    if arguments.search.is_empty() {
-        return Ok(ResolverConfig::from_parts(domain, search, servers));
+) -> Result<ResolverConfig, AllocError>
+    ensures { IfOk result (λ other. other ≡ config_by arguments.now config) }
+{
+    with_search(arguments, with_servers(alloc, arguments, config)?)
+}
+
+/// Returns a configuration with the servers of the arguments in place of its own, if there are any.
+fn with_servers(
+    alloc: Global,
+    arguments: &Arguments,
+    config: ResolverConfig,
+) -> Result<ResolverConfig, AllocError>
+    ensures { IfOk result (λ other. other ≡ with_servers arguments.now config) }
+{
+    if arguments.servers.is_empty() {
+        return Ok(config);
     }
-    drop(domain);
-    drop(search);
+    let servers = servers_at(alloc, arguments.servers.as_slice())?;
+    let (domain, search, _servers) = config.into_parts();
+    Ok(ResolverConfig::from_parts(domain, search, servers))
+}
+
+/// Returns a configuration with the search list of the arguments in place of its own and of its domain, if they have one.
+fn with_search(arguments: &Arguments, config: ResolverConfig) -> Result<ResolverConfig, AllocError>
+    ensures { IfOk result (λ other. other ≡ with_search arguments.now config) }
+{
+    if arguments.search.is_empty() {
+        return Ok(config);
+    }
     let search = arguments.search.clone()?;
+    let (_domain, _search, servers) = config.into_parts();
     Ok(ResolverConfig::from_parts(None, search, servers))
 }
 
 /// Returns the servers at addresses.
-fn servers_at(
-    alloc: Global,
-    addresses: &[SocketAddr],
-) -> Result<Vec<NameServerConfig>, AllocError> {
+fn servers_at(alloc: Global, addresses: &[SocketAddr]) -> Result<Vec<NameServerConfig>, AllocError>
+    ensures { IfOk result (λ servers. servers.items ≡ map server_at addresses.now) }
+{
     let mut servers = Vec::new(alloc);
     for address in addresses {
         servers.push(server_at(alloc, *address)?)?;
@@ -95,11 +120,18 @@ fn servers_at(
 }
 
 /// Returns the server at an address, which is asked over UDP and then over TCP.
-fn server_at(alloc: Global, address: SocketAddr) -> Result<NameServerConfig, AllocError> {
+fn server_at(alloc: Global, address: SocketAddr) -> Result<NameServerConfig, AllocError>
+    ensures { IfOk result (λ server. server ≡ server_at address) }
+{
     let mut connections = Vec::with_capacity(alloc, 2)?;
-    for mut connection in [ConnectionConfig::udp(), ConnectionConfig::tcp()] {
-        connection.port = address.port();
-        connections.push(connection)?;
-    }
+    connections.push(at_port(address.port(), ConnectionConfig::udp()))?;
+    connections.push(at_port(address.port(), ConnectionConfig::tcp()))?;
     Ok(NameServerConfig::new(address.ip(), true, connections))
+}
+
+/// Returns a connection to another port.
+fn at_port(port: u16, connection: ConnectionConfig) -> ConnectionConfig
+    ensures { result ≡ at_port port connection }
+{
+    ConnectionConfig { port, ..connection }
 }

@@ -3,6 +3,7 @@
 ghost use Rattle.std.specs.Prelude.{◌≡◌, IfOk};
 ghost use Rattle.stub_net.specs.Network.{network_calls};
 ghost use Rattle.stub_signed.specs.Update.{IsSignedCode};
+ghost use Rattle.lookup_cli.specs.Session.{IsPool, request_count, servers_by};
 
 use crate::session::pool_of;
 use dns_messages::ResponseCode;
@@ -33,7 +34,8 @@ impl<N: Network + Drop, I: IdSource + Drop> SignedSession<N, I> {
         timeout: u64,
         streams_alone: bool,
     ) -> Result<SignedSession<N, I>, NetError>
-        ensures { IfOk result (λ session. session.pool.requester.network ≡ network) }
+        ensures { IfOk result (λ session. IsPool network ids (servers_by config.now options.now)
+            options.now timeout streams_alone session.pool) }
     {
         let servers = ServerList::from_config(alloc, config, options)?;
         let pool = pool_of(
@@ -66,7 +68,9 @@ impl<N: Network + Drop, I: IdSource + Drop> SignedSession<N, I> {
     }
 
     /// Returns the number of requests that were sent to servers, or were to be.
-    pub fn questions(&self) -> u64 {
+    pub fn questions(&self) -> u64
+        ensures { result ≡ request_count self.now.pool.requester.counts }
+    {
         let counts = self.pool.counts();
         counts.datagrams.saturating_add(counts.streams)
     }

@@ -1,7 +1,7 @@
 //! What a lookup led to, and the exit status.
 
 ghost use Rattle.std.specs.Prelude.{◌≡◌, max};
-ghost use Rattle.lookup_cli.specs.Status.{exit_code, status_of, status_of_count, status_of_update};
+ghost use Rattle.lookup_cli.specs.Status.{exit_code, status_of, status_of_count, status_of_update, status_word};
 
 use dns_messages::ResponseCode;
 use stub_lookup::{DnsError, Lookup, NetError};
@@ -59,7 +59,9 @@ impl Status {
     }
 
     /// Returns the word for it.
-    pub fn word(self) -> &'static str {
+    pub fn word(self) -> &'static str
+        ensures { result.now ≡ status_word self }
+    {
         match self {
             Status::Found => "found",
             Status::Nothing => "nothing",

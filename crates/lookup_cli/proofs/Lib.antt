@@ -1,0 +1,2 @@
+mod ItemLaws
+mod SessionLaws

@@ -1,0 +1,37 @@
+-- What is asked about a name.
+use Rattle.std.specs.Prelude.{◌≡◌, List, ℕ, Option, Some, None, drop, take, string_bytes}
+use Rattle.std.specs.Borrow.{Bor}
+use Rattle.std.specs.Char.{is_whitespace}
+use Rattle.std.specs.Str.{NoCharPasses, trim}
+use Rattle.std.specs.Str.Pattern.{HasPassingCharAt}
+use Rattle.dns_codes.specs.CodeText.{type_of_text}
+use Rattle.dns_codes.specs.declared.record_type.RecordType.{RecordType}
+use Rattle.lookup_cli.specs.declared.item.Item.{Item}
+use Rattle.lookup_cli.specs.declared.item.Question.{Question}
+use Rattle.lookup_cli.specs.declared.item.Question.TheVariants.{Records, Unknown}
+
+-- the question for the records of a type
+abbrev pub question_for : Option RecordType → Question
+question_for (Some record_type) = Records record_type
+question_for None = Unknown
+
+-- the question for the records of the type that a text spells, which cannot be asked if it spells none
+abbrev pub question_of_type : List ℕ → Question
+question_of_type text = question_for (type_of_text text)
+
+-- the first white space of a text is a character that begins at one place and ends at another
+abbrev pub HasFirstSpace : List ℕ → ℕ → ℕ → Type 0
+HasFirstSpace text start end = NoCharPasses is_whitespace (take start text) × HasPassingCharAt is_whitespace text start end
+
+-- the parts of a text before and after its first white space, if it has any
+abbrev pub SplitsAtSpace : List ℕ → Option (Bor (List ℕ) × Bor (List ℕ)) → Type 0
+SplitsAtSpace text None = NoCharPasses is_whitespace text
+SplitsAtSpace text (Some parts) = (start : ℕ) × (end : ℕ) × HasFirstSpace text start end
+    × (parts.0.now ≡ take start text) × (parts.1.now ≡ drop end text)
+
+-- What a line without white space around it asks: a line without white space is a name, with the default question; any other is a name
+-- up to the first white space, after which a text spells the type.
+pub data IsItemOf (line : List ℕ) (default : Question) (item : Item) : Type 0 where
+  alone : NoCharPasses is_whitespace line → string_bytes item.name ≡ line → item.question ≡ default → IsItemOf line default item
+  typed : (start end : ℕ) → HasFirstSpace line start end → string_bytes item.name ≡ take start line
+      → item.question ≡ question_of_type (trim (drop end line)) → IsItemOf line default item
