@@ -7,7 +7,7 @@ use Rattle.std.specs.Str.Iter.{HasSubslice}
 use Rattle.std.specs.Str.Lines.{lines}
 use Rattle.zone_findings.specs.Finding.{Said, Sentences, finding_text, line_text}
 use Rattle.zone_check.specs.Fault.{fault_said}
-use Rattle.zone_check.specs.ScriptText.{IsLineReport}
+use Rattle.zone_check.specs.ScriptText.{IsLineReport, is_mark_reason, is_marked}
 use Rattle.zone_findings.specs.declared.format.ReportFormat.{ReportFormat}
 use Rattle.zone_check.specs.ScriptLine.{IsWordOf}
 
@@ -47,13 +47,14 @@ word_shown None P holds = holds
 pub line_reported : (format : ReportFormat) (file text : List ℕ) (line : ℕ) (shown : List ℕ) (word : Option (Bor (List ℕ))) (advice : Sentences)
     (start report : List ℕ) (before after : List (List ℕ)) (said : Said) → before ≡ lines text → after ≡ lines text
     → shown ≡ line_text before (Some line) → start ≡ [] → said ≡ fault_said 0 (Some line) (option_copied word) advice
-    → IfSome word (λ w. IsWordOf shown w.now) → report ≡ start ++ finding_text format file after said → IsLineReport format file text line report
-line_reported format file text line shown word advice start report before after said before_is after_is shown_is none said_is holds pushed = record {
+    → IfSome word (λ w. IsWordOf shown w.now) → is_mark_reason advice.reason ≡ is_marked line shown → report ≡ start ++ finding_text format file after said → IsLineReport format file text line report
+line_reported format file text line shown word advice start report before after said before_is after_is shown_is none said_is holds marked pushed = record {
   word = option_copied word;
   advice = advice;
   word_of_line =
       word_shown word (IsWordOf (line_text (lines text) (Some line)))
       (subst (λ (l : List ℕ). IfSome word (λ w. IsWordOf l w.now)) (shown_is ∙ ap (λ (l : List (List ℕ)). line_text l (Some line)) before_is) holds);
+  mark_is = marked ∙ ap (is_marked line) (shown_is ∙ ap (λ (l : List (List ℕ)). line_text l (Some line)) before_is);
   report_is =
       pushed ∙ ap (λ (l : List ℕ). l ++ finding_text format file after said) none
       ∙ ap (λ (l : List (List ℕ)). finding_text format file l said) after_is

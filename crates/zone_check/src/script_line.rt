@@ -1,8 +1,9 @@
 //! The word at fault in a line of a script, which the faults of `stub_play` do not have.
 
-ghost use Rattle.std.specs.Prelude.{◌≡◌, ℕ, IfOk, IfSome, Some, slice_get};
+ghost use Rattle.std.specs.Prelude.{◌≡◌, ℕ, false, IfOk, IfSome, Some, slice_get};
 ghost use Rattle.std.specs.Str.Iter.{HasSubslice};
 ghost use Rattle.zone_check.specs.ScriptLine.{IsWordOf};
+ghost use Rattle.zone_check.specs.ScriptText.{is_mark_reason};
 
 use dns_codes::parse_decimal;
 use dns_names::{Name, ParseError};
@@ -46,7 +47,10 @@ struct Fit {
 
 /// Returns what is wrong in a line that cannot be read.
 pub(crate) fn mistake_in(alloc: Global, line: &str) -> Result<Mistake<'_>, AllocError>
-    ensures { IfOk result (λ mistake. IfSome mistake.word (λ word. IsWordOf line.now word.now)) }
+    ensures word { IfOk result (λ mistake.
+        IfSome mistake.word (λ word. IsWordOf line.now word.now)) }
+    ensures mark { IfOk result (λ mistake.
+        is_mark_reason mistake.advice.reason.now ≡ false) }
 {
     let (event, link) = split_link(line);
     let words = words_of(alloc, event)?;
@@ -63,7 +67,8 @@ pub(crate) fn mistake_in(alloc: Global, line: &str) -> Result<Mistake<'_>, Alloc
 
 /// Returns what is wrong in words that follow a form so far, and in the word after them, if there is one.
 fn form_mistake(fit: Fit, word: Option<&str>) -> Mistake<'_>
-    ensures { result.word ≡ word.entry }
+    ensures word { result.word ≡ word.entry }
+    ensures mark { is_mark_reason result.advice.reason.now ≡ false }
 {
     let (reason, hint) = match word {
         Some("@") if fit.next == "NAME" => ("not a name here", "write the name of the origin"),
@@ -77,7 +82,8 @@ fn form_mistake(fit: Fit, word: Option<&str>) -> Mistake<'_>
 
 /// Returns what is wrong in a word of a link script.
 fn link_mistake(word: &str) -> Mistake<'_>
-    ensures { result.word ≡ Some word.entry }
+    ensures word { result.word ≡ Some word.entry }
+    ensures mark { is_mark_reason result.advice.reason.now ≡ false }
 {
     Mistake {
         word: Some(word),
@@ -218,7 +224,9 @@ fn is_link_word(word: &str) -> bool {
 }
 
 /// Returns what is said of words that follow a form so far, and perhaps have one after that.
-fn explanation(fit: Fit, has_word: bool) -> (&'static str, &'static str) {
+fn explanation(fit: Fit, has_word: bool) -> (&'static str, &'static str)
+    ensures { is_mark_reason result.0.now ≡ false }
+{
     match (fit.next, fit.count, has_word) {
         ("DATA", _, _) => (
             "invalid data for this type, or an owner outside the origin",

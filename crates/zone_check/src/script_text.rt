@@ -3,7 +3,7 @@
 ghost use Rattle.std.specs.Prelude.{◌≡◌, IfOk, IfSome, option_copied, string_bytes};
 ghost use Rattle.std.specs.Str.Lines.{lines};
 ghost use Rattle.zone_check.specs.ScriptLine.{IsWordOf};
-ghost use Rattle.zone_check.specs.ScriptText.{IsLineReport, moment_said};
+ghost use Rattle.zone_check.specs.ScriptText.{IsLineReport, is_mark_reason, is_marked, moment_said};
 ghost use Rattle.zone_findings.specs.Finding.{finding_text};
 
 use crate::fault::{begins_with_mark, finding_on, mark_text};
@@ -33,7 +33,10 @@ pub fn script_report(
 
 /// Returns what is wrong in a line that cannot be read, and perhaps is the first.
 fn mistake_on(alloc: Global, text: &str, line: usize) -> Result<Mistake<'_>, AllocError>
-    ensures { IfOk result (λ mistake. IfSome mistake.word (λ word. IsWordOf text.now word.now)) }
+    ensures word { IfOk result (λ mistake.
+        IfSome mistake.word (λ word. IsWordOf text.now word.now)) }
+    ensures mark { IfOk result (λ mistake.
+        is_mark_reason mistake.advice.reason.now ≡ is_marked line text.now) }
 {
     if line == 1 && begins_with_mark(text) {
         return Ok(Mistake {

@@ -9,4 +9,4 @@ returns c =
     (sentences c.in_ok-mistake.mistake.advice) _ _ _ _ _
     (ap (λ (l : List (Bor (List ℕ))). map (λ line. line.now) l) c.as_slice.ensures.value ∙ c.in_ok-lines.ensures.ok)
     (ap (λ (l : List (Bor (List ℕ))). map (λ line. line.now) l) c.as_slice-2.ensures.value ∙ c.in_ok-lines.ensures.ok)
-    c.text_at.ensures c.new-report.ensures.bytes c.finding_on-finding.ensures c.in_ok-mistake.ensures c.in_ok-push_to.ensures
+    c.text_at.ensures c.new-report.ensures.bytes c.finding_on-finding.ensures c.in_ok-mistake.ensures.word c.in_ok-mistake.ensures.mark c.in_ok-push_to.ensures
