@@ -1,11 +1,10 @@
-"""What happens in a script of `stub`: who sends what to whom, from the script and from what the program prints."""
+"""What happens in a script of `stub`: who sends what to whom, from what the program prints and from its trace."""
 import re
 import subprocess
 from pathlib import Path
 from typing import NamedTuple
 
 SCRIPT, RESOLVER, SERVER = range(3)
-LOST_ALL = " ; quiet"
 
 
 class Step(NamedTuple):
@@ -18,49 +17,49 @@ class Step(NamedTuple):
 
 
 class Event(NamedTuple):
-    """An event of a script: its line without the words of the link, these words, and the lines that were printed for it."""
+    """An event of a script: its line without the words of the link, these words, the lines that were printed for it, and those of
+    its trace."""
 
     line: str
     link: list
     output: list
+    trace: list
 
 
 def events_of(stub, zone, script):
     """The events of a script, with what the program prints for each."""
     lines = [it for it in script.splitlines() if it.strip() and not it.lstrip().startswith("#")]
-    printed = re.split(r"^(?=\S)", run(stub, zone, script), flags=re.M)[1:]
-    if len(printed) != len(lines):
-        raise ValueError(f"{len(lines)} events, of which {len(printed)} are printed")
-    return [Event(line.partition(" ; ")[0], line.partition(" ; ")[2].split(), out.splitlines()) for line, out in zip(lines, printed)]
+    printed, traces = (re.split(r"^(?=\S)", it, flags=re.M)[1:] for it in run(stub, zone, script))
+    if not len(printed) == len(traces) == len(lines):
+        raise ValueError(f"{len(lines)} events, of which {len(printed)} are printed and {len(traces)} traced")
+    return [
+        Event(line.partition(" ; ")[0], line.partition(" ; ")[2].split(), out.splitlines(), trace.splitlines()[1:])
+        for line, out, trace in zip(lines, printed, traces)
+    ]
 
 
 def run(stub, zone, script):
-    """What the program prints for a script."""
+    """What the program prints for a script, and its trace."""
     file = Path(zone).with_name("picture.script")
     file.write_text(script, encoding="utf-8")
-    words = [stub, "--zone", zone, "--script", file]
-    return subprocess.run(words, check=True, capture_output=True, text=True, timeout=60).stdout
-
-
-def asks_server(stub, zone, script, number):
-    """Whether an event asks the server: if the link loses all datagrams during it, its lookup fails with F3."""
-    lines = [it for it in script.splitlines() if it.strip() and not it.lstrip().startswith("#")]
-    changed = "\n".join([*lines[:number], lines[number].partition(" ; ")[0] + LOST_ALL]) + "\n"
-    return run(stub, zone, changed).splitlines()[-1].endswith("fault F3")
+    words = [stub, "--trace", "--zone", zone, "--script", file]
+    done = subprocess.run(words, check=True, capture_output=True, text=True, timeout=60)
+    return done.stdout, done.stderr
 
 
 class History:
-    """The steps of a script. The server's datagrams are numbered from the newest, as the words of the link number them."""
+    """The steps of a script, from the trace of each event. Only whether a lost datagram was a question or a reply is known from the
+    words of the link alone."""
 
     def __init__(self, stub, zone, script):
-        self.steps, self.datagrams = [], []
-        for number, event in enumerate(events_of(stub, zone, script)):
+        self.steps = []
+        for event in events_of(stub, zone, script):
             moment, word, *rest = event.line.split()
             self.add("moment", SCRIPT, SERVER, f"moment {moment}")
             if word == "update":
                 self.update(" ".join(rest), event)
             elif word == "lookup":
-                self.lookup(" ".join(rest), event, asks_server(stub, zone, script, number))
+                self.lookup(" ".join(rest), event)
             else:
                 self.add("arrow", SCRIPT, RESOLVER, " ".join([word, *rest]))
                 self.add("note", RESOLVER, RESOLVER, "the cache is empty" if word == "clearall" else "the entry is removed")
@@ -69,46 +68,36 @@ class History:
         self.steps.append(Step(kind, start, end, text))
 
     def update(self, words, event):
-        """An update, which reaches the server at once unless the link has words."""
+        """An update, whose reply is received at once unless the link has words."""
         code = event.output[0].rpartition(": ")[2]
-        self.add("lost" if event.link else "arrow", SCRIPT, SERVER, f"update {words}")
-        if not event.link:
-            self.add("arrow", SERVER, SCRIPT, code)
-            self.datagrams.append("the reply to the update")
-        else:
-            self.add("note", SCRIPT, SCRIPT, code)
+        is_replied = any(it.endswith("the reply") for it in event.trace)
+        self.add("arrow" if is_replied else "lost", SCRIPT, SERVER, f"update {words}")
+        self.add("arrow" if is_replied else "note", SERVER if is_replied else SCRIPT, SCRIPT, code)
 
-    def lookup(self, question, event, asks):
-        """A lookup: what the link does if the server is asked, and the result."""
+    def lookup(self, question, event):
+        """A lookup: what its trace has, and the result."""
         result = result_of(event.output)
         self.add("arrow", SCRIPT, RESOLVER, f"lookup {question}")
-        if not asks:
-            self.add("arrow", RESOLVER, SCRIPT, f"{result}, from the cache")
-            return
-        reply = f"reply: {result}"
-        self.follow(question, reply, event.link or ["q0", "r0"])
-        self.add("arrow", RESOLVER, SCRIPT, result)
+        for line in event.trace:
+            self.follow(line.strip(), question, result, event.link)
+        origin = ", from the cache" if event.trace[-1].endswith("from the cache") else ""
+        self.add("arrow", RESOLVER, SCRIPT, f"{result}{origin}")
 
-    def follow(self, question, reply, words):
-        """What the words of the link do, of which each question is asked once."""
-        is_delivered = False
-        for word in words:
-            if word == "q0":
-                self.add("arrow", RESOLVER, SERVER, f"question {question}")
-                self.datagrams.append(reply)
-                is_delivered = True
-            elif word[0] == "r" and word[1:].isdigit():
-                datagram = self.datagrams[-1 - int(word[1:])]
-                is_own = is_delivered and word == "r0"
-                self.add("arrow", SERVER, RESOLVER, datagram if is_own else "the late reply to the earlier question")
-                if not is_own:
-                    self.add("note", RESOLVER, RESOLVER, "dropped: its id is that of another question")
-            elif word == "quiet" and is_delivered:
+    def follow(self, line, question, result, words):
+        """What a line of the trace says."""
+        reaches = not words or "q0" in words
+        if line.startswith("->"):
+            self.add("arrow" if reaches else "lost", RESOLVER, SERVER, f"question {question}")
+        elif line.endswith("the reply"):
+            self.add("arrow", SERVER, RESOLVER, f"reply: {result}")
+        elif line.endswith("dropped: another id"):
+            self.add("arrow", SERVER, RESOLVER, "the late reply to the earlier question")
+            self.add("note", RESOLVER, RESOLVER, "dropped: its id is that of another question")
+        elif line.endswith("nothing"):
+            if reaches:
                 self.add("lost", SERVER, RESOLVER, "the reply does not arrive")
-            elif word == "quiet":
-                self.add("lost", RESOLVER, SERVER, f"question {question}")
-            else:
-                raise ValueError(f"no picture of the link's word {word}")
+        elif not re.search(r": from the (cache|server)$", line):
+            raise ValueError(f"no picture of {line}")
 
 
 def result_of(output):

@@ -5,7 +5,7 @@ use crate::fault::{ending, link_fault, play_fault, script_fault};
 use crate::following::followed;
 use crate::framing::frame_cuts;
 use crate::linking::linked;
-use crate::playing::{play_size, played, played_with};
+use crate::playing::{play_size, played, played_with, traced};
 use crate::request::{fits, sound, sound_data, sound_record};
 use crate::resolving::resolve;
 use crate::running::{ran, ran_script};
@@ -33,6 +33,7 @@ pub(crate) fn answer(alloc: Global, word: &str, input: &str) -> Answer {
         "run-script" => ran_script(alloc, input),
         "play" => played(alloc, input),
         "play-with" => played_with(alloc, input),
+        "trace" => traced(alloc, input),
         "play-size" => play_size(alloc, input),
         "script" => script(alloc, input),
         "words" => words(alloc, input),

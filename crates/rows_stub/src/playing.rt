@@ -5,7 +5,7 @@ use rows::{Answer, RowFault, bytes_of, parsed, split};
 use rows_text::name_of;
 use std::alloc::Global;
 use std::fmt::Write;
-use stub_play::{PlayFormat, PlayInput, play_in_memory};
+use stub_play::{PlayFormat, PlayInput, play_in_memory, play_traced_in_memory};
 
 /// `play ZONE || SCRIPT`: what a run prints, and behind it the line of its fault.
 pub(crate) fn played(alloc: Global, input: &str) -> Answer {
@@ -20,6 +20,32 @@ pub(crate) fn played_with(alloc: Global, input: &str) -> Answer {
     let mut input = Box::new(alloc, input_of(alloc, texts)?)?;
     set_options(alloc, &mut input, hosts, options)?;
     printed(alloc, &input)
+}
+
+/// `trace OPTIONS || HOSTS || ZONE || SCRIPT`: the trace of a run with options and a hosts file. What the run prints must be what
+/// it prints without a trace.
+pub(crate) fn traced(alloc: Global, input: &str) -> Answer {
+    let (options, rest) = split(input, " || ", "options")?;
+    let (hosts, texts) = split(rest, " || ", "hosts")?;
+    let mut input = Box::new(alloc, input_of(alloc, texts)?)?;
+    set_options(alloc, &mut input, hosts, options)?;
+    trace_of(alloc, &input)
+}
+
+/// The trace of a run.
+fn trace_of(alloc: Global, input: &PlayInput) -> Answer {
+    if input.limit < 512 {
+        return Err(RowFault::Lacks("a limit"));
+    }
+    let mut plain: Vec<u8> = Vec::new(alloc);
+    let mut bytes: Vec<u8> = Vec::new(alloc);
+    let mut trace: Vec<u8> = Vec::new(alloc);
+    let is_played = play_in_memory(alloc, input, &mut plain).is_ok();
+    let is_traced = play_traced_in_memory(alloc, input, &mut bytes, &mut trace).is_ok();
+    if is_played != is_traced || plain.as_slice() != bytes.as_slice() {
+        return Ok(String::from_str(alloc, "another output")?);
+    }
+    Ok(String::from_utf8_lossy(alloc, trace.as_slice())?)
 }
 
 /// Sets the hosts file, and the options that blanks part.

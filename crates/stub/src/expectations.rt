@@ -2,18 +2,23 @@
 
 ghost use Rattle.std.specs.Prelude.{◌≡◌, ◌≤◌, true};
 
+use crate::playing::play_script;
 use script_expectations::{write_blessed, write_differences};
 use std::io::{self, BufWriter, ErrorKind, Write};
 use std::process::ExitCode;
-use stub_play::{Ending, PlayFault, PlayInput, play};
+use stub_play::{Ending, PlayFault, PlayInput};
 
 /// Plays a script, and compares what each event led to with its expectations in the script. Each difference is printed, and
 /// the status is 1 if there is any.
-pub(crate) fn check(rt: &HostRuntime, input: &PlayInput) -> Result<ExitCode, Ending>
+pub(crate) fn check(
+    rt: &HostRuntime,
+    input: &PlayInput,
+    is_traced: bool,
+) -> Result<ExitCode, Ending>
     requires limit { 512 ≤ input.now.limit }
     requires udp { input.now.udp ≡ true → input.now.limit ≤ 65507 }
 {
-    let printed = play_to_text(rt, input)?;
+    let printed = play_to_text(rt, input, is_traced)?;
     match print_differences(rt, input.script.as_str(), printed.as_str()) {
         Ok(true) => Ok(ExitCode::SUCCESS),
         Ok(false) => Ok(ExitCode::FAILURE),
@@ -22,11 +27,15 @@ pub(crate) fn check(rt: &HostRuntime, input: &PlayInput) -> Result<ExitCode, End
 }
 
 /// Plays a script, and prints it with what each event led to as its expectations.
-pub(crate) fn bless(rt: &HostRuntime, input: &PlayInput) -> Result<ExitCode, Ending>
+pub(crate) fn bless(
+    rt: &HostRuntime,
+    input: &PlayInput,
+    is_traced: bool,
+) -> Result<ExitCode, Ending>
     requires limit { 512 ≤ input.now.limit }
     requires udp { input.now.udp ≡ true → input.now.limit ≤ 65507 }
 {
-    let printed = play_to_text(rt, input)?;
+    let printed = play_to_text(rt, input, is_traced)?;
     match print_blessed(rt, input.script.as_str(), printed.as_str()) {
         Ok(()) => Ok(ExitCode::SUCCESS),
         Err(error) => Err(ending_of(error)),
@@ -34,12 +43,12 @@ pub(crate) fn bless(rt: &HostRuntime, input: &PlayInput) -> Result<ExitCode, End
 }
 
 /// Plays a script, and returns what it prints.
-fn play_to_text(rt: &HostRuntime, input: &PlayInput) -> Result<String, Ending>
+fn play_to_text(rt: &HostRuntime, input: &PlayInput, is_traced: bool) -> Result<String, Ending>
     requires limit { 512 ≤ input.now.limit }
     requires udp { input.now.udp ≡ true → input.now.limit ≤ 65507 }
 {
     let mut bytes = Vec::new(rt.alloc());
-    play(rt, rt.alloc(), input, &mut bytes)?;
+    play_script(rt, input, is_traced, &mut bytes)?;
     match String::from_utf8(bytes) {
         Ok(text) => Ok(text),
         // Names and data are printed in ASCII, and hosts as in the script.

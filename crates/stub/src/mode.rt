@@ -16,12 +16,14 @@ pub(crate) enum Mode {
     Json,
 }
 
-/// What `--help` says of the modes.
+/// What `--help` says of the modes, and of the trace.
 const MODES: &str = "
 One of these, anywhere:
       --check          Compare what each event prints with the lines '#> ' after it
       --bless          Print the script with these lines as its events print them
       --json           Print a JSON object for each event
+And, anywhere:
+      --trace          Print on standard error what each event sent and received
 ";
 
 /// Removes the first `--check`, `--bless` or `--json` from the arguments, and returns what it asks for. No other option takes such a
@@ -31,6 +33,17 @@ pub(crate) fn take_mode(words: &mut Vec<&str>) -> Mode {
         return Mode::Print;
     };
     mode_of(words.remove(index)).unwrap_or(Mode::Print)
+}
+
+/// Removes the first `--trace` from the arguments, and returns whether there was one.
+pub(crate) fn take_trace(words: &mut Vec<&str>) -> bool {
+    match words.iter().position(|word| *word == "--trace") {
+        Some(index) => {
+            words.remove(index);
+            true
+        }
+        None => false,
+    }
 }
 
 /// Returns what an argument asks for.

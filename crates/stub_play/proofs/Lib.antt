@@ -1,3 +1,4 @@
+pub mod EventLaws
 pub mod HonestLaws
 pub mod HostLaws
 pub mod LineLaws

@@ -13,19 +13,23 @@ use Rattle.stub_config.specs.declared.config.ResolverConfig.{ResolverConfig}
 use Rattle.stub_config.specs.declared.options.ResolverOpts.{ResolverOpts}
 use Rattle.stub_hosts.specs.Hosts.{HostsContent}
 use Rattle.stub_core.specs.declared.resolver.Resolver.{Resolver}
+use Rattle.stub_link.specs.LinkState.{first_link_state}
+use Rattle.stub_link.specs.ScriptedLink.{IsAt}
+use Rattle.stub_link.specs.declared.link.scripted.ScriptedLink.{ScriptedLink}
+use Rattle.stub_link.specs.declared.link.LinkError.{LinkError}
+use Rattle.stub_link.specs.declared.link.LinkError.TheVariants as links
 use Rattle.stub_link.specs.declared.wire_handle.WireHandle.{WireHandle}
 use Rattle.stub_socket.specs.SocketLink.{socket_rules}
-use Rattle.stub_socket.specs.SocketWorld.{resolver_of}
-use Rattle.stub_socket.specs.declared.world.SocketWorld.{SocketWorld}
 use Rattle.stub_socket.specs.declared.socket_link.SocketLink.{SocketLink}
 use Rattle.stub_run.specs.declared.event.Event.{Event}
-use Rattle.stub_run.specs.declared.world.World.{World}
-use Rattle.stub_run.specs.World.{BeginsWith, IsFirst, IsFirstOver}
+use Rattle.stub_run.specs.ScriptedEvents.{scripted_rules}
+use Rattle.stub_run.specs.Stepping.{RunsAs, RunsFrom}
+use Rattle.stub_run.specs.World.{IsFirst, IsFirstOver}
 use Rattle.stub_run.specs.Counts.{HasDrawn}
 use Rattle.stub_run.specs.Headline.{WorldContent}
 use Rattle.stub_run.specs.OneHistory.{HasOneHistory}
 use Rattle.stub_run.specs.Questions.{AreAskable}
-use Rattle.stub_run.specs.RunOver.{IsReportBeforeOver, IsReportOver, RunsOver, StopsAtOver, with_sent}
+use Rattle.stub_run.specs.RunOver.{HasRunOver, IsReportBeforeOver, IsReportOver, LinkRules, RunsOver, StopsAtOver, with_sent}
 use Rattle.stub_run.specs.Ids.{AreDistinct}
 use Rattle.stub_run.proofs.Reporting.{HistoryLaw, front-askable, front-in-order}
 use Rattle.stub_history.specs.Faithful.{HasNoReuse}
@@ -47,8 +51,8 @@ use Rattle.dns_names.specs.Name.{DomainName}
 use Rattle.dns_zone_file.specs.declared.types.Types.{Types}
 use Rattle.stub_play.specs.EventContent.{EventContent}
 use Rattle.stub_run.specs.Event.{AreHonest}
-use Rattle.stub_play.specs.Plays.{Faults, HasFiles, HostsAre, IsAtFault, IsLineListed, IsLineOf, IsLineOutOfOrder, IsLoaded, IsPlayed, IsRead, IsScript, IsStart, IsStartOver, IsUnwritten, IsUsable, IsZone, ScriptIs, Tells, TellsAll, TellsAllBy, TellsFirst, TellsFirstBy, TellsOver, ZoneIs, content_of, events_of, lines_of, numbered, play_options}
-use Rattle.stub_play.specs.PlayFault.{script_fault}
+use Rattle.stub_play.specs.Plays.{AreTold, Faults, HasFiles, HostsAre, IsAtFault, IsFirstOfPlay, IsLineListed, IsLineOf, IsLineOutOfOrder, IsLoaded, IsPlayed, IsPlayedOver, IsRead, IsScript, IsStart, IsStartOver, IsUnwritten, IsUsable, IsZone, ScriptIs, Tells, TellsAll, TellsAllBy, TellsFirst, TellsFirstBy, TellsOver, ZoneIs, content_of, events_of, lines_of, numbered, play_options}
+use Rattle.stub_play.specs.PlayFault.{link_fault, script_fault}
 use Rattle.stub_play.specs.Report.{report_text, told_text}
 use Rattle.stub_play.specs.declared.report.PlayFormat.{PlayFormat}
 use Rattle.stub_play.specs.ScriptText.{IsScriptOf, contents_of, side_by_side}
@@ -164,39 +168,31 @@ none_below_zero n = le-ltb n 0 (omega arith)
 pub play_options_are_supported : (input : PlayInput) → is_unsupported (play_options input) ≡ false
 play_options_are_supported input = ap (λ (b : Bool). b || false) (none_below_zero input.max_ttl)
 
--- the world of a run begins in the first state of its input
-pub starts : (input : PlayInput) (zone : ZoneContent) (limit : ℕ) (ids : List ℕ) (config : ResolverConfig) (options : ResolverOpts)
-    (hosts : HostsContent) (world : World) → limit ≡ input.limit → config ≡ config_of_servers [] → options ≡ play_options input
-    → EachIndex ids (λ k. slice_index ids k ≡ k + 1) → length ids ≡ 65535
-    → (state : RunState) × IsFirst zone limit ids config options hosts state × BeginsWith world state
-    → (state : RunState) × IsStart input zone hosts state × BeginsWith world state
-starts input zone limit ids config options hosts world same_limit same_config same_options counted all first = (
-  first.0,
-  record {
-    ids = ids;
-    first = rw (same_limit, same_config, same_options) at first.1;
-    counted = counted;
-    all = all;
-  },
-  first.2,
-)
+-- what holds of the resolver of a run, which begins with these ids, configuration and options
+pub first_of_play : {L : Type 0} (input : PlayInput) (ids : List ℕ) (config : ResolverConfig) (options : ResolverOpts)
+    (hosts : HostsContent) (link : L) (resolver : Resolver (WireHandle L)) → config ≡ config_of_servers [] → options ≡ play_options input
+    → EachIndex ids (λ k. slice_index ids k ≡ k + 1) → length ids ≡ 65535 → IsFirstOver link ids config options hosts resolver
+    → IsFirstOfPlay input link hosts resolver
+first_of_play input ids config options hosts link resolver same_config same_options counted all first = record {
+  ids = ids;
+  first = rw (same_config, same_options) at first;
+  counted = counted;
+  all = all;
+}
 
 -- the resolver of a run over sockets begins as its input says
-pub starts_over : {R : Type 0} (input : PlayInput) (zone : ZoneContent) (limit : ℕ) (ids : List ℕ) (config : ResolverConfig)
-    (options : ResolverOpts) (hosts : HostsContent) (link : SocketLink R) (world : SocketWorld R) → link.zone ≡ zone → link.limit ≡ limit
-    → limit ≡ input.limit → config ≡ config_of_servers [] → options ≡ play_options input
-    → EachIndex ids (λ k. slice_index ids k ≡ k + 1) → length ids ≡ 65535
-    → IsFirstOver link ids config options hosts (resolver_of world) → IsStartOver input zone hosts (resolver_of world)
-starts_over input zone limit ids config options hosts link world same_zone link_limit same_limit same_config same_options counted all first =
-    record {
-      link = link;
-      ids = ids;
-      zone_is = same_zone;
-      limit = link_limit ∙ same_limit;
-      first = rw (same_config, same_options) at first;
-      counted = counted;
-      all = all;
-    }
+pub starts_over : {R : Type 0} (input : PlayInput) (zone : ZoneContent) (hosts : HostsContent) (link : SocketLink R)
+    (resolver : Resolver (WireHandle (SocketLink R))) → link.zone ≡ zone → link.limit ≡ input.limit
+    → IsFirstOfPlay input link hosts resolver → IsStartOver input zone hosts resolver
+starts_over input zone hosts link resolver same_zone same_limit first = record {
+  link = link;
+  ids = first.ids;
+  zone_is = same_zone;
+  limit = same_limit;
+  first = first.first;
+  counted = first.counted;
+  all = first.all;
+}
 
 -- ---- what is printed
 
@@ -210,7 +206,7 @@ runs_len old (e ∷ events) (r ∷ reports) [] new h = absurd h
 runs_len old (e ∷ events) (r ∷ reports) (state ∷ states) new h = ap suc (runs_len state events reports states new h.1)
 
 -- events without a report have no text
-front_text : (types : Types) (format : PlayFormat) (n : ℕ) (events : List Event) (reports : List EventReport) → length reports ≤ n
+pub front_text : (types : Types) (format : PlayFormat) (n : ℕ) (events : List Event) (reports : List EventReport) → length reports ≤ n
     → report_text types format events reports ≡ report_text types format (take n events) reports
 front_text types format n [] reports h = ap (λ (x : List Event). report_text types format x reports) (sym (take-nil n))
 front_text types format zero (e ∷ events) [] h = refl
@@ -230,10 +226,10 @@ front_is types format first events report before =
     let few : length report.events.items ≤ before.count = omega (arith, same, short) in
     front_text types format before.count events report.events.items few
 
-module _ {R : Type 0} where
-  -- a run over sockets reports of each event once
-  runs_over_len : (old : Resolver (WireHandle (SocketLink R))) (events : List Event) (reports : List EventReport) (states : List (Resolver (WireHandle (SocketLink R))))
-      (new : Resolver (WireHandle (SocketLink R))) → RunsOver (socket_rules R) old events reports states new → length reports ≡ length events
+module _ {L : Type 0} (rules : LinkRules L) where
+  runs_over_len : (old : Resolver (WireHandle L)) (events : List Event) (reports : List EventReport)
+      (states : List (Resolver (WireHandle L))) (new : Resolver (WireHandle L)) → RunsOver rules old events reports states new
+      → length reports ≡ length events
   runs_over_len old [] [] [] new h = refl
   runs_over_len old [] [] (state ∷ states) new h = absurd h
   runs_over_len old [] (r ∷ reports) states new h = absurd h
@@ -241,19 +237,23 @@ module _ {R : Type 0} where
   runs_over_len old (e ∷ events) (r ∷ reports) [] new h = absurd h
   runs_over_len old (e ∷ events) (r ∷ reports) (state ∷ states) new h = ap suc (runs_over_len state events reports states new h.1)
 
-  front_is_over : (types : Types) (format : PlayFormat) (first : Resolver (WireHandle (SocketLink R))) (events : List Event) (report : Report)
-      (before : IsReportBeforeOver (socket_rules R) first events report)
+  -- a run over any link reports of each event once
+  pub reports_len : (first : Resolver (WireHandle L)) (events : List Event) (reports : List EventReport) (last : Resolver (WireHandle L))
+      → HasRunOver rules first events reports last → length reports ≡ length events
+  reports_len first events reports last run = runs_over_len (with_sent first run.ids) events reports run.states last run.runs
+
+  front_is_over : (types : Types) (format : PlayFormat) (first : Resolver (WireHandle L)) (events : List Event) (report : Report)
+      (before : IsReportBeforeOver rules first events report)
       → report_text types format events report.events.items ≡ report_text types format (take before.count events) report.events.items
   front_is_over types format first events report before =
       let front = take before.count events in
-      let run = before.reported.has_run in
       let same : length report.events.items ≡ length front =
-      runs_over_len (with_sent first run.ids) front report.events.items run.states before.reported.last run.runs in
+      reports_len first front report.events.items before.reported.last before.reported.has_run in
       let short = length-take before.count events in
       let few : length report.events.items ≤ before.count = omega (arith, same, short) in
       front_text types format before.count events report.events.items few
 
-  within_over : (count : ℕ) (events : List Event) (resolver : Resolver (WireHandle (SocketLink R))) → StopsAtOver (socket_rules R) count events resolver
+  within_over : (count : ℕ) (events : List Event) (resolver : Resolver (WireHandle L)) → StopsAtOver rules count events resolver
       → (count ≡ 0) ⊎ (count < length events)
   within_over count events resolver (inl none) = inl none
   within_over count events resolver (inr stop) = inr (slice_get_within events count stop.0 stop.1)
@@ -416,8 +416,8 @@ module _ (input : PlayInput) (loaded : Loaded) (is : IsLoaded input loaded) wher
     tells_first_over before =
         let events = loaded.script.events.items in
         tells_first_by (TellsOver R input) order report before.count
-        (within_over before.count events before.reported.last before.stopped)
-        (front_is_over input.types input.format resolver events report before) (tells_over (take before.count events) before.reported)
+        (within_over (socket_rules R) before.count events before.reported.last before.stopped)
+        (front_is_over (socket_rules R) input.types input.format resolver events report before) (tells_over (take before.count events) before.reported)
 
 -- ---- how a whole run ends
 
@@ -432,15 +432,11 @@ module _ (tells : ZoneContent → List Event → List ℕ → Type 0) (input : P
     stopped = λ _. inl unwritten;
   }
 
-  -- the sockets could not be opened, or memory ran out before
-  pub sockets_end : (fault : PlayFault) (loaded : Loaded) → IsLoaded input loaded → input.udp ≡ true
-      → (fault ≡ plays.Sockets) ⊎ (fault ≡ plays.Memory) → same → IsPlayed tells input same old new (Err fault)
-  sockets_end fault loaded is udp (inl sockets) unwritten =
-      subst (λ (f : PlayFault). IsPlayed tells input same old new (Err f)) (sym sockets)
-      (silent_end plays.Sockets (udp, has_files input loaded is) unwritten)
-  sockets_end fault loaded is udp (inr memory) unwritten =
-      subst (λ (f : PlayFault). IsPlayed tells input same old new (Err f)) (sym memory)
-      (silent_end plays.Memory (zone_is input loaded is) unwritten)
+  -- the link could not be opened
+  pub unopened_end : (error : LinkError) (loaded : Loaded) → IsLoaded input loaded → input.udp ≡ true → same
+      → IsPlayed tells input same old new (Err (link_fault error))
+  unopened_end links.Failed loaded is udp unwritten = silent_end plays.Sockets (udp, has_files input loaded is) unwritten
+  unopened_end links.Memory loaded is udp unwritten = silent_end plays.Memory (zone_is input loaded is) unwritten
 
   -- the report could not be written
   pub unwritten_end : IsRead input → IsPlayed tells input same old new (Err Write)
@@ -472,3 +468,115 @@ module _ (tells : ZoneContent → List Event → List ℕ → Type 0) (input : P
     told = tt;
     stopped = λ _. inr (report, tells, written);
   }
+
+  -- all events were told, or those before a fault, or none
+  pub told_or_not : {L : Type 0} (rules : LinkRules L) (loaded : Loaded) → IsLoaded input loaded → (resolver : Resolver (WireHandle L))
+      → (result : Result (Unit {0}) PlayFault) → AreTold rules input loaded.script resolver same old new result
+      → (InOrder 0 loaded.script.events.items → (report : Report) → IsReportOver rules resolver loaded.script.events.items report
+      → TellsAllBy tells input (report_text input.types input.format loaded.script.events.items report.events.items))
+      → (InOrder 0 loaded.script.events.items → (report : Report) → IsReportBeforeOver rules resolver loaded.script.events.items report
+      → TellsFirstBy tells input (report_text input.types input.format loaded.script.events.items report.events.items))
+      → IsPlayed tells input same old new result
+  told_or_not rules loaded is resolver (Ok done) t all first =
+      told_end (report_text input.types input.format loaded.script.events.items t.told.0.events.items) (is_read input loaded is t.order)
+      (all t.order t.told.0 t.told.1) t.told.2
+  told_or_not rules loaded is resolver (Err (plays.Script line)) t all first =
+      silent_end (plays.Script line) (moment_is_at_fault input loaded is line t.early.0) t.early.1
+  told_or_not rules loaded is resolver (Err plays.Memory) t all first =
+      let t = t.early in
+      stopped_end (report_text input.types input.format loaded.script.events.items t.1.0.events.items) (zone_is input loaded is)
+      (first t.0 t.1.0 t.1.1) t.1.2
+  told_or_not rules loaded is resolver (Err plays.Write) t all first = unwritten_end (is_read input loaded is t.early)
+  told_or_not rules loaded is resolver (Err (plays.Zone fault)) t all first = absurd t.early
+  told_or_not rules loaded is resolver (Err (plays.Hosts fault)) t all first = absurd t.early
+  told_or_not rules loaded is resolver (Err plays.Sockets) t all first = absurd t.early
+
+-- ---- runs over links
+
+-- what a resolver over a link tells, one over another link tells, if it runs as that
+are_told_as : {T L : Type 0} (rules : LinkRules T) (others : LinkRules L) (input : PlayInput) (script : ScriptText)
+    (resolver : Resolver (WireHandle T)) (other : Resolver (WireHandle L)) (same : Type 0) (old new : Option (List ℕ))
+    (result : Result (Unit {0}) PlayFault) → RunsAs rules others resolver other
+    → AreTold rules input script resolver same old new result → AreTold others input script other same old new result
+are_told_as rules others input script resolver other same old new (Ok done) runs_as t =
+    record { order = t.order; told = (t.told.0, runs_as.runs script.events.items t.told.0 t.told.1, t.told.2); early = tt }
+are_told_as rules others input script resolver other same old new (Err (plays.Script line)) runs_as t =
+    record { order = tt; told = tt; early = t.early }
+are_told_as rules others input script resolver other same old new (Err plays.Memory) runs_as t = record {
+  order = tt;
+  told = tt;
+  early = (t.early.0, (t.early.1.0, runs_as.stops script.events.items t.early.1.0 t.early.1.1, t.early.1.2));
+}
+are_told_as rules others input script resolver other same old new (Err plays.Write) runs_as t =
+    record { order = tt; told = tt; early = t.early }
+are_told_as rules others input script resolver other same old new (Err (plays.Zone fault)) runs_as t = absurd t.early
+are_told_as rules others input script resolver other same old new (Err (plays.Hosts fault)) runs_as t = absurd t.early
+are_told_as rules others input script resolver other same old new (Err plays.Sockets) runs_as t = absurd t.early
+
+-- resolvers that begin over a link run as others that begin over another
+abbrev pub RunAs : {T L : Type 0} → LinkRules T → LinkRules L → T → L → Type 0
+RunAs {T} {L} rules others link other_link =
+    (ids : List ℕ) (config : ResolverConfig) (options : ResolverOpts) (hosts : HostsContent) (resolver : Resolver (WireHandle T))
+    → IsFirstOver link ids config options hosts resolver
+    → (other : Resolver (WireHandle L)) × IsFirstOver other_link ids config options hosts other × RunsAs rules others resolver other
+
+pub played_as : {T L : Type 0} (rules : LinkRules T) (others : LinkRules L) (input : PlayInput) (link : T) (other_link : L)
+    (hosts : HostsContent) (script : ScriptText) (same : Type 0) (old new : Option (List ℕ)) (result : Result (Unit {0}) PlayFault)
+    → RunAs rules others link other_link → IsPlayedOver rules input link hosts script same old new result
+    → IsPlayedOver others input other_link hosts script same old new result
+played_as rules others input link other_link hosts script same old new result run_as (inl none) = inl none
+played_as rules others input link other_link hosts script same old new result run_as (inr (resolver, first, told)) =
+    let other = run_as first.ids (config_of_servers []) (play_options input) hosts resolver first.first in
+    inr (
+      other.0,
+      record { ids = first.ids; first = other.1; counted = first.counted; all = first.all },
+      are_told_as rules others input script resolver other.0 same old new result other.2 told,
+    )
+
+-- there was no memory for the resolver
+unplayed : (tells : ZoneContent → List Event → List ℕ → Type 0) (input : PlayInput) (loaded : Loaded) (is : IsLoaded input loaded)
+    (same : Type 0) (old new : Option (List ℕ)) (result : Result (Unit {0}) PlayFault) → result ≡ Err plays.Memory → same
+    → IsPlayed tells input same old new result
+unplayed tells input loaded is same old new result out unwritten =
+    subst (λ (r : Result (Unit {0}) PlayFault). IsPlayed tells input same old new r) (sym out)
+    (silent_end tells input same old new plays.Memory (zone_is input loaded is) unwritten)
+
+-- resolvers over the scripted link run in states
+abbrev pub RunInStates : Type 0
+RunInStates =
+    (zone : ZoneContent) (limit : ℕ) (ids : List ℕ) (config : ResolverConfig) (options : ResolverOpts) (hosts : HostsContent)
+    (link : ScriptedLink) (resolver : Resolver (WireHandle ScriptedLink)) → IsAt link (first_link_state zone limit)
+    → IsFirstOver link ids config options hosts resolver
+    → (state : RunState) × IsFirst zone limit ids config options hosts state × RunsFrom resolver state
+
+-- a whole run over the scripted link
+pub played_in_memory : (input : PlayInput) (loaded : Loaded) (is : IsLoaded input loaded) → RunsHold → IsZoneContent loaded.zone
+    → AreAskable loaded.script.events.items → input.limit < 2 ^ 16 → RunInStates → (link : ScriptedLink)
+    → IsAt link (first_link_state loaded.zone input.limit) → (same : Type 0) (old new : Option (List ℕ))
+    (result : Result (Unit {0}) PlayFault) → IsPlayedOver scripted_rules input link loaded.hosts loaded.script same old new result
+    → IsPlayed (Tells input) input same old new result
+played_in_memory input loaded is laws zone askable limit states link at same old new result (inl none) =
+    unplayed (Tells input) input loaded is same old new result none.0 none.1
+played_in_memory input loaded is laws zone askable limit states link at same old new result (inr (resolver, first, told)) =
+    let begun =
+    states loaded.zone input.limit first.ids (config_of_servers []) (play_options input) loaded.hosts link resolver at first.first in
+    let start : IsStart input loaded.zone loaded.hosts begun.0 =
+    record { ids = first.ids; first = begun.1; counted = first.counted; all = first.all } in
+    told_or_not (Tells input) input same old new scripted_rules loaded is resolver result told
+    (λ order report over. tells_all input loaded is laws zone order askable limit begun.0 start report
+    (begun.2.runs loaded.script.events.items report over))
+    (λ order report over. tells_first input loaded is laws zone order askable limit begun.0 start report
+    (begun.2.stops loaded.script.events.items report over))
+
+-- a whole run over sockets
+pub played_over_sockets : {R : Type 0} (input : PlayInput) (loaded : Loaded) (is : IsLoaded input loaded) (link : SocketLink R)
+    → link.zone ≡ loaded.zone → link.limit ≡ input.limit → (same : Type 0) (old new : Option (List ℕ))
+    (result : Result (Unit {0}) PlayFault) → IsPlayedOver (socket_rules R) input link loaded.hosts loaded.script same old new result
+    → IsPlayed (TellsOver R input) input same old new result
+played_over_sockets {R} input loaded is link zone limit same old new result (inl none) =
+    unplayed (TellsOver R input) input loaded is same old new result none.0 none.1
+played_over_sockets {R} input loaded is link zone limit same old new result (inr (resolver, first, told)) =
+    let start = starts_over input loaded.zone loaded.hosts link resolver zone limit first in
+    told_or_not (TellsOver R input) input same old new (socket_rules R) loaded is resolver result told
+    (λ order report over. tells_all_over input loaded is order resolver start report over)
+    (λ order report over. tells_first_over input loaded is order resolver start report over)

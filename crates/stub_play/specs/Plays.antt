@@ -21,7 +21,7 @@ use Rattle.stub_run.specs.declared.report.Report.{Report}
 use Rattle.stub_run.specs.OneHistory.{HasOneHistory}
 use Rattle.stub_run.specs.Run.{InOrder, RunState}
 use Rattle.stub_run.specs.Headline.{AreFresh, HaveChainBounds, WorldContent}
-use Rattle.stub_run.specs.RunOver.{IsReportOver}
+use Rattle.stub_run.specs.RunOver.{IsReportBeforeOver, IsReportOver, LinkRules}
 use Rattle.stub_run.specs.Steady.{AreSteady}
 use Rattle.stub_run.specs.Walked.{AreWalked}
 use Rattle.stub_run.specs.Whole.{AreWhole}
@@ -228,6 +228,47 @@ TellsAll input = TellsAllBy (Tells input) input
 -- the text of a run of the events before memory ran out, over a link that follows the script
 abbrev pub TellsFirst : PlayInput → List ℕ → Type 0
 TellsFirst input = TellsFirstBy (Tells input) input
+
+-- ---- events, one after another
+
+-- there is such a report of events, and its text was written
+abbrev pub Told : (Report → Type 0) → PlayInput → List Event → Option (List ℕ) → Option (List ℕ) → Type 0
+Told Is input events old new =
+    (report : Report) × Is report × Appends old new (report_text input.types input.format events report.events.items)
+
+-- Why not all events of a script were told: the moments are out of order, and nothing was written; or memory ran out, and what was
+-- reported before was written; or it could not be written.
+abbrev pub EndsEarly : {L : Type 0} → LinkRules L → PlayInput → ScriptText → Resolver (WireHandle L) → Type 0
+    → Option (List ℕ) → Option (List ℕ) → PlayFault → Type 0
+EndsEarly rules input script resolver same old new (Script line) = IsLineOutOfOrder (numbered script) line × same
+EndsEarly rules input script resolver same old new Memory =
+    InOrder 0 script.events.items
+    × Told (IsReportBeforeOver rules resolver script.events.items) input script.events.items old new
+EndsEarly rules input script resolver same old new Write = InOrder 0 script.events.items
+EndsEarly rules input script resolver same old new fault = ⊥
+
+-- The events of a script happen to a resolver over a link, and all of them are told, or not.
+pub record AreTold {L : Type 0} (rules : LinkRules L) (input : PlayInput) (script : ScriptText) (resolver : Resolver (WireHandle L))
+    (same : Type 0) (old new : Option (List ℕ)) (result : Result (Unit {0}) PlayFault) : Type 0 where
+  pub order : OnOk result (InOrder 0 script.events.items)
+  pub told : OnOk result (Told (IsReportOver rules resolver script.events.items) input script.events.items old new)
+  pub early : IfErr result (EndsEarly rules input script resolver same old new)
+
+-- a resolver over a link begins as the input says: without domain and search list, and with the ids from 1 to 65,535
+pub record IsFirstOfPlay {L : Type 0} (input : PlayInput) (link : L) (hosts : HostsContent) (resolver : Resolver (WireHandle L))
+    : Type 0 where
+  pub ids : List ℕ
+  pub first : IsFirstOver link ids (config_of_servers []) (play_options input) hosts resolver
+  pub counted : EachIndex ids (λ k. slice_index ids k ≡ k + 1)
+  pub all : length ids ≡ 65535
+
+-- there was no memory for the resolver; or one begins over the link, and the events of the script happen to it
+abbrev pub IsPlayedOver : {L : Type 0} → LinkRules L → PlayInput → L → HostsContent → ScriptText → Type 0 → Option (List ℕ)
+    → Option (List ℕ) → Result (Unit {0}) PlayFault → Type 0
+IsPlayedOver {L} rules input link hosts script same old new result =
+    ((result ≡ Err Memory) × same)
+    ⊎ ((resolver : Resolver (WireHandle L)) × IsFirstOfPlay input link hosts resolver
+    × AreTold rules input script resolver same old new result)
 
 -- ---- runs over sockets
 

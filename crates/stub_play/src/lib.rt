@@ -6,7 +6,9 @@
 //! - `report`: the text of a report; `report_text`, `report_json`: that of an event's, for people and for programs; `shown`: owners,
 //!   types, data and reasons in it; `json_members`: the members of an object
 //! - `plays`: a whole run, from the contents of the files to the text that is printed; `plays/input`: its input;
-//!   `plays/sockets`: a run over sockets; `plays/fault`: why it ended early
+//!   `plays/events`: its events, one after another; `plays/sockets`: a run over sockets; `plays/fault`: why it ended early
+//! - `plays/traced`: a run over a link that notes its calls; `plays/watcher`, `plays/trace`: what is told of each event;
+//!   `plays/source`: where the result of a lookup comes from
 //! - `laws`: which words of a script are hosts, and what the objects of events say
 #![tactic(auto)]
 
@@ -26,7 +28,7 @@ mod shown;
 mod update_line;
 mod words;
 
-pub use plays::{PlayFault, PlayInput, play, play_in_memory};
+pub use plays::{PlayFault, PlayInput, play, play_in_memory, play_traced, play_traced_in_memory};
 pub use program::{Ending, FileContents, InputFile, reading_order, unread_arguments};
 pub use report::{PlayFormat, write_report};
 pub use script_text::{ScriptFault, ScriptText, read_script};

@@ -2,20 +2,25 @@
 
 ghost use Rattle.std.specs.Prelude.{◌≡◌, ◌≢◌, ◌↔◌, ◌≤◌, ◌⊎◌, ◌+◌, ◌<◌, ◌^◌, List, ℕ, EachIndex, IfOk, IfErr, IfSome, OnOk, None, Ok, Err, length, slice_index, true, false};
 ghost use Rattle.std.specs.Io.KnownBytes.{Appends};
-ghost use Rattle.stub_play.specs.Report.{report_text};
-ghost use Rattle.stub_play.specs.Plays.{Faults, HostsAre, IsBeforeRun, IsFirstListed, IsFirstOutOfOrder, IsLineListed, IsLineOutOfOrder, IsLoaded, IsPlayed, IsRead, IsStart, IsUnwritten, IsUsable, Tells, TellsAll, TellsAllBy, TellsFirst, TellsFirstBy, TellsOver, ZoneIs, numbered, play_options};
+ghost use Rattle.stub_play.specs.Plays.{Faults, HostsAre, IsBeforeRun, IsFirstListed, IsFirstOfPlay, IsFirstOutOfOrder, IsLineListed, IsLineOutOfOrder, IsLoaded, IsPlayed, IsRead, IsUnwritten, IsUsable, Tells, TellsAll, TellsAllBy, TellsFirst, TellsFirstBy, TellsOver, ZoneIs, numbered, play_options};
+ghost use Rattle.stub_link.specs.LinkState.{first_link_state};
+ghost use Rattle.stub_link.specs.ScriptedLink.{IsAt};
 ghost use Rattle.stub_link.specs.declared.link.script.Script.TheVariants.{Honest};
 ghost use Rattle.stub_run.specs.Event.{AreHonest, script_of};
-ghost use Rattle.stub_run.specs.Run.{InOrder, RunState};
-ghost use Rattle.stub_run.specs.World.{BeginsWith};
+ghost use Rattle.stub_run.specs.Run.{InOrder};
 
+mod events;
 mod fault;
 mod input;
 mod sockets;
+mod source;
+mod trace;
+mod traced;
+mod watcher;
 
-use crate::report::write_report;
 use crate::script_text::{ScriptText, read_script};
 use dns_zone::{DatagramLimit, Zone, ZoneFault};
+use events::play_over_link;
 pub use fault::PlayFault;
 pub use input::PlayInput;
 use sockets::play_over_sockets;
@@ -23,9 +28,16 @@ use std::alloc::{AllocError, Global};
 use std::io;
 use std::net::{Net, TcpListener, TcpStream};
 use stub_config::{ResolverConfig, ResolverOpts};
+use stub_core::Resolver;
 use stub_hosts::{Hosts, HostsFault};
-use stub_run::laws::{distinct_ids_are_not_reused, ids_are_drawn_in_order, runs_have_one_history};
-use stub_run::{Event, Report, Script, Stopped, World, know_names, run};
+use stub_link::{Link, ScriptedLink, WireHandle};
+use stub_run::laws::{
+    distinct_ids_are_not_reused, ids_are_drawn_in_order, resolvers_run_in_states,
+    runs_have_one_history,
+};
+use stub_run::{Event, Script, know_names, resolver_over};
+pub use traced::{play_traced, play_traced_in_memory};
+use watcher::Unwatched;
 
 /// Does what the program does after it has read its files: runs the script against a server for the zone, over sockets of the
 /// loopback interface or in memory as the input says, and writes each result. `net` is the runtime, or a reference to it.
@@ -173,7 +185,7 @@ fn read_hosts(alloc: Global, src: &[u8]) -> Result<Hosts, HostsFault>
     Ok(hosts)
 }
 
-/// Runs the events of a script in a world over a zone, and writes each result.
+/// Runs the events of a script over a link to a server in memory, and writes each result as it happens.
 fn play_loaded<W: io::Write>(
     alloc: Global,
     input: &PlayInput,
@@ -195,37 +207,20 @@ fn play_loaded<W: io::Write>(
     runs_have_one_history();
     ids_are_drawn_in_order();
     distinct_ids_are_not_reused();
+    resolvers_run_in_states();
     know_names(script.events.as_slice());
     let _limit = limit_of(input);
-    let world = new_world(alloc, input, zone, hosts)?;
-    match run(world, script.events.as_slice()) {
-        Ok(report) => {
-            print(&script, &report, input, writer)?;
-            Ok(())
-        }
-        Err(Stopped::Memory(report)) => {
-            print(&script, &report, input, writer)?;
-            // The run ended for want of memory.
-            Err(PlayFault::Memory)
-        }
-        Err(Stopped::Moments) => Err(PlayFault::Script(line_out_of_order(&script))),
-    }
+    let link = scripted_link(alloc, input, zone);
+    play_over_link(alloc, input, link, hosts, &script, writer, &mut Unwatched)
 }
 
-/// Writes the report of a script's events, and flushes the writer.
-fn print<W: io::Write>(
-    script: &ScriptText,
-    report: &Report,
-    input: &PlayInput,
-    writer: &mut W,
-) -> io::Result<()>
-    ensures { OnOk result (Appends (W.contents writer.old) (W.contents writer.new)
-        (report_text input.now.types input.now.format script.now.events.items report.now.events.items)) }
+/// Creates a link to a server of the zone in memory.
+fn scripted_link(alloc: Global, input: &PlayInput, zone: Zone) -> ScriptedLink
+    requires { 512 ≤ input.now.limit }
+    ensures { IsAt result (first_link_state zone input.now.limit) }
 {
-    let types = input.types;
-    let format = input.format;
-    write_report(script.events.as_slice(), report, types, format, writer)?;
-    writer.flush()
+    let limit = DatagramLimit::new(input.limit).unwrap();
+    ScriptedLink::new(alloc, zone, limit)
 }
 
 /// Returns the ids of a run: 1 to 65,535, in order.
@@ -245,23 +240,20 @@ fn limit_of(input: &PlayInput) -> u16
     input.limit
 }
 
-/// Creates the world of a run.
-fn new_world(
+/// Creates the resolver of a run, which asks over a link.
+fn new_resolver<L: Link + Drop>(
     alloc: Global,
     input: &PlayInput,
-    zone: Zone,
+    link: L,
     hosts: Hosts,
-) -> Result<World, AllocError>
-    requires { 512 ≤ input.now.limit }
-    ensures { IfOk result (λ world. (state : RunState) × IsStart input.now zone hosts state
-        × BeginsWith world state) }
+) -> Result<Resolver<WireHandle<L>>, AllocError>
+    ensures { IfOk result (IsFirstOfPlay input.now link hosts) }
 {
-    let limit = DatagramLimit::new(input.limit).unwrap();
     let ids = new_ids(alloc)?;
     let config = ResolverConfig::default(alloc);
     let options = play_options(alloc, input);
-    match World::new(alloc, zone, limit, ids, config, options, hosts) {
-        Ok(world) => Ok(world),
+    match resolver_over(alloc, link, ids, config, options, hosts) {
+        Ok(resolver) => Ok(resolver),
         Err(_) => unreachable!(),
     }
 }

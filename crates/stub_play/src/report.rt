@@ -39,7 +39,7 @@ pub fn write_report<W: io::Write>(
 }
 
 /// Writes an event, and the reply to it.
-fn write_told<W: io::Write>(
+pub(crate) fn write_told<W: io::Write>(
     event: &Event,
     told: &EventReport,
     types: Types,

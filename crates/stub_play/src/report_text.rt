@@ -26,7 +26,11 @@ pub(crate) fn write_text<W: io::Write>(
 }
 
 /// Writes what happened, as `0 lookup a.t. A`.
-fn write_event<W: io::Write>(event: &Event, types: Types, writer: &mut W) -> io::Result<()>
+pub(crate) fn write_event<W: io::Write>(
+    event: &Event,
+    types: Types,
+    writer: &mut W,
+) -> io::Result<()>
     ensures { OnOk result (Appends (W.contents writer.old) (W.contents writer.new)
         (event_text types event.now)) }
 {

@@ -17,7 +17,10 @@ pub mod RunningOver
 pub mod RunsAgree
 pub mod SoundQuestionLaws
 pub mod SteadyRuns
+pub mod SteppingLaws
 pub mod SupportedLaws
+pub mod TracedNotes
+pub mod TracedRuns
 pub mod Unchanged
 pub mod WalkedRuns
 pub mod WholeRuns

@@ -8,6 +8,8 @@ pub mod OneHistory
 pub mod Run
 pub mod RunOver
 pub mod ScriptedEvents
+pub mod Stepping
+pub mod Traced
 pub mod World
 pub mod Questions
 pub mod Walked

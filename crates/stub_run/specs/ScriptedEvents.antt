@@ -1,7 +1,8 @@
 -- Events over the scripted link.
 use Rattle.stub_link.specs.LinkState.{LinkState, begin_event, begin_update}
-use Rattle.stub_link.specs.ScriptedLink.{IsAt}
+use Rattle.stub_link.specs.ScriptedLink.{IsAt, IsEnded, Receives, Sends, Streams, is_out_of_memory}
 use Rattle.stub_link.specs.declared.link.scripted.ScriptedLink.{ScriptedLink}
+use Rattle.stub_run.specs.RunOver.{LinkRules, rules_of}
 use Rattle.stub_run.specs.declared.event.Event.{Event}
 use Rattle.stub_run.specs.declared.event.Event.TheVariants.{Lookup, LookupIp, Clear, ClearAll, Update}
 
@@ -16,3 +17,7 @@ begin_link (Update at update script) state = begin_update at script state
 -- From each state that the link is in, the event begins.
 abbrev pub Begins : ScriptedLink → Event → ScriptedLink → Type 0
 Begins old e new = (state : LinkState) → IsAt old state → IsAt new (begin_link e state)
+
+-- what the scripted link does
+abbrev pub scripted_rules : LinkRules ScriptedLink
+scripted_rules = rules_of Begins IsEnded is_out_of_memory Sends Receives Streams (λ link. link.failures)

@@ -1,6 +1,7 @@
 //! Runs: events one after another, in a world, and for a resolver over any link.
 
 ghost use Rattle.std.specs.Prelude.{◌≡◌, ◌≤◌, ◌<◌, ◌+◌, ◌++◌, ◌∷◌, ◌↔◌, ◌^◌, ◌*◌, ◌-◌, min, IfOk, IsOk, OnOk, OnErr, IfSome, IsTrue, true, false, [], length, take, vec_len, vec_capacity, Err, None};
+ghost use Rattle.stub_core.specs.Resolver.{max_questions};
 ghost use Rattle.stub_link.specs.WireHandle.{Asks, SendsUpdate};
 ghost use Rattle.stub_run.specs.Event.{TakesMemory, moment_of};
 ghost use Rattle.stub_run.specs.Counts.{HasFew};
@@ -136,7 +137,7 @@ pub fn run_events<L: EventLink + Drop>(
 }
 
 /// Returns `true` if the moments do not go back, and none is after 2^62.
-fn is_in_order(events: &[Event]) -> bool
+pub fn is_in_order(events: &[Event]) -> bool
     ensures { IsTrue result ↔ InOrder 0 events.now }
 {
     let mut last = 0;
@@ -148,6 +149,24 @@ fn is_in_order(events: &[Event]) -> bool
         last = now;
     }
     true
+}
+
+/// Reserves capacity for the ids that events draw, as far as ids are left. Without events, no memory is taken.
+pub fn reserve_for<L: Link>(
+    resolver: &mut Resolver<WireHandle<L>>,
+    events: &[Event],
+) -> Result<(), AllocError>
+    ensures rest { resolver.new ≡ with_sent resolver.old resolver.new.client.handle.sent }
+    ensures ids { resolver.new.client.handle.sent.items ≡ resolver.old.client.handle.sent.items }
+    ensures room { OnOk result (vec_len resolver.new.client.handle.sent
+        + min (length events.now * min (max_questions resolver.old.settings) (2 ^ 64 - 1))
+        (length resolver.old.client.handle.ids.items
+        - length resolver.old.client.handle.sent.items)
+        ≤ vec_capacity resolver.new.client.handle.sent) }
+    ensures decided { events.now ≡ [] → IsOk result }
+{
+    let max_questions = resolver.max_questions();
+    reserve_ids(resolver, max_questions, events.len())
 }
 
 /// Reserves capacity for the ids that events draw, as far as ids are left.
@@ -191,8 +210,11 @@ fn progress_of<L: Link>(resolver: &Resolver<WireHandle<L>>) -> Progress
     }
 }
 
-/// Lets an event happen. Returns `None` if the link or its server runs out of memory.
-fn happen<L: EventLink>(
+/// Lets an event happen, as [`run_events`] does one after another. Returns its report, or `None` if the link or its server runs
+/// out of memory.
+///
+/// The moments of the events must be [in order](is_in_order); [`reserve_for`] takes memory for the ids that they draw.
+pub fn happen<L: EventLink>(
     resolver: &mut Resolver<WireHandle<L>>,
     event: &Event,
 ) -> Option<EventReport>

@@ -1,18 +1,17 @@
 //! A whole run over sockets.
 
-ghost use Rattle.std.specs.Prelude.{◌≡◌, ◌≤◌, ◌⊎◌, true, IfOk, IfErr};
-ghost use Rattle.stub_play.specs.Plays.{IsLoaded, IsPlayed, IsStartOver, TellsOver};
-ghost use Rattle.stub_socket.specs.SocketWorld.{resolver_of};
+ghost use Rattle.std.specs.Prelude.{◌≡◌, ◌≤◌, true, IfOk};
+ghost use Rattle.stub_play.specs.Plays.{IsLoaded, IsPlayed, TellsOver};
 
-use crate::plays::{Loaded, PlayFault, PlayInput, line_out_of_order, new_ids, play_options, print};
+use crate::plays::events::play_over_link;
+use crate::plays::watcher::Unwatched;
+use crate::plays::{Loaded, PlayFault, PlayInput};
 use dns_zone::{DatagramLimit, Zone};
 use std::alloc::Global;
 use std::io;
 use std::net::{Net, TcpListener, TcpStream};
-use stub_config::ResolverConfig;
-use stub_hosts::Hosts;
-use stub_run::Stopped;
-use stub_socket::{SocketLink, SocketWorld, run_sockets};
+use stub_link::LinkError;
+use stub_socket::SocketLink;
 
 /// Runs the events of a script in a world over sockets, and writes each result.
 pub(super) fn play_over_sockets<
@@ -31,42 +30,22 @@ pub(super) fn play_over_sockets<
         script,
         hosts,
     } = loaded;
-    let world = new_socket_world(net, alloc, input, zone, hosts)?;
-    match run_sockets(world, script.events.as_slice()) {
-        Ok(report) => {
-            print(&script, &report, input, writer)?;
-            Ok(())
-        }
-        Err(Stopped::Memory(report)) => {
-            print(&script, &report, input, writer)?;
-            // The run ended for want of memory.
-            Err(PlayFault::Memory)
-        }
-        Err(Stopped::Moments) => Err(PlayFault::Script(line_out_of_order(&script))),
-    }
+    let link = open_link(net, alloc, input, zone)?;
+    play_over_link(alloc, input, link, hosts, &script, writer, &mut Unwatched)
 }
 
-/// Opens the sockets, and creates the world of a run over them.
-fn new_socket_world<R: Net<Listener = TcpListener, Stream = TcpStream> + Drop>(
+/// Opens the sockets of a link to a server of a zone.
+pub(super) fn open_link<R: Net<Listener = TcpListener, Stream = TcpStream> + Drop>(
     net: R,
     alloc: Global,
     input: &PlayInput,
     zone: Zone,
-    hosts: Hosts,
-) -> Result<SocketWorld<R>, PlayFault>
+) -> Result<SocketLink<R>, LinkError>
     requires limit { 512 ≤ input.now.limit }
     requires datagram { input.now.limit ≤ 65507 }
-    ensures world { IfOk result (λ world. IsStartOver input.now zone hosts (resolver_of world)) }
-    ensures fault { IfErr result (λ fault. (fault ≡ PlayFault.Sockets)
-        ⊎ (fault ≡ PlayFault.Memory)) }
+    ensures zone { IfOk result (λ link. link.zone ≡ zone) }
+    ensures limit { IfOk result (λ link. link.limit ≡ input.now.limit) }
 {
     let limit = DatagramLimit::new(input.limit).unwrap();
-    let ids = new_ids(alloc)?;
-    let link = SocketLink::new(net, alloc, zone, limit)?;
-    let config = ResolverConfig::default(alloc);
-    let options = play_options(alloc, input);
-    match SocketWorld::new(alloc, link, ids, config, options, hosts) {
-        Ok(world) => Ok(world),
-        Err(_) => unreachable!(),
-    }
+    SocketLink::new(net, alloc, zone, limit)
 }

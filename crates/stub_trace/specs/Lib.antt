@@ -1,0 +1,3 @@
+pub mod RequestNote
+pub mod Trace
+pub mod Verdict
