@@ -1,6 +1,6 @@
 //! Resolvers over sockets, and runs of events over these.
 
-ghost use Rattle.std.specs.Prelude.{◌≡◌, ◌↔◌, true, false, IfOk, IfSome, IsErrOf, IsOkAnd, Err};
+ghost use Rattle.std.specs.Prelude.{◌≡◌, ◌↔◌, true, false, [], IfOk, IfSome, IsErrOf, IsOk, IsOkAnd, Err};
 ghost use Rattle.stub_core.specs.ResolverBuilder.{is_unsupported};
 ghost use Rattle.stub_run.specs.Event.{AreHonest};
 ghost use Rattle.stub_run.specs.Run.{InOrder, memory_report};
@@ -63,6 +63,7 @@ pub fn run_sockets<R: Net<Listener = TcpListener, Stream = TcpStream> + Drop>(
         IsReportOver (socket_rules R) (resolver_of world) events.now report) }
     ensures stopped { IfSome (memory_report result) (λ report.
         IsReportBeforeOver (socket_rules R) (resolver_of world) events.now report) }
+    ensures decided { events.now ≡ [] → IsOk result }
 {
     let SocketWorld { alloc, resolver } = world;
     run_events(alloc, resolver, events)
