@@ -1,4 +1,5 @@
 pub mod Answer
+pub mod Ending
 pub mod Item
 pub mod Keys
 pub mod Session

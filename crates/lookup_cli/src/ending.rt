@@ -58,8 +58,14 @@ impl<T: Drop> From<AllocFailed<T>> for Ending {
 }
 
 impl Ending {
-    /// Creates the ending for an invalid value of an argument, which is named as in its usage.
-    pub fn invalid(alloc: Global, argument: &str, value: &str, reason: &str) -> Ending {
+    ghost use Rattle.std.specs.Prelude.{◌↔◌, IsTrue};
+    ghost use Rattle.lookup_cli.specs.Ending.{IsAnswer, IsOfInvalidValue, IsOfUnread};
+
+    /// Creates the ending for an invalid value of an argument, which is named as in its usage: [`Ending::InvalidValue`], or
+    /// [`Ending::Memory`] if memory for the line is refused.
+    pub fn invalid(alloc: Global, argument: &str, value: &str, reason: &str) -> Ending
+        ensures { IsOfInvalidValue argument.now value.now reason.now result }
+    {
         match format!(in alloc; "invalid value '{value}' for '{argument}': {reason}") {
             Ok(line) => Ending::InvalidValue(line),
             // Memory for the line was refused.
@@ -67,8 +73,11 @@ impl Ending {
         }
     }
 
-    /// Creates the ending for a file that could not be read.
-    pub fn cannot_read(alloc: Global, path: &str, error: io::Error) -> Ending {
+    /// Creates the ending for a file that could not be read: [`Ending::CannotRead`], or [`Ending::Memory`] if memory for
+    /// reading the file, or for its path, is refused.
+    pub fn cannot_read(alloc: Global, path: &str, error: io::Error) -> Ending
+        ensures { IsOfUnread path.now error result }
+    {
         if error.kind() == io::ErrorKind::OutOfMemory {
             // Reading the file was refused memory.
             return Ending::Memory;
@@ -81,7 +90,9 @@ impl Ending {
     }
 
     /// Returns `true` if the program was asked for its help or its version, which go to standard output.
-    pub fn is_answer(&self) -> bool {
+    pub fn is_answer(&self) -> bool
+        ensures { IsTrue result ↔ IsAnswer self.now }
+    {
         match self {
             Ending::Arguments(error) => !error.use_stderr(),
             _ => false,
@@ -90,6 +101,10 @@ impl Ending {
 }
 
 impl fmt::Display for Ending {
+    ghost use Rattle.lookup_cli.specs.Ending.{ending_text};
+
+    ghost output = { λ ending. ending_text ending };
+
     /// Writes what the program says, with its line break.
     fn fmt<W: fmt::Write>(&self, f: &mut fmt::Formatter<W>) -> fmt::Result {
         match self {
