@@ -244,7 +244,8 @@ def listed(line, former):
         fields = json.loads(line)
         question = fields.get("question")
         is_question = question and fields.get("opcode") == QUERY
-        words = f"lookup {question['name']} {question['type']}" if is_question else "# a request that is no question"
+        other = "an update, whose changes a log does not have" if fields.get("opcode") == UPDATE else "a request that is no question"
+        words = f"lookup {question['name']} {question['type']}" if is_question else f"# {other}"
         return Event(fields["moment"] / 1000, words)
     found = BIND.match(line)
     if found:
@@ -325,8 +326,12 @@ def main():
         except (Unreadable, OSError) as error:
             print(f"capture_to_script: {file}: {getattr(error, 'strerror', None) or error}", file=sys.stderr)
             return 1
+    if not events:
+        files = ", ".join(given.files or ["-"])
+        print(f"capture_to_script: {files}: there is no question to port {given.port}, see --port", file=sys.stderr)
+        return 1
     print("".join(f"{it}\n" for it in script_lines(events)), end="")
-    return 0 if events else 1
+    return 0
 
 
 if __name__ == "__main__":

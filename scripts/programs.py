@@ -7,6 +7,8 @@ from crates import in_order, lines_of, parts_of, read_crates
 
 # The programs that have a front at the top of the repository, which are those that `./install` installs.
 PROGRAMS = ("lookup", "nameserver", "zonecheck", "stub")
+# Their version.
+VERSION = "0.1.0"
 # What is compiled of a crate, and what is proved of it.
 CODE, ALL = ("src",), ("src", "specs", "proofs")
 

@@ -4,6 +4,8 @@ A front is a file at the top of the repository, which has the name of its progra
 process, with the arguments, the working directory, the standard streams and the signals that its caller gave. The status
 is 125 if there is no program to run.
 
+With `--version` alone, it says what it would run, and runs nothing.
+
 A front starts the interpreter without its module `site`, which may import much, so that the program starts soon.
 """
 import contextlib
@@ -18,6 +20,8 @@ ROOT = Path(__file__).resolve().parent.parent
 # What the interpreter of this file ignores from its start.
 IGNORED = (signal.SIGPIPE, signal.SIGXFSZ)
 NOTHING_TO_RUN = 125
+# The arguments that ask for the version.
+VERSION_WORDS = (["--version"], ["-V"])
 
 
 def run_program(name):
@@ -34,6 +38,8 @@ def start_program(name):
         tell(name, "crates.txt names no such program")
         return NOTHING_TO_RUN
     program = proved_program(ROOT, name)
+    if sys.argv[1:] in VERSION_WORDS:
+        return print_version(name, program)
     if program:
         tell(name, "this build is proved")
         return become(name, program)
@@ -42,6 +48,16 @@ def start_program(name):
         return NOTHING_TO_RUN
     tell(name, f"this build is not proved: compiled from the sources with run-time checks; ./prove {name} proves it")
     return become(name, program)
+
+
+def print_version(name, program):
+    """Prints the version of a program, whether it is proved, with which toolchain, and from which commit."""
+    from build_notes import build_note
+    from programs import VERSION
+
+    made = "proved" if program else "not proved"
+    print(f"{name} {VERSION}\n{build_note(ROOT, made)}", end="")
+    return 0
 
 
 def tell(name, text):
