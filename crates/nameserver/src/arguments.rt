@@ -208,7 +208,11 @@ fn command<'a>(alloc: Global) -> Result<Command<'a>, AllocError> {
             "FILE",
             "The file to which a line of JSON is appended for each request",
         ))?
-        .arg(flag(alloc, "no-updates", "Refuse all dynamic updates but those that a key may make"))?
+        .arg(flag(
+            alloc,
+            "no-updates",
+            "Refuse all dynamic updates but those that a key may make",
+        ))?
         .arg(updaters_option(alloc))?
         .arg(secondaries_option(alloc))?
         .arg(notify_option(alloc))?
