@@ -1,6 +1,16 @@
 pub mod EdnsLaws
 pub mod ListLaws
+pub mod MessageViewLaws
+pub mod NameViewLaws
+pub mod OneRawMessageLaws
 pub mod OptionLaws
+pub mod PassedLaws
 pub mod PlainNameLaws
+pub mod QueryViewLaws
 pub mod QuestionLaws
+pub mod RawMessageLaws
+pub mod RawRecordLaws
+pub mod RecordViewLaws
 pub mod RequestLaws
+pub mod SectionViewLaws
+pub mod WithinLaws

@@ -14,7 +14,7 @@ use dns_messages::{Header, HeaderCounts, Metadata};
 use dns_wire::BinDecoder;
 
 /// The number of bytes in a header (RFC 1035 section 4.1.1).
-const HEADER_LEN: usize = 12;
+pub(crate) const HEADER_LEN: usize = 12;
 
 /// A request, borrowed from its bytes: a header, one question, and at most an OPT record.
 ///
@@ -67,7 +67,7 @@ ghost use Rattle.dns_messages.specs.Header.{code_number};
 ghost use Rattle.dns_message_view.specs.Request.{ReadsLast, MatchEdns, extended_by, request_counts};
 
 /// Reads the header. Returns `None` if there are fewer than twelve bytes.
-fn read_header(decoder: &mut BinDecoder<'_>) -> Option<Header>
+pub(crate) fn read_header(decoder: &mut BinDecoder<'_>) -> Option<Header>
     requires { decoder.old.index ≡ 0 }
     ensures read { IfSome result (λ header. DecodesHeader decoder.old.bytes 0 header 12) }
     ensures index { IfSome result (λ _. decoder.new.index ≡ 12) }

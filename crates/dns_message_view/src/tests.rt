@@ -1,7 +1,7 @@
-//! Requests of `dig`, read in place.
+//! Requests of `dig` and a response, read in place.
 
-use crate::RequestView;
-use dns_wire::{DNSClass, RecordType};
+use crate::{MessageView, NameView, RecordView, RequestView};
+use dns_wire::{BinDecoder, DNSClass, RecordType};
 use std::test::Fail;
 
 /// What `dig +dnssec +bufsize=1400 www.Example.com AAAA` sends, with a cookie (RFC 7873 section 4).
@@ -35,5 +35,36 @@ fn a_name_is_compared_without_case(rt: HostRuntime) -> Result<(), Fail> {
     let other = RequestView::of(lower).expect(&rt, "it is a request");
     assert!(rt; view.question.name == other.question.name);
     assert_eq!(rt; view.question.name.labels().count(), 3);
+    Ok(())
+}
+
+/// A response to `www.a. A`, whose record has a compression pointer as its owner (RFC 1035 section 4.1.4).
+const RESPONSE: &[u8] = b"\x12\x34\x81\x80\x00\x01\x00\x01\x00\x00\x00\x00\
+\x03www\x01a\x00\x00\x01\x00\x01\
+\xc0\x0c\x00\x01\x00\x01\x00\x00\x00\x3c\x00\x04\x0a\x00\x00\x01";
+
+#[test]
+fn a_response_is_read_in_place(rt: HostRuntime) -> Result<(), Fail> {
+    let view = MessageView::of(RESPONSE).expect(&rt, "it is a message");
+    let question = view.queries().next().expect(&rt, "it has a question");
+    let record = view.answers().next().expect(&rt, "it has a record");
+    assert!(rt; record.record_type == RecordType::A);
+    assert_eq!(rt; record.ttl, 60);
+    assert_eq!(rt; record.data, b"\x0a\x00\x00\x01".as_slice());
+    let owner = record.name.to_name(rt.alloc())?;
+    assert!(rt; owner == question.name.to_name(rt.alloc())?);
+    assert!(rt; view.additionals().next().is_none());
+    Ok(())
+}
+
+#[test]
+fn a_record_ends_after_its_data(rt: HostRuntime) -> Result<(), Fail> {
+    let mut decoder = BinDecoder::new(RESPONSE);
+    let _question = decoder.read_slice(23).expect(&rt, "it is longer");
+    let mut copy = decoder.clone(decoder.index());
+    let _record = RecordView::read(&mut decoder).expect(&rt, "it is a record");
+    assert!(rt; decoder.is_empty());
+    let _owner = NameView::read(&mut copy).expect(&rt, "it is a name");
+    assert_eq!(rt; copy.index(), 25);
     Ok(())
 }
