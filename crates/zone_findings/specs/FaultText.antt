@@ -1,10 +1,13 @@
 -- The sentences of faults.
-use Rattle.std.specs.Prelude.{ℕ, List, codes, unwrap_or, Option, Some, None}
+use Rattle.std.specs.Prelude.{ℕ, Bool, true, false, List, codes, if◌then◌else◌, unwrap_or, Option, Some, None}
+use Rattle.dns_codes.specs.RecordType.{type_number}
 use Rattle.dns_codes.specs.declared.record_type.RecordType.{RecordType}
 use Rattle.dns_data.specs.declared.error.RDataParseError.{RDataParseError}
 use Rattle.dns_data.specs.declared.error.RDataParseError.TheVariants as rdata
 use Rattle.dns_formats.specs.declared.fault.FormatFault.{FormatFault}
 use Rattle.dns_formats.specs.declared.fault.FormatFault.TheVariants as format
+use Rattle.dns_formats.specs.declared.fault.TokenFault.{TokenFault}
+use Rattle.dns_formats.specs.declared.fault.TokenFault.TheVariants as token
 use Rattle.dns_text.specs.declared.error.LexerError.{LexerError}
 use Rattle.dns_text.specs.declared.error.LexerError.TheVariants as lexer
 use Rattle.dns_zone.specs.declared.zone.ZoneFault.{ZoneFault}
@@ -18,11 +21,16 @@ use Rattle.dns_zone_file.specs.declared.types.Types.TheVariants.{All}
 use Rattle.zone_generate.specs.declared.fault.GenerateFault.{GenerateFault}
 use Rattle.zone_generate.specs.declared.fault.GenerateFault.TheVariants as generate
 use Rattle.zone_findings.specs.Finding.{Sentences}
+use Rattle.zone_findings.specs.FormText.{form_of}
 use Rattle.zone_findings.specs.WordText.{word_sentences}
 
 -- the types whose data can be written, if a file may not have all
 abbrev pub types_hint : List ℕ
 types_hint = codes "write one of A, AAAA, CNAME, MX, NS, PTR, SOA, SRV and TXT"
+
+-- how data is written whose type tells no more
+abbrev pub fields_hint : List ℕ
+fields_hint = codes "write the fields of the type, or \\# LENGTH HEX with the bytes of such data"
 
 -- how a name is written
 abbrev pub name_hint : List ℕ
@@ -61,14 +69,36 @@ data_sentences rdata.Memory = record {
   hint = codes "";
 }
 
+-- a word of data that is read as bytes
+abbrev pub token_reason : TokenFault → List ℕ
+token_reason token.NotAWord = codes "a quoted string or an @ where another word belongs"
+token_reason token.NotANumber = codes "not a number, or one that is too great here"
+token_reason token.InvalidEscape = codes "a backslash without an escape after it"
+token_reason token.StringTooLong = codes "a string of more than 255 bytes"
+token_reason token.NotATag = codes "not a tag of letters and digits"
+token_reason token.NotAType = codes "not a type"
+token_reason token.NotATime = codes "neither seconds since 1970 nor a time as 20300131235959"
+token_reason token.NotHex = codes "not pairs of hexadecimal digits"
+token_reason token.NotBase64 = codes "not base64"
+token_reason token.NotBase32 = codes "not base32hex"
+token_reason token.NotAMnemonic = codes "neither a number nor a mnemonic that is known here"
+token_reason (token.Parameter fault) = codes "not a parameter of a service binding"
+token_reason token.NotParameters = codes "parameters of a service binding that do not belong together"
+token_reason (token.Location fault) = codes "not a location"
+token_reason token.Memory = codes "out of memory"
+token_reason other = codes "not a name"
+
 -- data that is read as bytes, and is not of its type
 abbrev pub format_sentences : FormatFault → Sentences
-format_sentences (format.MissingToken token) = data_sentences rdata.MissingToken
-format_sentences (format.UnexpectedToken token) = data_sentences rdata.UnexpectedToken
-format_sentences other = record {
-  reason = codes "data that does not have the fields of its type";
-  hint = codes "write the fields of the type, or \\# LENGTH HEX with the bytes of such data";
+format_sentences (format.MissingToken place) = data_sentences rdata.MissingToken
+format_sentences (format.UnexpectedToken place) = data_sentences rdata.UnexpectedToken
+format_sentences (format.InvalidToken place fault) = record { reason = token_reason fault; hint = fields_hint }
+format_sentences format.WrongLength = record {
+  reason = codes "data of more or fewer bytes than it says";
+  hint = codes "write \\# and the number of bytes that follow in hexadecimal digits";
 }
+format_sentences format.NotOfType = record { reason = codes "bytes that are not data of this type"; hint = fields_hint }
+format_sentences other = record { reason = codes "data that does not have the fields of its type"; hint = fields_hint }
 
 -- a `$GENERATE` that makes no records
 abbrev pub generate_sentences : GenerateFault → Sentences
@@ -144,7 +174,7 @@ entry_sentences entry.InvalidDirective = record {
 entry_sentences (entry.InvalidGenerate refusal) = generate_sentences refusal
 entry_sentences entry.TooManyIncludes = record {
   reason = codes "more than 16 nested files";
-  hint = codes "include fewer files";
+  hint = codes "include fewer files, and no file from itself";
 }
 
 -- characters that are not tokens
@@ -241,9 +271,25 @@ fault_sentences types fault.Memory = record {
 
 -- ---- words at fault
 
+-- whether a fault is that data does not have the fields of its type
+abbrev pub is_about_fields : EntryFault → Bool
+is_about_fields (entry.InvalidData rdata.MissingToken) = true
+is_about_fields (entry.InvalidData rdata.InvalidToken) = true
+is_about_fields (entry.InvalidFormat (format.MissingToken place)) = true
+is_about_fields (entry.InvalidFormat (format.InvalidToken place fault)) = true
+is_about_fields other = false
+
+-- the sentences of a fault of an entry, with how the data of the type that it states is written, if the data is at fault and this
+-- is known
+abbrev pub with_form : EntryFault → Option RecordType → Sentences → Sentences
+with_form refusal None said = said
+with_form refusal (Some type) said =
+    if is_about_fields refusal then (record said { hint = unwrap_or (form_of (type_number type)) said.hint }) else said
+
 -- the sentences of a fault of a file of some types, whose word is known or not, in an entry that states a type or not: those of
 -- the word, or else of the kind of the fault
 abbrev pub advice_on : Types → ZoneFileError → Option (List ℕ) → Option RecordType → Sentences
 advice_on types (file.Entry line refusal) (Some word) type =
-    unwrap_or (word_sentences types refusal word type) (file_sentences types (file.Entry line refusal))
+    unwrap_or (word_sentences types refusal word type) (with_form refusal type (file_sentences types (file.Entry line refusal)))
+advice_on types (file.Entry line refusal) None type = with_form refusal type (file_sentences types (file.Entry line refusal))
 advice_on types error word type = file_sentences types error

@@ -79,6 +79,10 @@ warning_sentences about.CutText = record {
   reason = codes "a ; directly after a word, which ends the text there";
   hint = codes "write the text in quotes, as \"v=DKIM1; k=rsa\"";
 }
+warning_sentences about.OpenString = record {
+  reason = codes "a quoted string that goes on over the end of its line";
+  hint = codes "write \" where it ends: each line up to the next \" is part of it";
+}
 warning_sentences about.MissingDot = record {
   reason = codes "a name that ends in the origin twice";
   hint = codes "write a dot at the end of the name, or leave the origin out of it";

@@ -1,13 +1,14 @@
 //! The sentences of faults.
 
 ghost use Rattle.std.specs.Prelude.{◌≡◌, option_copied, option_map};
-ghost use Rattle.zone_findings.specs.FaultText.{advice_on, common_sentences, data_sentences, entry_sentences, fault_sentences, file_sentences, format_sentences, generate_sentences, lexer_sentences, own_sentences};
+ghost use Rattle.zone_findings.specs.FaultText.{advice_on, common_sentences, data_sentences, entry_sentences, fault_sentences, file_sentences, format_sentences, generate_sentences, is_about_fields, lexer_sentences, own_sentences, token_reason, with_form};
 ghost use Rattle.zone_findings.specs.Finding.{sentences};
 
 use crate::finding::Advice;
+use crate::form_text::form_text;
 use crate::word_text::word_text;
 use dns_data::RDataParseError;
-use dns_formats::FormatFault;
+use dns_formats::{FormatFault, TokenFault};
 use dns_text::LexerError;
 use dns_wire::RecordType;
 use dns_zone::ZoneFault;
@@ -17,12 +18,15 @@ use zone_generate::GenerateFault;
 /// The types whose data can be written, if a file may not have all.
 const TYPES: &str = "write one of A, AAAA, CNAME, MX, NS, PTR, SOA, SRV and TXT";
 
+/// How data is written whose type tells no more.
+const FIELDS: &str = "write the fields of the type, or \\# LENGTH HEX with the bytes of such data";
+
 /// How a name is written.
 const NAME: &str =
     "write labels of 1 to 63 letters, digits, _ and - (not first), at most 255 in all, and any other character as \\DDD";
 
-/// Returns what a fault of a file of some types says, and what to write instead. The word at fault may say more than the kind of the fault, and the
-/// type that its entry states more than the word.
+/// Returns what a fault of a file of some types says, and what to write instead. The word at fault may say more than the kind of
+/// the fault, and the type that its entry states tells how its data is written.
 pub fn advice_on(
     types: Types,
     error: &ZoneFileError,
@@ -32,12 +36,56 @@ pub fn advice_on(
     ensures { sentences result
         ≡ advice_on types error.now (option_copied word.entry) record_type }
 {
-    if let (ZoneFileError::Entry(_, fault), Some(word)) = (error, word)
+    let ZoneFileError::Entry(_, fault) = error else {
+        return file_text(types, error);
+    };
+    if let Some(word) = word
         && let Some(advice) = word_text(types, fault, word, record_type)
     {
         return advice;
     }
-    file_text(types, error)
+    with_form(fault, record_type, file_text(types, error))
+}
+
+/// Returns what the fault of an entry says, with how the data of its type is written as what to write instead, if the data is at
+/// fault and this is known.
+fn with_form(fault: &EntryFault, record_type: Option<RecordType>, advice: Advice) -> Advice
+    ensures { sentences result ≡ with_form fault.now record_type (sentences advice) }
+{
+    let Some(record_type) = record_type else {
+        return advice;
+    };
+    if !is_about_fields(fault) {
+        return advice;
+    }
+    match form_text(record_type) {
+        Some(hint) => Advice {
+            reason: advice.reason,
+            hint,
+        },
+        None => advice,
+    }
+}
+
+/// Returns `true` if a fault is that data does not have the fields of its type.
+fn is_about_fields(fault: &EntryFault) -> bool
+    ensures { result ≡ is_about_fields fault.now }
+{
+    match fault {
+        EntryFault::InvalidData(error) => {
+            matches!(
+                error,
+                RDataParseError::MissingToken | RDataParseError::InvalidToken
+            )
+        }
+        EntryFault::InvalidFormat(error) => {
+            matches!(
+                error,
+                FormatFault::MissingToken(_) | FormatFault::InvalidToken(_, _)
+            )
+        }
+        _ => false,
+    }
 }
 
 /// Returns what a kind of fault of a file of some types says, and what to write instead.
@@ -214,7 +262,7 @@ fn entry_text(fault: &EntryFault) -> Advice
         EntryFault::InvalidGenerate(fault) => generate_text(*fault),
         EntryFault::TooManyIncludes => Advice {
             reason: "more than 16 nested files",
-            hint: "include fewer files",
+            hint: "include fewer files, and no file from itself",
         },
     }
 }
@@ -254,10 +302,46 @@ fn format_text(fault: &FormatFault) -> Advice
     match fault {
         FormatFault::MissingToken(_) => data_text(&RDataParseError::MissingToken),
         FormatFault::UnexpectedToken(_) => data_text(&RDataParseError::UnexpectedToken),
+        FormatFault::InvalidToken(_, fault) => Advice {
+            reason: token_reason(*fault),
+            hint: FIELDS,
+        },
+        FormatFault::WrongLength => Advice {
+            reason: "data of more or fewer bytes than it says",
+            hint: "write \\# and the number of bytes that follow in hexadecimal digits",
+        },
+        FormatFault::NotOfType => Advice {
+            reason: "bytes that are not data of this type",
+            hint: FIELDS,
+        },
         _ => Advice {
             reason: "data that does not have the fields of its type",
-            hint: "write the fields of the type, or \\# LENGTH HEX with the bytes of such data",
+            hint: FIELDS,
         },
+    }
+}
+
+/// Returns what the fault of a word in such data is.
+fn token_reason(fault: TokenFault) -> &'static str
+    ensures { result.now ≡ token_reason fault }
+{
+    match fault {
+        TokenFault::NotAWord => "a quoted string or an @ where another word belongs",
+        TokenFault::NotANumber => "not a number, or one that is too great here",
+        TokenFault::InvalidEscape => "a backslash without an escape after it",
+        TokenFault::StringTooLong => "a string of more than 255 bytes",
+        TokenFault::NotATag => "not a tag of letters and digits",
+        TokenFault::NotAType => "not a type",
+        TokenFault::NotATime => "neither seconds since 1970 nor a time as 20300131235959",
+        TokenFault::NotHex => "not pairs of hexadecimal digits",
+        TokenFault::NotBase64 => "not base64",
+        TokenFault::NotBase32 => "not base32hex",
+        TokenFault::NotAMnemonic => "neither a number nor a mnemonic that is known here",
+        TokenFault::Parameter(_) => "not a parameter of a service binding",
+        TokenFault::NotParameters => "parameters of a service binding that do not belong together",
+        TokenFault::Location(_) => "not a location",
+        TokenFault::Memory => "out of memory",
+        _ => "not a name",
     }
 }
 

@@ -1,11 +1,13 @@
 //! What is said of a zone file or a script: the sentences, and the text of a finding.
 //!
 //! - `finding`: a finding and its text; `format`: how reports are written; `shown`: the characters of a file in a report;
-//! - `fault_text`, `word_text`, `value_text`: the sentences of faults; `warning_text`: those of warnings.
+//! - `fault_text`, `word_text`, `value_text`: the sentences of faults; `form_text`: how data is written; `warning_text`: the
+//!   sentences of warnings.
 #![tactic(auto)]
 
 mod fault_text;
 mod finding;
+mod form_text;
 mod format;
 mod shown;
 mod value_text;

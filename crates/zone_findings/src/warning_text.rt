@@ -84,6 +84,10 @@ pub fn warning_advice(kind: WarningKind) -> Advice
             reason: "a ; directly after a word, which ends the text there",
             hint: "write the text in quotes, as \"v=DKIM1; k=rsa\"",
         },
+        WarningKind::OpenString => Advice {
+            reason: "a quoted string that goes on over the end of its line",
+            hint: "write \" where it ends: each line up to the next \" is part of it",
+        },
         WarningKind::MissingDot => Advice {
             reason: "a name that ends in the origin twice",
             hint: "write a dot at the end of the name, or leave the origin out of it",

@@ -66,6 +66,23 @@ cuts_from spot (c ∷ cs) = cuts_from (spot_after spot c) cs
 abbrev pub cuts_word : List ℕ → Bool
 cuts_word line = cuts_from Between line
 
+-- whether the end of a line is inside a quoted string, if it is read so
+abbrev pub is_quoted : Spot → Bool
+is_quoted Quoted = true
+is_quoted QuotedEscape = true
+is_quoted spot = false
+
+-- whether a line from here on ends inside a quoted string, and not in a comment
+abbrev pub ends_quoted_from : Spot → List ℕ → Bool
+ends_quoted_from spot [] = is_quoted spot
+ends_quoted_from Between (c ∷ cs) = if c == 59 then false else ends_quoted_from (spot_after Between c) cs
+ends_quoted_from Word (c ∷ cs) = if c == 59 then false else ends_quoted_from (spot_after Word c) cs
+ends_quoted_from spot (c ∷ cs) = ends_quoted_from (spot_after spot c) cs
+
+-- whether a line ends inside a quoted string, which goes on over the next line (RFC 1035 section 5.1)
+abbrev pub ends_quoted : List ℕ → Bool
+ends_quoted line = ends_quoted_from Between line
+
 -- whether a line begins with `$ORIGIN`
 abbrev pub is_origin_line : List ℕ → Bool
 is_origin_line line = starts_with nat_eq line (codes "$ORIGIN")

@@ -17,7 +17,7 @@ use Rattle.zone_warnings.specs.Names.{doubled_origin, name_lies_below, server_of
 use Rattle.zone_warnings.specs.Places.{first_place, is_alias}
 use Rattle.zone_warnings.specs.Signature.{has_expired, is_signature, is_signer}
 use Rattle.zone_warnings.specs.Survey.{Facts, lacks_origin}
-use Rattle.zone_warnings.specs.Text.{cuts_word, is_dmarc, is_spf}
+use Rattle.zone_warnings.specs.Text.{cuts_word, ends_quoted, is_dmarc, is_spf}
 use Rattle.zone_warnings.specs.declared.kind.Warning.{Warning}
 use Rattle.zone_warnings.specs.declared.kind.WarningKind.{WarningKind}
 use Rattle.zone_warnings.specs.declared.kind.WarningKind.TheVariants as about
@@ -77,6 +77,10 @@ comes_after first place = option_map_or (λ p. nat_lt p place) first false
 abbrev pub is_cut : Facts → Position → Bool
 is_cut f at = option_map_or cuts_word (line_at f.texts at) false
 
+-- whether the line at a place ends inside a quoted string
+abbrev pub leaves_string : Facts → Position → Bool
+leaves_string f at = option_map_or ends_quoted (line_at f.texts at) false
+
 -- ---- warnings
 
 -- Whether a kind of warning applies to the record at a place among the entries of a zone. A server with a name that ends in the
@@ -106,6 +110,7 @@ applies about.SecondSpf f entries place r =
 applies about.SecondDmarc f entries place r =
     is_dmarc r && not (is_dropped r) && comes_after (first_place property.Dmarc entries r.owner) place
 applies about.CutText f entries place r = is_text r.rdata && is_cut f r.at
+applies about.OpenString f entries place r = leaves_string f r.at
 applies about.MissingDot f entries place r = name_lies_below (doubled_origin f.origin) r
 
 -- the kinds, in the order of a record's warnings
@@ -113,7 +118,8 @@ abbrev pub kinds : List WarningKind
 kinds =
     about.RootZone ∷ about.NoOrigin ∷ about.AliasBesideData ∷ about.SecondRecord ∷ about.DuplicateRecord ∷ about.OtherTtl
     ∷ about.HighTtl ∷ about.NoAddress ∷ about.Wildcard ∷ about.Delegation ∷ about.WildcardCut ∷ about.NoGlue ∷ about.Occluded
-    ∷ about.SignerWithoutCut ∷ about.ExpiredSignature ∷ about.SecondSpf ∷ about.SecondDmarc ∷ about.CutText ∷ about.MissingDot ∷ []
+    ∷ about.SignerWithoutCut ∷ about.ExpiredSignature ∷ about.SecondSpf ∷ about.SecondDmarc ∷ about.CutText ∷ about.OpenString
+    ∷ about.MissingDot ∷ []
 
 -- whether a kind of warning is about the origin of the zone: that the root is, or completed a name
 abbrev pub is_about_origin : WarningKind → Bool

@@ -4,7 +4,7 @@ ghost use Rattle.std.specs.Prelude.{◌≡◌, List};
 ghost use Rattle.zone_lines.specs.declared.record_line.EntryLine.{EntryLine};
 ghost use Rattle.zone_warnings.specs.Survey.{Surveys, facts_view};
 ghost use Rattle.zone_warnings.specs.Cuts.{AreCuts};
-ghost use Rattle.zone_warnings.specs.Warning.{applies, comes_after, is_cut, is_dropped, is_first, is_single, is_start, lacks_address};
+ghost use Rattle.zone_warnings.specs.Warning.{applies, comes_after, is_cut, is_dropped, is_first, is_single, is_start, lacks_address, leaves_string};
 
 use crate::cuts::{Cuts, is_glue, lacks_cut, lacks_glue, refers};
 use crate::kind::WarningKind;
@@ -12,7 +12,7 @@ use crate::names::{name_lies_below, server_of};
 use crate::places::{Trait, has_trait, is_alias};
 use crate::signature::{has_expired, is_signature, is_signer};
 use crate::survey::{Survey, ZoneFacts};
-use crate::text::cuts_word;
+use crate::text::{cuts_word, ends_quoted};
 use dns_data::RData;
 use zone_lines::{Position, RecordLine, line_at};
 
@@ -89,6 +89,7 @@ pub(crate) fn applies(
         WarningKind::CutText => {
             matches!(&record_line.rdata, RData::TXT(_)) && is_cut(facts, record_line.at)
         }
+        WarningKind::OpenString => leaves_string(facts, record_line.at),
         WarningKind::MissingDot => name_lies_below(survey.doubled.as_ref(), record_line),
     }
 }
@@ -148,6 +149,16 @@ fn is_cut(facts: &ZoneFacts<'_>, at: Position) -> bool
 {
     match line_at(facts.texts, at) {
         Some(text) => cuts_word(text),
+        None => false,
+    }
+}
+
+/// Returns `true` if the line at a place ends inside a quoted string.
+fn leaves_string(facts: &ZoneFacts<'_>, at: Position) -> bool
+    ensures { result ≡ leaves_string (facts_view facts.entry.now) at }
+{
+    match line_at(facts.texts, at) {
+        Some(text) => ends_quoted(text),
         None => false,
     }
 }

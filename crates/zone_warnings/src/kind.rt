@@ -51,6 +51,9 @@ pub enum WarningKind {
     SecondDmarc,
     /// A TXT record with a `;` directly behind a word that is not quoted, which ends the record there (RFC 1035 section 5.1).
     CutText,
+    /// A record whose first line ends inside a quoted string, which goes on over the lines after it (RFC 1035 section 5.1): more
+    /// often a quotation mark is missing.
+    OpenString,
     /// A record with a name that ends in the origin twice (RFC 1035 section 5.1).
     MissingDot,
 }
@@ -59,7 +62,7 @@ impl WarningKind {
     ghost use Rattle.zone_warnings.specs.Warning.{is_about_origin};
 
     /// The kinds, in the order of a record's warnings.
-    pub const ALL: [WarningKind; 19] = [
+    pub const ALL: [WarningKind; 20] = [
         WarningKind::RootZone,
         WarningKind::NoOrigin,
         WarningKind::AliasBesideData,
@@ -78,6 +81,7 @@ impl WarningKind {
         WarningKind::SecondSpf,
         WarningKind::SecondDmarc,
         WarningKind::CutText,
+        WarningKind::OpenString,
         WarningKind::MissingDot,
     ];
 

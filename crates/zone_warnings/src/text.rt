@@ -2,7 +2,7 @@
 
 ghost use Rattle.std.specs.Prelude.{◌≡◌, map};
 ghost use Rattle.zone_lines.specs.Line.{lines_view};
-ghost use Rattle.zone_warnings.specs.Text.{begins_with_version, cuts_word, ends_version, first_string, has_directive, is_origin_line, states_origin, is_dmarc, is_dmarc_owner, is_spf, spot_after};
+ghost use Rattle.zone_warnings.specs.Text.{begins_with_version, cuts_word, ends_quoted, ends_version, first_string, has_directive, is_origin_line, states_origin, is_dmarc, is_dmarc_owner, is_quoted, is_spf, spot_after};
 
 use dns_data::RData;
 use dns_names::Name;
@@ -92,6 +92,27 @@ pub(crate) fn cuts_word(line: &str) -> bool
         };
     }
     false
+}
+
+/// Returns `true` if a line ends inside a quoted string, which a backslash at its end does not end.
+pub(crate) fn ends_quoted(line: &str) -> bool
+    ensures { result ≡ ends_quoted line.now }
+{
+    let mut spot = Spot::Between;
+    for c in line.as_bytes() {
+        spot = match (spot, *c) {
+            (Spot::Between | Spot::Word, b';') => return false,
+            _ => spot_after(spot, *c),
+        };
+    }
+    is_quoted(spot)
+}
+
+/// Returns `true` inside a quoted string.
+fn is_quoted(spot: Spot) -> bool
+    ensures { result ≡ is_quoted spot }
+{
+    matches!(spot, Spot::Quoted | Spot::QuotedEscape)
 }
 
 /// Returns where a line is read after a character that does not begin a comment.

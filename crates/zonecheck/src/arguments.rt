@@ -1,12 +1,11 @@
 //! The arguments of the program.
 
-use clap::error::ErrorKind;
+use crate::ending::Ending;
 use clap::{Arg, ArgAction, ArgMatches, Command, value_parser};
 use dns_codes::parse_decimal;
 use dns_names::{Name, ParseError};
 use dns_zone_file::Types;
 use std::alloc::{AllocError, Global};
-use stub_play::Ending;
 use zone_check::ReportFormat;
 use zone_includes::Reach;
 
@@ -47,11 +46,7 @@ impl Arguments {
 pub(crate) fn read_arguments(alloc: Global, words: &[&str]) -> Result<Arguments, Ending> {
     let matches = match command(alloc)?.try_get_matches_from(words) {
         Ok(matches) => matches,
-        Err(error) if error.kind() == ErrorKind::OutOfMemory => {
-            // Reading the arguments was refused memory.
-            return Err(Ending::Memory);
-        }
-        Err(error) => return Err(Ending::Arguments(error)),
+        Err(error) => return Err(Ending::of_arguments(error)),
     };
     Ok(Arguments {
         file: text_in(alloc, &matches, "file")?,
@@ -62,7 +57,7 @@ pub(crate) fn read_arguments(alloc: Global, words: &[&str]) -> Result<Arguments,
         format: format_in(&matches),
         types: types_in(&matches),
         reach: reach_in(&matches),
-        now: now_in(&matches)?,
+        now: now_in(alloc, &matches)?,
     })
 }
 
@@ -94,13 +89,18 @@ fn reach_in(matches: &ArgMatches<'_>) -> Reach {
 }
 
 /// Returns the time at which signatures must not have expired, if it is given.
-fn now_in(matches: &ArgMatches<'_>) -> Result<Option<u32>, Ending> {
+fn now_in(alloc: Global, matches: &ArgMatches<'_>) -> Result<Option<u32>, Ending> {
     let Some(text) = matches.get_str("now") else {
         return Ok(None);
     };
     match parse_decimal(text.as_bytes(), MAX_TIME) {
         Some(seconds) => Ok(Some((seconds % (1 << 32)) as u32)),
-        None => Err(Ending::BadWords),
+        None => Err(Ending::invalid(
+            alloc,
+            "now",
+            text,
+            "it is not a number of seconds since 1970",
+        )),
     }
 }
 
@@ -187,6 +187,6 @@ fn origin_in(alloc: Global, matches: &ArgMatches<'_>) -> Result<Option<Name>, En
         }
         // Memory for the name was refused.
         Err(ParseError::Memory) => Err(Ending::Memory),
-        Err(_) => Err(Ending::BadWords),
+        Err(_) => Err(Ending::invalid(alloc, "origin", text, "it is not a domain name")),
     }
 }

@@ -1,11 +1,11 @@
 //! The files that a zone file includes (RFC 1035 section 5.1).
 
 use crate::arguments::Arguments;
+use crate::ending::Ending;
 use crate::read_text;
 use dns_zone_file::included_names;
 use std::alloc::{AllocError, Global};
 use std::fs;
-use stub_play::Ending;
 use zone_includes::included_path;
 
 /// The most files that a zone file may include.

@@ -2,21 +2,22 @@
 //! FILE]`: says what is wrong in a zone file, in a script, or in both.
 //!
 //! - `arguments`: the arguments; `includes`: the files that a zone file includes; `zone_file`, `script_file`: the checks of the
-//!   files.
+//!   files; `ending`: how the program ends.
 #![tactic(auto)]
 
 mod arguments;
+mod ending;
 mod includes;
 mod script_file;
 mod zone_file;
 
 use crate::arguments::{Arguments, read_arguments};
+use crate::ending::Ending;
 use crate::script_file::check_script;
 use crate::zone_file::{CheckedFile, check_zone_file};
 use dns_names::Name;
 use std::process::ExitCode;
-use std::{env, fs, io};
-use stub_play::{Ending, PlayFault, unread_arguments};
+use std::{env, fs};
 use zone_check::encoding_report;
 
 /// What is to be said of the files.
@@ -32,12 +33,21 @@ fn main(rt: HostRuntime) -> ExitCode {
     match run_program(&rt) {
         Ok(Verdict::Accepted) => ExitCode::SUCCESS,
         Ok(Verdict::Refused) => ExitCode::FAILURE,
-        Err(ending) => {
-            // A failure to write to standard error can't be reported.
-            let _ = rt.eprint(&ending);
-            ExitCode::from(ending.status())
-        }
+        Err(ending) => end(&rt, &ending),
     }
+}
+
+/// Says why the program ends, and returns its status.
+fn end(rt: &HostRuntime, ending: &Ending) -> ExitCode {
+    if ending.is_answer() {
+        return match rt.print(ending) {
+            Ok(()) => ExitCode::SUCCESS,
+            Err(_) => ExitCode::FAILURE,
+        };
+    }
+    // A failure to write to standard error can't be reported.
+    let _ = rt.eprint(ending);
+    ExitCode::from(ending.status())
 }
 
 /// Checks the files that the arguments name.
@@ -91,7 +101,7 @@ fn check_script_file(
 fn given_arguments(rt: &HostRuntime) -> Result<Arguments, Ending> {
     let given = match env::args(rt) {
         Ok(given) => given,
-        Err(error) => return Err(unread_arguments(&error)),
+        Err(error) => return Err(Ending::unread(&error)),
     };
     let texts = given.collect::<Vec<String>>(rt.alloc())?;
     let words = texts
@@ -118,11 +128,7 @@ fn read_bytes(rt: &HostRuntime, path: &str) -> Result<Vec<u8>, Ending> {
     let path = if path == "-" { "/dev/stdin" } else { path };
     match fs::read(rt, path) {
         Ok(bytes) => Ok(bytes),
-        Err(error) if error.kind() == io::ErrorKind::OutOfMemory => {
-            // Reading the file was refused memory.
-            Err(Ending::Memory)
-        }
-        Err(_) => Err(Ending::CannotRead(String::from_str(rt.alloc(), path)?)),
+        Err(error) => Err(Ending::cannot_read(rt.alloc(), path, error)),
     }
 }
 
@@ -147,6 +153,6 @@ pub(crate) fn write_report(
 pub(crate) fn write_text(rt: &HostRuntime, text: &str) -> Result<(), Ending> {
     match rt.print(text) {
         Ok(()) => Ok(()),
-        Err(_) => Err(Ending::Fault(PlayFault::Write)),
+        Err(_) => Err(Ending::CannotPrint),
     }
 }

@@ -1,10 +1,11 @@
 //! The check of a script.
 
 use crate::arguments::Arguments;
+use crate::ending::Ending;
 use crate::{Verdict, read_text, write_report};
 use dns_names::Name;
 use dns_zone_file::Types;
-use stub_play::{Ending, PlayFault, ScriptFault, ScriptText, read_script};
+use stub_play::{ScriptFault, ScriptText, read_script};
 use zone_check::{moment_report, script_report};
 
 /// The greatest moment of an event.

@@ -1,13 +1,13 @@
 //! The check of a zone file.
 
 use crate::arguments::Arguments;
+use crate::ending::Ending;
 use crate::includes::{Includes, read_includes};
 use crate::{Verdict, read_text, write_report, write_text};
 use dns_names::Name;
 use dns_zone::Zone;
 use std::alloc::AllocError;
 use std::time::{SystemTime, UNIX_EPOCH};
-use stub_play::Ending;
 use zone_check::{ReportFormat, ZoneCheck, ZoneText, check_zone, zone_report, zone_summary};
 
 /// What became of a zone file.
