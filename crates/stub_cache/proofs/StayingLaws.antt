@@ -25,6 +25,14 @@ use Rattle.stub_cache.proofs.EntriesLaws.{AreAbout, IsFirstDue, any_none, any_on
 
 -- ---- entries for a question
 
+-- a stamp to which a key leads is that of an entry
+pub stamp_is_present : (t : EntryTable) → IsIndexed None t → (key : List ℕ) (stamp : ℕ) → stamp_at t key ≡ Some stamp → IsSome (entry_at t stamp)
+stamp_is_present t is key stamp led = split (entry_at t stamp) refl
+  where
+    split : (o : Option Entry) → entry_at t stamp ≡ o → IsSome (entry_at t stamp)
+    split None none = let found = is.sound key stamp led in absurd (cc)
+    split (Some e) found = ap is_some found
+
 module _ (t : EntryTable) (is : IsIndexed None t) (q : Query) where
   -- an entry that is found by a key has it
   found_by_key : (stamp : ℕ) (e : Entry) → stamp_at t (key_of q) ≡ Some stamp → entry_at t stamp ≡ Some e → key_of e.question ≡ key_of q
@@ -55,11 +63,7 @@ module _ (t : EntryTable) (is : IsIndexed None t) (q : Query) where
   about o led = subst (λ x. AreAbout q x t.entries.entries) led about_by_stamp
 
   pub key_is_present : (stamp : ℕ) → stamp_at t (key_of q) ≡ Some stamp → IsSome (entry_at t stamp)
-  key_is_present stamp led = split (entry_at t stamp) refl
-    where
-      split : (o : Option Entry) → entry_at t stamp ≡ o → IsSome (entry_at t stamp)
-      split None none = let found = is.sound (key_of q) stamp led in absurd (cc)
-      split (Some e) found = ap is_some found
+  key_is_present stamp led = stamp_is_present t is (key_of q) stamp led
 
   -- the current entry for a question, by its stamp
   abbrev pub current_of : ℕ → Option ℕ → Option Entry

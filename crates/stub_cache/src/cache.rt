@@ -6,6 +6,7 @@ mod ageing;
 mod clamping;
 mod entry;
 mod key;
+mod slot;
 mod table;
 
 use crate::ttl::TtlConfig;

@@ -2,12 +2,14 @@
 
 ghost use Rattle.std.specs.Prelude.{◌≡◌, ◌≢◌, ◌+◌, ◌<◌, ◌≤◌, ◌^◌, ◌++◌, [], ◌∷◌, ℕ, List, None, Some, IfSome, IsSome, OnOk, OnErr, length, option_copied};
 ghost use Rattle.std.specs.List.{find};
+ghost use Rattle.dns_messages.specs.declared.query.Query.{Query};
 ghost use Rattle.stub_cache.specs.Cache.{cleared_of, inserted, is_current, staying};
 ghost use Rattle.stub_cache.specs.internal.Key.{key_of};
 ghost use Rattle.stub_cache.specs.internal.Table.{IsIndexed, entries_of, entry_at, entries_without, stamp_at, stamp_in};
 
 use super::entry::Entry;
 use super::key::{QuestionKey, push_question};
+use super::slot::Slot;
 use dns_messages::Query;
 use std::alloc::{AllocError, Global};
 use std::collections::{BTreeMap, BTreeSet, HashMap};
@@ -17,7 +19,7 @@ use stub_lookup::Moment;
 #[derive(Drop)]
 pub struct EntryTable {
     /// The entries, by stamp.
-    entries: BTreeMap<u64, Entry>,
+    entries: BTreeMap<u64, Slot>,
     /// The stamp of the entry for a question, by the question's key.
     stamps: HashMap<Vec<u8>, u64>,
     /// The deadline of each entry, with its stamp.
@@ -52,7 +54,8 @@ impl EntryTable {
         ensures { option_copied result ≡ find (is_current query.now now) (entries_of self.now) }
     {
         let stamp = self.find_stamp(query)?;
-        let entry = self.entries.get(&stamp)?;
+        let slot = self.entries.get(&stamp)?;
+        let entry = slot.entry();
         if now <= entry.deadline {
             Some(entry)
         } else {
@@ -70,8 +73,10 @@ impl EntryTable {
         ensures indexed { IsIndexed None self.new }
     {
         self.reserve_stamp()?;
-        let leaving = self.find_leaving(capacity, &entry.question);
-        self.append(entry)?;
+        let mut question = QuestionKey::new();
+        push_question(&mut question, &entry.question);
+        let leaving = self.find_leaving(capacity, question.as_slice());
+        self.append(entry, question.as_slice())?;
         if let Some(stamp) = leaving {
             self.remove(stamp);
         }
@@ -106,19 +111,26 @@ impl EntryTable {
     {
         let mut key = QuestionKey::new();
         push_question(&mut key, query);
-        self.stamps.get(key.as_slice()).copied()
+        self.stamp_of(key.as_slice())
     }
 
-    /// Returns the stamp of the entry that makes room for one for a question, if any does.
-    fn find_leaving(&self, capacity: u64, query: &Query) -> Option<u64>
-        requires { IsIndexed None self.now }
-        ensures entries { entries_without result self.now
-            ≡ staying capacity query.now (entries_of self.now) }
-        ensures present { IfSome result (λ stamp. IsSome (entry_at self.now stamp)) }
-        ensures known { IsSome (stamp_at self.now (key_of query.now))
-            → result ≡ stamp_at self.now (key_of query.now) }
+    /// Returns the stamp to which a key leads.
+    fn stamp_of(&self, key: &[u8]) -> Option<u64>
+        ensures { result ≡ stamp_at self.now key.now }
     {
-        if let Some(stamp) = self.find_stamp(query) {
+        self.stamps.get(key).copied()
+    }
+
+    /// Returns the stamp of the entry that makes room for one for the question of a key, if any does.
+    fn find_leaving(&self, capacity: u64, key: &[u8]) -> Option<u64>
+        requires { IsIndexed None self.now }
+        ensures entries { (q : Query) → key.now ≡ key_of q
+            → entries_without result self.now ≡ staying capacity q (entries_of self.now) }
+        ensures present { IfSome result (λ stamp. IsSome (entry_at self.now stamp)) }
+        ensures known { IsSome (stamp_at self.now key.now)
+            → result ≡ stamp_at self.now key.now }
+    {
+        if let Some(stamp) = self.stamp_of(key) {
             return Some(stamp);
         }
         if (self.entries.len() as u64) < capacity {
@@ -128,8 +140,10 @@ impl EntryTable {
         Some(*stamp)
     }
 
-    /// Appends an entry. One for the same question is no longer found by its key, and is to be removed.
-    fn append(&mut self, entry: Entry) -> Result<(), AllocError>
+    /// Appends an entry for the question of a key. One for the same question is no longer found by its key, and is to be
+    /// removed.
+    fn append(&mut self, entry: Entry, question: &[u8]) -> Result<(), AllocError>
+        requires key { question.now ≡ key_of entry.question }
         requires indexed { IsIndexed None self.old }
         requires fits { self.old.next_stamp + 1 < 2 ^ 64 }
         ensures entries { OnOk result (self.new.entries.entries
@@ -142,11 +156,10 @@ impl EntryTable {
     {
         let stamp = self.next_stamp;
         let deadline = entry.deadline;
-        let mut question = QuestionKey::new();
-        push_question(&mut question, &entry.question);
-        let key = Vec::from_slice(self.alloc, question.as_slice())?;
+        let key = Vec::from_slice(self.alloc, question)?;
+        let slot = Slot::new(self.alloc, entry)?;
         self.timeline.insert((deadline, stamp))?;
-        let Ok(_) = self.entries.insert(stamp, entry) else {
+        let Ok(_) = self.entries.insert(stamp, slot) else {
             self.timeline.remove(&(deadline, stamp));
             // The map had no memory for the entry.
             return Err(AllocError);
@@ -167,9 +180,10 @@ impl EntryTable {
         ensures entries { entries_of self.new ≡ entries_without (Some stamp) self.old }
         ensures indexed { IsIndexed None self.new }
     {
-        let Some(entry) = self.entries.remove(&stamp) else {
+        let Some(slot) = self.entries.remove(&stamp) else {
             return;
         };
+        let entry = slot.entry();
         self.timeline.remove(&(entry.deadline, stamp));
         let mut key = QuestionKey::new();
         push_question(&mut key, &entry.question);
@@ -198,8 +212,11 @@ impl EntryTable {
     {
         let _ = self.entries.len();
         let mut renumbered = EntryTable::new(self.alloc, self.stamp_limit);
-        for (_stamp, entry) in &self.entries {
-            renumbered.append(entry.clone()?)?;
+        for (_stamp, slot) in &self.entries {
+            let entry = slot.entry().clone()?;
+            let mut question = QuestionKey::new();
+            push_question(&mut question, &entry.question);
+            renumbered.append(entry, question.as_slice())?;
         }
         *self = renumbered;
         Ok(())

@@ -13,25 +13,27 @@ returns-in_err-stamp c =
     let none : option_copied c.from_residual.result ≡ None = search rules in
     none ∙ sym (find_by_stamp c.args.self.now c.requires c.args.query.now c.args.now None led)
 
-pub returns-in_err-entry : goal.returns-in_err-entry
-returns-in_err-entry c =
+pub returns-in_err-slot : goal.returns-in_err-slot
+returns-in_err-slot c =
     let led : stamp_at c.args.self.now (key_of c.args.query.now) ≡ Some c.in_ok-stamp.stamp = search rules in
     let missing : entry_at c.args.self.now c.in_ok-stamp.stamp ≡ None = search rules in
-    let none : option_copied c.from_residual-in_err-entry.result ≡ None = search rules in
+    let none : option_copied c.from_residual-in_err-slot.result ≡ None = search rules in
     none ∙ sym (find_by_stamp c.args.self.now c.requires c.args.query.now c.args.now (Some c.in_ok-stamp.stamp) led ∙ ap (unless_due c.args.now) missing)
 
 pub returns-then-now-entry : goal.returns-then-now-entry
 returns-then-now-entry c =
     let led : stamp_at c.args.self.now (key_of c.args.query.now) ≡ Some c.in_ok-stamp.stamp = search rules in
-    let found : entry_at c.args.self.now c.in_ok-stamp.stamp ≡ Some c.in_ok-entry.entry.now = search rules in
-    let is : nat_le c.args.now c.in_ok-entry.entry.now.deadline ≡ true = search rules in
+    let stored : entry_at c.args.self.now c.in_ok-stamp.stamp ≡ Some c.in_ok-slot.slot.now = search rules in
+    let found : entry_at c.args.self.now c.in_ok-stamp.stamp ≡ Some c.entry-entry.result.now = stored ∙ ap (λ e. Some e) (sym c.entry-entry.ensures) in
+    let is : nat_le c.args.now c.entry-entry.result.now.deadline ≡ true = search rules in
     sym (find_by_stamp c.args.self.now c.requires c.args.query.now c.args.now (Some c.in_ok-stamp.stamp) led
-    ∙ (ap (unless_due c.args.now) found ∙ cond-true (nat_le c.args.now c.in_ok-entry.entry.now.deadline) _ _ is))
+    ∙ (ap (unless_due c.args.now) found ∙ cond-true (nat_le c.args.now c.entry-entry.result.now.deadline) _ _ is))
 
 pub returns-else-now-entry : goal.returns-else-now-entry
 returns-else-now-entry c =
     let led : stamp_at c.args.self.now (key_of c.args.query.now) ≡ Some c.in_ok-stamp.stamp = search rules in
-    let found : entry_at c.args.self.now c.in_ok-stamp.stamp ≡ Some c.in_ok-entry.entry.now = search rules in
-    let is : nat_le c.args.now c.in_ok-entry.entry.now.deadline ≡ false = search rules in
+    let stored : entry_at c.args.self.now c.in_ok-stamp.stamp ≡ Some c.in_ok-slot.slot.now = search rules in
+    let found : entry_at c.args.self.now c.in_ok-stamp.stamp ≡ Some c.entry-entry.result.now = stored ∙ ap (λ e. Some e) (sym c.entry-entry.ensures) in
+    let is : nat_le c.args.now c.entry-entry.result.now.deadline ≡ false = search rules in
     sym (find_by_stamp c.args.self.now c.requires c.args.query.now c.args.now (Some c.in_ok-stamp.stamp) led
-    ∙ (ap (unless_due c.args.now) found ∙ cond-false (nat_le c.args.now c.in_ok-entry.entry.now.deadline) _ _ is))
+    ∙ (ap (unless_due c.args.now) found ∙ cond-false (nat_le c.args.now c.entry-entry.result.now.deadline) _ _ is))

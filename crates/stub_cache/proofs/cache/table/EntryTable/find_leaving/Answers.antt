@@ -1,41 +1,49 @@
-use Rattle.std.proofs.Common.{◌≡◌, ◌<◌, ◌≤◌, ◌∙◌, ap, arith, length, rules}
+use Rattle.std.proofs.Common.{◌≡◌, ◌<◌, ◌≤◌, ◌∙◌, ap, arith, length, rules, subst}
 use Rattle.std.specs.Prelude.{None, Some}
 use Rattle.stub_cache.specs.internal.Key.{key_of}
 use Rattle.stub_cache.specs.internal.Table.{entries_without, stamp_at}
-use Rattle.stub_cache.proofs.StayingLaws.{due_is_present, evicted_first, evicted_none, key_is_present, no_first, stays_all, stays_evicted, stays_known}
+use Rattle.stub_cache.proofs.StayingLaws.{due_is_present, evicted_first, evicted_none, no_first, stamp_is_present, stays_all, stays_evicted, stays_known}
 use Rattle.stub_cache.proofs.cache.table.EntryTable.find_leaving.Goals as goal
 
 pub returns-in-Some-clause-entries : goal.returns-in-Some-clause-entries
 returns-in-Some-clause-entries c =
-    let led : stamp_at c.args.self.now (key_of c.args.query.now) ≡ Some c.in-Some.stamp = search rules in
-    stays_known c.args.self.now c.requires c.args.query.now c.args.capacity c.in-Some.stamp led
+    λ q is.
+    let at : stamp_at c.args.self.now c.args.key.now ≡ Some c.in-Some.stamp = search rules in
+    let led : stamp_at c.args.self.now (key_of q) ≡ Some c.in-Some.stamp = subst (λ k. stamp_at c.args.self.now k ≡ Some c.in-Some.stamp) is at in
+    stays_known c.args.self.now c.requires q c.args.capacity c.in-Some.stamp led
 
 pub returns-in-Some-clause-present : goal.returns-in-Some-clause-present
 returns-in-Some-clause-present c =
-    let led : stamp_at c.args.self.now (key_of c.args.query.now) ≡ Some c.in-Some.stamp = search rules in
-    key_is_present c.args.self.now c.requires c.args.query.now c.in-Some.stamp led
+    let led : stamp_at c.args.self.now c.args.key.now ≡ Some c.in-Some.stamp = search rules in
+    stamp_is_present c.args.self.now c.requires c.args.key.now c.in-Some.stamp led
 
 pub returns-then-len-capacity-clause-entries : goal.returns-then-len-capacity-clause-entries
 returns-then-len-capacity-clause-entries c =
-    let led : stamp_at c.args.self.now (key_of c.args.query.now) ≡ None = search rules in
+    λ q is.
+    let at : stamp_at c.args.self.now c.args.key.now ≡ None = search rules in
+    let led : stamp_at c.args.self.now (key_of q) ≡ None = subst (λ k. stamp_at c.args.self.now k ≡ None) is at in
     let room : length c.args.self.now.entries.entries < c.args.capacity = omega arith in
-    stays_all c.args.self.now c.requires c.args.query.now c.args.capacity led room
+    stays_all c.args.self.now c.requires q c.args.capacity led room
 
 pub returns-in_err-stamp-clause-entries : goal.returns-in_err-stamp-clause-entries
 returns-in_err-stamp-clause-entries c =
-    let led : stamp_at c.args.self.now (key_of c.args.query.now) ≡ None = search rules in
+    λ q is.
+    let at : stamp_at c.args.self.now c.args.key.now ≡ None = search rules in
+    let led : stamp_at c.args.self.now (key_of q) ≡ None = subst (λ k. stamp_at c.args.self.now k ≡ None) is at in
     let full : c.args.capacity ≤ length c.args.self.now.entries.entries = omega arith in
     let none : c.from_residual.result ≡ None = search rules in
     let missing : c.first.result ≡ None = search rules in
     let empty = no_first c.first.result (length c.args.self.now.timeline.keys) c.first.ensures.variant.1 missing in
-    stays_evicted c.args.self.now c.requires c.args.query.now c.args.capacity c.from_residual.result led full
+    stays_evicted c.args.self.now c.requires q c.args.capacity c.from_residual.result led full
     (ap (λ o. entries_without o c.args.self.now) none ∙ evicted_none c.args.self.now c.requires empty)
 
 pub returns-clause-entries : goal.returns-clause-entries
 returns-clause-entries c =
-    let led : stamp_at c.args.self.now (key_of c.args.query.now) ≡ None = search rules in
+    λ q is.
+    let at : stamp_at c.args.self.now c.args.key.now ≡ None = search rules in
+    let led : stamp_at c.args.self.now (key_of q) ≡ None = subst (λ k. stamp_at c.args.self.now k ≡ None) is at in
     let full : c.args.capacity ≤ length c.args.self.now.entries.entries = omega arith in
-    stays_evicted c.args.self.now c.requires c.args.query.now c.args.capacity (Some c.in_ok-stamp.field-0.now.1) led full
+    stays_evicted c.args.self.now c.requires q c.args.capacity (Some c.in_ok-stamp.field-0.now.1) led full
     (evicted_first c.args.self.now c.requires c.in_ok-stamp.field-0.now.0 c.in_ok-stamp.field-0.now.1 c.in_ok-stamp.ensures.member c.in_ok-stamp.ensures.least)
 
 pub returns-clause-present : goal.returns-clause-present
