@@ -87,9 +87,9 @@ enum rumstrait_code {
     RUMSTRAIT_NO_NAME = 19,
     /* A lookup ended: the name has no records of the type. */
     RUMSTRAIT_NO_RECORDS = 20,
-    /* A lookup ended: the last server that replied did so with an error, such as SERVFAIL. */
+    /* A lookup ended: no server gave an answer, and the last one that was asked replied with an error, such as SERVFAIL. */
     RUMSTRAIT_SERVER_ERROR = 21,
-    /* A lookup ended: no server gave a reply that is accepted. */
+    /* A lookup ended: no server gave an answer, and the last one that was asked gave no reply that is accepted. */
     RUMSTRAIT_NO_SERVER = 22,
     /* A lookup ended: it had no id left for its next question. */
     RUMSTRAIT_NO_ID = 23,
@@ -112,7 +112,8 @@ typedef struct rumstrait_zone rumstrait_zone;
 
 /* Makes a zone of a zone file (RFC 1035 section 5.1), and writes its handle to `*out`, which the caller owns and frees. The
  * origin completes relative names and is the zone's. If `origin_len` is 0, relative names end at the root, and the origin is
- * the owner of the first SOA record. The text is not used after the call.
+ * the owner of the first SOA record. Records have the types A, AAAA, CNAME, MX, NS, PTR, SOA, SRV and TXT, and the text has
+ * neither $INCLUDE nor $GENERATE. It is not used after the call.
  *
  * Refusals: RUMSTRAIT_INVALID_ENCODING, RUMSTRAIT_INVALID_NAME (the origin), RUMSTRAIT_INVALID_ZONE, RUMSTRAIT_OUT_OF_MEMORY.
  * Then `*out` is null. */
@@ -120,8 +121,8 @@ int32_t rumstrait_zone_new(const uint8_t *text, size_t text_len, const uint8_t *
                            rumstrait_zone **out) RUMSTRAIT_NONNULL(1, 3, 5);
 
 /* Says what is wrong in a text that `rumstrait_zone_new` refuses as not the zone file of a zone: writes to `out` what the first
- * fault is, a semicolon, a blank and what to write instead, and the number of its line, from 1, to `*line`, or 0 if the fault is of no line, such as a missing SOA record.
- * If nothing is wrong, the sentence is empty, and `*line` is 0.
+ * fault is, a semicolon, a blank and what to write instead, and the number of its line, from 1, to `*line`, or 0 if the fault is
+ * of no line, such as a missing SOA record. If nothing is wrong, the sentence is empty, and `*line` is 0.
  *
  * Refusals: RUMSTRAIT_INVALID_ENCODING, RUMSTRAIT_INVALID_NAME (the origin), RUMSTRAIT_TOO_SMALL (`*line` is written),
  * RUMSTRAIT_OUT_OF_MEMORY. */
@@ -131,7 +132,8 @@ int32_t rumstrait_zone_fault(const uint8_t *text, size_t text_len, const uint8_t
 /* Serves a request, and writes the reply to `out`. `limit` is the maximum size of a reply in a datagram, at least 512; it is
  * ignored for a stream, whose messages come without the two bytes of their length. 65,535 bytes of room always suffice.
  *
- * An update with the response code NOERROR changes the zone (RFC 2136 section 3), unless this function returns a refusal.
+ * A question is answered by the zone alone, as by `nameserver --plain`: wildcards and delegations stand for no other names. An
+ * update with the response code NOERROR changes the zone (RFC 2136 section 3), unless this function returns a refusal.
  *
  * Refusals: RUMSTRAIT_NULL_HANDLE, RUMSTRAIT_INVALID_TRANSPORT, RUMSTRAIT_INVALID_LIMIT, RUMSTRAIT_NO_REPLY,
  * RUMSTRAIT_TOO_SMALL, RUMSTRAIT_OUT_OF_MEMORY. */

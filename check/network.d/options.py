@@ -128,7 +128,9 @@ def try_trace(report: Report, given: Given) -> None:
         first, plain, stream, silent, cut, _ = requests
         patterns = [
             sent("udp", where, first),
+            rf"\d+ ms question {re.escape(f'ns.{ORIGIN}')} A",
             received("udp", where, first),
+            rf"\d+ ms reply to {re.escape(f'ns.{ORIGIN}')} A: NoError, records in the answer: 1",
             sent("udp", where, plain),
             received("udp", where, plain),
             rf"\d+ ms tcp {where} .*\b{stream.request_bytes} bytes.*",

@@ -20,12 +20,15 @@ PACKAGES = {
     "faketime": "faketime",
     "pytest-3": "python3-pytest",
     "/usr/bin/cargo": "cargo",
+    "gcc": "gcc",
 }
 # The packages of Python, by what is imported.
 LIBRARIES = {"dns": "python3-dnspython"}
 # The packages of Rust's libraries, whose sources are in a folder.
 CRATES = {"trust-dns-proto-0.22.0": "librust-trust-dns-proto-dev", "trust-dns-resolver-0.22.0": "librust-trust-dns-resolver-dev"}
 CARGO_REGISTRY = "/usr/share/cargo/registry"
+# The packages of C's libraries, by their headers.
+HEADERS = {"/usr/include/ldns/ldns.h": "libldns-dev", "/usr/include/libknot/libknot.h": "libknot-dev"}
 # Debian's Python, which has its packages.
 PYTHON = "/usr/bin/python3"
 PATH = os.environ.get("PATH", "") + ":/usr/sbin:/sbin"
@@ -45,6 +48,8 @@ def has_library(name):
 def has(name):
     if name in CRATES:
         return os.path.isdir(f"{CARGO_REGISTRY}/{name}")
+    if name in HEADERS:
+        return os.path.isfile(name)
     return has_library(name) if name in LIBRARIES else find(name) is not None
 
 
@@ -54,7 +59,7 @@ def install(names):
     if missing and os.geteuid() == 0 and shutil.which("apt-get"):
         print("apt-get update", flush=True)
         run_apt("update", "-q")
-        for package in dict.fromkeys({**PACKAGES, **LIBRARIES, **CRATES}[it] for it in missing):
+        for package in dict.fromkeys({**PACKAGES, **LIBRARIES, **CRATES, **HEADERS}[it] for it in missing):
             print(f"apt-get install {package}", flush=True)
             run_apt("install", "-y", "-q", "--no-install-recommends", package)
     return [it for it in missing if not has(it)]

@@ -108,7 +108,11 @@ def load() -> ctypes.CDLL:
     """Loads the library, and declares its functions."""
     beside = Path(__file__).with_name("librumstrait.so")
     place = os.environ.get("RUMSTRAIT_LIBRARY") or (str(beside) if beside.exists() else "librumstrait.so")
-    library = ctypes.CDLL(place)
+    try:
+        library = ctypes.CDLL(place)
+    except OSError as error:
+        hint = "set RUMSTRAIT_LIBRARY to the path of librumstrait.so, which ./library PREFIX installs in PREFIX/lib"
+        raise ImportError(f"cannot load the library: {error}; {hint}") from None
     declare(library, "rumstrait_zone_new", Bytes, Size, Bytes, Size, ctypes.POINTER(Handle))
     declare(library, "rumstrait_zone_fault", Bytes, Size, Bytes, Size, SizePointer, Room, Size, SizePointer)
     declare(library, "rumstrait_zone_serve", Handle, Number, Short, Bytes, Size, Room, Size, SizePointer)

@@ -73,10 +73,18 @@ impl Program<'_> {
             };
             let question = self.arguments.question;
             if let Some(item) = item_of_line(self.rt.alloc(), line.as_str(), question)? {
-                self.look_up(item, true)?;
+                self.look_up_line(item)?;
             }
         }
         Ok(())
+    }
+
+    /// Looks up what an item of standard input asks.
+    fn look_up_line(&mut self, item: Item) -> Result<(), Ending> {
+        if self.arguments.reverse {
+            return self.look_up(item.reversed(self.rt.alloc())?, true);
+        }
+        self.look_up(item, true)
     }
 
     /// Looks up what an item asks, and prints the answer.

@@ -19,7 +19,7 @@ use std::process::ExitCode;
 use std::time::Instant;
 use std::{env, io};
 use stub_config::ResolverOpts;
-use stub_net_sockets::{RandomIds, SocketNetwork, Stopwatch, SystemEntropy, Traced};
+use stub_net_sockets::{RandomIds, SocketNetwork, Stopwatch, SystemEntropy};
 use stub_resolv_conf::SystemConf;
 
 /// The status if the arguments or the files are at fault, or the program ends early for another reason.
@@ -143,8 +143,7 @@ pub(crate) fn open_network<'a>(
     start: Instant,
 ) -> Result<Sockets<'a>, Ending> {
     let network = SocketNetwork::new(rt, rt.alloc(), stopwatch(rt)?)?;
-    let traced = Traced::new(network, rt, start, arguments.trace);
-    Ok(ProgramNetwork::new(traced))
+    Ok(ProgramNetwork::new(network, rt, start, arguments.trace))
 }
 
 /// Returns the moment of the clock.

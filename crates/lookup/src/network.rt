@@ -1,22 +1,99 @@
 //! The network of the program.
 
+use dns_formats::TypeWord;
+use dns_message_view::MessageView;
+use dns_messages::{MessageType, OpCode};
+use dns_names::Name;
+use std::alloc::Global;
 use std::net::SocketAddr;
+use std::time::Instant;
 use stub_link::LinkError;
 use stub_net::Network;
 use stub_net_sockets::{SocketNetwork, Traced};
 
-/// A network over sockets, which tells what it does if it is to.
+/// A network over sockets, which tells what it does, and what its messages ask and answer, if it is to.
 #[derive(Drop)]
 pub(crate) struct ProgramNetwork<'a> {
     traced: Traced<SocketNetwork<&'a HostRuntime>, &'a HostRuntime>,
+    rt: &'a HostRuntime,
+    start: Instant,
+    is_on: bool,
 }
 
 impl<'a> ProgramNetwork<'a> {
-    /// Creates the network of the program.
+    /// Creates the network of the program, which tells what it does since a moment if it is on.
     pub(crate) fn new(
-        traced: Traced<SocketNetwork<&'a HostRuntime>, &'a HostRuntime>,
+        network: SocketNetwork<&'a HostRuntime>,
+        rt: &'a HostRuntime,
+        start: Instant,
+        is_on: bool,
     ) -> ProgramNetwork<'a> {
-        ProgramNetwork { traced }
+        ProgramNetwork {
+            traced: Traced::new(network, rt, start, is_on),
+            rt,
+            start,
+            is_on,
+        }
+    }
+
+    /// Says on standard error what a message asks or answers.
+    fn tell(&self, bytes: &[u8]) {
+        if !self.is_on {
+            return;
+        }
+        let Some(text) = description_of(self.rt.alloc(), bytes) else {
+            return;
+        };
+        let moment = self
+            .start
+            .elapsed(self.rt)
+            .map_or(0, |elapsed| elapsed.as_millis());
+        // A failure to write to standard error can't be reported.
+        let _written = eprintln!(self.rt; "{moment} ms {text}");
+    }
+}
+
+/// Returns what a message asks or answers, or `None` if it has no question, cannot be read, or memory is refused.
+fn description_of(alloc: Global, bytes: &[u8]) -> Option<String> {
+    let Ok(message) = MessageView::of(bytes) else {
+        return None;
+    };
+    let question = message.queries().next()?;
+    let Ok(name) = question.name.to_name(alloc) else {
+        return None;
+    };
+    if message.metadata.op_code == OpCode::Update {
+        return described_update(alloc, &name, &message);
+    }
+    let number = u16::from(question.query_type);
+    described_query(alloc, &name, TypeWord { number }, &message)
+}
+
+/// Returns what a query asks, or its reply answers.
+fn described_query(
+    alloc: Global,
+    name: &Name,
+    record_type: TypeWord,
+    message: &MessageView<'_>,
+) -> Option<String> {
+    let code = message.metadata.response_code;
+    let count = message.answers().count();
+    match message.metadata.message_type {
+        MessageType::Query => format!(in alloc; "question {name} {record_type}").ok(),
+        MessageType::Response => {
+            format!(in alloc;
+                "reply to {name} {record_type}: {code}, records in the answer: {count}"
+            ).ok()
+        }
+    }
+}
+
+/// Returns which zone an update changes, or what its reply says.
+fn described_update(alloc: Global, zone: &Name, message: &MessageView<'_>) -> Option<String> {
+    let code = message.metadata.response_code;
+    match message.metadata.message_type {
+        MessageType::Query => format!(in alloc; "update of {zone}").ok(),
+        MessageType::Response => format!(in alloc; "reply to update of {zone}: {code}").ok(),
     }
 }
 
@@ -31,11 +108,19 @@ impl Network for ProgramNetwork<'_> {
     ghost reads_clock = { λ _ _ _. Unit {0} };
 
     fn send(&mut self, server: SocketAddr, bytes: &[u8]) -> Result<(), LinkError> {
-        self.traced.send(server, bytes)
+        let outcome = self.traced.send(server, bytes);
+        if outcome.is_ok() {
+            self.tell(bytes);
+        }
+        outcome
     }
 
     fn receive_until(&mut self, deadline: u64) -> Result<Option<Vec<u8>>, LinkError> {
-        self.traced.receive_until(deadline)
+        let outcome = self.traced.receive_until(deadline);
+        if let Ok(Some(bytes)) = &outcome {
+            self.tell(bytes.as_slice());
+        }
+        outcome
     }
 
     fn ask_stream(
@@ -44,7 +129,12 @@ impl Network for ProgramNetwork<'_> {
         bytes: &[u8],
         deadline: u64,
     ) -> Result<Vec<u8>, LinkError> {
-        self.traced.ask_stream(server, bytes, deadline)
+        self.tell(bytes);
+        let outcome = self.traced.ask_stream(server, bytes, deadline);
+        if let Ok(reply) = &outcome {
+            self.tell(reply.as_slice());
+        }
+        outcome
     }
 
     fn now(&mut self) -> u64 {

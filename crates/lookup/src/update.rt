@@ -7,6 +7,10 @@ use stub_link::UpdateEvent;
 use stub_net::IdSource;
 use update_text::parse_update;
 
+/// What the words of an update are.
+const FORMS: &str =
+    "it is none of 'append NAME TTL TYPE DATA', 'create NAME TTL TYPE DATA', 'swap NAME TTL TYPE DATA -> DATA', 'delete-record NAME TYPE DATA', 'delete-set NAME TYPE' and 'delete-name NAME' with a name in the zone and data of the type";
+
 /// Returns the update that words say, under an id that is drawn for it.
 pub(crate) fn update_of<I: IdSource>(
     alloc: Global,
@@ -17,13 +21,8 @@ pub(crate) fn update_of<I: IdSource>(
     let Some(id) = ids.draw() else {
         return Err(Ending::NoEntropy);
     };
-    match parse_update(alloc, words.as_bytes(), &arguments.zone, id, Types::Nine)? {
+    match parse_update(alloc, words.as_bytes(), &arguments.zone, id, Types::All)? {
         Some(update) => Ok(update),
-        None => Err(Ending::invalid(
-            alloc,
-            "--update",
-            words,
-            "it is not an update of the zone, such as 'append a 60 A 10.0.0.1'",
-        )),
+        None => Err(Ending::invalid(alloc, "--update", words, FORMS)),
     }
 }

@@ -4,11 +4,15 @@ use Rattle.std.specs.Borrow.{Bor}
 use Rattle.std.specs.Char.{is_whitespace}
 use Rattle.std.specs.Str.{NoCharPasses, trim}
 use Rattle.std.specs.Str.Pattern.{HasPassingCharAt}
-use Rattle.dns_codes.specs.CodeText.{type_of_text}
+use Rattle.std.specs.declared.net.ip_addr.IpAddr.{IpAddr}
+use Rattle.dns_bitmaps.specs.TypeWord.{type_of_word}
 use Rattle.dns_codes.specs.declared.record_type.RecordType.{RecordType}
+use Rattle.dns_codes.specs.declared.record_type.RecordType.TheVariants.{PTR}
+use Rattle.dns_names.specs.Print.{text_of_name}
+use Rattle.dns_names.specs.Reverse.{reverse_name}
 use Rattle.lookup_cli.specs.declared.item.Item.{Item}
 use Rattle.lookup_cli.specs.declared.item.Question.{Question}
-use Rattle.lookup_cli.specs.declared.item.Question.TheVariants.{Records, Unknown}
+use Rattle.lookup_cli.specs.declared.item.Question.TheVariants.{Addresses, Records, Unknown}
 
 -- the question for the records of a type
 abbrev pub question_for : Option RecordType → Question
@@ -17,7 +21,18 @@ question_for None = Unknown
 
 -- the question for the records of the type that a text spells, which cannot be asked if it spells none
 abbrev pub question_of_type : List ℕ → Question
-question_of_type text = question_for (type_of_text text)
+question_of_type text = question_for (type_of_word text)
+
+-- the question about a reverse name: its PTR records, unless a type is given
+abbrev pub reversed_question : Question → Question
+reversed_question Addresses = Records PTR
+reversed_question other = other
+
+-- an item with the reverse name of the address that a name is, or the same item
+abbrev pub IsReversed : Item → Option IpAddr → Item → Type 0
+IsReversed item None other = other ≡ item
+IsReversed item (Some address) other =
+    (string_bytes other.name ≡ text_of_name (reverse_name address)) × (other.question ≡ reversed_question item.question)
 
 -- the first white space of a text is a character that begins at one place and ends at another
 abbrev pub HasFirstSpace : List ℕ → ℕ → ℕ → Type 0

@@ -23,6 +23,8 @@ pub struct Arguments {
     pub reads_input: bool,
     /// What is asked about a name without a type.
     pub question: Question,
+    /// Whether an address is looked up by its reverse name.
+    pub reverse: bool,
     /// The addresses of the servers, in place of those of the configuration if there are any.
     pub servers: Vec<SocketAddr>,
     /// The path of the configuration, as given.
@@ -127,6 +129,7 @@ fn arguments_of(alloc: Global, matches: &ArgMatches<'_>) -> Result<Arguments, En
         items,
         reads_input: has_input(matches),
         question,
+        reverse: flag_in(matches, "reverse"),
         servers: lists.servers,
         resolv_conf: paths.resolv_conf,
         hosts: paths.hosts,
@@ -197,10 +200,19 @@ fn items_in(
         if *text != INPUT {
             check_name(alloc, text)?;
             let name = String::from_str(alloc, text)?;
-            items.push(Item { name, question })?;
+            items.push(reversed_if(alloc, flag_in(matches, "reverse"), Item { name, question })?)?;
         }
     }
     Ok(items)
+}
+
+/// Returns an item, by the reverse name of the address that its name is if that is asked for.
+fn reversed_if(alloc: Global, is_asked: bool, item: Item) -> Result<Item, AllocError> {
+    if is_asked {
+        item.reversed(alloc)
+    } else {
+        Ok(item)
+    }
 }
 
 /// Returns `true` if the names of standard input are looked up.

@@ -12,7 +12,8 @@ pub(crate) fn command<'a>(alloc: Global) -> Result<Command<'a>, AllocError> {
         .version(VERSION)
         .about("Looks up names at name servers")
         .arg(names(alloc)?)?
-        .arg(type_option(alloc))?;
+        .arg(type_option(alloc))?
+        .arg(reverse_flag(alloc))?;
     let command = with_time(alloc, with_sources(alloc, command)?)?;
     with_flags(alloc, with_key(alloc, with_update(alloc, command)?)?)
 }
@@ -39,6 +40,16 @@ fn type_option<'a>(alloc: Global) -> Arg<'a> {
         "The type of the records; addresses if it is omitted",
     )
     .short('t')
+}
+
+/// Returns the flag of reverse names.
+fn reverse_flag<'a>(alloc: Global) -> Arg<'a> {
+    flag(
+        alloc,
+        "reverse",
+        "Look up the PTR records of addresses, by their reverse names",
+    )
+    .short('x')
 }
 
 /// Adds the options of servers and of what completes names.

@@ -1,9 +1,14 @@
 //! What is looked up.
 
-ghost use Rattle.std.specs.Prelude.{◌≡◌, [], IfOk, IfSome, None, Ok};
+ghost use Rattle.std.specs.Prelude.{◌≡◌, [], IfOk, IfSome, None, Ok, Option, string_bytes};
 ghost use Rattle.std.specs.Str.{trim};
-ghost use Rattle.lookup_cli.specs.Item.{IsItemOf, SplitsAtSpace, question_of_type};
+ghost use Rattle.std.specs.declared.net.ip_addr.IpAddr.{IpAddr};
+ghost use Rattle.dns_text.specs.Address.{IsTextOf};
+ghost use Rattle.lookup_cli.specs.Item.{IsItemOf, IsReversed, SplitsAtSpace, question_of_type, reversed_question};
 
+use dns_formats::{TypeWord, type_of_word};
+use dns_names::Name;
+use dns_text::parse_ip;
 use dns_wire::RecordType;
 use std::alloc::{AllocError, Global};
 use std::fmt;
@@ -26,6 +31,33 @@ pub struct Item {
     pub name: String,
     /// What is asked.
     pub question: Question,
+}
+
+impl Item {
+    /// Returns the item with the reverse name of the address that its name is (RFC 1035 section 3.5, RFC 3596 section 2.5), for
+    /// which PTR records are asked unless a type is given. An item with another name is returned as it is.
+    pub fn reversed(self, alloc: Global) -> Result<Item, AllocError>
+        ensures { (address : Option IpAddr) × IsTextOf (string_bytes self.name) address
+            × IfOk result (IsReversed self address) }
+    {
+        match parse_ip(self.name.as_str().as_bytes()) {
+            Some(address) => Ok(Item {
+                name: Name::from(alloc, address)?.to_ascii()?,
+                question: reversed_question(self.question),
+            }),
+            None => Ok(self),
+        }
+    }
+}
+
+/// Returns the question about a reverse name.
+fn reversed_question(question: Question) -> Question
+    ensures { result ≡ reversed_question question }
+{
+    match question {
+        Question::Addresses => Question::Records(RecordType::PTR),
+        other => other,
+    }
 }
 
 /// Returns what a line of standard input asks: a name, after which a type may follow, with white space between and around them.
@@ -73,7 +105,7 @@ fn split_at_space(text: &str) -> Option<(&str, &str)>
 fn question_of_type(text: &str) -> Question
     ensures { result ≡ question_of_type text.now }
 {
-    match RecordType::from_ascii_bytes(text.as_bytes()) {
+    match type_of_word(text.as_bytes()) {
         Some(record_type) => Question::Records(record_type),
         None => Question::Unknown,
     }
@@ -84,7 +116,10 @@ impl fmt::Display for Question {
     fn fmt<W: fmt::Write>(&self, f: &mut fmt::Formatter<W>) -> fmt::Result {
         match self {
             Question::Addresses => f.write_str("ADDRESSES"),
-            Question::Records(record_type) => write!(f, "{record_type}"),
+            Question::Records(record_type) => {
+                let number = u16::from(*record_type);
+                write!(f, "{}", TypeWord { number })
+            }
             Question::Unknown => f.write_str("?"),
         }
     }

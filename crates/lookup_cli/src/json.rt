@@ -2,7 +2,7 @@
 
 use crate::answer::Answer;
 use crate::plain::Reason;
-use crate::record_text::OwnerText;
+use crate::record_text::{OwnerText, RDataText, TypeText};
 use crate::status::Status;
 use dns_log::JsonText;
 use dns_messages::{Record, ResponseCode};
@@ -77,8 +77,8 @@ fn record_of(alloc: Global, found: &Record) -> Result<JsonRecord, AllocError> {
     Ok(JsonRecord {
         name: text_of(alloc, OwnerText(&found.name))?,
         ttl: found.ttl,
-        record_type: text_of(alloc, found.rdata.record_type().canonical())?,
-        data: text_of(alloc, &found.rdata)?,
+        record_type: text_of(alloc, TypeText(&found.rdata))?,
+        data: text_of(alloc, RDataText(&found.rdata))?,
     })
 }
 

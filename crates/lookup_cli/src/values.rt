@@ -4,6 +4,7 @@ ghost use Rattle.std.specs.Prelude.{◌<◌, ◌≤◌, IfOk, IfSome};
 
 use crate::ending::Ending;
 use dns_codes::parse_decimal;
+use dns_formats::type_of_word;
 use dns_names::{Name, ParseError};
 use dns_text::parse_ip;
 use dns_wire::RecordType;
@@ -19,7 +20,7 @@ const MAX_SECONDS: u64 = 3_600;
 
 /// Returns the type that a text spells.
 pub(crate) fn type_of(alloc: Global, text: &str) -> Result<RecordType, Ending> {
-    match RecordType::from_ascii_bytes(text.as_bytes()) {
+    match type_of_word(text.as_bytes()) {
         Some(record_type) => Ok(record_type),
         None => Err(Ending::invalid(alloc, "-t", text, "it is not a type")),
     }
@@ -52,14 +53,16 @@ pub(crate) fn check_name(alloc: Global, text: &str) -> Result<(), Ending> {
 
 /// Returns the address of a server, with port 53 if a text has none.
 pub(crate) fn server_of(alloc: Global, text: &str) -> Result<SocketAddr, Ending> {
-    if let Ok(address) = text.parse::<SocketAddr>() {
+    if let Ok(address) = text.parse::<SocketAddr>()
+        && address.port() > 0
+    {
         return Ok(address);
     }
     match parse_ip(text.as_bytes()) {
         Some(ip) => Ok(SocketAddr::new(ip, DNS_PORT)),
         None => {
             let reason =
-                "it is not an address, such as 192.0.2.1, 192.0.2.1:53, 2001:db8::1 or [2001:db8::1]:53";
+                "it is not an address, such as 192.0.2.1, 192.0.2.1:53, 2001:db8::1 or [2001:db8::1]:53, or its port is 0";
             Err(Ending::invalid(alloc, "--server", text, reason))
         }
     }

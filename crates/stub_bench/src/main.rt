@@ -20,19 +20,30 @@ use std::env;
 use std::process::ExitCode;
 
 /// What may be repeated.
-const WHAT: [&str; 29] = [
+const WHAT: [&str; 40] = [
     "all",
     "name-read",
     "name-write",
     "name-parse",
     "name-print",
     "name-compare",
+    "name-clone",
     "data-read",
     "data-write",
     "data-parse",
     "data-print",
     "message-read",
+    "message-read-one",
+    "message-read-ten",
+    "message-view",
+    "message-view-one",
+    "message-view-ten",
     "message-write",
+    "message-write-one",
+    "message-write-ten",
+    "message-clone",
+    "message-clone-one",
+    "message-clone-ten",
     "zone-read",
     "serve-a",
     "serve-cname",

@@ -6,7 +6,7 @@ use crate::authority::{answer_addresses, expand, refer};
 use crate::cache::{get_nothing, get_responses, insert_responses, replace_responses};
 use crate::data::{parse_data, print_data, read_data, write_data};
 use crate::hosts::{read_addresses, read_hosts, read_names as read_host_names};
-use crate::message::{read_messages, write_messages};
+use crate::message::{Reply, clone_messages, read_messages, view_messages, write_messages};
 use crate::update::{add_and_delete, swap};
 use crate::zone::{read_zones, serve_addresses, serve_aliases, serve_chains, serve_missing};
 use anyhow::Result;
@@ -27,6 +27,8 @@ pub(crate) enum Operation {
     NamePrint,
     /// Compares two names of four labels that are equal up to ASCII case.
     NameCompare,
+    /// Clones a name of four labels.
+    NameClone,
     /// Decodes four record data.
     DataRead,
     /// Encodes four record data, compressed.
@@ -37,8 +39,28 @@ pub(crate) enum Operation {
     DataPrint,
     /// Decodes a reply of a question, three records and an OPT record.
     MessageRead,
-    /// Encodes this reply.
+    /// Decodes a reply of a question and an address.
+    MessageReadOne,
+    /// Decodes a reply of a question and ten addresses.
+    MessageReadTen,
+    /// Reads the first reply in place.
+    MessageView,
+    /// Reads the reply with an address in place.
+    MessageViewOne,
+    /// Reads the reply with ten addresses in place.
+    MessageViewTen,
+    /// Encodes the first reply.
     MessageWrite,
+    /// Encodes the reply with an address.
+    MessageWriteOne,
+    /// Encodes the reply with ten addresses.
+    MessageWriteTen,
+    /// Clones the first reply.
+    MessageClone,
+    /// Clones the reply with an address.
+    MessageCloneOne,
+    /// Clones the reply with ten addresses.
+    MessageCloneTen,
     /// Reads a zone file of 10,008 records and an SOA record, or of as many owners as are asked for.
     ZoneRead,
     /// Serves a question for the addresses of a name in that zone.
@@ -98,18 +120,29 @@ const BYTES: &[u8; 29] = b"\x03com\x00\x07example\xC0\x00\x03www\xC0\x05\x01a\xC
 
 impl Operation {
     /// All of them.
-    pub(crate) const ALL: [Operation; 28] = [
+    pub(crate) const ALL: [Operation; 39] = [
         Operation::NameRead,
         Operation::NameWrite,
         Operation::NameParse,
         Operation::NamePrint,
         Operation::NameCompare,
+        Operation::NameClone,
         Operation::DataRead,
         Operation::DataWrite,
         Operation::DataParse,
         Operation::DataPrint,
         Operation::MessageRead,
+        Operation::MessageReadOne,
+        Operation::MessageReadTen,
+        Operation::MessageView,
+        Operation::MessageViewOne,
+        Operation::MessageViewTen,
         Operation::MessageWrite,
+        Operation::MessageWriteOne,
+        Operation::MessageWriteTen,
+        Operation::MessageClone,
+        Operation::MessageCloneOne,
+        Operation::MessageCloneTen,
         Operation::ZoneRead,
         Operation::ServeA,
         Operation::ServeCname,
@@ -137,12 +170,23 @@ impl Operation {
             Operation::NameParse => "name-parse",
             Operation::NamePrint => "name-print",
             Operation::NameCompare => "name-compare",
+            Operation::NameClone => "name-clone",
             Operation::DataRead => "data-read",
             Operation::DataWrite => "data-write",
             Operation::DataParse => "data-parse",
             Operation::DataPrint => "data-print",
             Operation::MessageRead => "message-read",
+            Operation::MessageReadOne => "message-read-one",
+            Operation::MessageReadTen => "message-read-ten",
+            Operation::MessageView => "message-view",
+            Operation::MessageViewOne => "message-view-one",
+            Operation::MessageViewTen => "message-view-ten",
             Operation::MessageWrite => "message-write",
+            Operation::MessageWriteOne => "message-write-one",
+            Operation::MessageWriteTen => "message-write-ten",
+            Operation::MessageClone => "message-clone",
+            Operation::MessageCloneOne => "message-clone-one",
+            Operation::MessageCloneTen => "message-clone-ten",
             Operation::ZoneRead => "zone-read",
             Operation::ServeA => "serve-a",
             Operation::ServeCname => "serve-cname",
@@ -171,12 +215,23 @@ impl Operation {
             Operation::NameParse => parse_names(alloc, count),
             Operation::NamePrint => print_names(alloc, count),
             Operation::NameCompare => compare_names(alloc, count),
+            Operation::NameClone => clone_names(alloc, count),
             Operation::DataRead => read_data(alloc, count),
             Operation::DataWrite => write_data(alloc, count),
             Operation::DataParse => parse_data(alloc, count),
             Operation::DataPrint => print_data(alloc, count),
-            Operation::MessageRead => read_messages(alloc, count),
-            Operation::MessageWrite => write_messages(alloc, count),
+            Operation::MessageRead => read_messages(alloc, count, Reply::Alias),
+            Operation::MessageReadOne => read_messages(alloc, count, Reply::Address),
+            Operation::MessageReadTen => read_messages(alloc, count, Reply::Addresses),
+            Operation::MessageView => view_messages(alloc, count, Reply::Alias),
+            Operation::MessageViewOne => view_messages(alloc, count, Reply::Address),
+            Operation::MessageViewTen => view_messages(alloc, count, Reply::Addresses),
+            Operation::MessageWrite => write_messages(alloc, count, Reply::Alias),
+            Operation::MessageWriteOne => write_messages(alloc, count, Reply::Address),
+            Operation::MessageWriteTen => write_messages(alloc, count, Reply::Addresses),
+            Operation::MessageClone => clone_messages(alloc, count, Reply::Alias),
+            Operation::MessageCloneOne => clone_messages(alloc, count, Reply::Address),
+            Operation::MessageCloneTen => clone_messages(alloc, count, Reply::Addresses),
             Operation::ZoneRead => read_zones(alloc, count, size),
             Operation::ServeA => serve_addresses(alloc, count, size),
             Operation::ServeCname => serve_aliases(alloc, count, size),
@@ -269,6 +324,20 @@ fn compare_names(alloc: Global, count: u64) -> Result<u64> {
     for turn in 0..count {
         let (one, other) = (name_of_turn(&names, turn), name_of_turn(&names, turn + 1));
         checksum = checksum.wrapping_add(u64::from(one == other));
+    }
+    Ok(checksum)
+}
+
+fn clone_names(alloc: Global, count: u64) -> Result<u64> {
+    clone_by_turns(&two_names(alloc)?, count)
+}
+
+/// Clones two names by turns.
+fn clone_by_turns(names: &(Name, Name), count: u64) -> Result<u64> {
+    let mut checksum = 0_u64;
+    for turn in 0..count {
+        let copy = name_of_turn(names, turn).clone()?;
+        checksum = checksum.wrapping_add(copy.len() as u64);
     }
     Ok(checksum)
 }

@@ -2,12 +2,13 @@
 //! FILE]`: says what is wrong in a zone file, in a script, or in both.
 //!
 //! - `arguments`: the arguments; `includes`: the files that a zone file includes; `zone_file`, `script_file`: the checks of the
-//!   files; `ending`: how the program ends.
+//!   files; `printed`: the text of a zone; `ending`: how the program ends.
 #![tactic(auto)]
 
 mod arguments;
 mod ending;
 mod includes;
+mod printed;
 mod script_file;
 mod zone_file;
 

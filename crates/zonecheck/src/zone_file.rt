@@ -3,6 +3,7 @@
 use crate::arguments::Arguments;
 use crate::ending::Ending;
 use crate::includes::{Includes, read_includes};
+use crate::printed::zone_text;
 use crate::{Verdict, read_text, write_report, write_text};
 use dns_names::Name;
 use dns_zone::Zone;
@@ -127,7 +128,7 @@ fn checked_file(
 
 /// Prints a zone as a zone file.
 fn print_zone(rt: &HostRuntime, zone: &Zone) -> Result<(), Ending> {
-    let text = zone.to_text()?;
+    let text = zone_text(rt.alloc(), zone)?;
     write_text(rt, text.as_str())
 }
 

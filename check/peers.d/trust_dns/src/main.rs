@@ -28,15 +28,23 @@ fn repeat(what: &str, count: u64, size: Option<u64>) -> Result<u64, Box<dyn Erro
         "name-parse" => names::parse(count),
         "name-print" => names::print(count),
         "name-compare" => names::compare(count),
+        "name-clone" => names::clone(count),
         "data-read" => data::read(count),
         "data-write" => data::write(count),
         "data-print" => data::print(count),
-        "message-read" => messages::read(count),
-        "message-write" => messages::write(count),
+        "message-read" | "message-read-one" | "message-read-ten" => messages::read(count, what),
+        "message-write" | "message-write-one" | "message-write-ten" => messages::write(count, what),
+        "message-clone" | "message-clone-one" | "message-clone-ten" => messages::clone(count, what),
         "cache-insert" => cache::insert(count),
         "cache-hit" => cache::get(count, size, 0),
         "cache-miss" => cache::get(count, size, 1),
         "cache-full" => cache::replace(count, size),
         _ => Err("no such operation".into()),
     }
+}
+
+/// A value of which the compiler cannot know that it is this one, as `std::hint::black_box` of later compilers.
+fn opaque<T>(value: &T) -> &T {
+    // A reference may be read, and is copied.
+    unsafe { std::ptr::read_volatile(&value) }
 }

@@ -1,5 +1,6 @@
 //! The operations on names.
 
+use crate::opaque;
 use std::error::Error;
 use trust_dns_proto::rr::Name;
 use trust_dns_proto::serialize::binary::{BinDecodable, BinDecoder, BinEncodable, BinEncoder};
@@ -75,7 +76,16 @@ pub fn compare(count: u64) -> Result<u64, Box<dyn Error>> {
     let mut checksum = 0_u64;
     for turn in 0..count {
         let (one, other) = (&names[(turn % 2) as usize], &names[((turn + 1) % 2) as usize]);
-        checksum += u64::from(std::hint::black_box(one) == std::hint::black_box(other));
+        checksum += u64::from(opaque(one) == opaque(other));
+    }
+    Ok(checksum)
+}
+
+pub fn clone(count: u64) -> Result<u64, Box<dyn Error>> {
+    let names = two_names()?;
+    let mut checksum = 0_u64;
+    for turn in 0..count {
+        checksum += opaque(&names[(turn % 2) as usize].clone()).len() as u64;
     }
     Ok(checksum)
 }
