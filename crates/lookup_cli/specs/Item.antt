@@ -1,9 +1,10 @@
 -- What is asked about a name.
-use Rattle.std.specs.Prelude.{◌≡◌, List, ℕ, Option, Some, None, drop, take, string_bytes}
+use Rattle.std.specs.Prelude.{◌≡◌, List, ℕ, Option, Some, None, Result, Ok, IfOk, drop, take, string_bytes}
 use Rattle.std.specs.Borrow.{Bor}
 use Rattle.std.specs.Char.{is_whitespace}
 use Rattle.std.specs.Str.{NoCharPasses, trim}
 use Rattle.std.specs.Str.Pattern.{HasPassingCharAt}
+use Rattle.std.specs.declared.alloc.AllocError.{AllocError}
 use Rattle.std.specs.declared.net.ip_addr.IpAddr.{IpAddr}
 use Rattle.dns_bitmaps.specs.TypeWord.{type_of_word}
 use Rattle.dns_codes.specs.declared.record_type.RecordType.{RecordType}
@@ -28,11 +29,15 @@ abbrev pub reversed_question : Question → Question
 reversed_question Addresses = Records PTR
 reversed_question other = other
 
--- an item with the reverse name of the address that a name is, or the same item
-abbrev pub IsReversed : Item → Option IpAddr → Item → Type 0
-IsReversed item None other = other ≡ item
-IsReversed item (Some address) other =
+-- an item with the reverse name of an address
+abbrev pub IsReversed : Item → IpAddr → Item → Type 0
+IsReversed item address other =
     (string_bytes other.name ≡ text_of_name (reverse_name address)) × (other.question ≡ reversed_question item.question)
+
+-- an item is made one with the reverse name of the address that its name is, if memory allows, or stays as it is
+abbrev pub Reverses : Item → Option IpAddr → Result Item AllocError → Type 0
+Reverses item None result = result ≡ Ok item
+Reverses item (Some address) result = IfOk result (IsReversed item address)
 
 -- the first white space of a text is a character that begins at one place and ends at another
 abbrev pub HasFirstSpace : List ℕ → ℕ → ℕ → Type 0

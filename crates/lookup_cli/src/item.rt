@@ -4,7 +4,7 @@ ghost use Rattle.std.specs.Prelude.{◌≡◌, [], IfOk, IfSome, None, Ok, Optio
 ghost use Rattle.std.specs.Str.{trim};
 ghost use Rattle.std.specs.declared.net.ip_addr.IpAddr.{IpAddr};
 ghost use Rattle.dns_text.specs.Address.{IsTextOf};
-ghost use Rattle.lookup_cli.specs.Item.{IsItemOf, IsReversed, SplitsAtSpace, question_of_type, reversed_question};
+ghost use Rattle.lookup_cli.specs.Item.{IsItemOf, Reverses, SplitsAtSpace, question_of_type, reversed_question};
 
 use dns_formats::{TypeWord, type_of_word};
 use dns_names::Name;
@@ -35,10 +35,10 @@ pub struct Item {
 
 impl Item {
     /// Returns the item with the reverse name of the address that its name is (RFC 1035 section 3.5, RFC 3596 section 2.5), for
-    /// which PTR records are asked unless a type is given. An item with another name is returned as it is.
+    /// which PTR records are asked unless a type is given. An item with another name is returned as it is, without taking memory.
     pub fn reversed(self, alloc: Global) -> Result<Item, AllocError>
-        ensures { (address : Option IpAddr) × IsTextOf (string_bytes self.name) address
-            × IfOk result (IsReversed self address) }
+        ensures reversed { (address : Option IpAddr) × IsTextOf (string_bytes self.name) address
+            × Reverses self address result }
     {
         match parse_ip(self.name.as_str().as_bytes()) {
             Some(address) => Ok(Item {

@@ -63,6 +63,7 @@ impl fmt::Display for Reason<'_> {
 fn write_error<W: fmt::Write>(error: &NetError, f: &mut fmt::Formatter<W>) -> fmt::Result {
     match error {
         NetError::Proto(error) => write!(f, "not a domain name: {error}"),
+        NetError::Link(_) => write!(f, "no server answered: {error}"),
         error => write!(f, "{error}"),
     }
 }
