@@ -318,7 +318,7 @@ pub fn encode_again(message: &[u8]) -> Result<Vec<u8>, Refusal> {
 }
 
 /// What a query asks for beside its name and its type.
-#[derive(Clone, Copy, Debug, PartialEq, Eq)]
+#[derive(Clone, Copy, Debug, Default, PartialEq, Eq)]
 pub struct QueryOptions {
     /// The bit RD (RFC 1035 section 4.1.1).
     pub recursion_desired: bool,

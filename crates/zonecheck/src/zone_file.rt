@@ -42,11 +42,22 @@ pub(crate) fn check_zone_file(
         &check,
         arguments,
     )?;
+    if check.origin.is_none() {
+        tell_what_is_left_out(rt);
+    }
     if arguments.format == ReportFormat::Text {
         let summary = zone_summary(rt.alloc(), path, &check)?;
         write_report(rt, summary.as_str(), arguments)?;
     }
     checked_file(rt, arguments, &check)
+}
+
+/// Says on standard error what is not looked for in a file whose origin is not known.
+fn tell_what_is_left_out(rt: &HostRuntime) {
+    // A failure to write to standard error can't be reported.
+    let _written = rt.eprint(
+        "zonecheck: no SOA record could be read: without it, or --origin, owners outside the zone and warnings are not looked for\n",
+    );
 }
 
 /// Checks the text of a zone file, with the files that it includes.
