@@ -44,7 +44,7 @@ const LEAST_PAYLOAD: u16 = 512;
 
 /// Decodes the reply.
 pub(crate) fn read_messages(alloc: Global, count: u64, kind: Reply) -> Result<u64> {
-    let bytes = reply(alloc, kind)?;
+    let bytes = reply_bytes(alloc, kind)?;
     let mut checksum = 0_u64;
     for _ in 0..count {
         let message = Message::from_vec(alloc, bytes.as_slice())?;
@@ -55,7 +55,7 @@ pub(crate) fn read_messages(alloc: Global, count: u64, kind: Reply) -> Result<u6
 
 /// Reads the reply in place.
 pub(crate) fn view_messages(alloc: Global, count: u64, kind: Reply) -> Result<u64> {
-    let bytes = reply(alloc, kind)?;
+    let bytes = reply_bytes(alloc, kind)?;
     let mut checksum = 0_u64;
     for _ in 0..count {
         let view = MessageView::of(bytes.as_slice())?;
@@ -66,7 +66,7 @@ pub(crate) fn view_messages(alloc: Global, count: u64, kind: Reply) -> Result<u6
 
 /// Encodes the reply.
 pub(crate) fn write_messages(alloc: Global, count: u64, kind: Reply) -> Result<u64> {
-    let bytes = reply(alloc, kind)?;
+    let bytes = reply_bytes(alloc, kind)?;
     write_repeatedly(alloc, &Message::from_vec(alloc, bytes.as_slice())?, count)
 }
 
@@ -82,7 +82,7 @@ fn write_repeatedly(alloc: Global, message: &Message, count: u64) -> Result<u64>
 
 /// Clones the reply.
 pub(crate) fn clone_messages(alloc: Global, count: u64, kind: Reply) -> Result<u64> {
-    let bytes = reply(alloc, kind)?;
+    let bytes = reply_bytes(alloc, kind)?;
     clone_repeatedly(&Message::from_vec(alloc, bytes.as_slice())?, count)
 }
 
@@ -124,7 +124,7 @@ fn payload_of(message: &MessageView<'_>) -> u16 {
 }
 
 /// The bytes of the reply.
-fn reply(alloc: Global, kind: Reply) -> Result<Vec<u8>> {
+fn reply_bytes(alloc: Global, kind: Reply) -> Result<Vec<u8>> {
     match kind {
         Reply::Alias => reply_with_alias(alloc),
         Reply::Address => reply_with_addresses(alloc, 1),
