@@ -15,8 +15,10 @@ def try_transports(report: Report, given: Given) -> None:
             report.check(f"{options}: found", ["found", "nothing", "found"], [it.status for it in outcomes])
             requests = asked.requests(3)
             report.check(f"{options}: transports", [transport] * 3, [it.transport for it in requests])
-            # A reply has an OPT record exactly if the request has one. The question of `a.o.test.` takes 10 and 4 bytes.
-            report.check(f"{options}: EDNS", [int(has_edns)] * 3, [it.additionals for it in requests])
+            # A reply has an OPT record exactly if the request has one, and that of mail servers has their addresses. The question of
+            # `a.o.test.` takes 10 and 4 bytes.
+            edns = int(has_edns)
+            report.check(f"{options}: EDNS", [edns, edns, edns + 2], [it.additionals for it in requests])
             size = 12 + len(f".a.{ORIGIN}") + 4 + (11 if has_edns else 0)
             report.check(f"{options}: bytes", size, requests[0].request_bytes)
             report.check(f"{options}: opcode and class", [(0, "IN")] * 3, [(it.opcode, it.rclass) for it in requests])
