@@ -6,7 +6,7 @@ from asked import ORIGIN, ZONE, Asked, addresses_of
 from asking import Outcome, Resolver
 from configured import try_system
 from given import Given
-from options import try_local, try_search, try_trace, try_transports
+from options import try_local, try_search, try_trace, try_transports, try_types
 from renewals import try_updates
 from report import Report
 from zones import name_text
@@ -162,6 +162,7 @@ def try_program(report: Report, given: Given) -> None:
         ("the cache and the clock", try_cache),
         ("aliases", try_aliases),
         ("transports", try_transports),
+        ("types", try_types),
         ("search lists", try_search),
         ("what asks nothing", try_local),
         ("traces", try_trace),

@@ -41,6 +41,29 @@ def try_transports(report: Report, given: Given) -> None:
         report.check("its requests", ["udp", "tcp"], [it.transport for it in asked.requests(2)])
 
 
+# Records of further types, as a zone file and the program write them.
+TYPES = [
+    'c.o.test. 60 IN CAA 0 issue "ca.example"',
+    "h.o.test. 60 IN HTTPS 1 . alpn=h2,h3 port=8443",
+    "t.o.test. 60 IN TLSA 3 1 1 0011223344556677889900112233445566778899001122334455667788990011",
+    "r.o.test. 60 IN RP host.o.test. .",
+    "u.o.test. 60 IN TYPE65280 \\# 2 abcd",
+]
+
+
+def try_types(report: Report, given: Given) -> None:
+    """Data by the fields of its type, and updates with it."""
+    with Asked(given, ZONE + "".join(f"\n{it}" for it in TYPES)) as asked:
+        for line in TYPES:
+            name, _ttl, _class, kind, *_data = line.split()
+            run = asked.resolver.run(name, "-t", kind)
+            report.check(f"types: {kind}", (f"{line}\n", 0), (run.output, run.status))
+        run = asked.resolver.run("--update", 'append n 60 CAA 0 iodef "mailto:x"', "--zone", ORIGIN)
+        report.check("types: an update", ("NoError\n", 0), (run.output, run.status))
+        run = asked.resolver.run(f"n.{ORIGIN}", "-t", "CAA")
+        report.check("types: what it adds", (f'n.{ORIGIN} 60 IN CAA 0 iodef "mailto:x"\n', 0), (run.output, run.status))
+
+
 BOTH = ["one.test.", "two.test."]
 # A name, the value of `--ndots`, and the search list.
 SEARCHES: List[Tuple[str, Optional[int], List[str]]] = [
@@ -113,6 +136,11 @@ def try_local(report: Report, given: Given) -> None:
         (outcome,) = asked.resolver.ask(["1.0.9.10.in-addr.arpa. PTR"])
         names = [name_text(it.data[0]).lower() for it in outcome.records]
         report.check("hosts: the names of an address", ({"named.o.test.", "alias."}, 0), (set(names), outcome.questions))
+        (outcome,) = asked.resolver.run("--json", "-x", "10.9.0.1").outcomes()
+        names = [name_text(it.data[0]).lower() for it in outcome.records]
+        report.check("hosts: the names of an address by -x", ({"named.o.test.", "alias."}, 0), (set(names), outcome.questions))
+        run = asked.resolver.run("-x", "10.9.0.3")
+        report.check("a reverse name by -x", ("3.0.9.10.in-addr.arpa. 86400 IN PTR a.o.test.\n", 0), (run.output.lower().replace(" in ptr ", " IN PTR "), run.status))
         (outcome,) = asked.resolver.run("--json", "named.o.test.", "--hosts", "/nonexistent/hosts").outcomes()
         report.check("no hosts file", ("nothing", "NXDomain"), (outcome.status, outcome.code))
 
