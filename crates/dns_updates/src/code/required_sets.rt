@@ -60,12 +60,7 @@ fn is_first_of_set(earlier: &[Record], prerequisite: &Record) -> bool
 fn is_required_by(prerequisites: &[Record], resource_record: &Record) -> bool
     ensures { result ≡ list_any (is_required_with resource_record.now) prerequisites.now }
 {
-    for prerequisite in prerequisites {
-        if is_required_with(resource_record, prerequisite) {
-            return true;
-        }
-    }
-    false
+    prerequisites.iter().any(|prerequisite| is_required_with(resource_record, prerequisite))
 }
 
 /// Returns `true` if a prerequisite requires data of the owner and type of a record.

@@ -44,24 +44,14 @@ fn any_at(sets: &[RecordSet], owner: &Name, record_type: RecordType) -> bool
     ensures { result ≡ list_any
         (λ s. eq_by_cmp key_cmp (key owner.now.labels record_type) (set_key s)) sets.now }
 {
-    for set in sets {
-        if is_at(set, owner, record_type) {
-            return true;
-        }
-    }
-    false
+    sets.iter().any(|set| is_at(set, owner, record_type))
 }
 
 /// Returns `true` if a set has this owner.
 fn any_of(sets: &[RecordSet], owner: &Name) -> bool
     ensures { result ≡ list_any (λ s. same_labels owner.now.labels s.name.labels) sets.now }
 {
-    for set in sets {
-        if owner.eq_ignore_root(set.name()) {
-            return true;
-        }
-    }
-    false
+    sets.iter().any(|set| owner.eq_ignore_root(set.name()))
 }
 
 /// Returns the types of the sets of an owner.

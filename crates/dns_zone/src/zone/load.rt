@@ -218,24 +218,15 @@ fn fault_at(origin: &Name, sets: &[RecordSet]) -> Option<ZoneFault>
 fn has_other_class(sets: &[RecordSet]) -> bool
     ensures { result ≡ list_any (λ s. not (is_internet s)) sets.now }
 {
-    for set in sets {
-        if !set.dns_class().is_same(DNSClass::IN) {
-            return true;
-        }
-    }
-    false
+    sets.iter()
+        .any(|set| !set.dns_class().is_same(DNSClass::IN))
 }
 
 /// Returns `true` if some owner is not at or below the origin.
 fn has_owner_outside(origin: &Name, sets: &[RecordSet]) -> bool
     ensures { result ≡ list_any (λ s. not (is_inside origin.now s)) sets.now }
 {
-    for set in sets {
-        if !origin.zone_of(set.name()) {
-            return true;
-        }
-    }
-    false
+    sets.iter().any(|set| !origin.zone_of(set.name()))
 }
 
 /// Returns `true` if a set has SOA records.
@@ -256,46 +247,29 @@ fn is_start(origin: &Name, set: &RecordSet) -> bool
 fn has_soa_at(origin: &Name, sets: &[RecordSet]) -> bool
     ensures { result ≡ list_any (λ s. is_soa s && is_apex origin.now s) sets.now }
 {
-    for set in sets {
-        if is_start(origin, set) {
-            return true;
-        }
-    }
-    false
+    sets.iter().any(|set| is_start(origin, set))
 }
 
 /// Returns `true` if another name than the origin has an SOA record.
 fn has_soa_elsewhere(origin: &Name, sets: &[RecordSet]) -> bool
     ensures { result ≡ list_any (λ s. is_soa s && not (is_apex origin.now s)) sets.now }
 {
-    for set in sets {
-        if is_soa(set) && !origin.eq_ignore_root(set.name()) {
-            return true;
-        }
-    }
-    false
+    sets.iter()
+        .any(|set| is_soa(set) && !origin.eq_ignore_root(set.name()))
 }
 
 /// Returns `true` if some data of a set is too long to be encoded.
 fn has_long_data(set: &RecordSet) -> bool
     ensures { result ≡ has_long_data set.now }
 {
-    for resource_record in set.as_slice() {
-        if resource_record.rdata.encoded_len() > MAX_DATA_LENGTH {
-            return true;
-        }
-    }
-    false
+    set.as_slice()
+        .iter()
+        .any(|record| record.rdata.encoded_len() > MAX_DATA_LENGTH)
 }
 
 /// Returns `true` if some data is too long to be encoded.
 fn has_set_of_long_data(sets: &[RecordSet]) -> bool
     ensures { result ≡ list_any has_long_data sets.now }
 {
-    for set in sets {
-        if has_long_data(set) {
-            return true;
-        }
-    }
-    false
+    sets.iter().any(|set| has_long_data(set))
 }

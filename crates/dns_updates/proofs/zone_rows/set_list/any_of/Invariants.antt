@@ -1,8 +1,0 @@
-use Rattle.std.proofs.Common.{◌≡◌, take, false}
-use Rattle.std.specs.List.{list_any}
-use Rattle.dns_names.specs.Compare.{same_labels}
-use Rattle.dns_records.specs.RecordSet.{RecordSetValue}
-use Rattle.dns_updates.proofs.zone_rows.set_list.any_of.Given as goal
-
-abbrev pub invariant-loop-set : goal.invariant-loop-set
-invariant-loop-set l = list_any (λ (s : RecordSetValue). same_labels l.owner.labels s.name.labels) (take l.set-index l.sets) ≡ false

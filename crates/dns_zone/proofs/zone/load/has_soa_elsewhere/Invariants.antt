@@ -1,7 +1,0 @@
-use Rattle.std.proofs.Common.{◌≡◌, ◌&&◌, not, drop}
-use Rattle.std.specs.List.{list_any}
-use Rattle.dns_zone.specs.Load.{is_soa, is_apex}
-use Rattle.dns_zone.proofs.zone.load.has_soa_elsewhere.Given as goal
-
-abbrev pub invariant-loop-set : goal.invariant-loop-set
-invariant-loop-set l = list_any (λ s. is_soa s && not (is_apex l.origin s)) (drop l.set-index l.sets) ≡ list_any (λ s. is_soa s && not (is_apex l.origin s)) l.sets
