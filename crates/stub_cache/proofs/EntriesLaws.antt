@@ -7,18 +7,16 @@ use Rattle.std.specs.BTreeMap as tree
 use Rattle.std.specs.Map.{lookup, remove_entry, values_of, keys_of}
 use Rattle.std.specs.List.{AllByRecursion, list_any, find}
 use Rattle.std.specs.List.Sorted.{IsStrictlySortedBy}
-use Rattle.std.proofs.lemmas.Bool.{and_left, and_right, and_from, le-leb, lt-leb, cases_eq, cases_lt, eq-eqb, ne_eqb, cond-true, cond-false}
+use Rattle.std.proofs.lemmas.Bool.{and_left, and_right, and_from, le-leb, lt-leb, cases_eq, eq-eqb, ne_eqb}
 use Rattle.std.proofs.lemmas.Bool.Decides.{nat_tests}
 use Rattle.std.proofs.lemmas.Map.Keys.{sorted_head, sorted_tail}
 use Rattle.dns_messages.specs.declared.query.Query.{Query}
 use Rattle.stub_cache.specs.Cache.{cleared_of, evicted, is_about, is_current, is_first_due}
 use Rattle.stub_cache.specs.declared.cache.entry.Entry.{Entry}
-use Rattle.std.proofs.lemmas.Cmp.{nat_cmp_total}
-use Rattle.std.proofs.lemmas.List.Elements.{recursion_from_All}
-use Rattle.std.proofs.lemmas.Map.Views.{All-found}
-use Rattle.stub_cache.specs.internal.Table.{IsIndexed, entry_at}
+use Rattle.stub_cache.specs.internal.Table.{IsIndexed, stamped}
 use Rattle.stub_cache.specs.declared.cache.table.EntryTable.{EntryTable}
-use Rattle.stub_cache.proofs.TableLaws.{is_at_itself, is_at_other, is_stamp}
+use Rattle.stub_cache.proofs.StampLaws.{all_from_found, by_stamp_ordered, is_at_itself, is_at_other, slot_from_found}
+use Rattle.stub_cache.proofs.TableLaws.{is_stamp}
 
 -- ---- stamps below another
 
@@ -31,21 +29,11 @@ is_above stamp other lower = grind (arith, nat_tests)
 is_below : (stamp other : ℕ) → nat_cmp stamp other ≡ Less → stamp < other
 is_below stamp other lower = grind (arith, nat_tests)
 
-not_at : (stamp other : ℕ) → other < stamp → is_eq (nat_cmp stamp other) ≡ false
-not_at stamp other lower = is_at_other stamp other (λ same. omega (arith, same, lower))
-
-below_next : (leaving : Option ℕ) (t : EntryTable) (stamp : ℕ) (e : Entry) → IsIndexed leaving t → entry_at t stamp ≡ Some e → stamp < t.next_stamp
-below_next leaving t stamp e is found = split (cases_lt stamp t.next_stamp)
-  where
-    split : (stamp < t.next_stamp) ⊎ (t.next_stamp ≤ stamp) → stamp < t.next_stamp
-    split (inl lower) = lower
-    split (inr later) = let none = is.fresh stamp later in absurd (cc)
-
 -- all stamps are below the next one
-pub all_below : (leaving : Option ℕ) (t : EntryTable) → IsIndexed leaving t → AllBelow t.next_stamp t.entries.entries
+pub all_below : (leaving : Option ℕ) (t : EntryTable) → IsIndexed leaving t → AllBelow t.next_stamp (stamped t)
 all_below leaving t is =
-    recursion_from_All (λ (p : ℕ × Entry). p.0 < t.next_stamp) t.entries.entries
-    (λ k d h. below_next leaving t _ _ is (All-found nat_cmp_total t.entries is.ordered k d h))
+    all_from_found (λ (p : ℕ × Entry). p.0 < t.next_stamp) (stamped t) (by_stamp_ordered t.slots.slots)
+    (λ stamp e found. let place = slot_from_found t.slots.slots stamp e found in is.fresh place.0 (stamp, e) place.1)
 
 -- an entry with a later stamp than all others comes last
 pub insert_last : (es : List (ℕ × Entry)) (stamp : ℕ) (e : Entry) → AllBelow stamp es → tree.insert_entry nat_cmp es stamp e ≡ es ++ (stamp, e) ∷ []
@@ -53,17 +41,6 @@ insert_last [] stamp e below = refl
 insert_last (p ∷ es) stamp e below =
     ap (λ o. match_ordering o ((stamp, e) ∷ p ∷ es) ((p.0, e) ∷ es) (p ∷ tree.insert_entry nat_cmp es stamp e)) (is_above stamp p.0 below.0)
     ∙ ap (λ xs. p ∷ xs) (insert_last es stamp e below.1)
-
-pub remove_last : (es : List (ℕ × Entry)) (stamp : ℕ) (e : Entry) → AllBelow stamp es → remove_entry (tree.is_at (nat_cmp stamp)) (es ++ (stamp, e) ∷ []) ≡ es
-remove_last [] stamp e below = cond-true (is_eq (nat_cmp stamp stamp)) _ _ (is_at_itself stamp)
-remove_last (p ∷ es) stamp e below =
-    cond-false (is_eq (nat_cmp stamp p.0)) _ _ (not_at stamp p.0 below.0) ∙ ap (λ xs. p ∷ xs) (remove_last es stamp e below.1)
-
--- an entry that is taken back
-pub taken_back : (stamp : ℕ) (e : Entry) (old mid new : List (ℕ × Entry)) → AllBelow stamp old
-    → mid ≡ tree.insert_entry nat_cmp old stamp e → new ≡ remove_entry (tree.is_at (nat_cmp stamp)) mid → new ≡ old
-taken_back stamp e old mid new below put back =
-    back ∙ (ap (remove_entry (tree.is_at (nat_cmp stamp))) (put ∙ insert_last old stamp e below) ∙ remove_last old stamp e below)
 
 -- an entry that is there is removed from the front
 pub remove_before : (es more : List (ℕ × Entry)) (stamp : ℕ) → IsSome (lookup (tree.is_at (nat_cmp stamp)) es)

@@ -4,5 +4,6 @@ pub mod EntriesLaws
 pub mod EvictionLaws
 pub mod KeyLaws
 pub mod LifetimeLaws
+pub mod StampLaws
 pub mod StayingLaws
 pub mod TableLaws

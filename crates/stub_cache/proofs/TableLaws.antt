@@ -1,22 +1,22 @@
 -- The indexes of a table, while entries are appended and removed.
-use Rattle.std.proofs.Common.{◌≡◌, ◌≢◌, ℕ, ◌+◌, ◌≤◌, Bool, true, false, List, ap, sym, ◌∙◌, subst, arith, ◌⊎◌, inl, inr}
-use Rattle.std.specs.Prelude.{Option, Some, None, option_map, ◌==◌}
-use Rattle.std.specs.Ordering.{is_eq, nat_cmp}
+use Rattle.std.proofs.Common.{◌≡◌, ◌≢◌, ℕ, ◌+◌, ◌<◌, Bool, true, false, List, get_or, ap, sym, ◌∙◌, subst, arith, ◌⊎◌, inl, inr}
+use Rattle.std.specs.Prelude.{Option, Some, None, IsSome, is_some, Result, Ok, Err, OnErr, option_map, ◌==◌}
+use Rattle.std.specs.Ordering.{is_eq}
 use Rattle.std.specs.Cmp.Lexicographic.{nat_list_eq_equiv}
 use Rattle.std.specs.Str.{bytes_eq}
-use Rattle.std.specs.BTreeMap as tree
 use Rattle.std.specs.BTreeSet as sorted
 use Rattle.std.specs.HashMap as hash
-use Rattle.std.specs.List.Sorted.{IsStrictlySortedBy}
-use Rattle.std.specs.Map.{keys_of, lookup, IsKeyTest, AreApart, KeepsOthers}
+use Rattle.std.specs.Map.{lookup, IsKeyTest, AreApart as AreKeysApart, KeepsOthers}
 use Rattle.std.specs.declared.vec.Vec.{Vec}
-use Rattle.std.proofs.lemmas.Bool.{cases_eq, cases_Bool, eq-eqb, ne_eqb, false_from_ne_true}
+use Rattle.std.proofs.lemmas.Bool.{and_from, and_left, and_right, cases_eq, cases_Bool, eq-eqb, ne_eqb, false_from_ne_true}
 use Rattle.std.proofs.lemmas.Bool.Decides.{nat_tests}
 use Rattle.std.proofs.lemmas.Slice.Eq.{bytes_eq-Decides}
+use Rattle.slab.specs.Slab as slab
 use Rattle.stub_cache.specs.internal.Key.{key_of}
-use Rattle.stub_cache.specs.internal.Table.{IsIndexed, due_cmp, entry_at, has_deadline, is_due, stamp_at, stamp_in}
+use Rattle.stub_cache.specs.internal.Table.{IsIndexed, due_cmp, is_dated, is_due, slot_at, slot_in, stored_at}
 use Rattle.stub_cache.specs.declared.cache.entry.Entry.{Entry}
 use Rattle.stub_cache.specs.declared.cache.table.EntryTable.{EntryTable}
+use Rattle.stub_cache.proofs.StampLaws.{AreApart, taken_apart}
 
 -- ---- equality of keys
 
@@ -30,81 +30,128 @@ cases_key key other = split (cases_Bool (bytes_eq key other))
 differ : (key other : List ℕ) → (key ≡ other → ⊥) → bytes_eq other key ≡ false
 differ key other differs = false_from_ne_true (bytes_eq other key) (λ is. differs (sym ((bytes_eq-Decides other key).0 is)))
 
+-- ---- whether an entry has a deadline and a stamp
+
+dated : (deadline stamp : ℕ) (p : ℕ × Entry) → p.1.deadline ≡ deadline → p.0 ≡ stamp → is_dated deadline stamp (Some p) ≡ true
+dated deadline stamp p on_time same = and_from (p.1.deadline == deadline) (p.0 == stamp) (eq-eqb p.1.deadline deadline on_time) (eq-eqb p.0 stamp same)
+
+not_dated : (deadline stamp : ℕ) (p : ℕ × Entry) → (p.1.deadline ≡ deadline → p.0 ≡ stamp → ⊥) → is_dated deadline stamp (Some p) ≡ false
+not_dated deadline stamp p differs = split (cases_eq p.1.deadline deadline) (cases_eq p.0 stamp)
+  where
+    split : (p.1.deadline ≡ deadline) ⊎ (p.1.deadline ≡ deadline → ⊥) → (p.0 ≡ stamp) ⊎ (p.0 ≡ stamp → ⊥) → is_dated deadline stamp (Some p) ≡ false
+    split (inl on_time) (inl same) = absurd (differs on_time same)
+    split (inl on_time) (inr other) = and_right (p.1.deadline == deadline) (p.0 == stamp) (ne_eqb p.0 stamp other)
+    split (inr late) same = and_left (p.1.deadline == deadline) (p.0 == stamp) (ne_eqb p.1.deadline deadline late)
+
+-- a deadline and a stamp are those of an entry, or differ
+cases_dated : (deadline stamp : ℕ) (p : ℕ × Entry) → ((p.1.deadline ≡ deadline) × (p.0 ≡ stamp)) ⊎ (p.1.deadline ≡ deadline → p.0 ≡ stamp → ⊥)
+cases_dated deadline stamp p = split (cases_eq p.1.deadline deadline) (cases_eq p.0 stamp)
+  where
+    split : (p.1.deadline ≡ deadline) ⊎ (p.1.deadline ≡ deadline → ⊥) → (p.0 ≡ stamp) ⊎ (p.0 ≡ stamp → ⊥)
+        → ((p.1.deadline ≡ deadline) × (p.0 ≡ stamp)) ⊎ (p.1.deadline ≡ deadline → p.0 ≡ stamp → ⊥)
+    split (inl on_time) (inl same) = inl (on_time, same)
+    split (inl on_time) (inr other) = inr (λ _ same. other same)
+    split (inr late) same = inr (λ on_time _. late on_time)
+
 -- ---- a table with an entry more
 
--- one table is another with an entry appended, whose key leads to it
-pub record IsAppended (old new : EntryTable) (e : Entry) : Type 0 where
-  pub entry_here : entry_at new old.next_stamp ≡ Some e
-  pub entry_other : (stamp : ℕ) → (old.next_stamp ≡ stamp → ⊥) → entry_at new stamp ≡ entry_at old stamp
-  pub stamp_here : stamp_at new (key_of e.question) ≡ Some old.next_stamp
-  pub stamp_other : (key : List ℕ) → (key_of e.question ≡ key → ⊥) → stamp_at new key ≡ stamp_at old key
-  pub due_here : is_due new e.deadline old.next_stamp ≡ true
-  pub due_other : (deadline stamp : ℕ) → ((e.deadline ≡ deadline) × (old.next_stamp ≡ stamp) → ⊥) → is_due new deadline stamp ≡ is_due old deadline stamp
+-- one table is another with an entry in a slot that was free, to which the entry's key leads
+pub record IsAppended (old new : EntryTable) (slot : ℕ) (e : Entry) : Type 0 where
+  pub was_free : stored_at old slot ≡ None
+  pub entry_here : stored_at new slot ≡ Some (old.next_stamp, e)
+  pub entry_other : (other : ℕ) → (other ≡ slot → ⊥) → stored_at new other ≡ stored_at old other
+  pub slot_here : slot_at new (key_of e.question) ≡ Some slot
+  pub slot_other : (key : List ℕ) → (key_of e.question ≡ key → ⊥) → slot_at new key ≡ slot_at old key
+  pub due_here : is_due new e.deadline old.next_stamp slot ≡ true
+  pub due_other : (deadline stamp other : ℕ) → (e.deadline ≡ deadline → old.next_stamp ≡ stamp → slot ≡ other → ⊥) → is_due new deadline stamp other ≡ is_due old deadline stamp other
   pub next : new.next_stamp ≡ old.next_stamp + 1
-  pub ordered : tree.IsOrdered nat_cmp new.entries
 
-module _ (old new : EntryTable) (e : Entry) (before : IsIndexed None old) (made : IsAppended old new e) where
-  -- no key leads to the next stamp
-  unused : (key : List ℕ) (stamp : ℕ) → stamp_at old key ≡ Some stamp → old.next_stamp ≡ stamp → ⊥
-  unused key stamp is same =
-      let found = before.sound key stamp is in
-      let none = before.fresh stamp (omega (arith, same)) in
-      cc
+module _ (old new : EntryTable) (slot : ℕ) (e : Entry) (before : IsIndexed None old) (made : IsAppended old new slot e) where
+  -- no key leads to the slot
+  unused : (key : List ℕ) (other : ℕ) → slot_at old key ≡ Some other → other ≡ slot → ⊥
+  unused key other is same =
+      let at = before.sound key other is in
+      let none : stored_at old other ≡ None = subst (λ s. stored_at old s ≡ None) (sym same) made.was_free in
+      let nothing : Some key ≡ None = sym at ∙ ap (option_map (λ (p : ℕ × Entry). key_of p.1.question)) none in
+      absurd (cc)
 
-  appended_sound : (key : List ℕ) (stamp : ℕ) → stamp_at new key ≡ Some stamp → option_map (λ (x : Entry). key_of x.question) (entry_at new stamp) ≡ Some key
-  appended_sound key stamp is = split (cases_key (key_of e.question) key)
+  -- an entry is the new one, or was there
+  was_there : (other : ℕ) (p : ℕ × Entry) → stored_at new other ≡ Some p → ((other ≡ slot) × ((old.next_stamp, e) ≡ p)) ⊎ ((other ≡ slot → ⊥) × (stored_at old other ≡ Some p))
+  was_there other p is = split (cases_eq other slot)
     where
-      split : (key_of e.question ≡ key) ⊎ (key_of e.question ≡ key → ⊥) → option_map (λ (x : Entry). key_of x.question) (entry_at new stamp) ≡ Some key
+      split : (other ≡ slot) ⊎ (other ≡ slot → ⊥) → ((other ≡ slot) × ((old.next_stamp, e) ≡ p)) ⊎ ((other ≡ slot → ⊥) × (stored_at old other ≡ Some p))
       split (inl same) =
-          let here : stamp_at new key ≡ Some old.next_stamp = subst (λ k. stamp_at new k ≡ Some old.next_stamp) same made.stamp_here in
-          let stamps : old.next_stamp ≡ stamp = cc in
-          let entry : entry_at new stamp ≡ Some e = subst (λ s. entry_at new s ≡ Some e) stamps made.entry_here in
-          ap (option_map (λ (x : Entry). key_of x.question)) entry ∙ ap (λ k. Some k) same
-      split (inr differs) =
-          let was : stamp_at old key ≡ Some stamp = sym (made.stamp_other key differs) ∙ is in
-          ap (option_map (λ (x : Entry). key_of x.question)) (made.entry_other stamp (unused key stamp was)) ∙ before.sound key stamp was
+          let here : stored_at new other ≡ Some (old.next_stamp, e) = subst (λ s. stored_at new s ≡ Some (old.next_stamp, e)) (sym same) made.entry_here in
+          let entries : Some (old.next_stamp, e) ≡ Some p = sym here ∙ is in
+          let entry : (old.next_stamp, e) ≡ p = cc in
+          inl (same, entry)
+      split (inr differs) = inr (differs, sym (made.entry_other other differs) ∙ is)
 
-  appended_known : (stamp : ℕ) (x : Entry) → entry_at new stamp ≡ Some x → stamp_at old (key_of e.question) ≢ Some stamp → stamp_at new (key_of x.question) ≡ Some stamp
-  appended_known stamp x is apart = split (cases_eq old.next_stamp stamp)
+  appended_sound : (key : List ℕ) (other : ℕ) → slot_at new key ≡ Some other → option_map (λ (p : ℕ × Entry). key_of p.1.question) (stored_at new other) ≡ Some key
+  appended_sound key other is = split (cases_key (key_of e.question) key)
     where
-      others : entry_at old stamp ≡ Some x → (key_of e.question ≡ key_of x.question) ⊎ (key_of e.question ≡ key_of x.question → ⊥) → stamp_at new (key_of x.question) ≡ Some stamp
+      split : (key_of e.question ≡ key) ⊎ (key_of e.question ≡ key → ⊥) → option_map (λ (p : ℕ × Entry). key_of p.1.question) (stored_at new other) ≡ Some key
+      split (inl same) =
+          let here : slot_at new key ≡ Some slot = subst (λ k. slot_at new k ≡ Some slot) same made.slot_here in
+          let somes : Some slot ≡ Some other = sym here ∙ is in
+          let slots : slot ≡ other = cc in
+          let entry : stored_at new other ≡ Some (old.next_stamp, e) = subst (λ s. stored_at new s ≡ Some (old.next_stamp, e)) slots made.entry_here in
+          ap (option_map (λ (p : ℕ × Entry). key_of p.1.question)) entry ∙ ap (λ k. Some k) same
+      split (inr differs) =
+          let was : slot_at old key ≡ Some other = sym (made.slot_other key differs) ∙ is in
+          ap (option_map (λ (p : ℕ × Entry). key_of p.1.question)) (made.entry_other other (unused key other was)) ∙ before.sound key other was
+
+  appended_known : (other : ℕ) (p : ℕ × Entry) → stored_at new other ≡ Some p → slot_at old (key_of e.question) ≢ Some other → slot_at new (key_of p.1.question) ≡ Some other
+  appended_known other p is apart = split (was_there other p is)
+    where
+      others : stored_at old other ≡ Some p → (key_of e.question ≡ key_of p.1.question) ⊎ (key_of e.question ≡ key_of p.1.question → ⊥) → slot_at new (key_of p.1.question) ≡ Some other
       others was (inl same) =
-          let known = before.known stamp x was (λ h. absurd (cc)) in
-          absurd (apart (subst (λ k. stamp_at old k ≡ Some stamp) (sym same) known))
-      others was (inr differs) = made.stamp_other (key_of x.question) differs ∙ before.known stamp x was (λ h. absurd (cc))
+          let known = before.known other p was (λ h. absurd (cc)) in
+          absurd (apart (subst (λ k. slot_at old k ≡ Some other) (sym same) known))
+      others was (inr differs) = made.slot_other (key_of p.1.question) differs ∙ before.known other p was (λ h. absurd (cc))
 
-      split : (old.next_stamp ≡ stamp) ⊎ (old.next_stamp ≡ stamp → ⊥) → stamp_at new (key_of x.question) ≡ Some stamp
-      split (inl same) =
-          let here : entry_at new stamp ≡ Some e = subst (λ s. entry_at new s ≡ Some e) same made.entry_here in
-          let entries : e ≡ x = cc in
-          subst (λ (y : Entry). stamp_at new (key_of y.question) ≡ Some stamp) entries (made.stamp_here ∙ ap (λ s. Some s) same)
-      split (inr differs) = others (sym (made.entry_other stamp differs) ∙ is) (cases_key (key_of e.question) (key_of x.question))
+      split : ((other ≡ slot) × ((old.next_stamp, e) ≡ p)) ⊎ ((other ≡ slot → ⊥) × (stored_at old other ≡ Some p)) → slot_at new (key_of p.1.question) ≡ Some other
+      split (inl here) = subst (λ (q : ℕ × Entry). slot_at new (key_of q.1.question) ≡ Some other) here.1 (made.slot_here ∙ ap (λ s. Some s) (sym here.0))
+      split (inr there) = others there.1 (cases_key (key_of e.question) (key_of p.1.question))
 
-  appended_timely : (deadline stamp : ℕ) → is_due new deadline stamp ≡ has_deadline deadline (entry_at new stamp)
-  appended_timely deadline stamp = split (cases_eq old.next_stamp stamp)
+  appended_timely : (deadline stamp other : ℕ) → is_due new deadline stamp other ≡ is_dated deadline stamp (stored_at new other)
+  appended_timely deadline stamp other = split (cases_eq other slot)
     where
-      last : old.next_stamp ≡ stamp → (e.deadline ≡ deadline) ⊎ (e.deadline ≡ deadline → ⊥) → is_due new deadline old.next_stamp ≡ (e.deadline == deadline)
-      last same (inl on_time) = subst (λ d. is_due new d old.next_stamp ≡ true) on_time made.due_here ∙ sym (eq-eqb e.deadline deadline on_time)
-      last same (inr differs) =
-          made.due_other deadline old.next_stamp (λ h. differs h.0)
-          ∙ (before.timely deadline old.next_stamp ∙ (ap (has_deadline deadline) (before.fresh old.next_stamp (omega arith)) ∙ sym (ne_eqb e.deadline deadline differs)))
+      here : ((e.deadline ≡ deadline) × (old.next_stamp ≡ stamp)) ⊎ (e.deadline ≡ deadline → old.next_stamp ≡ stamp → ⊥) → is_due new deadline stamp slot ≡ is_dated deadline stamp (Some (old.next_stamp, e))
+      here (inl same) =
+          subst (λ d. is_due new d stamp slot ≡ true) same.0 (subst (λ s. is_due new e.deadline s slot ≡ true) same.1 made.due_here)
+          ∙ sym (dated deadline stamp (old.next_stamp, e) same.0 same.1)
+      here (inr differs) =
+          made.due_other deadline stamp slot (λ on_time same _. differs on_time same)
+          ∙ (before.timely deadline stamp slot ∙ (ap (is_dated deadline stamp) made.was_free ∙ sym (not_dated deadline stamp (old.next_stamp, e) differs)))
 
-      split : (old.next_stamp ≡ stamp) ⊎ (old.next_stamp ≡ stamp → ⊥) → is_due new deadline stamp ≡ has_deadline deadline (entry_at new stamp)
+      split : (other ≡ slot) ⊎ (other ≡ slot → ⊥) → is_due new deadline stamp other ≡ is_dated deadline stamp (stored_at new other)
       split (inl same) =
-          subst (λ s. is_due new deadline s ≡ has_deadline deadline (entry_at new s)) same
-          (last same (cases_eq e.deadline deadline) ∙ sym (ap (has_deadline deadline) made.entry_here))
+          subst (λ s. is_due new deadline stamp s ≡ is_dated deadline stamp (stored_at new s)) (sym same)
+          (here (cases_dated deadline stamp (old.next_stamp, e)) ∙ sym (ap (is_dated deadline stamp) made.entry_here))
       split (inr differs) =
-          made.due_other deadline stamp (λ h. differs h.1) ∙ (before.timely deadline stamp ∙ sym (ap (has_deadline deadline) (made.entry_other stamp differs)))
+          made.due_other deadline stamp other (λ _ _ same. differs (sym same))
+          ∙ (before.timely deadline stamp other ∙ sym (ap (is_dated deadline stamp) (made.entry_other other differs)))
 
-  pub appended : IsIndexed (stamp_at old (key_of e.question)) new
+  appended_fresh : (other : ℕ) (p : ℕ × Entry) → stored_at new other ≡ Some p → p.0 < new.next_stamp
+  appended_fresh other p is = split (was_there other p is)
+    where
+      split : ((other ≡ slot) × ((old.next_stamp, e) ≡ p)) ⊎ ((other ≡ slot → ⊥) × (stored_at old other ≡ Some p)) → p.0 < new.next_stamp
+      split (inl here) = let stamps : old.next_stamp ≡ p.0 = ap (λ (q : ℕ × Entry). q.0) here.1 in omega (arith, stamps, made.next)
+      split (inr there) = let lower = before.fresh other p there.1 in omega (arith, lower, made.next)
+
+  appended_distinct : AreApart new.slots.slots
+  appended_distinct =
+      taken_apart old.slots.slots new.slots.slots slot (old.next_stamp, e) made.entry_here made.entry_other before.distinct
+      (λ other q is same. let lower = before.fresh other q is in omega (arith, lower, same))
+
+  pub appended : IsIndexed (slot_at old (key_of e.question)) new
   appended = record {
     sound = appended_sound;
     known = appended_known;
     timely = appended_timely;
-    fresh = λ stamp later.
-        let above : old.next_stamp + 1 ≤ stamp = omega (arith, made.next, later) in
-        made.entry_other stamp (λ same. omega (arith, above, same)) ∙ before.fresh stamp (omega (arith, above));
-    ordered = made.ordered;
+    fresh = appended_fresh;
+    distinct = appended_distinct;
   }
 
 -- ---- a table with an entry less
@@ -114,88 +161,86 @@ abbrev pub is_stamp : ℕ → Option ℕ → Bool
 is_stamp stamp None = false
 is_stamp stamp (Some other) = other == stamp
 
--- one table is another without an entry, to which no key leads any more
-pub record IsRemoved (old new : EntryTable) (gone : ℕ) (e : Entry) : Type 0 where
-  pub entry_old : entry_at old gone ≡ Some e
-  pub entry_here : entry_at new gone ≡ None
-  pub entry_other : (stamp : ℕ) → (gone ≡ stamp → ⊥) → entry_at new stamp ≡ entry_at old stamp
-  pub stamp_here : stamp_at new (key_of e.question) ≢ Some gone
-  pub stamp_other : (key : List ℕ) (stamp : ℕ) → (stamp ≡ gone → ⊥) → stamp_at old key ≡ Some stamp → stamp_at new key ≡ Some stamp
-  pub stamp_only : (key : List ℕ) (stamp : ℕ) → stamp_at new key ≡ Some stamp → stamp_at old key ≡ Some stamp
-  pub due_here : is_due new e.deadline gone ≡ false
-  pub due_other : (deadline stamp : ℕ) → ((e.deadline ≡ deadline) × (gone ≡ stamp) → ⊥) → is_due new deadline stamp ≡ is_due old deadline stamp
+-- one table is another without the entry in a slot, to which no key leads any more
+pub record IsRemoved (old new : EntryTable) (slot : ℕ) (gone : ℕ × Entry) : Type 0 where
+  pub entry_old : stored_at old slot ≡ Some gone
+  pub entry_here : stored_at new slot ≡ None
+  pub entry_other : (other : ℕ) → (other ≡ slot → ⊥) → stored_at new other ≡ stored_at old other
+  pub slot_here : slot_at new (key_of gone.1.question) ≢ Some slot
+  pub slot_other : (key : List ℕ) (other : ℕ) → (other ≡ slot → ⊥) → slot_at old key ≡ Some other → slot_at new key ≡ Some other
+  pub slot_only : (key : List ℕ) (other : ℕ) → slot_at new key ≡ Some other → slot_at old key ≡ Some other
+  pub due_here : is_due new gone.1.deadline gone.0 slot ≡ false
+  pub due_other : (deadline stamp other : ℕ) → (gone.1.deadline ≡ deadline → gone.0 ≡ stamp → slot ≡ other → ⊥) → is_due new deadline stamp other ≡ is_due old deadline stamp other
   pub next : new.next_stamp ≡ old.next_stamp
-  pub ordered : tree.IsOrdered nat_cmp new.entries
 
-module _ (old new : EntryTable) (gone : ℕ) (e : Entry) (before : IsIndexed (Some gone) old) (made : IsRemoved old new gone e) where
-  removed_sound : (key : List ℕ) (stamp : ℕ) → stamp_at new key ≡ Some stamp → option_map (λ (x : Entry). key_of x.question) (entry_at new stamp) ≡ Some key
-  removed_sound key stamp is = split (cases_eq gone stamp)
+module _ (old new : EntryTable) (slot : ℕ) (gone : ℕ × Entry) (before : IsIndexed (Some slot) old) (made : IsRemoved old new slot gone) where
+  -- an entry that is left was there
+  left_over : (other : ℕ) (p : ℕ × Entry) → stored_at new other ≡ Some p → (other ≡ slot → ⊥) × (stored_at old other ≡ Some p)
+  left_over other p is = (differs, sym (made.entry_other other differs) ∙ is)
     where
-      was : stamp_at old key ≡ Some stamp
-      was = made.stamp_only key stamp is
+      differs : other ≡ slot → ⊥
+      differs same = let none : stored_at new other ≡ None = subst (λ s. stored_at new s ≡ None) (sym same) made.entry_here in cc
 
-      split : (gone ≡ stamp) ⊎ (gone ≡ stamp → ⊥) → option_map (λ (x : Entry). key_of x.question) (entry_at new stamp) ≡ Some key
-      split (inl same) =
-          let found = before.sound key stamp was in
-          let entry : entry_at old stamp ≡ Some e = subst (λ s. entry_at old s ≡ Some e) same made.entry_old in
-          let keys : Some (key_of e.question) ≡ Some key = sym (ap (option_map (λ (x : Entry). key_of x.question)) entry) ∙ found in
-          let key_is : key_of e.question ≡ key = cc in
-          absurd (made.stamp_here (subst (λ k. stamp_at new k ≡ Some gone) (sym key_is) (is ∙ ap (λ s. Some s) (sym same))))
-      split (inr differs) = ap (option_map (λ (x : Entry). key_of x.question)) (made.entry_other stamp differs) ∙ before.sound key stamp was
-
-  removed_known : (stamp : ℕ) (x : Entry) → entry_at new stamp ≡ Some x → stamp_at new (key_of x.question) ≡ Some stamp
-  removed_known stamp x is = split (cases_eq gone stamp)
+  removed_sound : (key : List ℕ) (other : ℕ) → slot_at new key ≡ Some other → option_map (λ (p : ℕ × Entry). key_of p.1.question) (stored_at new other) ≡ Some key
+  removed_sound key other is = split (cases_eq other slot)
     where
-      split : (gone ≡ stamp) ⊎ (gone ≡ stamp → ⊥) → stamp_at new (key_of x.question) ≡ Some stamp
+      was : slot_at old key ≡ Some other
+      was = made.slot_only key other is
+
+      split : (other ≡ slot) ⊎ (other ≡ slot → ⊥) → option_map (λ (p : ℕ × Entry). key_of p.1.question) (stored_at new other) ≡ Some key
       split (inl same) =
-          let none : entry_at new stamp ≡ None = subst (λ s. entry_at new s ≡ None) same made.entry_here in
-          absurd (cc)
+          let at = before.sound key other was in
+          let entry : stored_at old other ≡ Some gone = subst (λ s. stored_at old s ≡ Some gone) (sym same) made.entry_old in
+          let keys : Some (key_of gone.1.question) ≡ Some key = sym (ap (option_map (λ (p : ℕ × Entry). key_of p.1.question)) entry) ∙ at in
+          let key_is : key_of gone.1.question ≡ key = cc in
+          absurd (made.slot_here (subst (λ k. slot_at new k ≡ Some slot) (sym key_is) (is ∙ ap (λ s. Some s) same)))
+      split (inr differs) = ap (option_map (λ (p : ℕ × Entry). key_of p.1.question)) (made.entry_other other differs) ∙ before.sound key other was
+
+  removed_known : (other : ℕ) (p : ℕ × Entry) → stored_at new other ≡ Some p → slot_at new (key_of p.1.question) ≡ Some other
+  removed_known other p is =
+      let was = left_over other p is in
+      made.slot_other (key_of p.1.question) other was.0 (before.known other p was.1 (λ h. was.0 (sym (cc))))
+
+  removed_timely : (deadline stamp other : ℕ) → is_due new deadline stamp other ≡ is_dated deadline stamp (stored_at new other)
+  removed_timely deadline stamp other = split (cases_eq other slot)
+    where
+      here : ((gone.1.deadline ≡ deadline) × (gone.0 ≡ stamp)) ⊎ (gone.1.deadline ≡ deadline → gone.0 ≡ stamp → ⊥) → is_due new deadline stamp slot ≡ false
+      here (inl same) = subst (λ d. is_due new d stamp slot ≡ false) same.0 (subst (λ s. is_due new gone.1.deadline s slot ≡ false) same.1 made.due_here)
+      here (inr differs) =
+          made.due_other deadline stamp slot (λ on_time same _. differs on_time same)
+          ∙ (before.timely deadline stamp slot ∙ (ap (is_dated deadline stamp) made.entry_old ∙ not_dated deadline stamp gone differs))
+
+      split : (other ≡ slot) ⊎ (other ≡ slot → ⊥) → is_due new deadline stamp other ≡ is_dated deadline stamp (stored_at new other)
+      split (inl same) =
+          subst (λ s. is_due new deadline stamp s ≡ is_dated deadline stamp (stored_at new s)) (sym same)
+          (here (cases_dated deadline stamp gone) ∙ sym (ap (is_dated deadline stamp) made.entry_here))
       split (inr differs) =
-          made.stamp_other (key_of x.question) stamp (λ h. differs (sym h)) (before.known stamp x (sym (made.entry_other stamp differs) ∙ is) (λ h. differs (cc)))
-
-  removed_timely : (deadline stamp : ℕ) → is_due new deadline stamp ≡ has_deadline deadline (entry_at new stamp)
-  removed_timely deadline stamp = split (cases_eq gone stamp)
-    where
-      first : (e.deadline ≡ deadline) ⊎ (e.deadline ≡ deadline → ⊥) → is_due new deadline gone ≡ false
-      first (inl on_time) = subst (λ d. is_due new d gone ≡ false) on_time made.due_here
-      first (inr differs) =
-          made.due_other deadline gone (λ h. differs h.0)
-          ∙ (before.timely deadline gone ∙ (ap (has_deadline deadline) made.entry_old ∙ ne_eqb e.deadline deadline differs))
-
-      split : (gone ≡ stamp) ⊎ (gone ≡ stamp → ⊥) → is_due new deadline stamp ≡ has_deadline deadline (entry_at new stamp)
-      split (inl same) =
-          subst (λ s. is_due new deadline s ≡ has_deadline deadline (entry_at new s)) same
-          (first (cases_eq e.deadline deadline) ∙ sym (ap (has_deadline deadline) made.entry_here))
-      split (inr differs) =
-          made.due_other deadline stamp (λ h. differs h.1) ∙ (before.timely deadline stamp ∙ sym (ap (has_deadline deadline) (made.entry_other stamp differs)))
+          made.due_other deadline stamp other (λ _ _ same. differs (sym same))
+          ∙ (before.timely deadline stamp other ∙ sym (ap (is_dated deadline stamp) (made.entry_other other differs)))
 
   pub removed : IsIndexed None new
   removed = record {
     sound = removed_sound;
-    known = λ stamp x is apart. removed_known stamp x is;
+    known = λ other p is apart. removed_known other p is;
     timely = removed_timely;
-    fresh = λ stamp later. split stamp later (cases_eq gone stamp);
-    ordered = made.ordered;
+    fresh = λ other p is. let lower = before.fresh other p (left_over other p is).1 in omega (arith, lower, made.next);
+    distinct = λ one other p q first second same. before.distinct one other p q (left_over one p first).1 (left_over other q second).1 same;
   }
-    where
-      split : (stamp : ℕ) → new.next_stamp ≤ stamp → (gone ≡ stamp) ⊎ (gone ≡ stamp → ⊥) → entry_at new stamp ≡ None
-      split stamp later (inl same) = subst (λ s. entry_at new s ≡ None) same made.entry_here
-      split stamp later (inr differs) = made.entry_other stamp differs ∙ before.fresh stamp (omega (arith, made.next, later))
 
 -- ---- updates of the index of questions
 
 keeps : {K X : Type 0} (eq : K → K → Bool) (test : K → Bool) (old new : List (K × X)) → KeepsOthers eq test old new
-    → (other : K → Bool) → IsKeyTest eq other → AreApart test other → lookup other new ≡ lookup other old
+    → (other : K → Bool) → IsKeyTest eq other → AreKeysApart test other → lookup other new ≡ lookup other old
 unfolding KeepsOthers
 keeps eq test old new h other one apart = h other one apart
 
 module _ {Y S : Type 0} (old new : hash.HashMap (Vec ℕ Y) ℕ S) (key : List ℕ) (w : Option ℕ)
     (updates : hash.UpdatesBy (λ x y. bytes_eq x.items y.items) (λ k. bytes_eq key k.items) old new w) where
-  pub stamp_updated : stamp_in new key ≡ w
-  stamp_updated = updates.1
+  pub slot_updated : slot_in new key ≡ w
+  slot_updated = updates.1
 
-  pub stamp_kept : (other : List ℕ) → (key ≡ other → ⊥) → stamp_in new other ≡ stamp_in old other
-  stamp_kept other differs =
+  pub slot_kept : (other : List ℕ) → (key ≡ other → ⊥) → slot_in new other ≡ slot_in old other
+  slot_kept other differs =
       keeps (λ (x y : Vec ℕ Y). bytes_eq x.items y.items) (λ (k : Vec ℕ Y). bytes_eq key k.items) old.entries new.entries updates.3
       (λ (k : Vec ℕ Y). bytes_eq other k.items)
       (λ x y h. nat_list_eq_equiv.congr other x.items y.items h)
@@ -203,108 +248,133 @@ module _ {Y S : Type 0} (old new : hash.HashMap (Vec ℕ Y) ℕ S) (key : List �
       let key_is : key ≡ k.items = (bytes_eq-Decides key k.items).0 h in
       subst (λ ks. bytes_eq other ks ≡ false) key_is (differ key other differs))
 
-  -- a key that led to a stamp leads nowhere, and other keys where they did
-  pub key_gone_others : (gone : ℕ) → w ≡ None → stamp_in old key ≡ Some gone → (other : List ℕ) (stamp : ℕ) → (stamp ≡ gone → ⊥)
-      → stamp_in old other ≡ Some stamp → stamp_in new other ≡ Some stamp
-  key_gone_others gone none led other stamp apart found = split (cases_key key other)
+  -- a key that led to a slot leads nowhere, and other keys where they did
+  pub key_gone_others : (gone : ℕ) → w ≡ None → slot_in old key ≡ Some gone → (other : List ℕ) (slot : ℕ) → (slot ≡ gone → ⊥)
+      → slot_in old other ≡ Some slot → slot_in new other ≡ Some slot
+  key_gone_others gone none led other slot apart found = split (cases_key key other)
     where
-      split : (key ≡ other) ⊎ (key ≡ other → ⊥) → stamp_in new other ≡ Some stamp
+      split : (key ≡ other) ⊎ (key ≡ other → ⊥) → slot_in new other ≡ Some slot
       split (inl same) =
-          let here : stamp_in old other ≡ Some gone = subst (λ ks. stamp_in old ks ≡ Some gone) same led in
+          let here : slot_in old other ≡ Some gone = subst (λ ks. slot_in old ks ≡ Some gone) same led in
           absurd (apart (cc))
-      split (inr differs) = stamp_kept other differs ∙ found
+      split (inr differs) = slot_kept other differs ∙ found
 
-  pub key_gone_only : w ≡ None → (other : List ℕ) (stamp : ℕ) → stamp_in new other ≡ Some stamp → stamp_in old other ≡ Some stamp
-  key_gone_only none other stamp found = split (cases_key key other)
+  pub key_gone_only : w ≡ None → (other : List ℕ) (slot : ℕ) → slot_in new other ≡ Some slot → slot_in old other ≡ Some slot
+  key_gone_only none other slot found = split (cases_key key other)
     where
-      split : (key ≡ other) ⊎ (key ≡ other → ⊥) → stamp_in old other ≡ Some stamp
+      split : (key ≡ other) ⊎ (key ≡ other → ⊥) → slot_in old other ≡ Some slot
       split (inl same) =
-          let here : stamp_in new other ≡ w = subst (λ ks. stamp_in new ks ≡ w) same stamp_updated in
+          let here : slot_in new other ≡ w = subst (λ ks. slot_in new ks ≡ w) same slot_updated in
           absurd (cc)
-      split (inr differs) = sym (stamp_kept other differs) ∙ found
+      split (inr differs) = sym (slot_kept other differs) ∙ found
 
--- ---- updates of entries and of the index of deadlines
+-- ---- updates of the timeline
 
-pub is_at_itself : (stamp : ℕ) → is_eq (nat_cmp stamp stamp) ≡ true
-is_at_itself stamp = grind (arith, nat_tests)
-
-pub is_at_other : (stamp other : ℕ) → (stamp ≡ other → ⊥) → is_eq (nat_cmp stamp other) ≡ false
-is_at_other stamp other differs = grind (arith, nat_tests)
-
-pub due_apart : (p q : ℕ × ℕ) → ((p.0 ≡ q.0) × (p.1 ≡ q.1) → ⊥) → is_eq (due_cmp p q) ≡ false
-due_apart p q differs = grind (arith, nat_tests)
+pub due_apart : (p q : ℕ × ℕ × ℕ) → (p.0 ≡ q.0 → p.1 ≡ q.1 → p.2 ≡ q.2 → ⊥) → is_eq (due_cmp p q) ≡ false
+due_apart p q differs = split (cases_eq p.0 q.0) (cases_eq p.1 q.1) (cases_eq p.2 q.2)
+  where
+    split : (p.0 ≡ q.0) ⊎ (p.0 ≡ q.0 → ⊥) → (p.1 ≡ q.1) ⊎ (p.1 ≡ q.1 → ⊥) → (p.2 ≡ q.2) ⊎ (p.2 ≡ q.2 → ⊥) → is_eq (due_cmp p q) ≡ false
+    split (inl same) (inl alike) (inl equal) = absurd (differs same alike equal)
+    split (inl same) (inl alike) (inr other) = grind (arith, nat_tests)
+    split (inl same) (inr other) equal = grind (arith, nat_tests)
+    split (inr other) alike equal = grind (arith, nat_tests)
 
 -- ---- the calls that append an entry
 
-pub is_appended : (old new : EntryTable) (e : Entry) (key : List ℕ) → key ≡ key_of e.question
-    → tree.Updates nat_cmp old.entries new.entries old.next_stamp (Some e)
-    → hash.UpdatesBy (λ x y. bytes_eq x.items y.items) (λ k. bytes_eq key k.items) old.stamps new.stamps (Some old.next_stamp)
-    → sorted.Updates due_cmp old.timeline new.timeline (e.deadline, old.next_stamp) true
-    → new.next_stamp ≡ old.next_stamp + 1 → tree.IsOrdered nat_cmp new.entries → IsAppended old new e
-is_appended old new e key key_is entries stamps due next ordered = record {
-  entry_here = entries.1;
-  entry_other = λ stamp differs. entries.2 stamp (is_at_other old.next_stamp stamp differs);
-  stamp_here = subst (λ k. stamp_at new k ≡ Some old.next_stamp) key_is (stamp_updated old.stamps new.stamps key (Some old.next_stamp) stamps);
-  stamp_other = λ other differs. stamp_kept old.stamps new.stamps key (Some old.next_stamp) stamps other (λ same. differs (sym key_is ∙ same));
+pub is_appended : (old new : EntryTable) (slot : ℕ) (e : Entry) (key : List ℕ) → key ≡ key_of e.question
+    → stored_at old slot ≡ None
+    → slab.Updates old.slots new.slots slot (Some (old.next_stamp, e))
+    → hash.UpdatesBy (λ x y. bytes_eq x.items y.items) (λ k. bytes_eq key k.items) old.index new.index (Some slot)
+    → sorted.Updates due_cmp old.timeline new.timeline (e.deadline, old.next_stamp, slot) true
+    → new.next_stamp ≡ old.next_stamp + 1 → IsAppended old new slot e
+is_appended old new slot e key key_is free entries index due next = record {
+  was_free = free;
+  entry_here = entries.changed;
+  entry_other = entries.others;
+  slot_here = subst (λ k. slot_at new k ≡ Some slot) key_is (slot_updated old.index new.index key (Some slot) index);
+  slot_other = λ other differs. slot_kept old.index new.index key (Some slot) index other (λ same. differs (sym key_is ∙ same));
   due_here = due.1;
-  due_other = λ deadline stamp differs. due.2 (deadline, stamp) (due_apart (e.deadline, old.next_stamp) (deadline, stamp) differs);
+  due_other = λ deadline stamp other differs. due.2 (deadline, stamp, other) (due_apart (e.deadline, old.next_stamp, slot) (deadline, stamp, other) differs);
   next = next;
-  ordered = ordered;
 }
+
+-- slots in which an entry is put, once there is room for it
+pub put_in_room : (old mid new : slab.Slab (ℕ × Entry)) (capacity slot key : ℕ) (p q : ℕ × Entry) → mid ≡ record old { capacity = capacity } → key ≡ slot → q ≡ p
+    → slab.Updates mid new key (Some q) → slab.Updates old new slot (Some p)
+put_in_room old mid new capacity slot key p q room key_is same updates = record {
+  changed = subst (λ k. slab.get new k ≡ Some p) key_is (updates.changed ∙ ap (λ x. Some x) same);
+  others = λ other differs. updates.others other (λ is. differs (is ∙ key_is)) ∙ ap (λ (s : slab.Slab (ℕ × Entry)). slab.get s other) room;
+}
+
+-- an entry that was there is not in the slot that was free
+pub kept_in_room : (old new : slab.Slab (ℕ × Entry)) (slot : ℕ) (p : ℕ × Entry) → slab.get old slot ≡ None → slab.Updates old new slot (Some p)
+    → (other : ℕ) → IsSome (slab.get old other) → slab.get new other ≡ slab.get old other
+kept_in_room old new slot p free updates other some =
+    updates.others other (λ is. let none : slab.get old other ≡ None = subst (λ s. slab.get old s ≡ None) (sym is) free in let nothing = ap is_some none in absurd (cc))
+
+-- what holds in any case holds of a failure
+pub on_failure : {T E P : Type 0} (r : Result T E) → P → OnErr r P
+on_failure (Ok value) holds = tt
+on_failure (Err error) holds = holds
 
 -- a table with the same entries and indexes
-pub undone : (old new : EntryTable) → IsIndexed None old → new.entries.entries ≡ old.entries.entries → new.stamps.entries ≡ old.stamps.entries
-    → ((deadline stamp : ℕ) → is_due new deadline stamp ≡ is_due old deadline stamp) → new.next_stamp ≡ old.next_stamp → IsIndexed None new
-undone old new before entries stamps due next = record {
-  sound = λ key stamp is. ap (option_map (λ (x : Entry). key_of x.question)) (entry_is stamp) ∙ before.sound key stamp (sym (stamp_is key) ∙ is);
-  known = λ stamp x is apart. stamp_is (key_of x.question) ∙ before.known stamp x (sym (entry_is stamp) ∙ is) apart;
-  timely = λ deadline stamp. due deadline stamp ∙ (before.timely deadline stamp ∙ sym (ap (has_deadline deadline) (entry_is stamp)));
-  fresh = λ stamp later. entry_is stamp ∙ before.fresh stamp (omega (arith, next, later));
-  ordered = subst (λ (es : List (ℕ × Entry)). IsStrictlySortedBy nat_cmp (keys_of es)) (sym entries) before.ordered;
+pub undone : (old new : EntryTable) → IsIndexed None old → new.slots.slots ≡ old.slots.slots → new.index.entries ≡ old.index.entries
+    → ((deadline stamp slot : ℕ) → is_due new deadline stamp slot ≡ is_due old deadline stamp slot) → new.next_stamp ≡ old.next_stamp → IsIndexed None new
+undone old new before slots index due next = record {
+  sound = λ key slot is. ap (option_map (λ (p : ℕ × Entry). key_of p.1.question)) (entry_is slot) ∙ before.sound key slot (sym (slot_is key) ∙ is);
+  known = λ slot p is apart. slot_is (key_of p.1.question) ∙ before.known slot p (sym (entry_is slot) ∙ is) apart;
+  timely = λ deadline stamp slot. due deadline stamp slot ∙ (before.timely deadline stamp slot ∙ sym (ap (is_dated deadline stamp) (entry_is slot)));
+  fresh = λ slot p is. let lower = before.fresh slot p (sym (entry_is slot) ∙ is) in omega (arith, next, lower);
+  distinct = λ slot other p q first second same. before.distinct slot other p q (sym (entry_is slot) ∙ first) (sym (entry_is other) ∙ second) same;
 }
   where
-    entry_is : (stamp : ℕ) → entry_at new stamp ≡ entry_at old stamp
-    entry_is stamp = ap (lookup (tree.is_at (nat_cmp stamp))) entries
+    entry_is : (slot : ℕ) → stored_at new slot ≡ stored_at old slot
+    entry_is slot = ap (λ (ss : List (Option (ℕ × Entry))). get_or ss slot None) slots
 
-    stamp_is : (key : List ℕ) → stamp_at new key ≡ stamp_at old key
-    stamp_is key = ap (lookup (λ k. bytes_eq key k.items)) stamps
+    slot_is : (key : List ℕ) → slot_at new key ≡ slot_at old key
+    slot_is key = ap (lookup (λ k. bytes_eq key k.items)) index
 
 -- a deadline that is taken back
-pub due_undone : (old : EntryTable) (mid new : sorted.BTreeSet (ℕ × ℕ)) (due : ℕ) → IsIndexed None old
-    → sorted.Updates due_cmp old.timeline mid (due, old.next_stamp) true → sorted.Updates due_cmp mid new (due, old.next_stamp) false
-    → (deadline stamp : ℕ) → sorted.contains due_cmp new (deadline, stamp) ≡ is_due old deadline stamp
-due_undone old mid new due before put back deadline stamp = split (cases_eq due deadline) (cases_eq old.next_stamp stamp)
+pub due_undone : (old : EntryTable) (mid new : sorted.BTreeSet (ℕ × ℕ × ℕ)) (due slot : ℕ) → IsIndexed None old → stored_at old slot ≡ None
+    → sorted.Updates due_cmp old.timeline mid (due, old.next_stamp, slot) true → sorted.Updates due_cmp mid new (due, old.next_stamp, slot) false
+    → (deadline stamp other : ℕ) → sorted.contains due_cmp new (deadline, stamp, other) ≡ is_due old deadline stamp other
+due_undone old mid new due slot before free put back deadline stamp other = split (cases_eq due deadline) (cases_eq old.next_stamp stamp) (cases_eq slot other)
   where
-    apart : ((due ≡ deadline) × (old.next_stamp ≡ stamp) → ⊥) → sorted.contains due_cmp new (deadline, stamp) ≡ is_due old deadline stamp
+    apart : (due ≡ deadline → old.next_stamp ≡ stamp → slot ≡ other → ⊥) → sorted.contains due_cmp new (deadline, stamp, other) ≡ is_due old deadline stamp other
     apart differs =
-        back.2 (deadline, stamp) (due_apart (due, old.next_stamp) (deadline, stamp) differs)
-        ∙ put.2 (deadline, stamp) (due_apart (due, old.next_stamp) (deadline, stamp) differs)
+        back.2 (deadline, stamp, other) (due_apart (due, old.next_stamp, slot) (deadline, stamp, other) differs)
+        ∙ put.2 (deadline, stamp, other) (due_apart (due, old.next_stamp, slot) (deadline, stamp, other) differs)
 
-    split : (due ≡ deadline) ⊎ (due ≡ deadline → ⊥) → (old.next_stamp ≡ stamp) ⊎ (old.next_stamp ≡ stamp → ⊥) → sorted.contains due_cmp new (deadline, stamp) ≡ is_due old deadline stamp
-    split (inl on_time) (inl same) =
-        let gone : sorted.contains due_cmp new (deadline, stamp) ≡ false = subst (λ d. sorted.contains due_cmp new (d, stamp) ≡ false) on_time (subst (λ s. sorted.contains due_cmp new (due, s) ≡ false) same back.1) in
-        gone ∙ sym (before.timely deadline stamp ∙ ap (has_deadline deadline) (before.fresh stamp (omega (arith, same))))
-    split (inl on_time) (inr differs) = apart (λ h. differs h.1)
-    split (inr differs) same = apart (λ h. differs h.0)
+    split : (due ≡ deadline) ⊎ (due ≡ deadline → ⊥) → (old.next_stamp ≡ stamp) ⊎ (old.next_stamp ≡ stamp → ⊥) → (slot ≡ other) ⊎ (slot ≡ other → ⊥)
+        → sorted.contains due_cmp new (deadline, stamp, other) ≡ is_due old deadline stamp other
+    split (inl on_time) (inl same) (inl here) =
+        let gone : sorted.contains due_cmp new (deadline, stamp, other) ≡ false =
+        subst (λ d. sorted.contains due_cmp new (d, stamp, other) ≡ false) on_time
+        (subst (λ s. sorted.contains due_cmp new (due, s, other) ≡ false) same
+        (subst (λ o. sorted.contains due_cmp new (due, old.next_stamp, o) ≡ false) here back.1)) in
+        let none : stored_at old other ≡ None = subst (λ o. stored_at old o ≡ None) here free in
+        gone ∙ sym (before.timely deadline stamp other ∙ ap (is_dated deadline stamp) none)
+    split (inl on_time) (inl same) (inr differs) = apart (λ _ _ here. differs here)
+    split (inl on_time) (inr differs) here = apart (λ _ is _. differs is)
+    split (inr differs) same here = apart (λ is _ _. differs is)
 
 -- ---- the calls that remove an entry
 
-pub is_removed : (old new : EntryTable) (gone : ℕ) (e : Entry) (key : List ℕ) → key ≡ key_of e.question → entry_at old gone ≡ Some e
-    → tree.Updates nat_cmp old.entries new.entries gone None
-    → stamp_at new key ≢ Some gone
-    → ((other : List ℕ) (stamp : ℕ) → (stamp ≡ gone → ⊥) → stamp_at old other ≡ Some stamp → stamp_at new other ≡ Some stamp)
-    → ((other : List ℕ) (stamp : ℕ) → stamp_at new other ≡ Some stamp → stamp_at old other ≡ Some stamp)
-    → sorted.Updates due_cmp old.timeline new.timeline (e.deadline, gone) false
-    → new.next_stamp ≡ old.next_stamp → tree.IsOrdered nat_cmp new.entries → IsRemoved old new gone e
-is_removed old new gone e key key_is found entries here other only due next ordered = record {
-  entry_old = found;
-  entry_here = entries.1;
-  entry_other = λ stamp differs. entries.2 stamp (is_at_other gone stamp differs);
-  stamp_here = subst (λ k. stamp_at new k ≢ Some gone) key_is here;
-  stamp_other = other;
-  stamp_only = only;
-  due_here = due.1;
-  due_other = λ deadline stamp differs. due.2 (deadline, stamp) (due_apart (e.deadline, gone) (deadline, stamp) differs);
+pub is_removed : (old new : EntryTable) (slot : ℕ) (gone : ℕ × Entry) (key : List ℕ) (deadline stamp : ℕ) → key ≡ key_of gone.1.question → deadline ≡ gone.1.deadline → stamp ≡ gone.0
+    → stored_at old slot ≡ Some gone → slab.Updates old.slots new.slots slot None
+    → slot_at new key ≢ Some slot
+    → ((other : List ℕ) (place : ℕ) → (place ≡ slot → ⊥) → slot_at old other ≡ Some place → slot_at new other ≡ Some place)
+    → ((other : List ℕ) (place : ℕ) → slot_at new other ≡ Some place → slot_at old other ≡ Some place)
+    → sorted.Updates due_cmp old.timeline new.timeline (deadline, stamp, slot) false
+    → new.next_stamp ≡ old.next_stamp → IsRemoved old new slot gone
+is_removed old new slot gone key deadline stamp key_is on_time same there entries here others only due next = record {
+  entry_old = there;
+  entry_here = entries.changed;
+  entry_other = entries.others;
+  slot_here = subst (λ k. slot_at new k ≢ Some slot) key_is here;
+  slot_other = others;
+  slot_only = only;
+  due_here = subst (λ d. is_due new d gone.0 slot ≡ false) on_time (subst (λ s. is_due new deadline s slot ≡ false) same due.1);
+  due_other = λ d s other differs. due.2 (d, s, other) (due_apart (deadline, stamp, slot) (d, s, other) (λ at_deadline at_stamp at_slot. differs (sym on_time ∙ at_deadline) (sym same ∙ at_stamp) at_slot));
   next = next;
-  ordered = ordered;
 }
