@@ -1,16 +1,15 @@
 -- The token at fault in an entry.
-use Rattle.std.proofs.Common.{◌≡◌, ◌<◌, ◌≤◌, ◌+◌, ℕ, suc, Bool, true, false, cond, ◌||◌, List, ◌∷◌, map, drop, take, length, get_or, Option, refl, sym, ap, subst, ◌∙◌, add-one, arith}
+use Rattle.std.proofs.Common.{◌≡◌, ◌<◌, ◌≤◌, ◌+◌, ℕ, Bool, true, false, cond, ◌||◌, List, [], ◌∷◌, map, take, length, get_or, Option, refl, sym, ap, subst, ◌∙◌, arith}
 use Rattle.std.specs.Prelude.{option_map}
+use Rattle.std.specs.List.{list_any}
 use Rattle.std.proofs.lemmas.List.{length-map, take-map, take_all}
 use Rattle.std.proofs.lemmas.Option.{slice_get-map, slice_get-get_or}
-use Rattle.std.proofs.Math.Seq.{drop-cons}
-use Rattle.std.proofs.Math.ListN.{get_or-map}
 use Rattle.dns_text.specs.Lexer.{Lexeme}
 use Rattle.dns_text.specs.Token.{lexeme}
 use Rattle.dns_text.specs.declared.token.Token.{Token}
 use Rattle.dns_zone_file.specs.declared.error.EntryFault.{EntryFault}
 use Rattle.dns_zone_file.specs.Context.{RefusesRecord}
-use Rattle.zone_lines.specs.Word.{BeginsRecord, may_be_one, IsRefused, IsTokenText, HasFaultyToken, at_token, is_final, is_start_word, names_start}
+use Rattle.zone_lines.specs.Word.{BeginsRecord, may_be_one, IsRefused, IsTokenText, HasFaultyToken, at_token, is_final}
 use Rattle.zone_lines.specs.internal.Word.{Stands, standing_of, IsIndexAtFault}
 use Rattle.dns_zone_file.specs.declared.context.Context.{Context}
 use Rattle.zone_lines.specs.declared.word.Standing.{Standing}
@@ -18,27 +17,9 @@ use Rattle.zone_lines.specs.declared.word.Standing.TheVariants.{Begins, Refused}
 
 -- ---- the word SOA
 
-next_word : (tokens : List Token) (i : ℕ) (d : Token) → i < length tokens → drop i (map lexeme tokens) ≡ lexeme (get_or tokens i d) ∷ drop (i + 1) (map lexeme tokens)
-next_word tokens i d h =
-    let within : i < length (map lexeme tokens) = omega (arith, length-map tokens lexeme) in
-    drop-cons (map lexeme tokens) i (lexeme d) within
-    ∙ ap (λ (t : Lexeme). t ∷ drop (suc i) (map lexeme tokens)) (get_or-map lexeme tokens i d)
-    ∙ ap (λ (n : ℕ). lexeme (get_or tokens i d) ∷ drop n (map lexeme tokens)) (sym (add-one i))
-
-one_word : (tokens : List Token) (i : ℕ) (d : Token) → i < length tokens → (b : Bool) → b ≡ is_start_word (lexeme (get_or tokens i d))
-    → names_start (drop i (map lexeme tokens)) ≡ (b || names_start (drop (i + 1) (map lexeme tokens)))
-one_word tokens i d within b e =
-    ap names_start (next_word tokens i d within)
-    ∙ ap (λ (c : Bool). c || names_start (drop (i + 1) (map lexeme tokens))) (sym e)
-
-pub start_here : (tokens : List Token) (i : ℕ) (d : Token) → i < length tokens → true ≡ is_start_word (lexeme (get_or tokens i d))
-    → names_start (drop i (map lexeme tokens)) ≡ names_start (map lexeme tokens) → true ≡ names_start (map lexeme tokens)
-start_here tokens i d within e so_far = sym (one_word tokens i d within true e) ∙ so_far
-
-pub no_start_here : (tokens : List Token) (i : ℕ) (d : Token) → i < length tokens → false ≡ is_start_word (lexeme (get_or tokens i d))
-    → names_start (drop i (map lexeme tokens)) ≡ names_start (map lexeme tokens)
-    → names_start (drop (i + 1) (map lexeme tokens)) ≡ names_start (map lexeme tokens)
-no_start_here tokens i d within e so_far = sym (one_word tokens i d within false e) ∙ so_far
+pub any_lexeme : (test : Lexeme → Bool) (tokens : List Token) → list_any test (map lexeme tokens) ≡ list_any (λ t. test (lexeme t)) tokens
+any_lexeme test [] = refl
+any_lexeme test (token ∷ tokens) = ap (λ (b : Bool). test (lexeme token) || b) (any_lexeme test tokens)
 
 -- ---- tokens with a fault
 

@@ -1,5 +1,6 @@
 -- The token at fault in an entry: the last of the first tokens that are refused, whatever follows them.
-use Rattle.std.specs.Prelude.{◌≡◌, ◌<◌, ◌+◌, ◌||◌, ℕ, Bool, true, false, List, [], ◌∷◌, take, codes, slice_get, Option, Some, None}
+use Rattle.std.specs.Prelude.{◌≡◌, ◌<◌, ◌+◌, ℕ, Bool, true, false, List, [], take, codes, slice_get, Option, Some, None}
+use Rattle.std.specs.List.{list_any}
 use Rattle.std.specs.Option.{SomeIff}
 use Rattle.std.specs.Str.{IsUtf8, str_eq_ignore_ascii_case}
 use Rattle.dns_data.specs.declared.error.RDataParseError.TheVariants.{MissingToken}
@@ -89,5 +90,4 @@ is_start_word other = false
 
 -- whether some token is the word `SOA`, so that the entry may be meant as an SOA record
 abbrev pub names_start : List Lexeme → Bool
-names_start [] = false
-names_start (token ∷ tokens) = is_start_word token || names_start tokens
+names_start tokens = list_any is_start_word tokens

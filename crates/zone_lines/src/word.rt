@@ -150,12 +150,7 @@ fn is_final_location(fault: LocationFault) -> bool
 pub(crate) fn names_start(tokens: &[Token<'_>]) -> bool
     ensures { result ≡ names_start (map lexeme tokens.now) }
 {
-    for token in tokens {
-        if is_start_word(*token) {
-            return true;
-        }
-    }
-    false
+    tokens.iter().any(|token| is_start_word(*token))
 }
 
 /// Returns `true` for the word `SOA`, in any case.

@@ -1,11 +1,13 @@
-use Rattle.dns_text.specs.declared.token.Token.TheVariants.{Blank}
-use Rattle.zone_lines.proofs.WordLaws.{start_here, no_start_here}
+use Rattle.std.proofs.Common.{◌∙◌, sym, rules, tests}
+use Rattle.std.proofs.lemmas.Iterator.{YieldsList-from_slice}
+use Rattle.std.proofs.lemmas.Iterator.Search.{any_from_yields_List}
+use Rattle.dns_text.specs.Token.{lexeme}
+use Rattle.zone_lines.specs.Word.{is_start_word}
+use Rattle.zone_lines.proofs.WordLaws.{any_lexeme}
 use Rattle.zone_lines.proofs.word.names_start.Goals as goal
 
-pub returns-then-is_start_word : goal.returns-then-is_start_word
-returns-then-is_start_word c =
-    start_here c.args.tokens.now c.loop-token.token-index Blank c.loop-token-test.true c.if-is_start_word.ensures c.loop-token.invariant
-
-pub loop-token-preserved : goal.loop-token-preserved
-loop-token-preserved c =
-    no_start_here c.args.tokens.now c.loop-token.token-index Blank c.loop-token-test.true c.if-is_start_word.ensures c.loop-token.invariant
+pub returns : goal.returns
+returns c =
+    any_from_yields_List (λ t. is_start_word (lexeme t)) _ _ c.any.result c.any.ensures.ran
+    (YieldsList-from_slice c.args.tokens.now cc) (λ x b q k. search (rules, tests))
+    ∙ sym (any_lexeme is_start_word c.args.tokens.now)
