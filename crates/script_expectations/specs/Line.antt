@@ -1,5 +1,6 @@
 -- The lines of a script: events, expectations, and lines that are neither.
-use Rattle.std.specs.Prelude.{◌==◌, ◌||◌, if◌then◌else◌, Bool, true, false, List, [], ◌∷◌, ℕ, codes, drop, map, take}
+use Rattle.std.specs.Prelude.{◌==◌, ◌||◌, if◌then◌else◌, not, Bool, false, List, [], ◌∷◌, ℕ, codes, drop, find, map, take, Option}
+use Rattle.std.specs.Option.{option_map_or}
 use Rattle.std.specs.Borrow.{Bor}
 use Rattle.std.specs.Str.{bytes_eq}
 
@@ -11,10 +12,13 @@ texts lines = map (λ line. line.now) lines
 abbrev pub is_blank : ℕ → Bool
 is_blank c = c == 32 || c == 9
 
+-- the first character of a line that is not a blank
+abbrev pub first_mark : List ℕ → Option ℕ
+first_mark line = find (λ c. not (is_blank c)) line
+
 -- whether a line has an event: its first character that is not a blank begins no comment
 abbrev pub is_event : List ℕ → Bool
-is_event [] = false
-is_event (c ∷ cs) = if is_blank c then is_event cs else (if c == 35 then false else true)
+is_event line = option_map_or (λ c. not (c == 35)) (first_mark line) false
 
 -- whether a line is an expectation
 abbrev pub is_expectation : List ℕ → Bool

@@ -1,8 +1,8 @@
 //! The lines of a script: events, expectations, and lines that are neither.
 
-ghost use Rattle.std.specs.Prelude.{◌≡◌, IfOk, MatchOption, drop, false, true};
+ghost use Rattle.std.specs.Prelude.{◌≡◌, IfOk, MatchOption, drop, false, option_copied, true};
 ghost use Rattle.std.specs.Str.Lines.{lines};
-ghost use Rattle.script_expectations.specs.Line.{expected_lines, is_blank, is_event, is_expectation, texts};
+ghost use Rattle.script_expectations.specs.Line.{expected_lines, first_mark, is_blank, is_event, is_expectation, texts};
 
 use std::alloc::{AllocError, Global};
 
@@ -36,12 +36,17 @@ fn bytes_of<'a>(alloc: Global, lines: &[&'a str]) -> Result<Vec<&'a [u8]>, Alloc
 pub(crate) fn is_event(line: &[u8]) -> bool
     ensures { result ≡ is_event line.now }
 {
-    for c in line {
-        if !is_blank(*c) {
-            return *c != b'#';
-        }
+    match first_mark(line) {
+        Some(c) => *c != b'#',
+        None => false,
     }
-    false
+}
+
+/// Returns the first character of a line that is not a blank.
+fn first_mark(line: &[u8]) -> Option<&u8>
+    ensures { option_copied result ≡ first_mark line.now }
+{
+    line.iter().find(|c| !is_blank(**c))
 }
 
 /// Returns `true` for a space and a tab.
