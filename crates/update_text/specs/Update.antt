@@ -3,6 +3,7 @@
 -- `delete-record <name> <type> <data>`, `delete-set <name> <type>`, `delete-name <name>`.
 -- The zone's origin completes names; the owner of an update is at or below it. The types are those that zone files may have.
 use Rattle.std.specs.Prelude.{◌≡◌, ◌==◌, ◌+◌, ◌-◌, if◌then◌else◌, false, List, [], ◌∷◌, ℕ, map, take, drop, length, codes, Option, Some, None, option_map, Result, Ok, Err}
+use Rattle.std.specs.List.{position}
 use Rattle.std.specs.Str.{bytes_eq}
 use Rattle.dns_codes.specs.Decimal.{decimal_up_to}
 use Rattle.dns_codes.specs.declared.dns_class.DNSClass.TheVariants.{IN}
@@ -25,8 +26,14 @@ use Rattle.dns_updates.specs.Builders.{append_message, compare_and_swap_message,
 use Rattle.stub_link.specs.Request.{IsUpdate}
 use Rattle.update_text.specs.TypeWord.{type_named}
 use Rattle.update_text.specs.Words.{AreWords}
-use Rattle.update_text.specs.declared.update.Action.{Action}
-use Rattle.update_text.specs.declared.update.Action.TheVariants.{Create, Append, Swap, DeleteRecord, DeleteSet, DeleteName}
+use Rattle.update_text.specs.declared.update.action.Action.{Action}
+use Rattle.update_text.specs.declared.update.action.Action.TheVariants.{Create, Append, Swap, DeleteRecord, DeleteSet, DeleteName}
+
+-- the origin of the zone of an update, the id of its message, and the types that its data may have
+pub record UpdateContext : Type 0 where
+  pub origin : DomainName
+  pub id : ℕ
+  pub types : Types
 
 -- ---- fields
 
@@ -48,10 +55,46 @@ abbrev pub word_lexeme : List ℕ → Lexeme
 word_lexeme [] = word_token false []
 word_lexeme (c ∷ cs) = if c == 34 then QuotedString (take (length cs - 1) cs) else word_token false (c ∷ cs)
 
--- the data of a type in words, or none if the words are not such data
-abbrev pub IsData : Types → DomainName → RecordType → List (List ℕ) → Option RData → Type 0
-IsData types origin kind words (Some d) = ReadsIn types origin kind (map word_lexeme words) d
-IsData types origin kind words None = (fault : EntryFault) × RefusesIn types origin kind (map word_lexeme words) fault
+-- ---- the words of a record
+
+-- a TTL, a type, and the words of data
+pub record RecordText : Type 0 where
+  pub ttl : ℕ
+  pub kind : RecordType
+  pub rdata : List (List ℕ)
+
+-- the same, if there is a TTL and a type
+abbrev pub text_if : Option ℕ → Option RecordType → List (List ℕ) → Option RecordText
+text_if (Some ttl) (Some kind) rdata = Some (record { ttl = ttl; kind = kind; rdata = rdata })
+text_if ttl kind rdata = None
+
+-- `<ttl> <type> <data>`
+abbrev pub text_with_ttl : Types → List (List ℕ) → Option RecordText
+text_with_ttl types (ttl ∷ kind ∷ rdata) = text_if (ttl_of ttl) (type_named types kind) rdata
+text_with_ttl types arguments = None
+
+-- `<type> <data>`
+abbrev pub text_without_ttl : Types → List (List ℕ) → Option RecordText
+text_without_ttl types (kind ∷ rdata) = text_if (Some 0) (type_named types kind) rdata
+text_without_ttl types arguments = None
+
+-- the place of the first word `->`; in a quoted string it is data
+abbrev pub arrow_of : List (List ℕ) → Option ℕ
+arrow_of words = position (λ (word : List ℕ). bytes_eq word (codes "->")) words
+
+-- the data before an arrow, which has no TTL of its own
+abbrev pub text_before : ℕ → RecordText → RecordText
+text_before arrow text = record { ttl = 0; kind = text.kind; rdata = take arrow text.rdata }
+
+-- the data after an arrow
+abbrev pub text_after : ℕ → RecordText → RecordText
+text_after arrow text = record { ttl = text.ttl; kind = text.kind; rdata = drop (arrow + 1) text.rdata }
+
+-- the data that the words of a record are, or none if they are not such data
+abbrev pub IsData : UpdateContext → RecordText → Option RData → Type 0
+IsData context text (Some d) = ReadsIn context.types context.origin text.kind (map word_lexeme text.rdata) d
+IsData context text None =
+    (fault : EntryFault) × RefusesIn context.types context.origin text.kind (map word_lexeme text.rdata) fault
 
 -- ---- sets of one record
 
@@ -70,50 +113,46 @@ set_of owner ttl d = record {
   records = record_of owner ttl d ∷ [];
 }
 
--- the set of one record whose data the words are, or none
-abbrev pub IsSet : Types → DomainName → DomainName → ℕ → RecordType → List (List ℕ) → Option RecordSetValue → Type 0
-IsSet types origin owner ttl kind words set = (d : Option RData) × IsData types origin kind words d × (set ≡ option_map (set_of owner ttl) d)
+-- the set of one record that the words are, or none
+abbrev pub IsSet : UpdateContext → DomainName → RecordText → Option RecordSetValue → Type 0
+IsSet context owner text set = (d : Option RData) × IsData context text d × (set ≡ option_map (set_of owner text.ttl) d)
 
--- the same, if there is a TTL and a type
-abbrev pub IsSetIf : Types → DomainName → DomainName → Option ℕ → Option RecordType → List (List ℕ) → Option RecordSetValue → Type 0
-IsSetIf types origin owner (Some ttl) (Some kind) words set = IsSet types origin owner ttl kind words set
-IsSetIf types origin owner ttl kind words set = set ≡ None
+-- the same, if there are such words
+abbrev pub IsSetIf : UpdateContext → DomainName → Option RecordText → Option RecordSetValue → Type 0
+IsSetIf context owner (Some text) set = IsSet context owner text set
+IsSetIf context owner None set = set ≡ None
 
 -- `<ttl> <type> <data>`
-abbrev pub IsSetWithTtl : Types → DomainName → DomainName → List (List ℕ) → Option RecordSetValue → Type 0
-IsSetWithTtl types origin owner (ttl ∷ kind ∷ words) set = IsSetIf types origin owner (ttl_of ttl) (type_named types kind) words set
-IsSetWithTtl types origin owner arguments set = set ≡ None
+abbrev pub IsSetWithTtl : UpdateContext → DomainName → List (List ℕ) → Option RecordSetValue → Type 0
+IsSetWithTtl context owner arguments set = IsSetIf context owner (text_with_ttl context.types arguments) set
 
 -- `<type> <data>`
-abbrev pub IsSetWithoutTtl : Types → DomainName → DomainName → List (List ℕ) → Option RecordSetValue → Type 0
-IsSetWithoutTtl types origin owner (kind ∷ words) set = IsSetIf types origin owner (Some 0) (type_named types kind) words set
-IsSetWithoutTtl types origin owner arguments set = set ≡ None
+abbrev pub IsSetWithoutTtl : UpdateContext → DomainName → List (List ℕ) → Option RecordSetValue → Type 0
+IsSetWithoutTtl context owner arguments set = IsSetIf context owner (text_without_ttl context.types arguments) set
 
 -- ---- swaps
 
--- the place of the first word `->`, counting from `place`; in a quoted string it is data
-abbrev pub arrow_from : ℕ → List (List ℕ) → Option ℕ
-arrow_from place [] = None
-arrow_from place (word ∷ words) = if bytes_eq word (codes "->") then Some place else arrow_from (place + 1) words
-
 -- the new set, after the current one
-abbrev pub IsSwapTo : Types → DomainName → ℕ → DomainName → ℕ → RecordType → Option RecordSetValue → List (List ℕ) → Option Message → Type 0
-IsSwapTo types origin id owner ttl kind None after found = found ≡ None
-IsSwapTo types origin id owner ttl kind (Some current) after found =
-    (new : Option RecordSetValue) × IsSet types origin owner ttl kind after new
-    × (found ≡ option_map (λ (s : RecordSetValue). compare_and_swap_message id current s origin false) new)
+abbrev pub IsSwapTo : UpdateContext → DomainName → Option RecordSetValue → RecordText → Option Message → Type 0
+IsSwapTo context owner None after found = found ≡ None
+IsSwapTo context owner (Some current) after found =
+    (new : Option RecordSetValue) × IsSet context owner after new
+    × (found ≡ option_map (λ (s : RecordSetValue). compare_and_swap_message context.id current s context.origin false) new)
 
 -- the current data, and the new data
-abbrev pub IsSwapBetween : Types → DomainName → ℕ → DomainName → ℕ → RecordType → List (List ℕ) → List (List ℕ) → Option Message → Type 0
-IsSwapBetween types origin id owner ttl kind before after found =
-    (current : Option RecordSetValue) × IsSet types origin owner 0 kind before current
-    × IsSwapTo types origin id owner ttl kind current after found
+abbrev pub IsSwapBetween : UpdateContext → DomainName → RecordText → RecordText → Option Message → Type 0
+IsSwapBetween context owner before after found =
+    (current : Option RecordSetValue) × IsSet context owner before current × IsSwapTo context owner current after found
 
 -- the words before the arrow are the current data, and those after it the new data
-abbrev pub IsSwapOf : Types → DomainName → ℕ → DomainName → Option ℕ → Option RecordType → Option ℕ → List (List ℕ) → Option Message → Type 0
-IsSwapOf types origin id owner (Some ttl) (Some kind) (Some arrow) words found =
-    IsSwapBetween types origin id owner ttl kind (take arrow words) (drop (arrow + 1) words) found
-IsSwapOf types origin id owner ttl kind arrow words found = found ≡ None
+abbrev pub IsSwapAt : UpdateContext → DomainName → Option ℕ → RecordText → Option Message → Type 0
+IsSwapAt context owner (Some arrow) text found = IsSwapBetween context owner (text_before arrow text) (text_after arrow text) found
+IsSwapAt context owner None text found = found ≡ None
+
+-- the same, if there is a TTL and a type
+abbrev pub IsSwapIf : UpdateContext → DomainName → Option RecordText → Option Message → Type 0
+IsSwapIf context owner (Some text) found = IsSwapAt context owner (arrow_of text.rdata) text found
+IsSwapIf context owner None found = found ≡ None
 
 -- ---- actions
 
@@ -129,28 +168,26 @@ action_of word =
     else None
 
 -- `create`: the set must not stand yet
-abbrev pub IsCreate : Types → DomainName → ℕ → DomainName → List (List ℕ) → Option Message → Type 0
-IsCreate types origin id owner arguments found =
-    (set : Option RecordSetValue) × IsSetWithTtl types origin owner arguments set
-    × (found ≡ option_map (λ (s : RecordSetValue). create_message id s origin false) set)
+abbrev pub IsCreate : UpdateContext → DomainName → List (List ℕ) → Option Message → Type 0
+IsCreate context owner arguments found =
+    (set : Option RecordSetValue) × IsSetWithTtl context owner arguments set
+    × (found ≡ option_map (λ (s : RecordSetValue). create_message context.id s context.origin false) set)
 
 -- `append`: the record is added to the set, or makes it
-abbrev pub IsAppend : Types → DomainName → ℕ → DomainName → List (List ℕ) → Option Message → Type 0
-IsAppend types origin id owner arguments found =
-    (set : Option RecordSetValue) × IsSetWithTtl types origin owner arguments set
-    × (found ≡ option_map (λ (s : RecordSetValue). append_message id s origin false false) set)
+abbrev pub IsAppend : UpdateContext → DomainName → List (List ℕ) → Option Message → Type 0
+IsAppend context owner arguments found =
+    (set : Option RecordSetValue) × IsSetWithTtl context owner arguments set
+    × (found ≡ option_map (λ (s : RecordSetValue). append_message context.id s context.origin false false) set)
 
 -- `swap`: current data, which must stand, and new data
-abbrev pub IsSwap : Types → DomainName → ℕ → DomainName → List (List ℕ) → Option Message → Type 0
-IsSwap types origin id owner (ttl ∷ kind ∷ words) found =
-    IsSwapOf types origin id owner (ttl_of ttl) (type_named types kind) (arrow_from 0 words) words found
-IsSwap types origin id owner arguments found = found ≡ None
+abbrev pub IsSwap : UpdateContext → DomainName → List (List ℕ) → Option Message → Type 0
+IsSwap context owner arguments found = IsSwapIf context owner (text_with_ttl context.types arguments) found
 
 -- `delete-record`: the record goes
-abbrev pub IsDeleteRecord : Types → DomainName → ℕ → DomainName → List (List ℕ) → Option Message → Type 0
-IsDeleteRecord types origin id owner arguments found =
-    (set : Option RecordSetValue) × IsSetWithoutTtl types origin owner arguments set
-    × (found ≡ option_map (λ (s : RecordSetValue). delete_by_rdata_message id s origin false) set)
+abbrev pub IsDeleteRecord : UpdateContext → DomainName → List (List ℕ) → Option Message → Type 0
+IsDeleteRecord context owner arguments found =
+    (set : Option RecordSetValue) × IsSetWithoutTtl context owner arguments set
+    × (found ≡ option_map (λ (s : RecordSetValue). delete_by_rdata_message context.id s context.origin false) set)
 
 -- a type alone
 abbrev pub only_type : Types → List (List ℕ) → Option RecordType
@@ -158,30 +195,31 @@ only_type types (kind ∷ []) = type_named types kind
 only_type types arguments = None
 
 -- `delete-set`: all records of the type go
-abbrev pub delete_set : Types → DomainName → ℕ → DomainName → List (List ℕ) → Option Message
-delete_set types origin id owner arguments =
-    option_map (λ (t : RecordType). delete_rrset_message id (record_of owner 0 (of.Update0 t)) origin false) (only_type types arguments)
+abbrev pub delete_set : UpdateContext → DomainName → List (List ℕ) → Option Message
+delete_set context owner arguments =
+    option_map (λ (t : RecordType). delete_rrset_message context.id (record_of owner 0 (of.Update0 t)) context.origin false)
+    (only_type context.types arguments)
 
 -- `delete-name`: all records of the name go
-abbrev pub delete_name : DomainName → ℕ → DomainName → List (List ℕ) → Option Message
-delete_name origin id owner [] = Some (delete_all_message id owner origin IN false)
-delete_name origin id owner arguments = None
+abbrev pub delete_name : UpdateContext → DomainName → List (List ℕ) → Option Message
+delete_name context owner [] = Some (delete_all_message context.id owner context.origin IN false)
+delete_name context owner arguments = None
 
 -- the message of an action on an owner
-abbrev pub IsAction : Types → DomainName → ℕ → Option Action → Option DomainName → List (List ℕ) → Option Message → Type 0
-IsAction types origin id (Some Create) (Some owner) arguments found = IsCreate types origin id owner arguments found
-IsAction types origin id (Some Append) (Some owner) arguments found = IsAppend types origin id owner arguments found
-IsAction types origin id (Some Swap) (Some owner) arguments found = IsSwap types origin id owner arguments found
-IsAction types origin id (Some DeleteRecord) (Some owner) arguments found = IsDeleteRecord types origin id owner arguments found
-IsAction types origin id (Some DeleteSet) (Some owner) arguments found = found ≡ delete_set types origin id owner arguments
-IsAction types origin id (Some DeleteName) (Some owner) arguments found = found ≡ delete_name origin id owner arguments
-IsAction types origin id action owner arguments found = found ≡ None
+abbrev pub IsAction : UpdateContext → Option Action → Option DomainName → List (List ℕ) → Option Message → Type 0
+IsAction context (Some Create) (Some owner) arguments found = IsCreate context owner arguments found
+IsAction context (Some Append) (Some owner) arguments found = IsAppend context owner arguments found
+IsAction context (Some Swap) (Some owner) arguments found = IsSwap context owner arguments found
+IsAction context (Some DeleteRecord) (Some owner) arguments found = IsDeleteRecord context owner arguments found
+IsAction context (Some DeleteSet) (Some owner) arguments found = found ≡ delete_set context owner arguments
+IsAction context (Some DeleteName) (Some owner) arguments found = found ≡ delete_name context owner arguments
+IsAction context action owner arguments found = found ≡ None
 
 -- the message of an action, an owner, and what follows them
-abbrev pub IsMessage : Types → DomainName → ℕ → List (List ℕ) → Option Message → Type 0
-IsMessage types origin id (action ∷ owner ∷ arguments) found =
-    IsAction types origin id (action_of action) (owner_of origin owner) arguments found
-IsMessage types origin id arguments found = found ≡ None
+abbrev pub IsMessage : UpdateContext → List (List ℕ) → Option Message → Type 0
+IsMessage context (action ∷ owner ∷ arguments) found =
+    IsAction context (action_of action) (owner_of context.origin owner) arguments found
+IsMessage context arguments found = found ≡ None
 
 -- ---- updates
 
@@ -194,7 +232,8 @@ IsSendable None update = update ≡ None
 -- the update of words, under an id
 abbrev pub IsUpdateOf : Types → DomainName → ℕ → List (List ℕ) → Option Message → Type 0
 IsUpdateOf types origin id arguments update =
-    (message : Option Message) × IsMessage types origin id arguments message × IsSendable message update
+    (message : Option Message) × IsMessage (record { origin = origin; id = id; types = types }) arguments message
+    × IsSendable message update
 
 -- the update of words, if there are any
 abbrev pub IsUpdateIf : Types → DomainName → ℕ → Option (List (List ℕ)) → Option Message → Type 0

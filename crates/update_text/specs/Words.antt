@@ -1,5 +1,10 @@
 -- The words of a line, and the words after its semicolon (RFC 1035 section 5.1).
-use Rattle.std.specs.Prelude.{◌≡◌, ◌≢◌, ◌==◌, ◌||◌, Bool, true, false, List, [], ◌∷◌, ◌++◌, ℕ, Option, Some, None}
+use Rattle.std.specs.Prelude.{◌≡◌, ◌≢◌, ◌==◌, ◌||◌, Bool, true, false, List, [], ◌∷◌, ◌++◌, ℕ, map, Option, Some, None}
+use Rattle.std.specs.Global.{Vec}
+
+-- words as lists of octets
+abbrev pub texts : List (Vec ℕ) → List (List ℕ)
+texts = map (λ word. word.items)
 
 -- blanks are space and tab
 abbrev pub is_blank : ℕ → Bool
