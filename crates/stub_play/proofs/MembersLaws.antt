@@ -8,27 +8,28 @@ use Rattle.dns_records.specs.Record.{Record}
 use Rattle.dns_zone_file.specs.declared.types.Types.{Types}
 use Rattle.stub_lookup.specs.Lookup.{LookupContent}
 use Rattle.stub_lookup.specs.declared.error.NetError.{NetError}
+use Rattle.stub_run.specs.declared.event.Action.{Action}
+use Rattle.stub_run.specs.declared.event.Action.TheVariants as actions
 use Rattle.stub_run.specs.declared.event.Event.{Event}
-use Rattle.stub_run.specs.declared.event.Event.TheVariants as event
 use Rattle.stub_run.specs.declared.report.EventReply.{EventReply}
 use Rattle.stub_run.specs.declared.report.EventReply.TheVariants as replies
 use Rattle.stub_run.specs.declared.report.EventReport.{EventReport}
 use Rattle.stub_play.specs.ReportJson.{event_host, event_name, event_type, event_word, json_counts, json_event, json_found, json_line, json_records, other_record, reply_code, reply_error, text_or_null}
 use Rattle.stub_play.specs.ReportMembers.{RecordMembers, after_blank, members_of, object_of, objects_or_null, outcome_members, record_line, record_members, record_object, record_objects, reply_members, result_text, text_of}
-use Rattle.stub_play.specs.ReportText.{event_text, outcome_text, plain_text, record_text, reply_text, type_as_read}
-use Rattle.stub_run.specs.Event.{moment_of}
+use Rattle.stub_play.specs.ReportText.{action_text, outcome_text, plain_text, record_text, reply_text, type_as_read}
 
 -- ---- the text
 
-event_is : (types : Types) (e : Event)
-    → event_text types e ≡ decimal (moment_of e) ++ (32 ∷ event_word e ++ (after_blank (event_name e) ++ (after_blank (event_type types e) ++ after_blank (event_host e))))
-event_is types (event.Lookup at name kind script) =
-    ap (λ (t : List ℕ). decimal at ++ (codes " lookup " ++ (text_of_name name ++ (32 ∷ t)))) (sym (append-nil (type_as_read types kind)))
-event_is types (event.LookupIp at host script) = refl
-event_is types (event.Clear at name kind script) =
-    ap (λ (t : List ℕ). decimal at ++ (codes " clear " ++ (text_of_name name ++ (32 ∷ t)))) (sym (append-nil (type_as_read types kind)))
-event_is types (event.ClearAll at script) = refl
-event_is types (event.Update at update script) = refl
+action_is : (types : Types) (action : Action)
+    → action_text types action
+    ≡ 32 ∷ event_word action ++ (after_blank (event_name action) ++ (after_blank (event_type types action) ++ after_blank (event_host action)))
+action_is types (actions.Lookup name kind) =
+    ap (λ (t : List ℕ). codes " lookup " ++ (text_of_name name ++ (32 ∷ t))) (sym (append-nil (type_as_read types kind)))
+action_is types (actions.LookupIp host) = refl
+action_is types (actions.Clear name kind) =
+    ap (λ (t : List ℕ). codes " clear " ++ (text_of_name name ++ (32 ∷ t))) (sym (append-nil (type_as_read types kind)))
+action_is types actions.ClearAll = refl
+action_is types (actions.Update update) = refl
 
 same_len : (types : Types) (records : List Record) → length records ≡ length (map (record_members types) records)
 same_len types [] = refl
@@ -58,8 +59,9 @@ reply_is types e (replies.Update (Err error)) = refl
 
 pub text_is : (types : Types) (e : Event) (reply : EventReply) → plain_text types e reply ≡ text_of (members_of types e reply)
 text_is types e reply =
-    ap (λ (x : List ℕ). x ++ reply_text types reply) (event_is types e)
-    ∙ ap (λ (x : List ℕ). (decimal (moment_of e) ++ (32 ∷ event_word e ++ (after_blank (event_name e) ++ (after_blank (event_type types e) ++ after_blank (event_host e))))) ++ x) (reply_is types e reply)
+    ap (λ (x : List ℕ). (decimal e.at ++ x) ++ reply_text types reply) (action_is types e.action)
+    ∙ ap (λ (x : List ℕ). (decimal e.at ++ (32 ∷ event_word e.action ++ (after_blank (event_name e.action)
+    ++ (after_blank (event_type types e.action) ++ after_blank (event_host e.action))))) ++ x) (reply_is types e reply)
 
 -- ---- the object
 

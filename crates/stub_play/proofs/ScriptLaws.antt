@@ -120,14 +120,14 @@ few_by true count i few = omega arith
 few_by false count i few = omega arith
 
 pub few_more : (count i : ℕ) (e : EventContent) → count ≤ i → updates_after count e ≤ i + 1
-few_more count i e few = few_by (is_update e) count i few
+few_more count i e few = few_by (is_update e.action) count i few
 
 -- the number that a test adds
 add_test : (test : Bool) (count added : ℕ) → added ≡ from_bool test → count + added ≡ (if test then count + 1 else count)
 add_test true count added is = rw is refl
 add_test false count added is = rw is (omega arith)
 
-pub counted : (count added : ℕ) (test : Bool) (e : EventContent) → test ≡ is_update e → added ≡ from_bool test
+pub counted : (count added : ℕ) (test : Bool) (e : EventContent) → test ≡ is_update e.action → added ≡ from_bool test
     → count + added ≡ updates_after count e
 counted count added test e same is = rw same at (add_test test count added is)
 

@@ -11,9 +11,9 @@ use Rattle.stub_lookup.specs.Lookup.{LookupContent}
 use Rattle.stub_lookup.specs.declared.error.DnsError.TheVariants as dns
 use Rattle.stub_lookup.specs.declared.error.NetError.{NetError}
 use Rattle.stub_lookup.specs.declared.error.NetError.TheVariants as net
-use Rattle.stub_run.specs.Event.{moment_of}
+use Rattle.stub_run.specs.declared.event.Action.{Action}
+use Rattle.stub_run.specs.declared.event.Action.TheVariants as actions
 use Rattle.stub_run.specs.declared.event.Event.{Event}
-use Rattle.stub_run.specs.declared.event.Event.TheVariants as event
 use Rattle.stub_run.specs.declared.report.EventReply.{EventReply}
 use Rattle.stub_run.specs.declared.report.EventReply.TheVariants as replies
 use Rattle.stub_run.specs.declared.report.EventReport.{EventReport}
@@ -27,42 +27,42 @@ text_or_null (Some text) = json_text text
 -- ---- events
 
 -- the keyword of an event
-abbrev pub event_word : Event → List ℕ
-event_word (event.Lookup at name kind script) = codes "lookup"
-event_word (event.LookupIp at host script) = codes "ip"
-event_word (event.Clear at name kind script) = codes "clear"
-event_word (event.ClearAll at script) = codes "clearall"
-event_word (event.Update at update script) = codes "update"
+abbrev pub event_word : Action → List ℕ
+event_word (actions.Lookup name kind) = codes "lookup"
+event_word (actions.LookupIp host) = codes "ip"
+event_word (actions.Clear name kind) = codes "clear"
+event_word actions.ClearAll = codes "clearall"
+event_word (actions.Update update) = codes "update"
 
 -- the name that an event is about
-abbrev pub event_name : Event → Option (List ℕ)
-event_name (event.Lookup at name kind script) = Some (text_of_name name)
-event_name (event.LookupIp at host script) = None
-event_name (event.Clear at name kind script) = Some (text_of_name name)
-event_name (event.ClearAll at script) = None
-event_name (event.Update at update script) = None
+abbrev pub event_name : Action → Option (List ℕ)
+event_name (actions.Lookup name kind) = Some (text_of_name name)
+event_name (actions.LookupIp host) = None
+event_name (actions.Clear name kind) = Some (text_of_name name)
+event_name actions.ClearAll = None
+event_name (actions.Update update) = None
 
 -- the type that an event is about
-abbrev pub event_type : Types → Event → Option (List ℕ)
-event_type types (event.Lookup at name kind script) = Some (type_as_read types kind)
-event_type types (event.LookupIp at host script) = None
-event_type types (event.Clear at name kind script) = Some (type_as_read types kind)
-event_type types (event.ClearAll at script) = None
-event_type types (event.Update at update script) = None
+abbrev pub event_type : Types → Action → Option (List ℕ)
+event_type types (actions.Lookup name kind) = Some (type_as_read types kind)
+event_type types (actions.LookupIp host) = None
+event_type types (actions.Clear name kind) = Some (type_as_read types kind)
+event_type types actions.ClearAll = None
+event_type types (actions.Update update) = None
 
 -- the host that an event is about
-abbrev pub event_host : Event → Option (List ℕ)
-event_host (event.Lookup at name kind script) = None
-event_host (event.LookupIp at host script) = Some (string_bytes host)
-event_host (event.Clear at name kind script) = None
-event_host (event.ClearAll at script) = None
-event_host (event.Update at update script) = None
+abbrev pub event_host : Action → Option (List ℕ)
+event_host (actions.Lookup name kind) = None
+event_host (actions.LookupIp host) = Some (string_bytes host)
+event_host (actions.Clear name kind) = None
+event_host actions.ClearAll = None
+event_host (actions.Update update) = None
 
 -- an event's moment, its keyword, and what it is about
 abbrev pub json_event : Types → Event → List ℕ
 json_event types e =
-    codes "{\"moment\":" ++ (decimal (moment_of e) ++ (codes ",\"event\":\"" ++ (event_word e ++ (codes "\",\"name\":" ++ (text_or_null (event_name e)
-    ++ (codes ",\"type\":" ++ (text_or_null (event_type types e) ++ (codes ",\"host\":" ++ text_or_null (event_host e)))))))))
+    codes "{\"moment\":" ++ (decimal e.at ++ (codes ",\"event\":\"" ++ (event_word e.action ++ (codes "\",\"name\":" ++ (text_or_null (event_name e.action)
+    ++ (codes ",\"type\":" ++ (text_or_null (event_type types e.action) ++ (codes ",\"host\":" ++ text_or_null (event_host e.action)))))))))
 
 -- ---- replies
 

@@ -7,7 +7,6 @@ use Rattle.dns_records.specs.Record.{Record}
 use Rattle.dns_zone_file.specs.declared.types.Types.{Types}
 use Rattle.stub_lookup.specs.Lookup.{LookupContent}
 use Rattle.stub_lookup.specs.declared.error.NetError.{NetError}
-use Rattle.stub_run.specs.Event.{moment_of}
 use Rattle.stub_run.specs.declared.event.Event.{Event}
 use Rattle.stub_run.specs.declared.report.EventReply.{EventReply}
 use Rattle.stub_run.specs.declared.report.EventReply.TheVariants as replies
@@ -58,11 +57,11 @@ reply_members types (replies.Update outcome) = None
 -- those of an event with its reply
 abbrev pub members_of : Types → Event → EventReply → Members
 members_of types e reply = record {
-  moment = moment_of e;
-  word = event_word e;
-  name = event_name e;
-  kind = event_type types e;
-  host = event_host e;
+  moment = e.at;
+  word = event_word e.action;
+  name = event_name e.action;
+  kind = event_type types e.action;
+  host = event_host e.action;
   code = reply_code reply;
   error = reply_error reply;
   records = reply_members types reply;

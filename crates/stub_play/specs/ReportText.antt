@@ -16,8 +16,9 @@ use Rattle.dns_data.specs.declared.rdata.RData.TheVariants as of
 use Rattle.dns_data.specs.rdata.{data_type, data_text}
 use Rattle.dns_messages.specs.ResponseCode.{code_text}
 use Rattle.dns_records.specs.Record.{Record}
+use Rattle.stub_run.specs.declared.event.Action.{Action}
+use Rattle.stub_run.specs.declared.event.Action.TheVariants as actions
 use Rattle.stub_run.specs.declared.event.Event.{Event}
-use Rattle.stub_run.specs.declared.event.Event.TheVariants as event
 use Rattle.stub_lookup.specs.declared.error.DnsError.TheVariants as dns
 use Rattle.stub_lookup.specs.declared.error.NetError.{NetError}
 use Rattle.stub_lookup.specs.declared.error.NetError.TheVariants as net
@@ -45,13 +46,17 @@ owner_of_labels (label ∷ labels) text = text
 abbrev pub owner_text : DomainName → List ℕ
 owner_text name = owner_of_labels name.labels (text_of_name name)
 
--- an event's moment, its keyword, and what it is about: a name and a type, a host, or nothing
+-- an action's keyword, and what it is about: a name and a type, a host, or nothing
+abbrev pub action_text : Types → Action → List ℕ
+action_text types (actions.Lookup name kind) = codes " lookup " ++ (text_of_name name ++ (codes " " ++ type_as_read types kind))
+action_text types (actions.LookupIp host) = codes " ip " ++ string_bytes host
+action_text types (actions.Clear name kind) = codes " clear " ++ (text_of_name name ++ (codes " " ++ type_as_read types kind))
+action_text types actions.ClearAll = codes " clearall"
+action_text types (actions.Update update) = codes " update"
+
+-- an event's moment, and what happens
 abbrev pub event_text : Types → Event → List ℕ
-event_text types (event.Lookup at name kind script) = decimal at ++ (codes " lookup " ++ (text_of_name name ++ (codes " " ++ type_as_read types kind)))
-event_text types (event.LookupIp at host script) = decimal at ++ (codes " ip " ++ string_bytes host)
-event_text types (event.Clear at name kind script) = decimal at ++ (codes " clear " ++ (text_of_name name ++ (codes " " ++ type_as_read types kind)))
-event_text types (event.ClearAll at script) = decimal at ++ codes " clearall"
-event_text types (event.Update at update script) = decimal at ++ codes " update"
+event_text types e = decimal e.at ++ action_text types e.action
 
 -- a record on a line of its own
 abbrev pub record_text : Types → Record → List ℕ

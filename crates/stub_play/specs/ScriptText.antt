@@ -7,7 +7,7 @@ use Rattle.dns_names.specs.Name.{DomainName}
 use Rattle.dns_zone_file.specs.declared.types.Types.{Types}
 use Rattle.stub_run.specs.declared.event.Event.{Event}
 use Rattle.stub_play.specs.ClearLine.{clear_all_of, clear_of}
-use Rattle.stub_play.specs.EventContent.{EventContent, LinkScript, Update, content_of}
+use Rattle.stub_play.specs.EventContent.{ActionContent, EventContent, LinkScript, Update, content_of}
 use Rattle.stub_play.specs.LinkWords.{link_of_words}
 use Rattle.stub_play.specs.LookupLine.{ip_of, lookup_of}
 use Rattle.stub_play.specs.ScriptFields.{moment}
@@ -32,14 +32,21 @@ keyword_of word =
     else if bytes_eq word (codes "update") then Some keyword.Update
     else None
 
--- the event of a moment, a keyword and the words after it, or none; an update has this id
+-- the action of a keyword and the words after it, or none; an update has this id
+abbrev pub IsAction : Types → DomainName → ℕ → Option Keyword → List (List ℕ) → Option ActionContent → Type 0
+IsAction types origin id (Some keyword.Lookup) arguments found = found ≡ lookup_of types arguments
+IsAction types origin id (Some keyword.Ip) arguments found = found ≡ ip_of arguments
+IsAction types origin id (Some keyword.Clear) arguments found = found ≡ clear_of types arguments
+IsAction types origin id (Some keyword.ClearAll) arguments found = found ≡ clear_all_of arguments
+IsAction types origin id (Some keyword.Update) arguments found = IsUpdateLine types origin id arguments found
+IsAction types origin id None arguments found = found ≡ None
+
+-- the event of a moment and an action, during which the link follows a script, or none
 abbrev pub IsEventAt : Types → DomainName → ℕ → LinkScript → Option ℕ → Option Keyword → List (List ℕ) → Option EventContent → Type 0
-IsEventAt types origin id link (Some at) (Some keyword.Lookup) arguments found = found ≡ lookup_of types at link arguments
-IsEventAt types origin id link (Some at) (Some keyword.Ip) arguments found = found ≡ ip_of at link arguments
-IsEventAt types origin id link (Some at) (Some keyword.Clear) arguments found = found ≡ clear_of types at link arguments
-IsEventAt types origin id link (Some at) (Some keyword.ClearAll) arguments found = found ≡ clear_all_of at link arguments
-IsEventAt types origin id link (Some at) (Some keyword.Update) arguments found = IsUpdateLine types origin id at link arguments found
-IsEventAt types origin id link at keyword arguments found = found ≡ None
+IsEventAt types origin id link (Some at) keyword arguments None = IsAction types origin id keyword arguments None
+IsEventAt types origin id link (Some at) keyword arguments (Some e) =
+    (e.at ≡ at) × (e.link ≡ link) × IsAction types origin id keyword arguments (Some e.action)
+IsEventAt types origin id link None keyword arguments found = found ≡ None
 
 -- the event of a line's words
 abbrev pub IsEvent : Types → DomainName → ℕ → LinkScript → List (List ℕ) → Option EventContent → Type 0
@@ -101,14 +108,14 @@ Means types origin id text meaning = MeansIf (is_skipped text) types origin id t
 
 -- ---- scripts
 
--- whether an event is an update
-abbrev pub is_update : EventContent → Bool
-is_update (Update at message link) = true
-is_update e = false
+-- whether an action is an update
+abbrev pub is_update : ActionContent → Bool
+is_update (Update message) = true
+is_update action = false
 
 -- the number of updates up to an event, after this many
 abbrev pub updates_after : ℕ → EventContent → ℕ
-updates_after count e = if is_update e then count + 1 else count
+updates_after count e = if is_update e.action then count + 1 else count
 
 -- the id of the update after this many
 abbrev pub update_id : ℕ → ℕ

@@ -4,10 +4,10 @@ use Rattle.dns_names.specs.Name.{DomainName}
 use Rattle.dns_messages.specs.declared.message.Message.{Message}
 use Rattle.dns_zone_file.specs.declared.types.Types.{Types}
 use Rattle.update_text.specs.Update.{IsUpdateOf}
-use Rattle.stub_play.specs.EventContent.{EventContent, LinkScript, Update}
+use Rattle.stub_play.specs.EventContent.{ActionContent, Update}
 
--- the event of an update at a moment, by the words after its keyword
-abbrev pub IsUpdateLine : Types → DomainName → ℕ → ℕ → LinkScript → List (List ℕ) → Option EventContent → Type 0
-IsUpdateLine types origin id at link arguments found =
+-- the update, by the words after its keyword
+abbrev pub IsUpdateLine : Types → DomainName → ℕ → List (List ℕ) → Option ActionContent → Type 0
+IsUpdateLine types origin id arguments found =
     (update : Option Message) × IsUpdateOf types origin id arguments update
-    × (found ≡ option_map (λ (m : Message). Update at m link) update)
+    × (found ≡ option_map Update update)

@@ -10,31 +10,31 @@ use dns_log::JsonDisplay;
 use dns_zone_file::Types;
 use std::fmt;
 use stub_lookup::{DnsError, NetError};
-use stub_run::{Event, EventReply};
+use stub_run::{Action, EventReply};
 
 /// The keyword of an event, without quotes.
 #[derive(Clone, Copy)]
 pub(crate) struct EventWord<'a> {
-    pub(crate) event: &'a Event,
+    pub(crate) action: &'a Action,
 }
 
 /// The name that an event is about.
 #[derive(Clone, Copy)]
 pub(crate) struct EventName<'a> {
-    pub(crate) event: &'a Event,
+    pub(crate) action: &'a Action,
 }
 
 /// The type that an event is about.
 #[derive(Clone, Copy)]
 pub(crate) struct EventType<'a> {
-    pub(crate) event: &'a Event,
+    pub(crate) action: &'a Action,
     pub(crate) types: Types,
 }
 
 /// The host that an event is about.
 #[derive(Clone, Copy)]
 pub(crate) struct EventHost<'a> {
-    pub(crate) event: &'a Event,
+    pub(crate) action: &'a Action,
 }
 
 /// The response code of a reply, if it has one.
@@ -50,68 +50,63 @@ pub(crate) struct ReplyError<'a> {
 }
 
 impl fmt::Display for EventWord<'_> {
-    ghost output = { λ word. Some (event_word word.event.now) };
+    ghost output = { λ word. Some (event_word word.action.now) };
 
     fn fmt<W: fmt::Write>(&self, f: &mut fmt::Formatter<W>) -> fmt::Result {
-        match self.event {
-            Event::Lookup { .. } => f.write_str("lookup"),
-            Event::LookupIp { .. } => f.write_str("ip"),
-            Event::Clear { .. } => f.write_str("clear"),
-            Event::ClearAll { .. } => f.write_str("clearall"),
-            Event::Update { .. } => f.write_str("update"),
+        match self.action {
+            Action::Lookup { .. } => f.write_str("lookup"),
+            Action::LookupIp { .. } => f.write_str("ip"),
+            Action::Clear { .. } => f.write_str("clear"),
+            Action::ClearAll => f.write_str("clearall"),
+            Action::Update(_) => f.write_str("update"),
         }
     }
 }
 
 impl fmt::Display for EventName<'_> {
-    ghost output = { λ it. Some (text_or_null (event_name it.event.now)) };
+    ghost output = { λ it. Some (text_or_null (event_name it.action.now)) };
 
     fn fmt<W: fmt::Write>(&self, f: &mut fmt::Formatter<W>) -> fmt::Result {
-        match self.event {
-            Event::Lookup { name, .. } | Event::Clear { name, .. } => {
+        match self.action {
+            Action::Lookup { name, .. } | Action::Clear { name, .. } => {
                 let name = JsonDisplay(name);
                 write!(f, "{name}")
             }
-            Event::LookupIp { .. } | Event::ClearAll { .. } | Event::Update { .. } => {
-                f.write_str("null")
-            }
+            Action::LookupIp { .. } | Action::ClearAll | Action::Update(_) => f.write_str("null"),
         }
     }
 }
 
 impl fmt::Display for EventType<'_> {
-    ghost output = { λ it. Some (text_or_null (event_type it.types it.event.now)) };
+    ghost output = { λ it. Some (text_or_null (event_type it.types it.action.now)) };
 
     fn fmt<W: fmt::Write>(&self, f: &mut fmt::Formatter<W>) -> fmt::Result {
         let types = self.types;
-        match self.event {
-            Event::Lookup { rtype, .. } | Event::Clear { rtype, .. } => {
+        match self.action {
+            Action::Lookup { rtype, .. } | Action::Clear { rtype, .. } => {
                 let rtype = JsonDisplay(ShownType {
                     types,
                     rtype: *rtype,
                 });
                 write!(f, "{rtype}")
             }
-            Event::LookupIp { .. } | Event::ClearAll { .. } | Event::Update { .. } => {
-                f.write_str("null")
-            }
+            Action::LookupIp { .. } | Action::ClearAll | Action::Update(_) => f.write_str("null"),
         }
     }
 }
 
 impl fmt::Display for EventHost<'_> {
-    ghost output = { λ it. Some (text_or_null (event_host it.event.now)) };
+    ghost output = { λ it. Some (text_or_null (event_host it.action.now)) };
 
     fn fmt<W: fmt::Write>(&self, f: &mut fmt::Formatter<W>) -> fmt::Result {
-        match self.event {
-            Event::LookupIp { host, .. } => {
+        match self.action {
+            Action::LookupIp { host } => {
                 let host = JsonDisplay(host.as_str());
                 write!(f, "{host}")
             }
-            Event::Lookup { .. }
-            | Event::Clear { .. }
-            | Event::ClearAll { .. }
-            | Event::Update { .. } => f.write_str("null"),
+            Action::Lookup { .. } | Action::Clear { .. } | Action::ClearAll | Action::Update(_) => {
+                f.write_str("null")
+            }
         }
     }
 }

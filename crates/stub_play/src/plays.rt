@@ -6,7 +6,7 @@ ghost use Rattle.stub_play.specs.Plays.{Faults, HostsAre, IsBeforeRun, IsFirstLi
 ghost use Rattle.stub_link.specs.LinkState.{first_link_state};
 ghost use Rattle.stub_link.specs.ScriptedLink.{IsAt};
 ghost use Rattle.stub_link.specs.declared.link.script.Script.TheVariants.{Honest};
-ghost use Rattle.stub_run.specs.Event.{AreHonest, script_of};
+ghost use Rattle.stub_run.specs.Event.{AreHonest};
 ghost use Rattle.stub_run.specs.Run.{InOrder};
 
 mod events;
@@ -167,9 +167,9 @@ fn first_listed(events: &[Event]) -> Option<usize>
 
 /// Returns `true` if the link follows a script during an event.
 fn is_listed(event: &Event) -> bool
-    ensures { (result ≡ false) ↔ (script_of event.now ≡ Honest) }
+    ensures { (result ≡ false) ↔ (event.now.script ≡ Honest) }
 {
-    match event.script() {
+    match event.script {
         Script::Honest => false,
         Script::Listed(_) => true,
     }
@@ -286,7 +286,7 @@ fn first_out_of_order(events: &[Event]) -> Option<usize>
 {
     let mut last = 0;
     for (i, event) in events.iter().enumerate() {
-        let now = event.at();
+        let now = event.at;
         if now < last || now > 1 << 62 {
             return Some(i);
         }

@@ -31,11 +31,12 @@ fn write_event<W: io::Write>(event: &Event, types: Types, writer: &mut W) -> io:
     ensures { OnOk result (Appends (W.contents writer.old) (W.contents writer.new)
         (json_event types event.now)) }
 {
-    let at = event.at();
-    let word = EventWord { event };
-    let name = EventName { event };
-    let rtype = EventType { event, types };
-    let host = EventHost { event };
+    let at = event.at;
+    let action = &event.action;
+    let word = EventWord { action };
+    let name = EventName { action };
+    let rtype = EventType { action, types };
+    let host = EventHost { action };
     write!(
         writer,
         "{{\"moment\":{at},\"event\":\"{word}\",\"name\":{name},\"type\":{rtype},\"host\":{host}"

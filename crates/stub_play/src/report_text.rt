@@ -9,7 +9,7 @@ use dns_messages::Record;
 use dns_zone_file::Types;
 use std::io;
 use stub_lookup::NetError;
-use stub_run::{Event, EventReply};
+use stub_run::{Action, Event, EventReply};
 
 /// Writes what happened, and the reply to it.
 pub(crate) fn write_text<W: io::Write>(
@@ -34,34 +34,25 @@ pub(crate) fn write_event<W: io::Write>(
     ensures { OnOk result (Appends (W.contents writer.old) (W.contents writer.new)
         (event_text types event.now)) }
 {
-    match event {
-        Event::Lookup {
-            at,
-            name,
-            rtype,
-            ..
-        } => {
+    let at = event.at;
+    match &event.action {
+        Action::Lookup { name, rtype } => {
             let rtype = ShownType {
                 types,
                 rtype: *rtype,
             };
             write!(writer, "{at} lookup {name} {rtype}")
         }
-        Event::LookupIp { at, host, .. } => write!(writer, "{at} ip {host}"),
-        Event::Clear {
-            at,
-            name,
-            rtype,
-            ..
-        } => {
+        Action::LookupIp { host } => write!(writer, "{at} ip {host}"),
+        Action::Clear { name, rtype } => {
             let rtype = ShownType {
                 types,
                 rtype: *rtype,
             };
             write!(writer, "{at} clear {name} {rtype}")
         }
-        Event::ClearAll { at, .. } => write!(writer, "{at} clearall"),
-        Event::Update { at, .. } => write!(writer, "{at} update"),
+        Action::ClearAll => write!(writer, "{at} clearall"),
+        Action::Update(_) => write!(writer, "{at} update"),
     }
 }
 

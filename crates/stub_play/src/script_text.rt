@@ -2,8 +2,8 @@
 
 ghost use Rattle.std.specs.Prelude.{◌≡◌, ◌≢◌, ◌≤◌, ◌+◌, IfOk, IfErr, IsOk, Ok, Err, [], drop, length, map, option_map};
 ghost use Rattle.std.specs.Str.Lines.{lines};
-ghost use Rattle.stub_play.specs.EventContent.{content_of, link_content};
-ghost use Rattle.stub_play.specs.ScriptText.{IsEvent, IsEventOfLine, IsScriptFrom, IsScriptOf, Means, contents_of, is_skipped, is_update, keyword_of, meaning_of, side_by_side, update_id};
+ghost use Rattle.stub_play.specs.EventContent.{action_content, content_of, link_content};
+ghost use Rattle.stub_play.specs.ScriptText.{IsAction, IsEvent, IsEventOfLine, IsScriptFrom, IsScriptOf, Means, contents_of, is_skipped, is_update, keyword_of, meaning_of, side_by_side, update_id};
 
 use crate::clear_line::{read_clear, read_clear_all};
 use crate::link_words::read_link_words;
@@ -13,7 +13,7 @@ use crate::update_line::read_update;
 use dns_names::Name;
 use dns_zone_file::Types;
 use std::alloc::{AllocError, AllocFailed, Global};
-use stub_run::{Event, Script};
+use stub_run::{Action, Event, Script};
 use thiserror::Error;
 use update_text::{is_blank, split_line};
 
@@ -137,7 +137,7 @@ fn read_lines(
             LineContent::Nothing => {}
             LineContent::Unreadable => return Err(ScriptFault::Line(i + 1)),
             LineContent::Holds(event) => {
-                update_count += usize::from(is_update(&event));
+                update_count += usize::from(is_update(&event.action));
                 events.push(event)?;
                 lines.push(i + 1)?;
             }
@@ -153,11 +153,11 @@ fn update_id(update_count: usize) -> u16
     (update_count % 65_536) as u16
 }
 
-/// Returns `true` if an event is an update.
-fn is_update(event: &Event) -> bool
-    ensures { result ≡ is_update (content_of event.now) }
+/// Returns `true` if an action is an update.
+fn is_update(action: &Action) -> bool
+    ensures { result ≡ is_update (action_content action.now) }
 {
-    matches!(event, Event::Update { .. })
+    matches!(action, Action::Update(_))
 }
 
 /// Returns the lines of a text.
@@ -237,12 +237,30 @@ fn read_event(
     let Some(at) = parse_moment(at) else {
         return Ok(None);
     };
+    match read_action(alloc, keyword, arguments, origin, id, types)? {
+        Some(action) => Ok(Some(Event { at, script, action })),
+        None => Ok(None),
+    }
+}
+
+/// Reads what happens in an event, from its keyword and the words after it.
+fn read_action(
+    alloc: Global,
+    keyword: &[u8],
+    arguments: &[Vec<u8>],
+    origin: &Name,
+    id: u16,
+    types: Types,
+) -> Result<Option<Action>, AllocError>
+    ensures { IfOk result (λ found. IsAction types origin.now id (keyword_of keyword.now)
+        (map (λ word. word.items) arguments.now) (option_map action_content found)) }
+{
     match parse_keyword(keyword) {
-        Some(Keyword::Lookup) => read_lookup(alloc, at, script, arguments, types),
-        Some(Keyword::Ip) => read_ip(alloc, at, script, arguments),
-        Some(Keyword::Clear) => read_clear(alloc, at, script, arguments, types),
-        Some(Keyword::ClearAll) => Ok(read_clear_all(at, script, arguments)),
-        Some(Keyword::Update) => read_update(alloc, at, script, arguments, origin, id, types),
+        Some(Keyword::Lookup) => read_lookup(alloc, arguments, types),
+        Some(Keyword::Ip) => read_ip(alloc, arguments),
+        Some(Keyword::Clear) => read_clear(alloc, arguments, types),
+        Some(Keyword::ClearAll) => Ok(read_clear_all(arguments)),
+        Some(Keyword::Update) => read_update(alloc, arguments, origin, id, types),
         None => Ok(None),
     }
 }

@@ -32,8 +32,8 @@ use Rattle.stub_core.specs.declared.resolver.settings.Settings.{Settings}
 use Rattle.stub_link.specs.Request.{IsUpdate}
 use Rattle.stub_run.specs.Alike.{AreAlike, AreAlikeClients}
 use Rattle.stub_run.specs.Run.{Clears, Replies, Updates}
-use Rattle.stub_run.specs.declared.event.Event.{Event}
-use Rattle.stub_run.specs.declared.event.Event.TheVariants as event
+use Rattle.stub_run.specs.declared.event.Action.{Action}
+use Rattle.stub_run.specs.declared.event.Action.TheVariants as actions
 use Rattle.stub_run.specs.declared.report.EventReply.{EventReply}
 use Rattle.stub_run.specs.declared.report.EventReply.TheVariants as replies
 
@@ -381,16 +381,16 @@ module _ {H S : Type 0} (is_in : H → S → Type 0) (gives : Behavior H) (other
       )
 
   -- the reply to an event is carried along
-  pub replies-alike : (old new : Resolver H) (e : Event) (reply : EventReply) (state : Resolver S) → AreAlike is_in old state
-      → Replies gives sends old e reply new
-      → (after : Resolver S) × AreAlike is_in new after × Replies others other_sends state e reply after
-  replies-alike old new (event.Lookup at name kind script) (replies.Lookup found) state alike h =
+  pub replies-alike : (old new : Resolver H) (at : ℕ) (action : Action) (reply : EventReply) (state : Resolver S) → AreAlike is_in old state
+      → Replies gives sends old at action reply new
+      → (after : Resolver S) × AreAlike is_in new after × Replies others other_sends state at action reply after
+  replies-alike old new at (actions.Lookup name kind) (replies.Lookup found) state alike h =
       resolves-name-alike is_in gives others carries at (Ok name) kind old new found state alike h
-  replies-alike old new (event.LookupIp at host script) (replies.LookupIp found) state alike h =
+  replies-alike old new at (actions.LookupIp host) (replies.LookupIp found) state alike h =
       resolves-host-alike is_in gives others carries at (IsTextOf (string_bytes host)) (name_of_text (string_bytes host)) old new found state alike h
-  replies-alike old new (event.Clear at name kind script) (replies.Cleared done) state alike h =
+  replies-alike old new at (actions.Clear name kind) (replies.Cleared done) state alike h =
       clears-alike is_in gives others carries name kind old new done state alike h
-  replies-alike old new (event.ClearAll at script) (replies.Cleared done) state alike h =
+  replies-alike old new at actions.ClearAll (replies.Cleared done) state alike h =
       let after : Resolver S = record state { client = with_entries state.client [] } in
       let cleared : AreAlike is_in (record old { client = with_entries old.client [] }) after = record {
         settings = alike.settings;
@@ -401,9 +401,9 @@ module _ {H S : Type 0} (is_in : H → S → Type 0) (gives : Behavior H) (other
         };
       } in
       (after, subst (λ (resolver : Resolver H). AreAlike is_in resolver after) (sym h.1) cleared, (h.0, refl))
-  replies-alike old new (event.Update at update script) (replies.Update reply) state alike h =
+  replies-alike old new at (actions.Update update) (replies.Update reply) state alike h =
       updates-alike update.value old new reply state alike h
-  replies-alike old new e reply state alike h = absurd h
+  replies-alike old new at action reply state alike h = absurd h
 
 -- ---- what every question and update keeps
 
@@ -456,9 +456,9 @@ module _ {H : Type 0} (holds : H → Type 0) (gives : Behavior H) (sends : Sendi
   }
 
   -- an event keeps it
-  pub replies-keep : (old new : Resolver H) (e : Event) (reply : EventReply) → holds old.client.handle
-      → Replies gives sends old e reply new → holds new.client.handle
-  replies-keep old new e reply h resolves =
-      let led = replies-alike IsHeld gives Anything sends AnyUpdate held held_updates old new e reply (without_state old)
+  pub replies-keep : (old new : Resolver H) (at : ℕ) (action : Action) (reply : EventReply) → holds old.client.handle
+      → Replies gives sends old at action reply new → holds new.client.handle
+  replies-keep old new at action reply h resolves =
+      let led = replies-alike IsHeld gives Anything sends AnyUpdate held held_updates old new at action reply (without_state old)
       (is-alike old h) resolves in
       led.1.client.handle

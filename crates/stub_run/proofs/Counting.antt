@@ -1,6 +1,5 @@
 -- What questions cost, over the zone's server, and which ids they draw.
-use Rattle.std.proofs.Common.{◌≡◌, ◌≤◌, ◌+◌, ◌*◌, ◌++◌, Bool, true, false, inl, inr, ℕ, zero, suc, List, [], ◌∷◌, Option, Some, None, Result, Ok, Err, length, map, take, slice_get, refl, sym, ap, subst, ◌∙◌, arith, length-append}
-use Rattle.std.specs.Prelude.{◌⊎◌}
+use Rattle.std.proofs.Common.{◌≡◌, ◌≤◌, ◌+◌, ◌++◌, Bool, true, false, inl, inr, ℕ, zero, suc, List, [], ◌∷◌, Some, Result, length, map, take, slice_get, refl, sym, ap, subst, ◌∙◌, arith}
 use Rattle.dns_messages.specs.declared.message.Message.{Message}
 use Rattle.dns_messages.specs.declared.query.Query.{Query}
 use Rattle.dns_messages.specs.declared.response_code.ResponseCode.{ResponseCode}
@@ -11,7 +10,7 @@ use Rattle.stub_client.specs.declared.request.DnsRequest.{DnsRequest}
 use Rattle.stub_link.specs.Ask.{Asker}
 use Rattle.stub_link.specs.AskState.{AskState, AskZone, UpdateZone}
 use Rattle.stub_link.specs.Link.{messages}
-use Rattle.stub_link.specs.LinkState.{LinkState, link_calls}
+use Rattle.stub_link.specs.LinkState.{link_calls}
 use Rattle.stub_run.specs.Counts.{AreFew, HasDrawn}
 use Rattle.stub_run.proofs.OutOfMemory.{IsOut, ask-zone-out, with-memory}
 use Rattle.stub_run.proofs.Requests.{Draws, Tallies, ask-tallies, update-tallies}

@@ -1,5 +1,5 @@
 -- How many questions lookups, events and runs ask over any link, and how many datagrams they drop.
-use Rattle.std.proofs.Common.{◌≡◌, ◌≤◌, ◌+◌, ◌*◌, take, IfOk, IfSome, Bool, true, false, inl, inr, ℕ, zero, suc, List, [], ◌∷◌, Option, Some, None, Result, Ok, Err, length, refl, sym, ap, subst, ◌∙◌, arith}
+use Rattle.std.proofs.Common.{◌≡◌, ◌≤◌, ◌+◌, ◌*◌, take, IfOk, IfSome, Bool, true, false, inl, inr, ℕ, suc, List, [], ◌∷◌, Option, Some, None, Result, Ok, Err, length, refl, sym, ap, subst, ◌∙◌, arith}
 use Rattle.std.specs.Prelude.{string_bytes}
 use Rattle.std.specs.declared.alloc.AllocError.{AllocError}
 use Rattle.std.specs.declared.net.ip_addr.IpAddr.{IpAddr}
@@ -25,8 +25,8 @@ use Rattle.stub_client.specs.declared.caching_client.CachingClient.{CachingClien
 use Rattle.stub_client.specs.declared.request.DnsRequest.{DnsRequest}
 use Rattle.stub_core.specs.Attempts.{Attempts, AttemptsWithHosts, Continues, Lookups, Unless, WithHosts, is_final}
 use Rattle.stub_core.specs.Origins.{names_of}
-use Rattle.stub_core.specs.Resolver.{AnswersHost, AnswersName, LooksUp, LooksUpHost, LooksUpName, ResolvesHost, ResolvesName, UnlessMemory, asks_of, is_tried_as_name, known_type, names_for, request_options}
-use Rattle.stub_core.specs.Strategies.{Both, ByStrategy, Joins, LooksUpAddresses, LooksUpIp, Then, is_out_of_memory, kinds_of}
+use Rattle.stub_core.specs.Resolver.{AnswersHost, LooksUp, LooksUpHost, LooksUpName, asks_of, is_tried_as_name, known_type, names_for, request_options}
+use Rattle.stub_core.specs.Strategies.{Both, Joins, LooksUpAddresses, LooksUpIp, Then, is_out_of_memory, kinds_of}
 use Rattle.stub_core.specs.declared.resolver.Resolver.{Resolver}
 use Rattle.stub_core.specs.declared.resolver.settings.Settings.{Settings}
 use Rattle.stub_link.specs.Ask.{Asker}
@@ -37,11 +37,11 @@ use Rattle.stub_link.specs.declared.link.LinkError.{LinkError}
 use Rattle.stub_link.specs.declared.wire_handle.WireHandle.{WireHandle}
 use Rattle.stub_run.specs.Counts.{AreFew, EachHasFew, HasFew, most_dropped, most_dropped_in, most_questions}
 use Rattle.stub_run.specs.Headline.{IsMadeOf, WorldContent, report_in, reported, settings_of}
-use Rattle.stub_run.specs.Run.{Clears, Replies, Updates, memory_report}
-use Rattle.stub_run.specs.RunOver.{EndsOver, IsReportBeforeOver, IsReportOver, LinkRules, RunsOver, StepOver, rules_of, with_sent}
-use Rattle.stub_run.specs.World.{BeginsWith}
+use Rattle.stub_run.specs.Run.{Clears, Replies, memory_report}
+use Rattle.stub_run.specs.RunOver.{IsReportBeforeOver, IsReportOver, LinkRules, RunsOver, StepOver, rules_of, with_sent}
+use Rattle.stub_run.specs.declared.event.Action.{Action}
+use Rattle.stub_run.specs.declared.event.Action.TheVariants as actions
 use Rattle.stub_run.specs.declared.event.Event.{Event}
-use Rattle.stub_run.specs.declared.event.Event.TheVariants as event
 use Rattle.stub_run.specs.declared.report.EventReply.{EventReply}
 use Rattle.stub_run.specs.declared.report.EventReply.TheVariants as replies
 use Rattle.stub_run.specs.declared.report.EventReport.{EventReport}
@@ -286,12 +286,12 @@ module _ {L : Type 0} (sends : L → List ℕ → Result (Unit {0}) LinkError �
   -- ---- events
 
   -- what an event adds, where nothing is counted as it begins
-  record AddsFew (settings : Settings) (e : Event) (old new : WireHandle L) : Type 0 where
-    questions : new.questions ≤ old.questions + most_questions settings e
-    dropped : new.dropped ≤ old.dropped + most_dropped settings e
+  record AddsFew (settings : Settings) (action : Action) (old new : WireHandle L) : Type 0 where
+    questions : new.questions ≤ old.questions + most_questions settings action
+    dropped : new.dropped ≤ old.dropped + most_dropped settings action
 
-  same-few : (settings : Settings) (e : Event) (old new : WireHandle L) → new ≡ old → AddsFew settings e old new
-  same-few settings e old new same = subst (λ (x : WireHandle L). AddsFew settings e old x) (sym same)
+  same-few : (settings : Settings) (action : Action) (old new : WireHandle L) → new ≡ old → AddsFew settings action old new
+  same-few settings action old new same = subst (λ (x : WireHandle L). AddsFew settings action old x) (sym same)
       (record { questions = omega arith; dropped = omega arith })
 
   cleared-handle : (name : DomainName) (kind : RecordType) (old : Resolver (WireHandle L)) (done : Result (Unit {0}) NetError)
@@ -314,36 +314,36 @@ module _ {L : Type 0} (sends : L → List ℕ → Result (Unit {0}) LinkError �
   cleared-settings name kind old (Err (net.Link e)) new h = absurd h
   cleared-settings name kind old (Err net.Unsupported) new h = absurd h
 
-  replies-few : (old new : Resolver (WireHandle L)) (e : Event) (reply : EventReply) → Replies Gives Updating old e reply new
-      → AddsFew old.settings e old.client.handle new.client.handle
-  replies-few old new (event.Lookup at name kind script) (replies.Lookup found) h =
+  replies-few : (old new : Resolver (WireHandle L)) (at : ℕ) (action : Action) (reply : EventReply)
+      → Replies Gives Updating old at action reply new → AddsFew old.settings action old.client.handle new.client.handle
+  replies-few old new at (actions.Lookup name kind) (replies.Lookup found) h =
       let few = name-few at old new (Ok name) kind found h.lookup in
       let questions = few.questions in
       let dropped = few.dropped in
       record { questions = questions; dropped = dropped }
-  replies-few old new (event.LookupIp at host script) (replies.LookupIp found) h =
+  replies-few old new at (actions.LookupIp host) (replies.LookupIp found) h =
       let few = host-few at old new h.address (name_of_text (string_bytes host)) found h.lookup in
       let questions = few.questions in
       let dropped = few.dropped in
       record { questions = questions; dropped = dropped }
-  replies-few old new (event.Clear at name kind script) (replies.Cleared done) h =
-      same-few old.settings (event.Clear at name kind script) old.client.handle new.client.handle (cleared-handle name kind old done new h)
-  replies-few old new (event.ClearAll at script) (replies.Cleared done) h =
-      same-few old.settings (event.ClearAll at script) old.client.handle new.client.handle
+  replies-few old new at (actions.Clear name kind) (replies.Cleared done) h =
+      same-few old.settings (actions.Clear name kind) old.client.handle new.client.handle (cleared-handle name kind old done new h)
+  replies-few old new at actions.ClearAll (replies.Cleared done) h =
+      same-few old.settings actions.ClearAll old.client.handle new.client.handle
       (ap (λ (r : Resolver (WireHandle L)). r.client.handle) h.1)
-  replies-few old new (event.Update at update script) (replies.Update reply) h =
+  replies-few old new at (actions.Update update) (replies.Update reply) h =
       let few = handle-update-few old.client.handle new.client.handle update.value reply h.sent in
       record { questions = omega (arith, few.0); dropped = few.1 }
-  replies-few old new e reply h = absurd h
+  replies-few old new at action reply h = absurd h
 
-  replies-settings : (old new : Resolver (WireHandle L)) (e : Event) (reply : EventReply) → Replies Gives Updating old e reply new
-      → new.settings ≡ old.settings
-  replies-settings old new (event.Lookup at name kind script) (replies.Lookup found) h = h.settings
-  replies-settings old new (event.LookupIp at host script) (replies.LookupIp found) h = h.settings
-  replies-settings old new (event.Clear at name kind script) (replies.Cleared done) h = cleared-settings name kind old done new h
-  replies-settings old new (event.ClearAll at script) (replies.Cleared done) h = ap (λ (r : Resolver (WireHandle L)). r.settings) h.1
-  replies-settings old new (event.Update at update script) (replies.Update reply) h = ap (λ (r : Resolver (WireHandle L)). r.settings) h.rest
-  replies-settings old new e reply h = absurd h
+  replies-settings : (old new : Resolver (WireHandle L)) (at : ℕ) (action : Action) (reply : EventReply)
+      → Replies Gives Updating old at action reply new → new.settings ≡ old.settings
+  replies-settings old new at (actions.Lookup name kind) (replies.Lookup found) h = h.settings
+  replies-settings old new at (actions.LookupIp host) (replies.LookupIp found) h = h.settings
+  replies-settings old new at (actions.Clear name kind) (replies.Cleared done) h = cleared-settings name kind old done new h
+  replies-settings old new at actions.ClearAll (replies.Cleared done) h = ap (λ (r : Resolver (WireHandle L)). r.settings) h.1
+  replies-settings old new at (actions.Update update) (replies.Update reply) h = ap (λ (r : Resolver (WireHandle L)). r.settings) h.rest
+  replies-settings old new at action reply h = absurd h
 
   -- ---- runs
 
@@ -353,8 +353,8 @@ module _ {L : Type 0} (sends : L → List ℕ → Result (Unit {0}) LinkError �
 
     record StepsFew (settings : Settings) (e : Event) (report : EventReport) (old new : Resolver (WireHandle L)) : Type 0 where
       same : new.settings ≡ settings
-      questions : report.questions ≤ most_questions settings e
-      dropped : new.client.handle.dropped ≤ old.client.handle.dropped + most_dropped settings e
+      questions : report.questions ≤ most_questions settings e.action
+      dropped : new.client.handle.dropped ≤ old.client.handle.dropped + most_dropped settings e.action
 
     step-few : (settings : Settings) (old : Resolver (WireHandle L)) (e : Event) (report : EventReport) (new : Resolver (WireHandle L))
         → old.settings ≡ settings → StepOver rules old e report new → StepsFew settings e report old new
@@ -362,8 +362,8 @@ module _ {L : Type 0} (sends : L → List ℕ → Result (Unit {0}) LinkError �
         let begun = s.happens.begun in
         let rest = s.happens.begins.rest in
         let begun-settings : begun.settings ≡ settings = ap (λ (r : Resolver (WireHandle L)). r.settings) rest ∙ same in
-        let adds = subst (λ (t : Settings). AddsFew t e begun.client.handle s.replied.client.handle) begun-settings
-        (replies-few begun s.replied e report.reply s.happens.replies) in
+        let adds = subst (λ (t : Settings). AddsFew t e.action begun.client.handle s.replied.client.handle) begun-settings
+        (replies-few begun s.replied e.at e.action report.reply s.happens.replies) in
         let none : begun.client.handle.questions ≡ 0 = ap (λ (r : Resolver (WireHandle L)). r.client.handle.questions) rest in
         let before : begun.client.handle.dropped ≡ old.client.handle.dropped =
         ap (λ (r : Resolver (WireHandle L)). r.client.handle.dropped) rest in
@@ -376,7 +376,7 @@ module _ {L : Type 0} (sends : L → List ℕ → Result (Unit {0}) LinkError �
         let told = s.questions in
         record {
           same = ap (λ (r : Resolver (WireHandle L)). r.settings) s.ends.rest
-              ∙ replies-settings begun s.replied e report.reply s.happens.replies ∙ begun-settings;
+              ∙ replies-settings begun s.replied e.at e.action report.reply s.happens.replies ∙ begun-settings;
           questions = omega (arith, asked, none, last, told);
           dropped = omega (arith, drops, before, after);
         }

@@ -1,5 +1,5 @@
 -- Every record that a run returns is fresh, and has the chain bound.
-use Rattle.std.proofs.Common.{◌≡◌, ℕ, ◌≤◌, ◌++◌, List, [], ◌∷◌, Bool, false, All, refl, sym, ap, subst, ◌∙◌}
+use Rattle.std.proofs.Common.{◌≡◌, ℕ, ◌≤◌, List, [], Bool, false, refl, sym, ap, subst, ◌∙◌}
 use Rattle.std.proofs.lemmas.List.Elements.{All-nil}
 use Rattle.dns_codes.specs.RecordType.{type_number, type_of}
 use Rattle.dns_names.specs.Name.{DomainName}
@@ -10,17 +10,15 @@ use Rattle.dns_zone.specs.Answer.{IsChain, answer}
 use Rattle.dns_zone.specs.Rows.{IsZone, ZoneContent}
 use Rattle.stub_cache.specs.Cache.{CacheContent}
 use Rattle.stub_cache.specs.Ttl.{TtlConfigContent}
-use Rattle.stub_client.specs.Origins.{Asked, Brings as BringsRecord, BringsClosely, Comes, IsBrought, IsBroughtClosely, LeadsOn, LeadsOnClosely}
+use Rattle.stub_client.specs.Origins.{Asked, Brings as BringsRecord, BringsClosely, Comes, LeadsOn, LeadsOnClosely}
 use Rattle.stub_client.specs.SpecialNames.{special_answer}
 use Rattle.stub_client.specs.declared.special_names.SpecialAnswer.TheVariants.{Ordinary}
-use Rattle.stub_core.specs.Origins.{CacheIsFrom, HasNoMinima}
+use Rattle.stub_core.specs.Origins.{CacheIsFrom}
 use Rattle.stub_core.specs.ResolverBuilder.{empty_cache}
-use Rattle.stub_core.specs.declared.resolver.settings.Settings.{Settings}
 use Rattle.stub_core.proofs.OriginsLaws.{Brings, brings-all, brings-closely, from-empty}
-use Rattle.stub_link.specs.AskState.{AskState, first_asks}
+use Rattle.stub_link.specs.AskState.{AskState}
 use Rattle.stub_link.specs.History.{Occasion, first_past}
-use Rattle.stub_link.specs.LinkState.{Version}
-use Rattle.stub_history.specs.Answered.{AreOrdinary, AreZones, IsAnsweredBy, is_plain}
+use Rattle.stub_history.specs.Answered.{IsAnsweredBy}
 use Rattle.stub_history.specs.Faithful.{HasNoReuse, IsFaithful}
 use Rattle.stub_history.proofs.CloseLaws.{closely}
 use Rattle.stub_history.proofs.EventLaws.{first-faithful}

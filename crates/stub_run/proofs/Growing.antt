@@ -1,23 +1,25 @@
 -- What only grows in a run: the ids that were drawn, and the versions of the zone.
 use Rattle.std.proofs.Common.{◌≡◌, ℕ, ◌++◌, List, [], ◌∷◌, Bool, true, false, Option, Some, None, refl, sym, ap, subst, ◌∙◌, inl, inr}
-use Rattle.std.specs.Prelude.{◌⊎◌, if◌then◌else◌, slice_get}
+use Rattle.std.specs.Prelude.{if◌then◌else◌, slice_get}
 use Rattle.std.specs.List.{fold}
 use Rattle.std.proofs.lemmas.List.{append_assoc, append-nil}
 use Rattle.dns_messages.specs.declared.message.Message.{Message}
 use Rattle.dns_messages.specs.declared.query.Query.{Query}
-use Rattle.dns_zone.specs.Rows.{ZoneContent}
 use Rattle.dns_zone.specs.Serving.{zone_after}
 use Rattle.stub_link.specs.AskState.{AskState}
-use Rattle.stub_link.specs.History.{Occasion, Past, past_after, past_after_event, past_after_occasion, past_after_script, past_after_update, sent_update}
+use Rattle.stub_link.specs.History.{Occasion, Past, past_after, past_after_event, past_after_occasion, past_after_script, past_after_update, past_of, sent_update}
 use Rattle.stub_link.specs.Link.{messages}
-use Rattle.stub_link.specs.LinkState.{Version, history_after, is_applied, link_calls, named_update}
+use Rattle.stub_link.specs.LinkState.{Version, is_applied, link_calls, named_update}
 use Rattle.stub_link.specs.declared.link.script.LinkEvent.{LinkEvent}
 use Rattle.stub_link.specs.declared.link.script.LinkEvent.TheVariants as does
 use Rattle.stub_link.specs.declared.link.script.Script.{Script}
 use Rattle.stub_link.specs.declared.link.script.Script.TheVariants as script
-use Rattle.stub_run.specs.Run.{RepliesByZone, RunState, Runs, Step, asks_of, begin_asks, begin_event, end_event}
+use Rattle.stub_run.specs.Event.{update_of}
+use Rattle.stub_run.specs.Walked.{past_since}
+use Rattle.stub_run.specs.Run.{RepliesByZone, RunState, Runs, Step, asks_of, begin_asks, begin_event}
+use Rattle.stub_run.specs.declared.event.Action.{Action}
+use Rattle.stub_run.specs.declared.event.Action.TheVariants as actions
 use Rattle.stub_run.specs.declared.event.Event.{Event}
-use Rattle.stub_run.specs.declared.event.Event.TheVariants as event
 use Rattle.stub_run.specs.declared.report.EventReply.{EventReply}
 use Rattle.stub_run.specs.declared.report.EventReport.{EventReport}
 use Rattle.stub_run.proofs.Alike.{replies-keep}
@@ -49,9 +51,9 @@ tallies-extend most sent old new t h =
       | inr d ↦ ((d.0, d.1) ∷ [], d.3)
     ])
 
-replies-extend : (sent : List (ℕ × Query)) (old new : RunState) (e : Event) (reply : EventReply) → Extends sent (asks_of old)
-    → RepliesByZone old e reply new → UnlessOut (Extends sent) (asks_of new)
-replies-extend sent old new e reply h replies =
+replies-extend : (sent : List (ℕ × Query)) (old new : RunState) (at : ℕ) (action : Action) (reply : EventReply) → Extends sent (asks_of old)
+    → RepliesByZone old at action reply new → UnlessOut (Extends sent) (asks_of new)
+replies-extend sent old new at action reply h replies =
     replies-keep (UnlessOut (Extends sent)) AsksServer UpdatesServer
     (λ old new request now outcome held asked. asks-keep (Extends sent)
     (λ m old outcome new ask drawn. inr (tallies-extend 1 sent old new (ask-tallies messages link_calls m old outcome new ask) drawn))
@@ -59,22 +61,26 @@ replies-extend sent old new e reply h replies =
     (λ old new update reply held sound sends. updates-keep (Extends sent)
     (λ m old reply new done drawn. inr (tallies-extend 0 sent old new (update-tallies messages link_calls m old reply new done) drawn))
     old new update reply held sends)
-    old new e reply (inr h) replies
+    old new at action reply (inr h) replies
 
-begin-sent : (e : Event) (asks : AskState) → (begin_asks e asks).sent ≡ asks.sent
-begin-sent (event.Lookup at name kind script) asks = refl
-begin-sent (event.LookupIp at host script) asks = refl
-begin-sent (event.Clear at name kind script) asks = refl
-begin-sent (event.ClearAll at script) asks = refl
-begin-sent (event.Update at update script) asks = refl
+begin-sent : (update : Option Message) (at : ℕ) (script : Script) (asks : AskState) → (begin_asks update at script asks).sent ≡ asks.sent
+begin-sent None at script asks = refl
+begin-sent (Some update) at script asks = refl
+
+-- As an event begins, the past from which on the zone must not change is that before it.
+pub past-begun : (action : Action) (first : Past) (at : ℕ) (script : Script) (asks : AskState)
+    → past_since action first (past_of (begin_asks (update_of action) at script asks).link) ≡ past_since action first (past_of asks.link)
+past-begun actions.ClearAll first at script asks = refl
+past-begun action first at script asks = refl
 
 step-extends : (old : RunState) (e : Event) (report : EventReport) (new : RunState) → Step old e report new
     → Extends (asks_of old).sent (asks_of new)
 step-extends old e report new step =
-    let first : Extends (asks_of old).sent (begin_asks e (asks_of old)) =
-    subst (λ (s : List (ℕ × Query)). Grows (asks_of old).sent s) (sym (begin-sent e (asks_of old))) (grows-not (asks_of old).sent) in
+    let first : Extends (asks_of old).sent (asks_of (begin_event e old)) =
+    subst (λ (s : List (ℕ × Query)). Grows (asks_of old).sent s) (sym (begin-sent (update_of e.action) e.at e.script (asks_of old)))
+    (grows-not (asks_of old).sent) in
     let drawn = with-memory (Extends (asks_of old).sent) (asks_of step.mid) (mid-memory old e report new step)
-    (replies-extend (asks_of old).sent (begin_event e old) step.mid e report.reply first step.replies) in
+    (replies-extend (asks_of old).sent (begin_event e old) step.mid e.at e.action report.reply first step.replies) in
     (drawn.0, ap (λ (s : RunState). (asks_of s).sent) step.ends ∙ drawn.1)
 
 pub runs-extend : (first last : RunState) (events : List Event) (reports : List EventReport) (states : List RunState)

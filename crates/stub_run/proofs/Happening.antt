@@ -1,39 +1,35 @@
 -- One event: how it begins, what it leads to on the states, how it ends, and that ids are only appended.
-use Rattle.std.proofs.Common.{◌≡◌, Bool, true, false, map, reverse, IsOk, ℕ, List, [], ◌∷◌, Option, Some, None, Result, Ok, Err, OnOk, OnErr, IfSome, is_err, length, take, slice_get, refl, sym, ap, subst, ◌∙◌, arith}
+use Rattle.std.proofs.Common.{◌≡◌, Bool, true, false, map, reverse, IsOk, ℕ, List, [], ◌∷◌, Option, Some, None, Result, Ok, Err, OnOk, OnErr, slice_get, refl, sym, ap, subst, ◌∙◌}
 use Rattle.std.specs.List.{fold, list_any}
 use Rattle.std.specs.declared.alloc.AllocError.{AllocError}
 use Rattle.std.specs.Global.{Vec}
-use Rattle.std.proofs.lemmas.List.{reverse-reverse, take_all}
+use Rattle.std.proofs.lemmas.List.{reverse-reverse}
 use Rattle.dns_messages.specs.declared.message.Message.{Message}
-use Rattle.dns_messages.specs.declared.query.Query.{Query}
 use Rattle.dns_messages.specs.declared.response_code.ResponseCode.{ResponseCode}
 use Rattle.stub_lookup.specs.declared.error.NetError.{NetError}
 use Rattle.stub_client.specs.Handle.{Outcome}
 use Rattle.stub_core.specs.Resolver.{with_handle}
 use Rattle.stub_client.specs.declared.request.DnsRequest.{DnsRequest}
 use Rattle.stub_core.specs.declared.resolver.Resolver.{Resolver}
-use Rattle.stub_link.specs.AskState.{AskState, AskZone, UpdateZone, begin, begin_with_update, end}
+use Rattle.stub_link.specs.AskState.{AskState, AskZone, UpdateZone, end}
 use Rattle.stub_link.specs.LinkState.{Course, Honest, Listed, LinkState, deliver, deliver_event, deliver_named, deliver_rest, begin_event as begin_link_event, begin_update as begin_link_update, end_event as end_link, is_delivery, named_update}
-use Rattle.stub_link.specs.Link.{Calls, calls_of, wire}
 use Rattle.stub_link.specs.Request.{IsUpdate}
 use Rattle.stub_link.specs.ScriptedLink.{AreRelated, IsAt, IsBegun, IsCourse, IsDelivered as IsLinkDelivered, IsEnded, IsListed, IsRequest, Receives, Sends, Streams, bytes_of, is_out_of_memory}
-use Rattle.stub_link.specs.WireHandle.{Asks, IsIn, SendsUpdate, asker_of, with_link}
+use Rattle.stub_link.specs.WireHandle.{Asks, IsIn, SendsUpdate, with_link}
 use Rattle.stub_link.specs.declared.link.script.LinkEvent.{LinkEvent}
 use Rattle.stub_link.specs.declared.link.script.LinkEvent.TheVariants as does
 use Rattle.stub_link.specs.declared.link.script.Script.{Script}
 use Rattle.stub_link.specs.declared.link.scripted.ScriptedLink.{ScriptedLink}
 use Rattle.stub_link.specs.declared.wire_handle.WireHandle.{WireHandle}
 use Rattle.stub_run.specs.Alike.{AreAlike}
-use Rattle.stub_run.specs.Event.{TakesMemory, moment_of, script_of, update_of}
+use Rattle.stub_run.specs.Event.{TakesMemory, update_of}
 use Rattle.stub_run.specs.RunOver.{BeginsOver, EndsOver, LinkRules, RunsOutOver, StepOver, begun_handle, link_is_out, no_beginning, no_end, rules_of}
 use Rattle.stub_run.specs.ScriptedEvents.{Begins as LinkBegins, begin_link}
 use Rattle.stub_run.specs.Run.{IsDelivered, Replies, RepliesByZone, RunState, RunsOut, Step, asks_of, at_ask, at_begin, at_end, begin_asks, begin_event, end_event}
 use Rattle.stub_run.specs.declared.event.Event.{Event}
-use Rattle.stub_run.specs.declared.event.Event.TheVariants as event
 use Rattle.stub_run.specs.declared.report.EventReply.{EventReply}
 use Rattle.stub_run.specs.declared.report.EventReport.{EventReport}
-use Rattle.stub_run.proofs.Alike.{Carries, CarriesUpdates, Keeps, KeepsUpdates, replies-alike, replies-keep}
-use Rattle.stub_run.proofs.Requests.{Tallies, ask-tallies, front-of-sent, update-tallies}
+use Rattle.stub_run.proofs.Alike.{Carries, CarriesUpdates, replies-alike}
 
 -- handles over the scripted link, and resolvers over these
 abbrev pub Handle : Type 0
@@ -82,28 +78,16 @@ begins-in handle link asks next memory at h = record {
 abbrev pub Begins : WireResolver → Event → WireResolver → Type 0
 Begins old e new = (state : RunState) → AreAlike IsInState old state → AreAlike IsInState new (begin_event e state)
 
--- an event that is not an update begins as such
-pub begin-other : (e : Event) (asks : AskState) → update_of e ≡ None → begin_asks e asks ≡ begin (moment_of e) (script_of e) asks
-begin-other (event.Lookup at name kind script) asks h = refl
-begin-other (event.LookupIp at host script) asks h = refl
-begin-other (event.Clear at name kind script) asks h = refl
-begin-other (event.ClearAll at script) asks h = refl
-begin-other (event.Update at update script) asks h = absurd (cc)
-
 -- an event begins on the link, and nothing is counted yet
-begin-by-link : (e : Event) (asks : AskState) → begin_asks e asks ≡ begun_asks asks (begin_link e asks.link)
-begin-by-link (event.Lookup at name kind script) asks = refl
-begin-by-link (event.LookupIp at host script) asks = refl
-begin-by-link (event.Clear at name kind script) asks = refl
-begin-by-link (event.ClearAll at script) asks = refl
-begin-by-link (event.Update at update script) asks = refl
+begin-by-link : (update : Option Message) (at : ℕ) (script : Script) (asks : AskState)
+    → begin_asks update at script asks ≡ begun_asks asks (begin_link update at script asks.link)
+begin-by-link None at script asks = refl
+begin-by-link (Some update) at script asks = refl
 
-begin-memory : (e : Event) (state : LinkState) → (begin_link e state).out_of_memory ≡ state.out_of_memory
-begin-memory (event.Lookup at name kind script) state = refl
-begin-memory (event.LookupIp at host script) state = refl
-begin-memory (event.Clear at name kind script) state = refl
-begin-memory (event.ClearAll at script) state = refl
-begin-memory (event.Update at update script) state = refl
+begin-memory : (update : Option Message) (at : ℕ) (script : Script) (state : LinkState)
+    → (begin_link update at script state).out_of_memory ≡ state.out_of_memory
+begin-memory None at script state = refl
+begin-memory (Some update) at script state = refl
 
 -- a resolver whose handle is alike
 alike-with : (resolver : WireResolver) (handle : Handle) (state : RunState) (asks : AskState) → AreAlike IsInState resolver state
@@ -118,73 +102,39 @@ begins-alike : (old new : WireResolver) (e : Event) → BeginsOver scripted_rule
 begins-alike old new e b = λ state alike.
     let asks = asks_of state in
     let link = new.client.handle.link in
-    let at : IsAt link (begin_link e asks.link) = b.link asks.link alike.client.handle.link in
+    let update : Option Message = update_of e.action in
+    let begun : LinkState = begin_link update e.at e.script asks.link in
+    let at : IsAt link begun = b.link asks.link alike.client.handle.link in
     subst (λ (r : WireResolver). AreAlike IsInState r (begin_event e state)) (sym b.rest)
     (subst (λ (a : AskState). AreAlike IsInState (with_handle old (begun_handle old.client.handle link)) (with_handle state a))
-    (sym (begin-by-link e asks))
-    (alike-with old (begun_handle old.client.handle link) state (begun_asks asks (begin_link e asks.link)) alike
-    (begins-in old.client.handle link asks (begin_link e asks.link) (begin-memory e asks.link) at alike.client.handle)))
+    (sym (begin-by-link update e.at e.script asks))
+    (alike-with old (begun_handle old.client.handle link) state (begun_asks asks begun) alike
+    (begins-in old.client.handle link asks begun (begin-memory update e.at e.script asks.link) at alike.client.handle)))
 
 -- ---- events of the scripted link
 
-link-other : (e : Event) (state : LinkState) → update_of e ≡ None
-    → begin_link e state ≡ begin_link_event (moment_of e) (script_of e) state
-link-other (event.Lookup at name kind script) state h = refl
-link-other (event.LookupIp at host script) state h = refl
-link-other (event.Clear at name kind script) state h = refl
-link-other (event.ClearAll at script) state h = refl
-link-other (event.Update at update script) state h = absurd (cc)
+pub begun-other : (old new : ScriptedLink) (e : Event) (result : Result (Unit {0}) AllocError) → update_of e.action ≡ None
+    → IsBegun old result new (λ moment state. begin_link_event moment e.script state) → OnOk result (LinkBegins old e new)
+begun-other old new e (Ok done) none b = λ state at.
+    subst (λ (update : Option Message). IsAt new (begin_link update e.at e.script state)) (sym none) (b.begins e.at state at)
+begun-other old new e (Err error) none b = tt
 
-link-update : (e : Event) (m : Message) (state : LinkState) → update_of e ≡ Some m
-    → begin_link e state ≡ begin_link_update (moment_of e) (script_of e) state
-link-update (event.Lookup at name kind script) m state h = absurd (cc)
-link-update (event.LookupIp at host script) m state h = absurd (cc)
-link-update (event.Clear at name kind script) m state h = absurd (cc)
-link-update (event.ClearAll at script) m state h = absurd (cc)
-link-update (event.Update at update script) m state h = refl
-
-pub begun-other : (old new : ScriptedLink) (e : Event) (s : Script) (result : Result (Unit {0}) AllocError) → s ≡ script_of e
-    → update_of e ≡ None → IsBegun old result new (λ moment state. begin_link_event moment s state)
+pub begun-update : (old new : ScriptedLink) (e : Event) (m : Message) (result : Result (Unit {0}) AllocError)
+    → update_of e.action ≡ Some m → IsBegun old result new (λ moment state. begin_link_update moment e.script state)
     → OnOk result (LinkBegins old e new)
-begun-other old new e s (Ok done) script none b = λ state at.
-    subst (λ (l : LinkState). IsAt new l)
-    (ap (λ (x : Script). begin_link_event (moment_of e) x state) script ∙ sym (link-other e state none))
-    (b.begins (moment_of e) state at)
-begun-other old new e s (Err error) script none b = tt
-
-pub begun-update : (old new : ScriptedLink) (e : Event) (s : Script) (m : Message) (result : Result (Unit {0}) AllocError)
-    → s ≡ script_of e → update_of e ≡ Some m → IsBegun old result new (λ moment state. begin_link_update moment s state)
-    → OnOk result (LinkBegins old e new)
-begun-update old new e s m (Ok done) script update b = λ state at.
-    subst (λ (l : LinkState). IsAt new l)
-    (ap (λ (x : Script). begin_link_update (moment_of e) x state) script ∙ sym (link-update e m state update))
-    (b.begins (moment_of e) state at)
-begun-update old new e s m (Err error) script update b = tt
+begun-update old new e m (Ok done) is-update b = λ state at.
+    subst (λ (update : Option Message). IsAt new (begin_link update e.at e.script state)) (sym is-update) (b.begins e.at state at)
+begun-update old new e m (Err error) is-update b = tt
 
 -- only a listed script, or an update, takes memory
-pub takes-other : (e : Event) (s : Script) (result : Result (Unit {0}) AllocError) → s ≡ script_of e → update_of e ≡ None
-    → OnErr result (IsListed s) → OnErr result (TakesMemory e)
-takes-other e s (Ok done) script none h = tt
-takes-other e s (Err error) script none h = by e none (subst (λ (x : Script). IsListed x) script h)
-  where
-    by : (e : Event) → update_of e ≡ None → IsListed (script_of e) → TakesMemory e
-    by (event.Lookup at name kind script) none listed = listed
-    by (event.LookupIp at host script) none listed = listed
-    by (event.Clear at name kind script) none listed = listed
-    by (event.ClearAll at script) none listed = listed
-    by (event.Update at update script) none listed = tt
+pub takes-other : (e : Event) (result : Result (Unit {0}) AllocError) → OnErr result (IsListed e.script) → OnErr result (TakesMemory e)
+takes-other e (Ok done) h = tt
+takes-other e (Err error) h = λ none. h
 
-pub takes-update : (e : Event) (m : Message) (result : Result (Unit {0}) AllocError) → update_of e ≡ Some m
+pub takes-update : (e : Event) (m : Message) (result : Result (Unit {0}) AllocError) → update_of e.action ≡ Some m
     → OnErr result (TakesMemory e)
-takes-update e m (Ok done) update = tt
-takes-update e m (Err error) update = by e update
-  where
-    by : (e : Event) → update_of e ≡ Some m → TakesMemory e
-    by (event.Lookup at name kind script) update = absurd (cc)
-    by (event.LookupIp at host script) update = absurd (cc)
-    by (event.Clear at name kind script) update = absurd (cc)
-    by (event.ClearAll at script) update = absurd (cc)
-    by (event.Update at update' script) update = tt
+takes-update e m (Ok done) is-update = tt
+takes-update e m (Err error) is-update = λ none. absurd (cc)
 
 -- ---- an event ends
 
@@ -270,7 +220,7 @@ pub record AsksAndUpdates : Type 0 where
 pub record Happens (old : WireResolver) (e : Event) (reply : EventReply) (begun replied : WireResolver) : Type 0 where
   pub laws : AsksAndUpdates
   pub begins : Begins old e begun
-  pub replies : Replies AsksLink UpdatesLink begun e reply replied
+  pub replies : Replies AsksLink UpdatesLink begun e.at e.action reply replied
 
 -- the laws of a handle over the scripted link
 abbrev pub AskLaw : Type 0
@@ -286,7 +236,7 @@ UpdateLaw =
     → (after : AskState) × IsIn new after × UpdateZone state update reply after
 
 pub happened : (old begun replied : WireResolver) (e : Event) (reply : EventReply) → AskLaw → UpdateLaw → Begins old e begun
-    → Replies AsksLink UpdatesLink begun e reply replied → Happens old e reply begun replied
+    → Replies AsksLink UpdatesLink begun e.at e.action reply replied → Happens old e reply begun replied
 happened old begun replied e reply asks updates begins replies = record {
   laws = record { carries = asks (λ link. link.failures); carries_updates = updates (λ link. link.failures) };
   begins = begins;
@@ -296,13 +246,13 @@ happened old begun replied e reply asks updates begins replies = record {
 -- a state that a resolver is in after the reply to an event
 abbrev RepliedIn : RunState → Event → EventReply → WireResolver → Type 0
 RepliedIn state e reply replied =
-    (after : RunState) × AreAlike IsInState replied after × RepliesByZone (begin_event e state) e reply after
+    (after : RunState) × AreAlike IsInState replied after × RepliesByZone (begin_event e state) e.at e.action reply after
 
 replied-in : (old begun replied : WireResolver) (e : Event) (reply : EventReply) → Happens old e reply begun replied
     → (state : RunState) → AreAlike IsInState old state → RepliedIn state e reply replied
 replied-in old begun replied e reply happens state alike =
     replies-alike IsInState AsksLink AsksServer UpdatesLink UpdatesServer happens.laws.carries happens.laws.carries_updates
-    begun replied e reply (begin_event e state) (happens.begins state alike) happens.replies
+    begun replied e.at e.action reply (begin_event e state) (happens.begins state alike) happens.replies
 
 -- the report of an event is that of a resolver at its end, which has not run out of memory
 pub record Reports (e : EventReply) (report : EventReport) (ended : WireResolver) : Type 0 where
@@ -324,7 +274,7 @@ happens-step old begun replied ended e reply report happens ends reports = λ st
       last,
       record {
         mid = led.0;
-        replies = subst (λ (r : EventReport). RepliesByZone (begin_event e state) e r.reply led.0) (sym reports.is) led.2;
+        replies = subst (λ (r : EventReport). RepliesByZone (begin_event e state) e.at e.action r.reply led.0) (sym reports.is) led.2;
         ends = refl;
         faults = ap (λ (r : EventReport). r.faults) reports.is ∙ shown.faults;
         questions = ap (λ (r : EventReport). r.questions) reports.is ∙ shown.questions;

@@ -1,10 +1,10 @@
 -- Event by event, what lookups return has an origin among answers that stood; so a claim that such origins bear out holds of it.
-use Rattle.std.proofs.Common.{◌≡◌, ℕ, ◌≤◌, ◌<◌, ◌++◌, List, [], ◌∷◌, Option, Some, None, Result, Ok, Err, true, false, All, Contains, length, refl, sym, ap, subst, ◌∙◌, inl, inr, arith}
-use Rattle.std.specs.Prelude.{◌⊎◌, string_bytes}
+use Rattle.std.proofs.Common.{◌≡◌, ℕ, ◌≤◌, ◌++◌, List, [], ◌∷◌, Option, Some, None, Result, Ok, Err, true, false, All, Contains, refl, sym, ap, subst, ◌∙◌, inl, inr, arith}
+use Rattle.std.specs.Prelude.{string_bytes}
 use Rattle.std.specs.declared.net.ip_addr.IpAddr.{IpAddr}
 use Rattle.std.proofs.lemmas.Bool.{true≢false}
-use Rattle.std.proofs.lemmas.List.{append_assoc, append-nil}
-use Rattle.std.proofs.lemmas.List.Elements.{All-append, All-cons, All-contains, All-head, All-map, All-nil, All-tail, All-weaker, Contains-append_left, Contains-append_right}
+use Rattle.std.proofs.lemmas.List.{append-nil}
+use Rattle.std.proofs.lemmas.List.Elements.{All-append, All-cons, All-contains, All-map, All-nil, All-weaker, Contains-append_left, Contains-append_right}
 use Rattle.dns_codes.specs.RecordType.{type_number, type_of}
 use Rattle.dns_codes.specs.declared.record_type.RecordType.{RecordType}
 use Rattle.dns_codes.specs.declared.record_type.RecordType.TheVariants as types
@@ -26,22 +26,20 @@ use Rattle.stub_lookup.specs.declared.error.NetError.TheVariants as net
 use Rattle.stub_hosts.specs.Hosts.{HostsContent, question}
 use Rattle.stub_cache.specs.Cache.{CacheContent}
 use Rattle.stub_cache.specs.Ttl.{TtlConfigContent}
-use Rattle.stub_client.specs.Handle.{Ask, Outcome}
+use Rattle.stub_client.specs.Handle.{Ask}
 use Rattle.stub_client.specs.Laws.{RecordClaim}
 use Rattle.stub_client.specs.Looks.{Reply}
-use Rattle.stub_client.specs.Origins.{Asked, Comes, IsPartOf, asked_at}
+use Rattle.stub_client.specs.Origins.{Asked, Comes, asked_at}
 use Rattle.stub_client.specs.SpecialNames.{special_answer}
-use Rattle.stub_client.specs.declared.request.DnsRequest.{DnsRequest}
 use Rattle.stub_client.specs.declared.special_names.SpecialAnswer.TheVariants.{Ordinary}
 use Rattle.stub_core.specs.Origins.{AreTyped, CacheIsFrom, ComesFrom, EachAnswer, HostIsFrom, IsAnswer, NameIsFrom, first_of, from_hosts, from_literal, from_question, is_address_record, literal_records, names_of}
 use Rattle.stub_core.specs.Strategies.{kinds_of}
 use Rattle.stub_core.specs.Resolver.{ResolvesHost, ResolvesName, is_tried_as_name, known_type, request_options, with_handle}
 use Rattle.stub_core.specs.declared.resolver.settings.Settings.{Settings}
 use Rattle.stub_core.proofs.OriginsLaws.{Brings, from-cleared, from-empty, from-still, host-comes, name-comes}
-use Rattle.stub_link.specs.AskState.{AskState, AskZone, UpdateZone, begin, begin_with_update, end}
+use Rattle.stub_link.specs.AskState.{AskState, UpdateZone, begin, begin_with_update, end}
 use Rattle.stub_link.specs.History.{Occasion, Past, past_after_occasion, past_of}
 use Rattle.stub_link.specs.LinkState.{LinkState, Version}
-use Rattle.stub_link.specs.Request.{IsUpdate}
 use Rattle.stub_history.specs.Answered.{AreOrdinary, AreZones, IsAnsweredBy, is_plain}
 use Rattle.stub_history.specs.Faithful.{HasNoReuse, IsFaithful, KeepsStanding, StaysFaithful, StaysFaithfulUnlessOut}
 use Rattle.stub_history.proofs.AskedTypeLaws.{asked-types}
@@ -50,12 +48,14 @@ use Rattle.stub_history.proofs.FaithfulLaws.{update-stays}
 use Rattle.stub_history.proofs.LaterLaws.{answered-still}
 use Rattle.stub_history.proofs.LedLaws.{led-holds}
 use Rattle.stub_history.proofs.ServeLaws.{UpdatesKeepZones}
-use Rattle.stub_run.specs.Event.{moment_of}
+use Rattle.stub_link.specs.declared.link.script.Script.{Script}
+use Rattle.stub_run.specs.Event.{update_of}
 use Rattle.stub_run.specs.Headline.{HistoryClaim, HoldsOfEvent, HoldsOfEvents}
 use Rattle.stub_run.specs.History.{MakePasts}
 use Rattle.stub_run.specs.Run.{Clears, InOrder, RepliesByZone, RunState, Runs, Step, Updates, asks_of, begin_asks, begin_event, end_event}
+use Rattle.stub_run.specs.declared.event.Action.{Action}
+use Rattle.stub_run.specs.declared.event.Action.TheVariants as actions
 use Rattle.stub_run.specs.declared.event.Event.{Event}
-use Rattle.stub_run.specs.declared.event.Event.TheVariants as event
 use Rattle.stub_run.specs.declared.report.EventReply.{EventReply}
 use Rattle.stub_run.specs.declared.report.EventReply.TheVariants as replies
 use Rattle.stub_run.specs.declared.report.EventReport.{EventReport}
@@ -210,25 +210,14 @@ module _ (keep : UpdatesKeepZones) (chains : (zone : ZoneContent) (q : Query) �
     aliases_is = h.aliases_is;
   }
 
-  begun : (asked : List Asked) (e : Event) (old : RunState) → Has asked old → (asks_of old).link.moment ≤ moment_of e
-      → Has asked (begin_event e old) × ((asks_of (begin_event e old)).link.moment ≡ moment_of e)
-  begun asked (event.Lookup at name kind script) old h less = (
+  begun : (asked : List Asked) (update : Option Message) (at : ℕ) (script : Script) (old : RunState) → Has asked old → (asks_of old).link.moment ≤ at
+      → Has asked (with_handle old (begin_asks update at script (asks_of old)))
+      × ((begin_asks update at script (asks_of old)).link.moment ≡ at)
+  begun asked None at script old h less = (
     has-begun asked at old (begin at script (asks_of old)) h (begin-faithful origin at script (asks_of old) less h.faithful) refl refl less,
     refl,
   )
-  begun asked (event.LookupIp at host script) old h less = (
-    has-begun asked at old (begin at script (asks_of old)) h (begin-faithful origin at script (asks_of old) less h.faithful) refl refl less,
-    refl,
-  )
-  begun asked (event.Clear at name kind script) old h less = (
-    has-begun asked at old (begin at script (asks_of old)) h (begin-faithful origin at script (asks_of old) less h.faithful) refl refl less,
-    refl,
-  )
-  begun asked (event.ClearAll at script) old h less = (
-    has-begun asked at old (begin at script (asks_of old)) h (begin-faithful origin at script (asks_of old) less h.faithful) refl refl less,
-    refl,
-  )
-  begun asked (event.Update at update script) old h less = (
+  begun asked (Some update) at script old h less = (
     has-begun asked at old (begin_with_update at script (asks_of old)) h
         (begin-update-faithful origin at script (asks_of old) less h.faithful) refl refl less,
     refl,
@@ -286,34 +275,34 @@ module _ (keep : UpdatesKeepZones) (chains : (zone : ZoneContent) (q : Query) �
   -- ---- the reply to an event
 
   -- what an event makes of a state, with what holds of its reply for a claim that origins bear out
-  abbrev pub BearsOut : HistoryClaim → List Asked → Event → EventReply → Type 0
-  BearsOut Claim asked e reply =
+  abbrev pub BearsOut : HistoryClaim → List Asked → ℕ → Action → EventReply → Type 0
+  BearsOut Claim asked at action reply =
       (history : List Version) → AreZones origin history → All (IsAnsweredBy origin history) asked
       → ((q : Query) (now : ℕ) (r : Record) → is_plain q.query_type ≡ true → Brought asked q now r → Claim history q now r)
-      → HoldsOfEvent (Claim history) settings e reply
+      → HoldsOfEvent (Claim history) settings at action reply
 
-  pub record HasReplied (Claim : HistoryClaim) (asked : List Asked) (e : Event) (reply : EventReply) (old mid : RunState) : Type 0 where
+  pub record HasReplied (Claim : HistoryClaim) (asked : List Asked) (at : ℕ) (action : Action) (reply : EventReply) (old mid : RunState) : Type 0 where
     pub asks : List Asked
     pub has : Has (asked ++ asks) mid
     pub moment_is : (asks_of mid).link.moment ≡ (asks_of old).link.moment
-    pub bears : BearsOut Claim (asked ++ asks) e reply
+    pub bears : BearsOut Claim (asked ++ asks) at action reply
 
   -- nothing was asked
-  not-asked : (Claim : HistoryClaim) (asked : List Asked) (e : Event) (reply : EventReply) (old mid : RunState) → Has asked mid
-      → (asks_of mid).link.moment ≡ (asks_of old).link.moment → BearsOut Claim asked e reply → HasReplied Claim asked e reply old mid
-  not-asked Claim asked e reply old mid h same bears = record {
+  not-asked : (Claim : HistoryClaim) (asked : List Asked) (at : ℕ) (action : Action) (reply : EventReply) (old mid : RunState) → Has asked mid
+      → (asks_of mid).link.moment ≡ (asks_of old).link.moment → BearsOut Claim asked at action reply → HasReplied Claim asked at action reply old mid
+  not-asked Claim asked at action reply old mid h same bears = record {
     asks = [];
     has = subst (λ (all : List Asked). Has all mid) (sym (append-nil asked)) h;
     moment_is = same;
-    bears = subst (λ (all : List Asked). BearsOut Claim all e reply) (sym (append-nil asked)) bears;
+    bears = subst (λ (all : List Asked). BearsOut Claim all at action reply) (sym (append-nil asked)) bears;
   }
 
-  looked-up : (Claim : HistoryClaim) (asked : List Asked) (at : ℕ) (name : DomainName) (kind : RecordType) (script : _) (found : Reply)
+  looked-up : (Claim : HistoryClaim) (asked : List Asked) (at : ℕ) (name : DomainName) (kind : RecordType) (found : Reply)
       (old mid : RunState) (later : List (ℕ × Query)) → Has asked old → (asks_of old).link.moment ≡ at
       → ResolvesName AsksServer at (Ok name) kind old found mid → (asks_of mid).link.out_of_memory ≡ false
       → HasNoReuse ((asks_of mid).sent ++ later)
-      → HasReplied Claim asked (event.Lookup at name kind script) (replies.Lookup found) old mid
-  looked-up Claim asked at name kind script found old mid later h moment resolves memory once =
+      → HasReplied Claim asked at (actions.Lookup name kind) (replies.Lookup found) old mid
+  looked-up Claim asked at name kind found old mid later h moment resolves memory once =
       let looked = has-looked asked at old mid
       (λ history. NameIsFrom (Brought history) old.settings at (Ok name) kind found) later h moment
       (name-comes AsksServer at old mid Brought (brings-here old h.config_is h.aliases_is) round (Ok name) kind found resolves.lookup)
@@ -328,12 +317,12 @@ module _ (keep : UpdatesKeepZones) (chains : (zone : ZoneContent) (q : Query) �
             (subst (λ (s : Settings). NameIsFrom (Brought (asked ++ looked.asks)) s at (Ok name) kind found) h.settings_is looked.answers);
       }
 
-  looked-up-host : (Claim : HistoryClaim) (asked : List Asked) (at : ℕ) (host : _) (script : _) (found : Reply)
+  looked-up-host : (Claim : HistoryClaim) (asked : List Asked) (at : ℕ) (host : _) (found : Reply)
       (old mid : RunState) (later : List (ℕ × Query)) → Has asked old → (asks_of old).link.moment ≡ at
       → ResolvesHost AsksServer at (IsTextOf (string_bytes host)) (name_of_text (string_bytes host)) old found mid
       → (asks_of mid).link.out_of_memory ≡ false → HasNoReuse ((asks_of mid).sent ++ later)
-      → HasReplied Claim asked (event.LookupIp at host script) (replies.LookupIp found) old mid
-  looked-up-host Claim asked at host script found old mid later h moment resolves memory once =
+      → HasReplied Claim asked at (actions.LookupIp host) (replies.LookupIp found) old mid
+  looked-up-host Claim asked at host found old mid later h moment resolves memory once =
       let name = name_of_text (string_bytes host) in
       let looked = has-looked asked at old mid
       (λ history. AreTyped history → HostIsFrom (Brought history) old.settings at resolves.address name found) later h moment
@@ -396,24 +385,24 @@ module _ (keep : UpdatesKeepZones) (chains : (zone : ZoneContent) (q : Query) �
       by (inr stays) =
           (subst (Has asked) (sym updates.rest) (has-after asked old (asks_of mid) h stays), stays.moment_is)
 
-  replied : (Claim : HistoryClaim) (asked : List Asked) (e : Event) (reply : EventReply) (old mid : RunState) (later : List (ℕ × Query))
-      → Has asked old → (asks_of old).link.moment ≡ moment_of e → RepliesByZone old e reply mid
-      → (asks_of mid).link.out_of_memory ≡ false → HasNoReuse ((asks_of mid).sent ++ later) → HasReplied Claim asked e reply old mid
-  replied Claim asked (event.Lookup at name kind script) (replies.Lookup found) old mid later h moment r memory once =
-      looked-up Claim asked at name kind script found old mid later h moment r memory once
-  replied Claim asked (event.LookupIp at host script) (replies.LookupIp found) old mid later h moment r memory once =
-      looked-up-host Claim asked at host script found old mid later h moment r memory once
-  replied Claim asked (event.Clear at name kind script) (replies.Cleared done) old mid later h moment r memory once =
+  replied : (Claim : HistoryClaim) (asked : List Asked) (at : ℕ) (action : Action) (reply : EventReply) (old mid : RunState)
+      (later : List (ℕ × Query)) → Has asked old → (asks_of old).link.moment ≡ at → RepliesByZone old at action reply mid
+      → (asks_of mid).link.out_of_memory ≡ false → HasNoReuse ((asks_of mid).sent ++ later) → HasReplied Claim asked at action reply old mid
+  replied Claim asked at (actions.Lookup name kind) (replies.Lookup found) old mid later h moment r memory once =
+      looked-up Claim asked at name kind found old mid later h moment r memory once
+  replied Claim asked at (actions.LookupIp host) (replies.LookupIp found) old mid later h moment r memory once =
+      looked-up-host Claim asked at host found old mid later h moment r memory once
+  replied Claim asked at (actions.Clear name kind) (replies.Cleared done) old mid later h moment r memory once =
       let c = cleared asked name kind done old mid h r in
-      not-asked Claim asked (event.Clear at name kind script) (replies.Cleared done) old mid c.0 c.1 (λ history zones answered claims. tt)
-  replied Claim asked (event.ClearAll at script) (replies.Cleared done) old mid later h moment r memory once =
-      not-asked Claim asked (event.ClearAll at script) (replies.Cleared done) old mid
+      not-asked Claim asked at (actions.Clear name kind) (replies.Cleared done) old mid c.0 c.1 (λ history zones answered claims. tt)
+  replied Claim asked at actions.ClearAll (replies.Cleared done) old mid later h moment r memory once =
+      not-asked Claim asked at actions.ClearAll (replies.Cleared done) old mid
       (has-cleared asked old mid _ h (from-empty Brought asked (asks_of old).link.moment old.client.cache) refl r.1)
       (ap (λ (s : RunState). (asks_of s).link.moment) r.1) (λ history zones answered claims. tt)
-  replied Claim asked (event.Update at update script) (replies.Update reply) old mid later h moment r memory once =
+  replied Claim asked at (actions.Update update) (replies.Update reply) old mid later h moment r memory once =
       let u = updated asked update.value reply old mid h r memory in
-      not-asked Claim asked (event.Update at update script) (replies.Update reply) old mid u.0 u.1 (λ history zones answered claims. tt)
-  replied Claim asked e reply old mid later h moment r memory once = absurd r
+      not-asked Claim asked at (actions.Update update) (replies.Update reply) old mid u.0 u.1 (λ history zones answered claims. tt)
+  replied Claim asked at action reply old mid later h moment r memory once = absurd r
 
   -- ---- one event
 
@@ -421,26 +410,26 @@ module _ (keep : UpdatesKeepZones) (chains : (zone : ZoneContent) (q : Query) �
   pub record HasStepped (Claim : HistoryClaim) (asked : List Asked) (e : Event) (reply : EventReply) (new : RunState) : Type 0 where
     pub asks : List Asked
     pub has : Has (asked ++ asks) new
-    pub moment_is : (asks_of new).link.moment ≡ moment_of e
-    pub bears : BearsOut Claim (asked ++ asks) e reply
+    pub moment_is : (asks_of new).link.moment ≡ e.at
+    pub bears : BearsOut Claim (asked ++ asks) e.at e.action reply
 
-  ended : (asked : List Asked) (e : Event) (mid new : RunState) → Has asked mid → (asks_of mid).link.moment ≡ moment_of e
-      → new ≡ end_event mid → Has asked new × ((asks_of new).link.moment ≡ moment_of e)
-  ended asked e mid new h at ends =
+  ended : (asked : List Asked) (moment : ℕ) (mid new : RunState) → Has asked mid → (asks_of mid).link.moment ≡ moment
+      → new ≡ end_event mid → Has asked new × ((asks_of new).link.moment ≡ moment)
+  ended asked moment mid new h at ends =
       let stays = end-faithful keep origin (asks_of mid) h.faithful in (
         subst (Has asked) (sym ends) (has-after asked mid (end (asks_of mid)) h stays),
         ap (λ (s : RunState). (asks_of s).link.moment) ends ∙ stays.moment_is ∙ at,
       )
 
   stepped : (Claim : HistoryClaim) (asked : List Asked) (e : Event) (report : EventReport) (old new : RunState)
-      (later : List (ℕ × Query)) → Has asked old → (asks_of old).link.moment ≤ moment_of e → Step old e report new
+      (later : List (ℕ × Query)) → Has asked old → (asks_of old).link.moment ≤ e.at → Step old e report new
       → HasNoReuse ((asks_of new).sent ++ later) → HasStepped Claim asked e report.reply new
   stepped Claim asked e report old new later h less step once =
-      let b = begun asked e old h less in
+      let b = begun asked (update_of e.action) e.at e.script old h less in
       let sent : (asks_of new).sent ≡ (asks_of step.mid).sent = ap (λ (s : RunState). (asks_of s).sent) step.ends in
-      let r = replied Claim asked e report.reply (begin_event e old) step.mid later b.0 b.1 step.replies
+      let r = replied Claim asked e.at e.action report.reply (begin_event e old) step.mid later b.0 b.1 step.replies
       (mid-memory old e report new step) (subst (λ (s : List (ℕ × Query)). HasNoReuse (s ++ later)) sent once) in
-      let f = ended (asked ++ r.asks) e step.mid new r.has (r.moment_is ∙ b.1) step.ends in
+      let f = ended (asked ++ r.asks) e.at step.mid new r.has (r.moment_is ∙ b.1) step.ends in
       record { asks = r.asks; has = f.0; moment_is = f.1; bears = r.bears }
 
   -- ---- all events
@@ -451,7 +440,7 @@ module _ (keep : UpdatesKeepZones) (chains : (zone : ZoneContent) (q : Query) �
       → Claim history q now r) where
     holds-first : (asked : List Asked) (past : Past) (o : Occasion) (e : Event) (reply : EventReply) (new : RunState)
         (s : HasStepped Claim asked e reply new) → past_of (asks_of new).link ≡ past_after_occasion past o
-        → HoldsOfEvent (Claim (past_after_occasion past o).history) settings e reply
+        → HoldsOfEvent (Claim (past_after_occasion past o).history) settings e.at e.action reply
     holds-first asked past o e reply new s past_is =
         let history : List Version = (past_after_occasion past o).history in
         let same : (asks_of new).link.history ≡ history = ap (λ (p : Past). p.history) past_is in

@@ -19,10 +19,10 @@ use Rattle.stub_link.specs.declared.link.script.Script.TheVariants as script
 use Rattle.stub_link.specs.Link.{messages}
 use Rattle.stub_link.specs.LinkState.{Course, Honest, Listed, LinkState, Received, ServerReply, begin_update, begins_with_fail, course_of, deliver, deliver_event, deliver_named, deliver_rest, end_event, fail, link_calls, named_update, receive, receive_by, receive_listed, receive_reply, send, with_last, with_under_way, without_first, Receives as ReceivesMessage, Sends as SendsMessage}
 use Rattle.stub_link.specs.Wait.{Wait, WaitAfter, one_more}
-use Rattle.stub_link.specs.Ask.{AfterSending, IsSent}
+use Rattle.stub_link.specs.Ask.{AfterSending}
 use Rattle.stub_link.specs.Update.{SendUpdate}
 use Rattle.stub_link.specs.AskState.{AskState}
-use Rattle.stub_link.specs.History.{AreQuestions, Past, past_after, past_after_event, past_after_script, past_after_update, past_of, past_to_come, sent_update}
+use Rattle.stub_link.specs.History.{AreQuestions, Past, past_after, past_after_event, past_after_script, past_after_update, past_of, past_to_come}
 use Rattle.stub_link.proofs.HistoryLaws.{event-past}
 use Rattle.stub_run.proofs.OutOfMemory.{IsOut}
 

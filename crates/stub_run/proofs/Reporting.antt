@@ -1,12 +1,10 @@
 -- Every run has one history, and so has its report, up to the event that the report has reached.
-use Rattle.std.proofs.Common.{◌≡◌, ◌≤◌, ◌<◌, ◌^◌, ◌+◌, false, ℕ, zero, suc, List, [], ◌∷◌, Option, Some, None, Result, Ok, Err, length, take, refl, sym, ap, subst, ◌∙◌}
+use Rattle.std.proofs.Common.{◌≡◌, ◌<◌, ◌^◌, false, ℕ, zero, suc, List, [], ◌∷◌, Result, Ok, Err, length, take, refl, sym, ap, subst, ◌∙◌}
 use Rattle.std.specs.Prelude.{IfOk, IfSome}
-use Rattle.dns_messages.specs.declared.query.Query.{Query}
 use Rattle.dns_zone.specs.Rows.{IsZone, ZoneContent}
 use Rattle.stub_link.specs.AskState.{first_asks}
 use Rattle.stub_link.specs.History.{Occasion, first_past, history_of}
 use Rattle.stub_history.specs.Faithful.{HasNoReuse}
-use Rattle.stub_run.specs.Event.{moment_of}
 use Rattle.stub_run.specs.Headline.{AreFresh, HasNoLeastTtl, HaveChainBounds, IsMadeOf, WorldContent, report_in, reported}
 use Rattle.stub_run.specs.History.{AreOccasions, MakePasts}
 use Rattle.stub_run.specs.OneHistory.{HasOneHistory}
@@ -49,7 +47,7 @@ pub front-in-order : (last count : ℕ) (events : List Event) → InOrder last e
 front-in-order last zero [] h = tt
 front-in-order last zero (e ∷ events) h = tt
 front-in-order last (suc count) [] h = tt
-front-in-order last (suc count) (e ∷ events) h = (h.0, h.1, front-in-order (moment_of e) count events h.2)
+front-in-order last (suc count) (e ∷ events) h = (h.0, h.1, front-in-order e.at count events h.2)
 
 pub front-askable : (count : ℕ) (events : List Event) → AreAskable events → AreAskable (take count events)
 front-askable zero [] h = tt

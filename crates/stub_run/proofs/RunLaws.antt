@@ -1,37 +1,32 @@
 -- What every run keeps: the ids that were drawn, and the history of the zone.
-use Rattle.std.proofs.Common.{◌≡◌, ◌++◌, Bool, true, false, inl, inr, ℕ, List, [], ◌∷◌, Option, Some, None, Result, Ok, Err, Box, refl, sym, ap, subst, ◌∙◌}
+use Rattle.std.proofs.Common.{◌≡◌, false, inl, inr, ℕ, List, [], ◌∷◌, Option, Some, None, Result, Box, refl, sym, ap, subst, ◌∙◌}
 use Rattle.std.specs.Global.{Global}
-use Rattle.std.specs.Prelude.{◌⊎◌}
 use Rattle.std.specs.List.{fold}
 use Rattle.dns_messages.specs.declared.message.Message.{Message}
 use Rattle.dns_messages.specs.declared.response_code.ResponseCode.{ResponseCode}
 use Rattle.dns_zone.specs.Rows.{ZoneContent}
 use Rattle.stub_lookup.specs.declared.error.NetError.{NetError}
-use Rattle.stub_lookup.specs.declared.error.NetError.TheVariants as net
 use Rattle.stub_client.specs.Handle.{Behavior, Outcome}
-use Rattle.stub_client.specs.declared.request.DnsRequest.{DnsRequest}
-use Rattle.stub_core.specs.declared.resolver.Resolver.{Resolver}
 use Rattle.stub_link.specs.Ask.{Ask}
-use Rattle.stub_link.specs.AskState.{AskState, AskZone, UpdateZone, begin, first_asks}
+use Rattle.stub_link.specs.AskState.{AskState, UpdateZone, begin_with_update, first_asks}
 use Rattle.stub_link.specs.Link.{messages}
 use Rattle.stub_link.specs.LinkState.{LinkState, begin_event as begin_link, end_event as end_link, link_calls}
-use Rattle.stub_link.specs.Request.{IsUpdate}
-use Rattle.stub_link.specs.Update.{SendUpdate}
-use Rattle.stub_link.specs.History.{AreQuestions, KeepsHistory, KeepsUnlessOut, Occasion, Past, first_past, history_of, past_after_occasion, past_of, past_to_come}
+use Rattle.stub_link.specs.History.{AreQuestions, KeepsHistory, Occasion, Past, first_past, history_of, past_after_occasion, past_of}
 use Rattle.stub_link.specs.declared.link.script.Script.{Script}
 use Rattle.stub_link.proofs.HistoryLaws.{ask-keeps, begin-asks, begin-past}
 use Rattle.stub_run.specs.Counts.{HasDrawn}
-use Rattle.stub_run.specs.Event.{moment_of, script_of, update_of}
+use Rattle.stub_run.specs.Event.{update_of}
 use Rattle.stub_run.specs.History.{AreOccasions, IsOccasion, IsUpdateOf, MakePasts}
-use Rattle.stub_run.specs.Run.{Replies, RepliesByZone, RunState, Runs, Step, Updates, asks_of, begin_event, begin_asks, end_event}
+use Rattle.stub_run.specs.Run.{Replies, RepliesByZone, RunState, Runs, Step, Updates, asks_of, begin_event, begin_asks}
+use Rattle.stub_run.specs.declared.event.Action.{Action}
+use Rattle.stub_run.specs.declared.event.Action.TheVariants as actions
 use Rattle.stub_run.specs.declared.event.Event.{Event}
-use Rattle.stub_run.specs.declared.event.Event.TheVariants as event
 use Rattle.stub_run.specs.declared.report.EventReply.{EventReply}
 use Rattle.stub_run.specs.declared.report.EventReply.TheVariants as replies
 use Rattle.stub_run.specs.declared.report.EventReport.{EventReport}
 use Rattle.stub_run.proofs.Alike.{Sending, replies-keep}
 use Rattle.stub_run.proofs.Counting.{tallies-draw}
-use Rattle.stub_run.proofs.Happening.{AsksServer, UpdatesServer, begin-other, end-memory}
+use Rattle.stub_run.proofs.Happening.{AsksServer, UpdatesServer, end-memory}
 use Rattle.stub_run.proofs.Histories.{end-questions, update-comes}
 use Rattle.stub_run.proofs.OutOfMemory.{IsOut, UnlessOut, asks-keep, updates-keep, with-memory}
 use Rattle.stub_run.proofs.Requests.{ask-tallies, update-tallies}
@@ -44,9 +39,9 @@ mid-memory old e report new step =
 
 -- ---- ids
 
-keep-drawn : (ids : List ℕ) (old new : RunState) (e : Event) (reply : EventReply) → HasDrawn ids (asks_of old)
-    → RepliesByZone old e reply new → UnlessOut (HasDrawn ids) (asks_of new)
-keep-drawn ids old new e reply h replies =
+keep-drawn : (ids : List ℕ) (old new : RunState) (at : ℕ) (action : Action) (reply : EventReply) → HasDrawn ids (asks_of old)
+    → RepliesByZone old at action reply new → UnlessOut (HasDrawn ids) (asks_of new)
+keep-drawn ids old new at action reply h replies =
     replies-keep (UnlessOut (HasDrawn ids)) AsksServer UpdatesServer
     (λ old new request now outcome held asked. asks-keep (HasDrawn ids)
     (λ m old outcome new ask drawn. inr (tallies-draw 1 ids old new (ask-tallies messages link_calls m old outcome new ask) drawn))
@@ -54,20 +49,19 @@ keep-drawn ids old new e reply h replies =
     (λ old new update reply held sound sends. updates-keep (HasDrawn ids)
     (λ m old reply new sent drawn. inr (tallies-draw 0 ids old new (update-tallies messages link_calls m old reply new sent) drawn))
     old new update reply held sends)
-    old new e reply (inr h) replies
+    old new at action reply (inr h) replies
 
-begin-drawn : (ids : List ℕ) (e : Event) (asks : AskState) → HasDrawn ids asks → HasDrawn ids (begin_asks e asks)
-begin-drawn ids (event.Lookup at name kind script) asks h = record { ids_are = h.ids_are; drawn = h.drawn }
-begin-drawn ids (event.LookupIp at host script) asks h = record { ids_are = h.ids_are; drawn = h.drawn }
-begin-drawn ids (event.Clear at name kind script) asks h = record { ids_are = h.ids_are; drawn = h.drawn }
-begin-drawn ids (event.ClearAll at script) asks h = record { ids_are = h.ids_are; drawn = h.drawn }
-begin-drawn ids (event.Update at update script) asks h = record { ids_are = h.ids_are; drawn = h.drawn }
+begin-drawn : (ids : List ℕ) (update : Option Message) (at : ℕ) (script : Script) (asks : AskState) → HasDrawn ids asks
+    → HasDrawn ids (begin_asks update at script asks)
+begin-drawn ids None at script asks h = record { ids_are = h.ids_are; drawn = h.drawn }
+begin-drawn ids (Some update) at script asks h = record { ids_are = h.ids_are; drawn = h.drawn }
 
 step-drawn : (ids : List ℕ) (old : RunState) (e : Event) (report : EventReport) (new : RunState) → Step old e report new
     → HasDrawn ids (asks_of old) → HasDrawn ids (asks_of new)
 step-drawn ids old e report new step h =
     let drawn = with-memory (HasDrawn ids) (asks_of step.mid) (mid-memory old e report new step)
-    (keep-drawn ids (begin_event e old) step.mid e report.reply (begin-drawn ids e (asks_of old) h) step.replies) in
+    (keep-drawn ids (begin_event e old) step.mid e.at e.action report.reply
+    (begin-drawn ids (update_of e.action) e.at e.script (asks_of old) h) step.replies) in
     subst (λ (s : RunState). HasDrawn ids (asks_of s)) (sym step.ends) (record { ids_are = drawn.ids_are; drawn = drawn.drawn })
 
 pub runs-drawn : (ids : List ℕ) (first last : RunState) (events : List Event) (reports : List EventReport) (states : List RunState)
@@ -86,14 +80,15 @@ runs-drawn ids first last (e ∷ events) (report ∷ reports) [] h runs = absurd
 abbrev NoUpdate : AskState → Message → Result ResponseCode NetError → AskState → Type 0
 NoUpdate old update reply new = ⊥
 
-without-update : (gives : Behavior AskState) (sends : Sending AskState) (old new : RunState) (e : Event) (reply : EventReply)
-    → update_of e ≡ None → Replies gives sends old e reply new → Replies gives NoUpdate old e reply new
-without-update gives sends old new (event.Lookup at name kind script) (replies.Lookup found) none h = h
-without-update gives sends old new (event.LookupIp at host script) (replies.LookupIp found) none h = h
-without-update gives sends old new (event.Clear at name kind script) (replies.Cleared done) none h = h
-without-update gives sends old new (event.ClearAll at script) (replies.Cleared done) none h = h
-without-update gives sends old new (event.Update at update script) reply none h = absurd (cc)
-without-update gives sends old new e reply none h = absurd h
+without-update : (gives : Behavior AskState) (sends : Sending AskState) (old new : RunState) (at : ℕ) (action : Action)
+    (reply : EventReply) → update_of action ≡ None → Replies gives sends old at action reply new
+    → Replies gives NoUpdate old at action reply new
+without-update gives sends old new at (actions.Lookup name kind) (replies.Lookup found) none h = h
+without-update gives sends old new at (actions.LookupIp host) (replies.LookupIp found) none h = h
+without-update gives sends old new at (actions.Clear name kind) (replies.Cleared done) none h = h
+without-update gives sends old new at actions.ClearAll (replies.Cleared done) none h = h
+without-update gives sends old new at (actions.Update update) reply none h = absurd (cc)
+without-update gives sends old new at action reply none h = absurd h
 
 -- what an event makes of the past, and that all datagrams but those of updates ask questions
 pub record Decides (old : LinkState) (e : Event) (reply : EventReply) (new : LinkState) : Type 0 where
@@ -114,55 +109,59 @@ ask-keeps-history first m old outcome new ask kept =
       | inr rest ↦ inr (record { asking = rest.asking; same = rest.same ∙ kept.same })
     ]
 
-replies-keep-history : (old new : RunState) (e : Event) (reply : EventReply) (first : LinkState) → update_of e ≡ None
-    → Kept first (asks_of old) → RepliesByZone old e reply new → UnlessOut (Kept first) (asks_of new)
-replies-keep-history old new e reply first none kept replies =
+replies-keep-history : (old new : RunState) (at : ℕ) (action : Action) (reply : EventReply) (first : LinkState)
+    → update_of action ≡ None → Kept first (asks_of old) → RepliesByZone old at action reply new → UnlessOut (Kept first) (asks_of new)
+replies-keep-history old new at action reply first none kept replies =
     replies-keep (UnlessOut (Kept first)) AsksServer NoUpdate
     (λ old new request now outcome held asked. asks-keep (Kept first) (ask-keeps-history first) old new request now outcome held asked)
     (λ old new update reply held sound sends. absurd sends)
-    old new e reply (inr kept) (without-update AsksServer UpdatesServer old new e reply none replies)
+    old new at action reply (inr kept) (without-update AsksServer UpdatesServer old new at action reply none replies)
 
 -- an event that updates nothing
-decides-other : (old : RunState) (e : Event) (report : EventReport) (mid : RunState) → update_of e ≡ None
-    → AreQuestions (asks_of old).link.datagrams → RepliesByZone (begin_event e old) e report.reply mid
-    → (asks_of mid).link.out_of_memory ≡ false → Decides (asks_of old).link e report.reply (end_link (asks_of mid).link)
-decides-other old e report mid none h replies memory =
+decides-other : (old : RunState) (e : Event) (reply : EventReply) (mid : RunState) → update_of e.action ≡ None
+    → AreQuestions (asks_of old).link.datagrams → RepliesByZone (begin_event e old) e.at e.action reply mid
+    → (asks_of mid).link.out_of_memory ≡ false → Decides (asks_of old).link e reply (end_link (asks_of mid).link)
+decides-other old e reply mid none h replies memory =
     let before = (asks_of old).link in
-    let first = begin_link (moment_of e) (script_of e) before in
-    let begins : (begin_asks e (asks_of old)).link ≡ first = ap (λ (a : AskState). a.link) (begin-other e (asks_of old) none) in
-    let started : Kept first (begin_asks e (asks_of old)) =
+    let first = begin_link e.at e.script before in
+    let begins : (asks_of (begin_event e old)).link ≡ first =
+    ap (λ (u : Option Message). (begin_asks u e.at e.script (asks_of old)).link) none in
+    let started : Kept first (asks_of (begin_event e old)) =
     subst (λ (l : LinkState). KeepsHistory first l) (sym begins)
-    (record { asking = begin-asks (moment_of e) (script_of e) before h; same = refl }) in
+    (record { asking = begin-asks e.at e.script before h; same = refl }) in
     let kept = with-memory (Kept first) (asks_of mid) memory
-    (replies-keep-history (begin_event e old) mid e report.reply first none started replies) in
+    (replies-keep-history (begin_event e old) mid e.at e.action reply first none started replies) in
     record {
       questions = end-questions (asks_of mid).link kept.asking.datagrams;
-      occasion = record { moment = moment_of e; script = script_of e; update = None };
+      occasion = record { moment = e.at; script = e.script; update = None };
       is = record {
         moment = refl;
         script = refl;
-        update = subst (λ (u : Option Message). IsUpdateOf u report.reply None) (sym none) refl;
+        update = subst (λ (u : Option Message). IsUpdateOf u reply None) (sym none) refl;
       };
-      past_is = kept.same ∙ begin-past (moment_of e) (script_of e) before h;
+      past_is = kept.same ∙ begin-past e.at e.script before h;
     }
+
+abbrev event_at : ℕ → Script → Action → Event
+event_at at script action = record { at = at; script = script; action = action }
 
 -- an update event
 decides-update : (old mid : RunState) (at : ℕ) (update : Box Message Global) (script : Script) (reply : Result ResponseCode NetError)
     → AreQuestions (asks_of old).link.datagrams
-    → Updates (λ asks update reply after. UpdateZone asks update reply after) update.value (begin_event (event.Update at update script) old)
+    → Updates (λ asks update reply after. UpdateZone asks update reply after) update.value (begin_event (event_at at script (actions.Update update)) old)
     reply mid
     → (asks_of mid).link.out_of_memory ≡ false
-    → Decides (asks_of old).link (event.Update at update script) (replies.Update reply) (end_link (asks_of mid).link)
+    → Decides (asks_of old).link (event_at at script (actions.Update update)) (replies.Update reply) (end_link (asks_of mid).link)
 decides-update old mid at update script reply h updates memory = by updates.sent
   where
     first : AskState
-    first = begin_asks (event.Update at update script) (asks_of old)
+    first = begin_with_update at script (asks_of old)
 
     out : {P : Type 0} → IsOut (asks_of mid).link → P
     out {P} is = absurd (cc)
 
     by : UpdateZone first update.value reply (asks_of mid)
-        → Decides (asks_of old).link (event.Update at update script) (replies.Update reply) (end_link (asks_of mid).link)
+        → Decides (asks_of old).link (event_at at script (actions.Update update)) (replies.Update reply) (end_link (asks_of mid).link)
     by (inl stays) = out stays.1
     by (inr sends) =
         elim (update-comes at script (asks_of old).link h update.value first reply (asks_of mid) refl sends) [
@@ -182,31 +181,28 @@ decides-update old mid at update script reply h updates memory = by updates.sent
           }
         ]
 
-decides-mid : (old mid : RunState) (e : Event) (report : EventReport) → AreQuestions (asks_of old).link.datagrams
-    → RepliesByZone (begin_event e old) e report.reply mid → (asks_of mid).link.out_of_memory ≡ false
-    → Decides (asks_of old).link e report.reply (end_link (asks_of mid).link)
-decides-mid old mid (event.Lookup at name kind script) report h told memory =
-    decides-other old (event.Lookup at name kind script) report mid refl h told memory
-decides-mid old mid (event.LookupIp at host script) report h told memory =
-    decides-other old (event.LookupIp at host script) report mid refl h told memory
-decides-mid old mid (event.Clear at name kind script) report h told memory =
-    decides-other old (event.Clear at name kind script) report mid refl h told memory
-decides-mid old mid (event.ClearAll at script) report h told memory =
-    decides-other old (event.ClearAll at script) report mid refl h told memory
-decides-mid old mid (event.Update at update script) report h told memory = by report.reply told
-  where
-    by : (reply : EventReply) → RepliesByZone (begin_event (event.Update at update script) old) (event.Update at update script) reply mid
-        → Decides (asks_of old).link (event.Update at update script) reply (end_link (asks_of mid).link)
-    by (replies.Update reply) updates = decides-update old mid at update script reply h updates memory
-    by (replies.Lookup found) updates = absurd updates
-    by (replies.LookupIp found) updates = absurd updates
-    by (replies.Cleared done) updates = absurd updates
+decides-mid : (old mid : RunState) (at : ℕ) (script : Script) (action : Action) (reply : EventReply) → AreQuestions (asks_of old).link.datagrams
+    → RepliesByZone (begin_event (event_at at script action) old) at action reply mid → (asks_of mid).link.out_of_memory ≡ false
+    → Decides (asks_of old).link (event_at at script action) reply (end_link (asks_of mid).link)
+decides-mid old mid at script (actions.Lookup name kind) reply h told memory =
+    decides-other old (event_at at script (actions.Lookup name kind)) reply mid refl h told memory
+decides-mid old mid at script (actions.LookupIp host) reply h told memory =
+    decides-other old (event_at at script (actions.LookupIp host)) reply mid refl h told memory
+decides-mid old mid at script (actions.Clear name kind) reply h told memory =
+    decides-other old (event_at at script (actions.Clear name kind)) reply mid refl h told memory
+decides-mid old mid at script actions.ClearAll reply h told memory =
+    decides-other old (event_at at script actions.ClearAll) reply mid refl h told memory
+decides-mid old mid at script (actions.Update update) (replies.Update reply) h told memory =
+    decides-update old mid at update script reply h told memory
+decides-mid old mid at script (actions.Update update) (replies.Lookup found) h told memory = absurd told
+decides-mid old mid at script (actions.Update update) (replies.LookupIp found) h told memory = absurd told
+decides-mid old mid at script (actions.Update update) (replies.Cleared done) h told memory = absurd told
 
 pub decides-step : (old : RunState) (e : Event) (report : EventReport) (new : RunState) → AreQuestions (asks_of old).link.datagrams
     → Step old e report new → Decides (asks_of old).link e report.reply (asks_of new).link
 decides-step old e report new h step =
     subst (λ (s : RunState). Decides (asks_of old).link e report.reply (asks_of s).link) (sym step.ends)
-    (decides-mid old step.mid e report h step.replies (mid-memory old e report new step))
+    (decides-mid old step.mid e.at e.script e.action report.reply h step.replies (mid-memory old e report new step))
 
 -- what a run makes of the past
 abbrev RunDecides : LinkState → List Event → List EventReport → List RunState → LinkState → Type 0

@@ -3,7 +3,6 @@ use Rattle.std.proofs.Common.{◌≡◌, ◌≤◌, ◌<◌, ◌^◌, false, ℕ
 use Rattle.std.specs.Global.{Vec}
 use Rattle.dns_messages.specs.declared.query.Query.{Query}
 use Rattle.stub_run.specs.Alike.{AreAlike}
-use Rattle.stub_run.specs.Event.{moment_of}
 use Rattle.stub_run.specs.Run.{InOrder, IsReportBefore, IsReportOf, RunState, Runs, StopsAt, asks_of}
 use Rattle.stub_run.specs.RunOver.{HasRunOver, IsReportBeforeOver, IsReportOver, RunsOver, StopsAtOver, with_sent}
 use Rattle.stub_run.specs.World.{BeginsWith}
@@ -18,10 +17,10 @@ use Rattle.stub_run.proofs.Happening.{AskLaw, IsInState, UpdateLaw, WireResolver
 
 -- the moment of each event is at most 2 ^ 62
 pub moment-in-order : (last : ℕ) (events : List Event) (i : ℕ) (d : Event) → InOrder last events → i < length events
-    → moment_of (get_or events i d) ≤ 2 ^ 62
+    → (get_or events i d).at ≤ 2 ^ 62
 moment-in-order last [] i d h within = absurd (omega arith)
 moment-in-order last (e ∷ events) zero d h within = h.1
-moment-in-order last (e ∷ events) (suc i) d h within = moment-in-order (moment_of e) events i d h.2 (omega arith)
+moment-in-order last (e ∷ events) (suc i) d h within = moment-in-order e.at events i d h.2 (omega arith)
 
 -- ---- runs
 

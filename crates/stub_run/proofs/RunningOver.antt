@@ -1,14 +1,9 @@
 -- Runs over any link: an event begins and ends, the ids that were drawn stay, and a run goes on, event by event, and is reported.
-use Rattle.std.proofs.Common.{◌≡◌, ◌++◌, ℕ, List, [], ◌∷◌, Bool, Option, Some, None, Result, Ok, Err, IsOk, OnOk, OnErr, IfSome, is_err, false, true, length, take, get_or, refl, sym, ap, subst, ◌∙◌, arith, inr, ◌<◌}
+use Rattle.std.proofs.Common.{◌≡◌, ◌++◌, ℕ, List, [], ◌∷◌, Option, Some, None, Result, Ok, Err, IsOk, OnOk, OnErr, IfSome, is_err, false, true, length, take, get_or, refl, sym, ap, subst, ◌∙◌, arith, inr, ◌<◌}
 use Rattle.std.proofs.lemmas.List.{take_all}
 use Rattle.std.proofs.lemmas.Option.{slice_get_read}
 use Rattle.std.specs.declared.alloc.AllocError.{AllocError}
-use Rattle.dns_messages.specs.declared.message.Message.{Message}
 use Rattle.dns_messages.specs.declared.query.Query.{Query}
-use Rattle.dns_messages.specs.declared.response_code.ResponseCode.{ResponseCode}
-use Rattle.stub_lookup.specs.declared.error.NetError.{NetError}
-use Rattle.stub_client.specs.Handle.{Outcome}
-use Rattle.stub_client.specs.declared.request.DnsRequest.{DnsRequest}
 use Rattle.stub_core.specs.Resolver.{with_handle}
 use Rattle.stub_core.specs.declared.resolver.Resolver.{Resolver}
 use Rattle.stub_link.specs.Link.{calls_of, wire}
@@ -16,7 +11,8 @@ use Rattle.stub_link.specs.WireHandle.{Asks, SendsUpdate, asker_of, with_link}
 use Rattle.stub_link.specs.declared.link.LinkError.{LinkError}
 use Rattle.stub_link.specs.declared.wire_handle.WireHandle.{WireHandle}
 use Rattle.stub_run.specs.Run.{Replies}
-use Rattle.stub_run.specs.RunOver.{BeginsOver, EndsOver, Happens, HasRunOver, IsReportBeforeOver, IsReportOver, LinkRules, RunsOutOver, RunsOver, StepOver, StopsAtOver, begun_handle, rules_of, with_sent}
+use Rattle.stub_run.specs.RunOver.{BeginsOver, EndsOver, Happens, HasRunOver, IsReportBeforeOver, IsReportOver, LinkRules, RunsOutOver, RunsOver, StepOver, StopsAtOver, with_sent}
+use Rattle.stub_run.specs.declared.event.Action.{Action}
 use Rattle.stub_run.specs.declared.event.Event.{Event}
 use Rattle.stub_run.specs.declared.report.EventReply.{EventReply}
 use Rattle.stub_run.specs.declared.report.EventReport.{EventReport}
@@ -137,15 +133,15 @@ module _ {L : Type 0} (sends : L → List ℕ → Result (Unit {0}) LinkError �
       (update-tallies wire (calls_of sends receives streams) update (asker_of old) reply (asker_of new) sent.sent)
 
   -- the ids that were drawn before an event are the first ones afterwards
-  pub happens-front : (old begun replied ended : Resolver (WireHandle L)) (e : Event) (reply : EventReply)
-      → Replies (Asks sends receives streams failure_count) (SendsUpdate sends receives streams failure_count) begun e reply replied
+  pub happens-front : (old begun replied ended : Resolver (WireHandle L)) (at : ℕ) (action : Action) (reply : EventReply)
+      → Replies (Asks sends receives streams failure_count) (SendsUpdate sends receives streams failure_count) begun at action reply replied
       → begun.client.handle.sent.items ≡ old.client.handle.sent.items → ended.client.handle.sent.items ≡ replied.client.handle.sent.items
       → IsFront old.client.handle.sent.items ended.client.handle
-  happens-front old begun replied ended e reply replies same last =
+  happens-front old begun replied ended at action reply replies same last =
       let drawn = old.client.handle.sent.items in
       subst (λ (sent : List (ℕ × Query)). take (length drawn) sent ≡ drawn) (sym last)
       (replies-keep (IsFront drawn) (Asks sends receives streams failure_count) (SendsUpdate sends receives streams failure_count)
-      (keeps-front drawn) (updates-keep-front drawn) begun replied e reply (front-same old begun same) replies)
+      (keeps-front drawn) (updates-keep-front drawn) begun replied at action reply (front-same old begun same) replies)
 
 -- ---- runs
 

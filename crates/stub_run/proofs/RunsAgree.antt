@@ -18,8 +18,9 @@ use Rattle.stub_run.specs.Event.{update_of}
 use Rattle.stub_run.specs.Headline.{WorldContent, settings_of}
 use Rattle.stub_run.specs.History.{AreOccasions, IsOccasion, IsUpdateOf}
 use Rattle.stub_run.specs.Walked.{AgreeOn, AreAgreed, AreAgreedEvents, AreWalked, AreWalkedEvents, HasSentUpdate, IsWalkedReply, past_since, with_cache_size, with_sizes}
+use Rattle.stub_run.specs.declared.event.Action.{Action}
+use Rattle.stub_run.specs.declared.event.Action.TheVariants as actions
 use Rattle.stub_run.specs.declared.event.Event.{Event}
-use Rattle.stub_run.specs.declared.event.Event.TheVariants as event
 use Rattle.stub_run.specs.declared.report.EventReply.{EventReply}
 use Rattle.stub_run.specs.declared.report.EventReply.TheVariants as replies
 use Rattle.stub_run.specs.declared.report.EventReport.{EventReport}
@@ -33,23 +34,24 @@ one-address text None (Some b) h k = absurd (h b k)
 one-address text (Some a) None h k = absurd (k a h)
 one-address text (Some a) (Some b) h k = ap (λ (x : IpAddr). Some x) (IsIpText_unique text a b h k)
 
-agree-on : (zone : ZoneContent) (settings : Settings) (size : ℕ) (e : Event) (one other : EventReply) → IsWalkedReply zone settings e one
-    → IsWalkedReply zone (with_cache_size size settings) e other → AgreeOn e one other
-agree-on zone settings size (event.Lookup at name kind script) (replies.Lookup one) (replies.Lookup two) h k = λ every.
+agree-on : (zone : ZoneContent) (settings : Settings) (size at : ℕ) (action : Action) (one other : EventReply)
+    → IsWalkedReply zone settings at action one → IsWalkedReply zone (with_cache_size size settings) at action other
+    → AgreeOn action one other
+agree-on zone settings size at (actions.Lookup name kind) (replies.Lookup one) (replies.Lookup two) h k = λ every.
     looks-up-agree zone at at settings tt tt one two tt tt (Ok name) kind (h.everywhere every) (k.everywhere every)
-agree-on zone settings size (event.LookupIp at host script) (replies.LookupIp one) (replies.LookupIp two) h k =
+agree-on zone settings size at (actions.LookupIp host) (replies.LookupIp one) (replies.LookupIp two) h k =
     looks-up-host-agree zone at at settings tt tt one two tt tt h.0 (name_of_text (string_bytes host)) h.2
     (subst (λ (a : Option IpAddr). LooksUpHost settings at (ByWalk zone) a (name_of_text (string_bytes host)) tt two tt)
     (sym (one-address (string_bytes host) h.0 k.0 h.1 k.1)) k.2)
-agree-on zone settings size (event.Clear at name kind script) (replies.Cleared one) (replies.Cleared two) h k = tt
-agree-on zone settings size (event.ClearAll at script) (replies.Cleared one) (replies.Cleared two) h k = tt
-agree-on zone settings size (event.Update at update script) (replies.Update one) (replies.Update two) h k = tt
-agree-on zone settings size (event.Lookup at name kind script) (replies.Lookup one) other h k = absurd k
-agree-on zone settings size (event.LookupIp at host script) (replies.LookupIp one) other h k = absurd k
-agree-on zone settings size (event.Clear at name kind script) (replies.Cleared one) other h k = absurd k
-agree-on zone settings size (event.ClearAll at script) (replies.Cleared one) other h k = absurd k
-agree-on zone settings size (event.Update at update script) (replies.Update one) other h k = absurd k
-agree-on zone settings size e one other h k = absurd h
+agree-on zone settings size at (actions.Clear name kind) (replies.Cleared one) (replies.Cleared two) h k = tt
+agree-on zone settings size at actions.ClearAll (replies.Cleared one) (replies.Cleared two) h k = tt
+agree-on zone settings size at (actions.Update update) (replies.Update one) (replies.Update two) h k = tt
+agree-on zone settings size at (actions.Lookup name kind) (replies.Lookup one) other h k = absurd k
+agree-on zone settings size at (actions.LookupIp host) (replies.LookupIp one) other h k = absurd k
+agree-on zone settings size at (actions.Clear name kind) (replies.Cleared one) other h k = absurd k
+agree-on zone settings size at actions.ClearAll (replies.Cleared one) other h k = absurd k
+agree-on zone settings size at (actions.Update update) (replies.Update one) other h k = absurd k
+agree-on zone settings size at action one other h k = absurd h
 
 events-agree : (settings : Settings) (size : ℕ) (first past : Past) (events : List Event) (ones others : List EventReport)
     (occasions : List Occasion) → AreWalkedEvents settings first past events ones occasions
@@ -64,8 +66,8 @@ events-agree settings size first past (e ∷ events) (one ∷ ones) [] occasions
 events-agree settings size first past (e ∷ events) (one ∷ ones) (other ∷ others) [] h k = absurd h
 events-agree settings size first past (e ∷ events) (one ∷ ones) (other ∷ others) (o ∷ occasions) h k = (
   λ unchanged short none no.
-      agree-on (past_since e first past).zone settings size e one.reply other.reply (h.0 unchanged short none) (k.0 unchanged short no),
-  events-agree settings size (past_since e first past) (past_after_occasion past o) events ones others occasions h.1 k.1,
+      agree-on (past_since e.action first past).zone settings size e.at e.action one.reply other.reply (h.0 unchanged short none) (k.0 unchanged short no),
+  events-agree settings size (past_since e.action first past) (past_after_occasion past o) events ones others occasions h.1 k.1,
 )
 
 -- ---- occasions
@@ -82,7 +84,7 @@ occasion-same : (e : Event) (r s : EventReport) (o p : Occasion) → IsOccasion 
 occasion-same e r s o p h k i j =
     let moments = h.moment ∙ sym k.moment in
     let scripts = h.script ∙ sym k.script in
-    let updates = update-same (update_of e) r.reply s.reply o.update p.update h.update k.update i j in
+    let updates = update-same (update_of e.action) r.reply s.reply o.update p.update h.update k.update i j in
     λ t. record { moment = moments t; script = scripts t; update = updates t }
 
 occasions-same : (events : List Event) (ones others : List EventReport) (os ps : List Occasion) → AreOccasions events ones os

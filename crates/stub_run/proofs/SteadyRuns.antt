@@ -1,5 +1,5 @@
 -- Where the rows of the zone do not change, the replies of a run stood in the zone as it is.
-use Rattle.std.proofs.Common.{◌≡◌, ℕ, ◌≤◌, ◌++◌, List, [], ◌∷◌, Result, Ok, Err, Bool, true, false, All, refl, sym, ap, subst, ◌∙◌, slice_index_or, inl, inr, arith}
+use Rattle.std.proofs.Common.{◌≡◌, ℕ, ◌≤◌, ◌++◌, List, [], ◌∷◌, Result, Ok, Err, Bool, false, All, refl, sym, ap, subst, ◌∙◌, slice_index_or, inl, inr, arith, Option, Some, None}
 use Rattle.std.specs.Prelude.{string_bytes}
 use Rattle.std.proofs.lemmas.Bool.{true≢false}
 use Rattle.std.proofs.lemmas.List.{append_assoc, append-nil}
@@ -23,9 +23,9 @@ use Rattle.stub_lookup.specs.declared.error.NetError.TheVariants as net
 use Rattle.stub_cache.specs.Cache.{CacheContent}
 use Rattle.stub_cache.specs.Ttl.{TtlConfigContent}
 use Rattle.stub_client.specs.AnswerTypes.{HasAskedTypes}
-use Rattle.stub_client.specs.Handle.{Ask, Led}
+use Rattle.stub_client.specs.Handle.{Ask}
 use Rattle.stub_client.specs.Looks.{Reply}
-use Rattle.stub_client.specs.Origins.{Asked, asked_at}
+use Rattle.stub_client.specs.Origins.{asked_at}
 use Rattle.stub_client.specs.Step.{meaning}
 use Rattle.stub_core.specs.Attempts.{Lookups}
 use Rattle.stub_core.specs.Origins.{HasNoMinima}
@@ -34,7 +34,7 @@ use Rattle.stub_core.specs.Resolver.{LooksUp, LooksUpHost, ResolvesHost, Resolve
 use Rattle.stub_core.specs.ResolverBuilder.{empty_cache}
 use Rattle.stub_core.specs.declared.resolver.settings.Settings.{Settings}
 use Rattle.stub_link.specs.AskState.{AskState, UpdateZone, begin, begin_with_update, end}
-use Rattle.stub_link.specs.History.{Occasion, Past, first_past, past_after_occasion, past_of}
+use Rattle.stub_link.specs.History.{Occasion, Past, first_past, past_of}
 use Rattle.stub_link.specs.LinkState.{Version}
 use Rattle.stub_history.specs.Answered.{AreZones, HoldsAnswer, IsAnsweredBy, IsAnsweredSince, zone_with}
 use Rattle.stub_history.specs.Faithful.{HasNoReuse, IsCurrent, IsFaithful, StaysFaithful, StaysFaithfulUnlessOut}
@@ -53,20 +53,22 @@ use Rattle.stub_answers.proofs.ResolverLaws.{held-cleared, held-empty, held-late
 use Rattle.stub_answers.proofs.StandingLaws.{finds-outlast, lacks-outlast, special-hold}
 use Rattle.stub_answers.proofs.SteadyLaws.{always-stand}
 use Rattle.stub_answers.proofs.StepLaws.{ask-bears}
-use Rattle.stub_run.specs.Event.{moment_of}
+use Rattle.stub_link.specs.declared.link.script.Script.{Script}
+use Rattle.stub_run.specs.Event.{update_of}
 use Rattle.stub_run.specs.Headline.{WorldContent, settings_of, ttls_of}
 use Rattle.stub_run.specs.History.{MakePasts}
-use Rattle.stub_run.specs.Run.{Clears, InOrder, RepliesByZone, RunState, Runs, Step, Updates, asks_of, begin_asks, begin_event, end_event}
+use Rattle.stub_run.specs.Run.{Clears, InOrder, RepliesByZone, RunState, Runs, Step, Updates, asks_of, begin_asks, begin_event}
 use Rattle.stub_run.specs.Steady.{AreSteady, AreSteadyEvents, IsSteadyEvent}
 use Rattle.stub_run.specs.Walked.{IsUnchanged, past_since}
 use Rattle.stub_run.specs.Whole.{IsStandingReply}
 use Rattle.stub_run.specs.World.{IsFirst}
+use Rattle.stub_run.specs.declared.event.Action.{Action}
+use Rattle.stub_run.specs.declared.event.Action.TheVariants as actions
 use Rattle.stub_run.specs.declared.event.Event.{Event}
-use Rattle.stub_run.specs.declared.event.Event.TheVariants as event
 use Rattle.stub_run.specs.declared.report.EventReply.{EventReply}
 use Rattle.stub_run.specs.declared.report.EventReply.TheVariants as replies
 use Rattle.stub_run.specs.declared.report.EventReport.{EventReport}
-use Rattle.stub_run.proofs.Growing.{runs-extend}
+use Rattle.stub_run.proofs.Growing.{past-begun, runs-extend}
 use Rattle.stub_run.proofs.Happening.{AsksServer}
 use Rattle.stub_run.proofs.RunLaws.{mid-memory}
 use Rattle.stub_run.proofs.Unchanged.{since-same, unchanged-before}
@@ -78,14 +80,6 @@ extends-then earlier mid history one two = (
   one.0 ++ two.0,
   two.1 ∙ ap (λ (vs : List Version). vs ++ two.0) one.1 ∙ append_assoc earlier one.0 two.0,
 )
-
-past-begun : (e : Event) (first : Past) (asks : AskState)
-    → past_since e first (past_of (begin_asks e asks).link) ≡ past_since e first (past_of asks.link)
-past-begun (event.Lookup at name kind script) first asks = refl
-past-begun (event.LookupIp at host script) first asks = refl
-past-begun (event.Clear at name kind script) first asks = refl
-past-begun (event.ClearAll at script) first asks = refl
-past-begun (event.Update at update script) first asks = refl
 
 module _ (keep : UpdatesKeepZones) (chains : (zone : ZoneContent) (q : Query) → IsChain zone.rows q.query_type q.name (answer zone q).answers)
     (round : (number : ℕ) → type_number (type_of number) ≡ number) (origin : DomainName) (config : TtlConfigContent)
@@ -154,17 +148,12 @@ module _ (keep : UpdatesKeepZones) (chains : (zone : ZoneContent) (q : Query) �
     aliases_is = h.aliases_is;
   }
 
-  begun : (first : Past) (e : Event) (old : RunState) → Has first old → (asks_of old).link.moment ≤ moment_of e
-      → Has first (begin_event e old) × ((asks_of (begin_event e old)).link.moment ≡ moment_of e)
-  begun first (event.Lookup at name kind script) old h less =
+  begun : (first : Past) (update : Option Message) (at : ℕ) (script : Script) (old : RunState) → Has first old → (asks_of old).link.moment ≤ at
+      → Has first (with_handle old (begin_asks update at script (asks_of old)))
+      × ((begin_asks update at script (asks_of old)).link.moment ≡ at)
+  begun first None at script old h less =
       (has-begun first at old (begin at script (asks_of old)) h (begin-faithful origin at script (asks_of old) less h.faithful) refl refl less, refl)
-  begun first (event.LookupIp at host script) old h less =
-      (has-begun first at old (begin at script (asks_of old)) h (begin-faithful origin at script (asks_of old) less h.faithful) refl refl less, refl)
-  begun first (event.Clear at name kind script) old h less =
-      (has-begun first at old (begin at script (asks_of old)) h (begin-faithful origin at script (asks_of old) less h.faithful) refl refl less, refl)
-  begun first (event.ClearAll at script) old h less =
-      (has-begun first at old (begin at script (asks_of old)) h (begin-faithful origin at script (asks_of old) less h.faithful) refl refl less, refl)
-  begun first (event.Update at update script) old h less = (
+  begun first (Some update) at script old h less = (
     has-begun first at old (begin_with_update at script (asks_of old)) h
         (begin-update-faithful origin at script (asks_of old) less h.faithful) refl refl less,
     refl,
@@ -262,16 +251,16 @@ module _ (keep : UpdatesKeepZones) (chains : (zone : ZoneContent) (q : Query) �
 
   -- ---- the reply to an event
 
-  pub record HasReplied (first : Past) (e : Event) (reply : EventReply) (old mid : RunState) : Type 0 where
+  pub record HasReplied (first : Past) (at : ℕ) (action : Action) (reply : EventReply) (old mid : RunState) : Type 0 where
     pub has : Has first mid
     pub moment_is : (asks_of mid).link.moment ≡ (asks_of old).link.moment
-    pub stands : IsUnchanged first (asks_of mid).link.history → IsStandingReply config origin (always first.zone.rows) settings e reply
+    pub stands : IsUnchanged first (asks_of mid).link.history → IsStandingReply config origin (always first.zone.rows) settings at action reply
 
-  looked-up : (first : Past) (at : ℕ) (name : DomainName) (kind : RecordType) (script : _) (found : Reply) (old mid : RunState)
+  looked-up : (first : Past) (at : ℕ) (name : DomainName) (kind : RecordType) (found : Reply) (old mid : RunState)
       (later : List (ℕ × Query)) → Has first old → (asks_of old).link.moment ≡ at → ResolvesName AsksServer at (Ok name) kind old found mid
       → (asks_of mid).link.out_of_memory ≡ false → HasNoReuse ((asks_of mid).sent ++ later)
-      → HasReplied first (event.Lookup at name kind script) (replies.Lookup found) old mid
-  looked-up first at name kind script found old mid later h moment resolves memory once =
+      → HasReplied first at (actions.Lookup name kind) (replies.Lookup found) old mid
+  looked-up first at name kind found old mid later h moment resolves memory once =
       let c : TtlConfigContent = old.client.cache.config in
       let b : Bool = old.client.preserve_intermediates in
       let history : List Version = always first.zone.rows in
@@ -287,12 +276,12 @@ module _ (keep : UpdatesKeepZones) (chains : (zone : ZoneContent) (q : Query) �
             (l.stands unchanged);
       }
 
-  looked-up-host : (first : Past) (at : ℕ) (host : _) (script : _) (found : Reply) (old mid : RunState) (later : List (ℕ × Query))
+  looked-up-host : (first : Past) (at : ℕ) (host : _) (found : Reply) (old mid : RunState) (later : List (ℕ × Query))
       → Has first old → (asks_of old).link.moment ≡ at
       → ResolvesHost AsksServer at (IsTextOf (string_bytes host)) (name_of_text (string_bytes host)) old found mid
       → (asks_of mid).link.out_of_memory ≡ false → HasNoReuse ((asks_of mid).sent ++ later)
-      → HasReplied first (event.LookupIp at host script) (replies.LookupIp found) old mid
-  looked-up-host first at host script found old mid later h moment resolves memory once =
+      → HasReplied first at (actions.LookupIp host) (replies.LookupIp found) old mid
+  looked-up-host first at host found old mid later h moment resolves memory once =
       let c : TtlConfigContent = old.client.cache.config in
       let b : Bool = old.client.preserve_intermediates in
       let history : List Version = always first.zone.rows in
@@ -375,43 +364,45 @@ module _ (keep : UpdatesKeepZones) (chains : (zone : ZoneContent) (q : Query) �
       by (inl out) = absurd (true≢false (sym out ∙ memory))
       by (inr stays) = (subst (Has first) (sym updates.rest) (has-after first old (asks_of mid) h stays), stays.moment_is)
 
-  replied : (first : Past) (e : Event) (reply : EventReply) (old mid : RunState) (later : List (ℕ × Query)) → Has first old
-      → (asks_of old).link.moment ≡ moment_of e → RepliesByZone old e reply mid → (asks_of mid).link.out_of_memory ≡ false
-      → HasNoReuse ((asks_of mid).sent ++ later) → HasReplied (past_since e first (past_of (asks_of old).link)) e reply old mid
-  replied first (event.Lookup at name kind script) (replies.Lookup found) old mid later h moment r memory once =
-      looked-up first at name kind script found old mid later h moment r memory once
-  replied first (event.LookupIp at host script) (replies.LookupIp found) old mid later h moment r memory once =
-      looked-up-host first at host script found old mid later h moment r memory once
-  replied first (event.Clear at name kind script) (replies.Cleared done) old mid later h moment r memory once =
+  replied : (first : Past) (at : ℕ) (action : Action) (reply : EventReply) (old mid : RunState) (later : List (ℕ × Query)) → Has first old
+      → (asks_of old).link.moment ≡ at → RepliesByZone old at action reply mid → (asks_of mid).link.out_of_memory ≡ false
+      → HasNoReuse ((asks_of mid).sent ++ later)
+      → HasReplied (past_since action first (past_of (asks_of old).link)) at action reply old mid
+  replied first at (actions.Lookup name kind) (replies.Lookup found) old mid later h moment r memory once =
+      looked-up first at name kind found old mid later h moment r memory once
+  replied first at (actions.LookupIp host) (replies.LookupIp found) old mid later h moment r memory once =
+      looked-up-host first at host found old mid later h moment r memory once
+  replied first at (actions.Clear name kind) (replies.Cleared done) old mid later h moment r memory once =
       let c = cleared first name kind done old mid h r in
       record { has = c.0; moment_is = c.1; stands = λ unchanged. tt }
-  replied first (event.ClearAll at script) (replies.Cleared done) old mid later h moment r memory once = record {
+  replied first at actions.ClearAll (replies.Cleared done) old mid later h moment r memory once = record {
     has = subst (Has (past_of (asks_of old).link)) (sym r.1) (all-cleared first old h);
     moment_is = ap (λ (s : RunState). (asks_of s).link.moment) r.1;
     stands = λ unchanged. tt;
   }
-  replied first (event.Update at update script) (replies.Update reply) old mid later h moment r memory once =
+  replied first at (actions.Update update) (replies.Update reply) old mid later h moment r memory once =
       let u = updated first update.value reply old mid h r memory in
       record { has = u.0; moment_is = u.1; stands = λ unchanged. tt }
-  replied first e reply old mid later h moment r memory once = absurd r
+  replied first at action reply old mid later h moment r memory once = absurd r
 
   -- ---- one event
 
   pub record HasStepped (first : Past) (e : Event) (report : EventReport) (old new : RunState) : Type 0 where
-    pub has : Has (past_since e first (past_of (asks_of old).link)) new
-    pub moment_is : (asks_of new).link.moment ≡ moment_of e
-    pub stands : IsSteadyEvent config origin settings (past_since e first (past_of (asks_of old).link)) (past_of (asks_of new).link) e report
+    pub has : Has (past_since e.action first (past_of (asks_of old).link)) new
+    pub moment_is : (asks_of new).link.moment ≡ e.at
+    pub stands : IsSteadyEvent config origin settings (past_since e.action first (past_of (asks_of old).link)) (past_of (asks_of new).link) e report
 
   stepped : (first : Past) (e : Event) (report : EventReport) (old new : RunState) (later : List (ℕ × Query)) → Has first old
-      → (asks_of old).link.moment ≤ moment_of e → Step old e report new → HasNoReuse ((asks_of new).sent ++ later)
+      → (asks_of old).link.moment ≤ e.at → Step old e report new → HasNoReuse ((asks_of new).sent ++ later)
       → HasStepped first e report old new
   stepped first e report old new later h less step once =
-      let b = begun first e old h less in
+      let b = begun first (update_of e.action) e.at e.script old h less in
       let sent : (asks_of new).sent ≡ (asks_of step.mid).sent = ap (λ (s : RunState). (asks_of s).sent) step.ends in
-      let since : Past = past_since e first (past_of (asks_of (begin_event e old)).link) in
-      let is : since ≡ past_since e first (past_of (asks_of old).link) = past-begun e first (asks_of old) in
-      let r : HasReplied since e report.reply (begin_event e old) step.mid =
-      replied first e report.reply (begin_event e old) step.mid later b.0 b.1 step.replies (mid-memory old e report new step)
+      let since : Past = past_since e.action first (past_of (asks_of (begin_event e old)).link) in
+      let is : since ≡ past_since e.action first (past_of (asks_of old).link) =
+      past-begun e.action first e.at e.script (asks_of old) in
+      let r : HasReplied since e.at e.action report.reply (begin_event e old) step.mid =
+      replied first e.at e.action report.reply (begin_event e old) step.mid later b.0 b.1 step.replies (mid-memory old e report new step)
       (subst (λ (s : List (ℕ × Query)). HasNoReuse (s ++ later)) sent once) in
       let stays = end-faithful keep origin (asks_of step.mid) r.has.faithful in
       let more : Extends (asks_of step.mid).link.history (asks_of new).link.history =
@@ -434,7 +425,7 @@ module _ (keep : UpdatesKeepZones) (chains : (zone : ZoneContent) (q : Query) �
   events-steady first old last (e ∷ events) (report ∷ reports) (state ∷ states) (o ∷ occasions) h order runs once pasts =
       let more = runs-extend state last events reports states runs.1 in
       let s = stepped first e report old state more.0 h order.0 runs.0 (subst HasNoReuse more.1 once) in
-      let since : Past = past_since e first (past_of (asks_of old).link) in
+      let since : Past = past_since e.action first (past_of (asks_of old).link) in
       let rest = events-steady since state last events reports states occasions s.has
       (subst (λ (t : ℕ). InOrder t events) (sym s.moment_is) order.2) runs.1 once
       (subst (λ (p : Past). MakePasts p states occasions) (sym pasts.0) pasts.1) in

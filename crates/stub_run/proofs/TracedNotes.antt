@@ -1,5 +1,5 @@
 -- An event begins without notes, and its end leaves the notes as they are.
-use Rattle.std.proofs.Common.{◌≡◌, false, List, [], Result, Ok, Err, OnOk, refl, subst, ◌∙◌}
+use Rattle.std.proofs.Common.{◌≡◌, false, [], Result, Ok, Err, OnOk, refl, subst, ◌∙◌}
 use Rattle.std.specs.declared.alloc.AllocError.{AllocError}
 use Rattle.stub_trace.specs.Trace.{calls_of, with_inner}
 use Rattle.stub_trace.specs.declared.traced_link.TracedLink.{TracedLink}

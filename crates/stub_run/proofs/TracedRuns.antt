@@ -1,9 +1,7 @@
 -- A run over a link that notes its calls is a run over the other link.
-use Rattle.std.proofs.Common.{◌≡◌, false, true, ℕ, List, [], ◌∷◌, Bool, Option, Result, Ok, Err, take, refl, sym, ap, subst, ◌∙◌, inl, inr}
-use Rattle.std.specs.Global.{Vec}
+use Rattle.std.proofs.Common.{◌≡◌, ℕ, List, [], ◌∷◌, Bool, Option, Result, Ok, Err, take, refl, sym, ap, subst, ◌∙◌, inl, inr}
 use Rattle.std.specs.declared.alloc.AllocError.{AllocError}
 use Rattle.dns_messages.specs.declared.message.Message.{Message}
-use Rattle.dns_messages.specs.declared.query.Query.{Query}
 use Rattle.dns_messages.specs.declared.response_code.ResponseCode.{ResponseCode}
 use Rattle.stub_lookup.specs.declared.error.NetError.{NetError}
 use Rattle.stub_client.specs.Handle.{Outcome}
@@ -120,7 +118,7 @@ module _ {L : Type 0} (begins : L → Event → L → Type 0) (ends : L → Resu
   happens-untraced old replied e reply plain alike h =
       let b = begins-untraced old h.begun e plain alike h.begins in
       let r =
-      replies-alike IsPlain outer.asks inner.asks outer.updates inner.updates carries carries-updates h.begun replied e reply b.0 b.1
+      replies-alike IsPlain outer.asks inner.asks outer.updates inner.updates carries carries-updates h.begun replied e.at e.action reply b.0 b.1
       h.replies in
       (r.0, r.1, record { begun = b.0; begins = b.2; replies = r.2 })
 

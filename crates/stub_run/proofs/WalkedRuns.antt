@@ -1,8 +1,7 @@
 -- Where the rows of the zone do not change, the lookups of a run return what walks over it come to.
-use Rattle.std.proofs.Common.{◌≡◌, ℕ, ◌≤◌, ◌<◌, ◌^◌, ◌++◌, List, [], ◌∷◌, Option, Some, None, Result, Ok, Err, Bool, true, false, All, length, refl, sym, ap, subst, ◌∙◌, inl, inr, arith}
-use Rattle.std.specs.Prelude.{◌⊎◌, string_bytes}
+use Rattle.std.proofs.Common.{◌≡◌, ℕ, ◌≤◌, ◌<◌, ◌^◌, ◌++◌, List, [], ◌∷◌, Option, Some, None, Result, Ok, Err, false, All, refl, sym, ap, subst, ◌∙◌, inl, inr, arith}
+use Rattle.std.specs.Prelude.{string_bytes}
 use Rattle.std.specs.declared.net.ip_addr.IpAddr.{IpAddr}
-use Rattle.std.proofs.lemmas.Bool.{true≢false}
 use Rattle.std.proofs.lemmas.List.{append_assoc, append-nil}
 use Rattle.std.proofs.lemmas.List.Elements.{All-nil}
 use Rattle.dns_codes.specs.RecordType.{type_number, type_of}
@@ -20,8 +19,8 @@ use Rattle.stub_lookup.specs.declared.error.NetError.TheVariants as net
 use Rattle.stub_cache.specs.Cache.{CacheContent}
 use Rattle.stub_cache.specs.declared.cache.entry.Entry.{Entry}
 use Rattle.stub_client.specs.Conclusions.{KeptComesTo}
-use Rattle.stub_client.specs.Handle.{Ask, Behavior, Led, Outcome}
-use Rattle.stub_client.specs.Looks.{Answers, Reply}
+use Rattle.stub_client.specs.Handle.{Ask, Behavior}
+use Rattle.stub_client.specs.Looks.{Reply}
 use Rattle.stub_client.specs.declared.caching_client.CachingClient.{CachingClient}
 use Rattle.stub_core.specs.Attempts.{Lookups}
 use Rattle.stub_core.specs.Resolver.{LooksUp, LooksUpHost, ResolvesHost, ResolvesName, asks_of as asks_of_client, request_options, with_handle}
@@ -29,9 +28,9 @@ use Rattle.stub_core.specs.declared.resolver.Resolver.{Resolver}
 use Rattle.stub_core.specs.declared.resolver.settings.Settings.{Settings}
 use Rattle.stub_core.proofs.ResolvesLaws.{all-cleared_lookup}
 use Rattle.stub_core.proofs.StatelessLaws.{looks_up-by, looks_up_host-by}
-use Rattle.stub_link.specs.AskState.{AskState, AskZone, UpdateZone, begin, begin_with_update, end}
+use Rattle.stub_link.specs.AskState.{AskState, UpdateZone, begin, begin_with_update, end}
 use Rattle.stub_link.specs.History.{Occasion, Past, first_past, past_of}
-use Rattle.stub_link.specs.LinkState.{LinkState, Version}
+use Rattle.stub_link.specs.LinkState.{Version}
 use Rattle.stub_link.specs.Request.{IsUpdate}
 use Rattle.stub_history.specs.Answered.{IsAnsweredSince}
 use Rattle.stub_history.specs.Faithful.{HasNoReuse, IsCurrent, IsFaithful, StaysFaithful, StaysFaithfulUnlessOut}
@@ -44,20 +43,22 @@ use Rattle.stub_history.proofs.ServeLaws.{UpdatesKeepZones}
 use Rattle.stub_walk.specs.Answered.{ComesToWalk, HasShortAliases, IsAsked, IsWalkedLookup}
 use Rattle.stub_walk.specs.Walk.{AgreesWithWalk, ByWalk, CacheAgrees}
 use Rattle.stub_walk.proofs.ResolverLaws.{host-walks, name-walks}
-use Rattle.stub_run.specs.Event.{moment_of}
+use Rattle.stub_link.specs.declared.link.script.Script.{Script}
+use Rattle.stub_run.specs.Event.{update_of}
 use Rattle.stub_run.specs.Headline.{WorldContent, settings_of}
 use Rattle.stub_run.specs.History.{MakePasts}
 use Rattle.stub_run.specs.Questions.{AreAskable, AsksZone, IsAskable, RepliesByQuestions}
-use Rattle.stub_run.specs.Run.{Clears, InOrder, RepliesByZone, RunState, Runs, Step, Updates, asks_of, begin_asks, begin_event, end_event}
+use Rattle.stub_run.specs.Run.{Clears, InOrder, RepliesByZone, RunState, Runs, Step, asks_of, begin_asks, begin_event}
 use Rattle.stub_run.specs.World.{IsFirst}
 use Rattle.stub_run.specs.Walked.{AreWalked, AreWalkedEvents, IsUnchanged, IsWalkedEvent, IsWalkedReply, past_since}
+use Rattle.stub_run.specs.declared.event.Action.{Action}
+use Rattle.stub_run.specs.declared.event.Action.TheVariants as actions
 use Rattle.stub_run.specs.declared.event.Event.{Event}
-use Rattle.stub_run.specs.declared.event.Event.TheVariants as event
 use Rattle.stub_run.specs.declared.report.EventReply.{EventReply}
 use Rattle.stub_run.specs.declared.report.EventReply.TheVariants as replies
 use Rattle.stub_run.specs.declared.report.EventReport.{EventReport}
 use Rattle.stub_run.proofs.Alike.{replies-keep}
-use Rattle.stub_run.proofs.Growing.{runs-extend}
+use Rattle.stub_run.proofs.Growing.{past-begun, runs-extend}
 use Rattle.stub_run.proofs.Happening.{AsksServer, UpdatesServer}
 use Rattle.stub_run.proofs.OutOfMemory.{UnlessOut, asks-keep, update-out, with-memory}
 use Rattle.stub_run.proofs.RunLaws.{mid-memory}
@@ -130,29 +131,16 @@ module _ (keep : UpdatesKeepZones) (round : (number : ℕ) → type_number (type
     aliases_is = h.aliases_is;
   }
 
-  begun : (first : Past) (e : Event) (old : RunState) → HasWalked first old → (asks_of old).link.moment ≤ moment_of e
-      → HasWalked first (begin_event e old) × ((asks_of (begin_event e old)).link.moment ≡ moment_of e)
-  begun first (event.Lookup at name kind script) old h less =
+  begun : (first : Past) (update : Option Message) (at : ℕ) (script : Script) (old : RunState) → HasWalked first old → (asks_of old).link.moment ≤ at
+      → HasWalked first (with_handle old (begin_asks update at script (asks_of old)))
+      × ((begin_asks update at script (asks_of old)).link.moment ≡ at)
+  begun first None at script old h less =
       (has-begun first old (begin at script (asks_of old)) h (begin-faithful origin at script (asks_of old) less h.faithful) refl, refl)
-  begun first (event.LookupIp at host script) old h less =
-      (has-begun first old (begin at script (asks_of old)) h (begin-faithful origin at script (asks_of old) less h.faithful) refl, refl)
-  begun first (event.Clear at name kind script) old h less =
-      (has-begun first old (begin at script (asks_of old)) h (begin-faithful origin at script (asks_of old) less h.faithful) refl, refl)
-  begun first (event.ClearAll at script) old h less =
-      (has-begun first old (begin at script (asks_of old)) h (begin-faithful origin at script (asks_of old) less h.faithful) refl, refl)
-  begun first (event.Update at update script) old h less = (
+  begun first (Some update) at script old h less = (
     has-begun first old (begin_with_update at script (asks_of old)) h
         (begin-update-faithful origin at script (asks_of old) less h.faithful) refl,
     refl,
   )
-
-  past-begun : (e : Event) (first : Past) (asks : AskState)
-      → past_since e first (past_of (begin_asks e asks).link) ≡ past_since e first (past_of asks.link)
-  past-begun (event.Lookup at name kind script) first asks = refl
-  past-begun (event.LookupIp at host script) first asks = refl
-  past-begun (event.Clear at name kind script) first asks = refl
-  past-begun (event.ClearAll at script) first asks = refl
-  past-begun (event.Update at update script) first asks = refl
 
   -- ---- the history goes on
 
@@ -176,9 +164,9 @@ module _ (keep : UpdatesKeepZones) (round : (number : ℕ) → type_number (type
       more-stays first old new s (update-stays keep origin old s.faithful update sound reply new sends)
 
   -- what an event asks and sends keeps a state faithful
-  stays : (old mid : RunState) (e : Event) (reply : EventReply) → IsFaithful origin (asks_of old) → RepliesByZone old e reply mid
-      → (asks_of mid).link.out_of_memory ≡ false → StaysFaithful origin (asks_of old) (asks_of mid)
-  stays old mid e reply f told memory =
+  stays : (old mid : RunState) (at : ℕ) (action : Action) (reply : EventReply) → IsFaithful origin (asks_of old)
+      → RepliesByZone old at action reply mid → (asks_of mid).link.out_of_memory ≡ false → StaysFaithful origin (asks_of old) (asks_of mid)
+  stays old mid at action reply f told memory =
       let first : AskState = asks_of old in
       with-memory (StaysFaithful origin first) (asks_of mid) memory
       (replies-keep (UnlessOut (StaysFaithful origin first)) AsksServer UpdatesServer
@@ -186,7 +174,7 @@ module _ (keep : UpdatesKeepZones) (round : (number : ℕ) → type_number (type
       (λ m was outcome is ask s. more-stays first was is s (ask-stays keep origin was s.faithful m outcome is ask))
       before after request now outcome held asked)
       (λ before after update reply held sound sends. update-keeps first before after update reply held sound sends)
-      old mid e reply (inr (more-faithful origin first first [] refl (sym (append-nil first.sent)) f)) told)
+      old mid at action reply (inr (more-faithful origin first first [] refl (sym (append-nil first.sent)) f)) told)
 
   -- the handle has come to other asks
   has-after : (first : Past) (old : RunState) (asks : AskState) → HasWalked first old → StaysFaithful origin (asks_of old) asks
@@ -233,20 +221,20 @@ module _ (keep : UpdatesKeepZones) (round : (number : ℕ) → type_number (type
   -- ---- the reply to an event
 
   -- what an event makes of a state, with what holds of its reply
-  pub record HasReplied (first : Past) (e : Event) (reply : EventReply) (mid : RunState) : Type 0 where
+  pub record HasReplied (first : Past) (at : ℕ) (action : Action) (reply : EventReply) (mid : RunState) : Type 0 where
     pub has : HasWalked first mid
     pub walked : IsUnchanged first (asks_of mid).link.history → HasShortAliases first.zone → (asks_of mid).faults ≡ 0
-        → IsWalkedReply first.zone settings e reply
+        → IsWalkedReply first.zone settings at action reply
 
   -- a lookup, of which it is known to what it comes
   has-looked : (first : Past) (now : ℕ) (old mid : RunState) (looks : Settings → Type 0)
-      (later : List (ℕ × Query)) (e : Event) (reply : EventReply)
+      (later : List (ℕ × Query)) (action : Action) (reply : EventReply)
       → HasWalked first old → (asks_of old).link.moment ≡ now → StaysFaithful origin (asks_of old) (asks_of mid)
       → (asks_of mid).link.out_of_memory ≡ false → HasNoReuse ((asks_of mid).sent ++ later)
       → (HasShortAliases first.zone → ComesToWalk first.zone Asking now old mid (looks old.settings))
       → mid.settings ≡ old.settings → mid.client.preserve_intermediates ≡ old.client.preserve_intermediates
-      → (looks settings → IsWalkedReply first.zone settings e reply) → HasReplied first e reply mid
-  has-looked first now old mid looks later e reply h at s memory once comes same aliases gives =
+      → (looks settings → IsWalkedReply first.zone settings now action reply) → HasReplied first now action reply mid
+  has-looked first now old mid looks later action reply h at s memory once comes same aliases gives =
       let before : IsUnchanged first (asks_of mid).link.history → HasShortAliases first.zone → CacheAgrees first.zone old.client.cache =
       λ unchanged short.
       h.cache (unchanged-before first (asks_of old).link.history (asks_of mid).link.history s.added unchanged) short in
@@ -268,29 +256,29 @@ module _ (keep : UpdatesKeepZones) (round : (number : ℕ) → type_number (type
             ((looked first now old mid (looks old.settings) later h at s memory once (comes short) unchanged (before unchanged short)).1 none));
       }
 
-  looked-up : (first : Past) (at : ℕ) (name : DomainName) (kind : RecordType) (script : _) (found : Reply) (old mid : RunState)
+  looked-up : (first : Past) (at : ℕ) (name : DomainName) (kind : RecordType) (found : Reply) (old mid : RunState)
       (later : List (ℕ × Query)) → HasWalked first old → (asks_of old).link.moment ≡ at
       → ResolvesName Asking at (Ok name) kind old found mid → StaysFaithful origin (asks_of old) (asks_of mid)
       → (asks_of mid).link.out_of_memory ≡ false → HasNoReuse ((asks_of mid).sent ++ later)
-      → HasReplied first (event.Lookup at name kind script) (replies.Lookup found) mid
-  looked-up first at name kind script found old mid later h moment resolves s memory once =
+      → HasReplied first at (actions.Lookup name kind) (replies.Lookup found) mid
+  looked-up first at name kind found old mid later h moment resolves s memory once =
       has-looked first at old mid
       (λ t. IsWalkedLookup first.zone t at (Ok name) kind found) later
-      (event.Lookup at name kind script) (replies.Lookup found) h moment s memory once
+      (actions.Lookup name kind) (replies.Lookup found) h moment s memory once
       (λ short. name-walks first.zone h.good short Asking at old mid h.aliases_is (Ok name) kind found resolves.lookup)
       resolves.settings (name-aliases Asking at old mid (Ok name) kind found resolves.lookup) (λ walked. walked)
 
-  looked-up-host : (first : Past) (at : ℕ) (host : _) (script : _) (found : Reply) (old mid : RunState)
+  looked-up-host : (first : Past) (at : ℕ) (host : _) (found : Reply) (old mid : RunState)
       (later : List (ℕ × Query)) → HasWalked first old → (asks_of old).link.moment ≡ at
       → ResolvesHost Asking at (IsTextOf (string_bytes host)) (name_of_text (string_bytes host)) old found mid
       → StaysFaithful origin (asks_of old) (asks_of mid)
       → (asks_of mid).link.out_of_memory ≡ false → HasNoReuse ((asks_of mid).sent ++ later)
-      → HasReplied first (event.LookupIp at host script) (replies.LookupIp found) mid
-  looked-up-host first at host script found old mid later h moment resolves s memory once =
+      → HasReplied first at (actions.LookupIp host) (replies.LookupIp found) mid
+  looked-up-host first at host found old mid later h moment resolves s memory once =
       let name = name_of_text (string_bytes host) in
       has-looked first at old mid
       (λ t. LooksUpHost t at (ByWalk first.zone) resolves.address name tt found tt) later
-      (event.LookupIp at host script) (replies.LookupIp found) h moment s memory once
+      (actions.LookupIp host) (replies.LookupIp found) h moment s memory once
       (λ short. host-walks first.zone h.good short Asking at old mid h.aliases_is resolves.address name found resolves.lookup)
       resolves.settings (host-aliases Asking at old mid resolves.address name found resolves.lookup)
       (λ walked. (resolves.address, resolves.is_address, walked))
@@ -345,48 +333,50 @@ module _ (keep : UpdatesKeepZones) (round : (number : ℕ) → type_number (type
     aliases_is = h.aliases_is;
   }
 
-  replied : (first : Past) (e : Event) (reply : EventReply) (old mid : RunState) (later : List (ℕ × Query))
-      → HasWalked first old → (asks_of old).link.moment ≡ moment_of e → RepliesByQuestions old e reply mid
+  replied : (first : Past) (at : ℕ) (action : Action) (reply : EventReply) (old mid : RunState) (later : List (ℕ × Query))
+      → HasWalked first old → (asks_of old).link.moment ≡ at → RepliesByQuestions old at action reply mid
       → StaysFaithful origin (asks_of old) (asks_of mid) → (asks_of mid).link.out_of_memory ≡ false
-      → HasNoReuse ((asks_of mid).sent ++ later) → HasReplied (past_since e first (past_of (asks_of old).link)) e reply mid
-  replied first (event.Lookup at name kind script) (replies.Lookup found) old mid later h moment r s memory once =
-      looked-up first at name kind script found old mid later h moment r s memory once
-  replied first (event.LookupIp at host script) (replies.LookupIp found) old mid later h moment r s memory once =
-      looked-up-host first at host script found old mid later h moment r s memory once
-  replied first (event.Clear at name kind script) (replies.Cleared done) old mid later h moment r s memory once =
+      → HasNoReuse ((asks_of mid).sent ++ later)
+      → HasReplied (past_since action first (past_of (asks_of old).link)) at action reply mid
+  replied first at (actions.Lookup name kind) (replies.Lookup found) old mid later h moment r s memory once =
+      looked-up first at name kind found old mid later h moment r s memory once
+  replied first at (actions.LookupIp host) (replies.LookupIp found) old mid later h moment r s memory once =
+      looked-up-host first at host found old mid later h moment r s memory once
+  replied first at (actions.Clear name kind) (replies.Cleared done) old mid later h moment r s memory once =
       record { has = cleared first name kind done old mid h r; walked = λ unchanged short none. tt }
-  replied first (event.ClearAll at script) (replies.Cleared done) old mid later h moment r s memory once = record {
+  replied first at actions.ClearAll (replies.Cleared done) old mid later h moment r s memory once = record {
     has = subst (HasWalked (past_of (asks_of old).link)) (sym r.1) (all-cleared first old h);
     walked = λ unchanged short none. tt;
   }
-  replied first (event.Update at update script) (replies.Update reply) old mid later h moment r s memory once = record {
+  replied first at (actions.Update update) (replies.Update reply) old mid later h moment r s memory once = record {
     has = subst (HasWalked first) (sym r.rest) (has-after first old (asks_of mid) h s);
     walked = λ unchanged short none. tt;
   }
-  replied first e reply old mid later h moment r s memory once = absurd r
+  replied first at action reply old mid later h moment r s memory once = absurd r
 
   -- ---- one event
 
   -- what an event makes of a state: what holds of it, and of the reply
   pub record HasStepped (first : Past) (e : Event) (report : EventReport) (old new : RunState) : Type 0 where
-    pub has : HasWalked (past_since e first (past_of (asks_of old).link)) new
-    pub moment_is : (asks_of new).link.moment ≡ moment_of e
-    pub walked : IsWalkedEvent settings (past_since e first (past_of (asks_of old).link)) (past_of (asks_of new).link) e report
+    pub has : HasWalked (past_since e.action first (past_of (asks_of old).link)) new
+    pub moment_is : (asks_of new).link.moment ≡ e.at
+    pub walked : IsWalkedEvent settings (past_since e.action first (past_of (asks_of old).link)) (past_of (asks_of new).link) e report
 
   stepped : (first : Past) (e : Event) (report : EventReport) (old new : RunState) (later : List (ℕ × Query)) → HasWalked first old
-      → (asks_of old).link.moment ≤ moment_of e → IsAskable e → Step old e report new
+      → (asks_of old).link.moment ≤ e.at → IsAskable e.action → Step old e report new
       → HasNoReuse ((asks_of new).sent ++ later) → HasStepped first e report old new
   stepped first e report old new later h less askable step once =
-      let b = begun first e old h less in
+      let b = begun first (update_of e.action) e.at e.script old h less in
       let memory = mid-memory old e report new step in
-      let s = stays (begin_event e old) step.mid e report.reply b.0.faithful step.replies memory in
-      let asked : RepliesByQuestions (begin_event e old) e report.reply step.mid =
-      event-replies round spells (begin_event e old) step.mid e report.reply askable
+      let s = stays (begin_event e old) step.mid e.at e.action report.reply b.0.faithful step.replies memory in
+      let asked : RepliesByQuestions (begin_event e old) e.at e.action report.reply step.mid =
+      event-replies round spells (begin_event e old) step.mid e.at e.action report.reply askable
       (subst (λ (t : Settings). t.options.edns_payload_len < 2 ^ 16) (sym b.0.settings_is) small) step.replies in
       let sent : (asks_of new).sent ≡ (asks_of step.mid).sent = ap (λ (t : RunState). (asks_of t).sent) step.ends in
-      let since : Past = past_since e first (past_of (asks_of (begin_event e old)).link) in
-      let is : since ≡ past_since e first (past_of (asks_of old).link) = past-begun e first (asks_of old) in
-      let r : HasReplied since e report.reply step.mid = replied first e report.reply (begin_event e old) step.mid later b.0 b.1 asked s memory
+      let since : Past = past_since e.action first (past_of (asks_of (begin_event e old)).link) in
+      let is : since ≡ past_since e.action first (past_of (asks_of old).link) =
+      past-begun e.action first e.at e.script (asks_of old) in
+      let r : HasReplied since e.at e.action report.reply step.mid = replied first e.at e.action report.reply (begin_event e old) step.mid later b.0 b.1 asked s memory
       (subst (λ (xs : List (ℕ × Query)). HasNoReuse (xs ++ later)) sent once) in
       let f = end-faithful keep origin (asks_of step.mid) r.has.faithful in
       let more : Extends (asks_of step.mid).link.history (asks_of new).link.history =
@@ -412,7 +402,7 @@ module _ (keep : UpdatesKeepZones) (round : (number : ℕ) → type_number (type
   runs-walked first old last (e ∷ events) (report ∷ reports) (state ∷ states) (o ∷ occasions) h order askable runs once pasts =
       let more = runs-extend state last events reports states runs.1 in
       let s = stepped first e report old state more.0 h order.0 askable.0 runs.0 (subst HasNoReuse more.1 once) in
-      let since : Past = past_since e first (past_of (asks_of old).link) in
+      let since : Past = past_since e.action first (past_of (asks_of old).link) in
       let rest = runs-walked since state last events reports states occasions s.has
       (subst (λ (t : ℕ). InOrder t events) (sym s.moment_is) order.2) askable.1 runs.1 once
       (subst (λ (p : Past). MakePasts p states occasions) (sym pasts.0) pasts.1) in

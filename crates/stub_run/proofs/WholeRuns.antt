@@ -1,5 +1,5 @@
 -- Event by event, the replies of a run stood in the zone: as whole sets, or as negative answers.
-use Rattle.std.proofs.Common.{◌≡◌, ℕ, ◌≤◌, ◌++◌, List, [], ◌∷◌, Result, Ok, Err, Bool, true, false, All, refl, sym, ap, subst, ◌∙◌, slice_index_or, inl, inr, arith}
+use Rattle.std.proofs.Common.{◌≡◌, ℕ, ◌≤◌, ◌++◌, List, [], ◌∷◌, Result, Ok, Err, Bool, false, All, refl, sym, ap, subst, ◌∙◌, slice_index_or, inl, inr, arith, Option, Some, None}
 use Rattle.std.specs.Prelude.{string_bytes}
 use Rattle.std.proofs.lemmas.Bool.{true≢false}
 use Rattle.std.proofs.lemmas.List.Elements.{All-cons, All-head, All-nil, All-tail}
@@ -48,14 +48,16 @@ use Rattle.stub_answers.proofs.GrowingLaws.{cache-on}
 use Rattle.stub_answers.proofs.ResolverLaws.{held-cleared, held-empty, held-later, host-keeps, name-keeps}
 use Rattle.stub_answers.proofs.StandingLaws.{finds-outlast, lacks-outlast, special-hold}
 use Rattle.stub_answers.proofs.StepLaws.{ask-bears}
-use Rattle.stub_run.specs.Event.{moment_of}
+use Rattle.stub_link.specs.declared.link.script.Script.{Script}
+use Rattle.stub_run.specs.Event.{update_of}
 use Rattle.stub_run.specs.Headline.{WorldContent, settings_of, ttls_of}
 use Rattle.stub_run.specs.History.{MakePasts}
-use Rattle.stub_run.specs.Run.{Clears, InOrder, RepliesByZone, RunState, Runs, Step, Updates, asks_of, begin_event, end_event}
+use Rattle.stub_run.specs.Run.{Clears, InOrder, RepliesByZone, RunState, Runs, Step, Updates, asks_of, begin_asks, begin_event, end_event}
 use Rattle.stub_run.specs.Whole.{AreStandingEvents, AreWhole, IsStandingReply}
 use Rattle.stub_run.specs.World.{IsFirst}
+use Rattle.stub_run.specs.declared.event.Action.{Action}
+use Rattle.stub_run.specs.declared.event.Action.TheVariants as actions
 use Rattle.stub_run.specs.declared.event.Event.{Event}
-use Rattle.stub_run.specs.declared.event.Event.TheVariants as event
 use Rattle.stub_run.specs.declared.report.EventReply.{EventReply}
 use Rattle.stub_run.specs.declared.report.EventReply.TheVariants as replies
 use Rattle.stub_run.specs.declared.report.EventReport.{EventReport}
@@ -124,17 +126,12 @@ module _ (keep : UpdatesKeepZones) (chains : (zone : ZoneContent) (q : Query) �
     aliases_is = h.aliases_is;
   }
 
-  begun : (e : Event) (old : RunState) → Has old → (asks_of old).link.moment ≤ moment_of e
-      → Has (begin_event e old) × ((asks_of (begin_event e old)).link.moment ≡ moment_of e)
-  begun (event.Lookup at name kind script) old h less =
+  begun : (update : Option Message) (at : ℕ) (script : Script) (old : RunState) → Has old → (asks_of old).link.moment ≤ at
+      → Has (with_handle old (begin_asks update at script (asks_of old)))
+      × ((begin_asks update at script (asks_of old)).link.moment ≡ at)
+  begun None at script old h less =
       (has-begun at old (begin at script (asks_of old)) h (begin-faithful origin at script (asks_of old) less h.faithful) refl refl less, refl)
-  begun (event.LookupIp at host script) old h less =
-      (has-begun at old (begin at script (asks_of old)) h (begin-faithful origin at script (asks_of old) less h.faithful) refl refl less, refl)
-  begun (event.Clear at name kind script) old h less =
-      (has-begun at old (begin at script (asks_of old)) h (begin-faithful origin at script (asks_of old) less h.faithful) refl refl less, refl)
-  begun (event.ClearAll at script) old h less =
-      (has-begun at old (begin at script (asks_of old)) h (begin-faithful origin at script (asks_of old) less h.faithful) refl refl less, refl)
-  begun (event.Update at update script) old h less = (
+  begun (Some update) at script old h less = (
     has-begun at old (begin_with_update at script (asks_of old)) h (begin-update-faithful origin at script (asks_of old) less h.faithful) refl refl
         less,
     refl,
@@ -220,21 +217,21 @@ module _ (keep : UpdatesKeepZones) (chains : (zone : ZoneContent) (q : Query) �
 
   -- ---- the reply to an event
 
-  abbrev pub StandsOn : Event → EventReply → RunState → Type 0
-  StandsOn e reply mid =
+  abbrev pub StandsOn : ℕ → Action → EventReply → RunState → Type 0
+  StandsOn at action reply mid =
       (history : List Version) → AreZones origin history → GoesOn (asks_of mid).link.moment (asks_of mid).link.history history
-      → IsStandingReply config origin history settings e reply
+      → IsStandingReply config origin history settings at action reply
 
-  pub record HasReplied (e : Event) (reply : EventReply) (old mid : RunState) : Type 0 where
+  pub record HasReplied (at : ℕ) (action : Action) (reply : EventReply) (old mid : RunState) : Type 0 where
     pub has : Has mid
     pub moment_is : (asks_of mid).link.moment ≡ (asks_of old).link.moment
-    pub stands : StandsOn e reply mid
+    pub stands : StandsOn at action reply mid
 
-  looked-up : (at : ℕ) (name : DomainName) (kind : RecordType) (script : _) (found : Reply) (old mid : RunState) (later : List (ℕ × Query))
+  looked-up : (at : ℕ) (name : DomainName) (kind : RecordType) (found : Reply) (old mid : RunState) (later : List (ℕ × Query))
       → Has old → (asks_of old).link.moment ≡ at → ResolvesName AsksServer at (Ok name) kind old found mid
       → (asks_of mid).link.out_of_memory ≡ false → HasNoReuse ((asks_of mid).sent ++ later)
-      → HasReplied (event.Lookup at name kind script) (replies.Lookup found) old mid
-  looked-up at name kind script found old mid later h moment resolves memory once =
+      → HasReplied at (actions.Lookup name kind) (replies.Lookup found) old mid
+  looked-up at name kind found old mid later h moment resolves memory once =
       let c : TtlConfigContent = old.client.cache.config in
       let b : Bool = old.client.preserve_intermediates in
       let l = has-looked at old mid later h moment resolves.settings memory once
@@ -249,12 +246,12 @@ module _ (keep : UpdatesKeepZones) (chains : (zone : ZoneContent) (q : Query) �
             (l.stands history zones on);
       }
 
-  looked-up-host : (at : ℕ) (host : _) (script : _) (found : Reply) (old mid : RunState) (later : List (ℕ × Query))
+  looked-up-host : (at : ℕ) (host : _) (found : Reply) (old mid : RunState) (later : List (ℕ × Query))
       → Has old → (asks_of old).link.moment ≡ at
       → ResolvesHost AsksServer at (IsTextOf (string_bytes host)) (name_of_text (string_bytes host)) old found mid
       → (asks_of mid).link.out_of_memory ≡ false → HasNoReuse ((asks_of mid).sent ++ later)
-      → HasReplied (event.LookupIp at host script) (replies.LookupIp found) old mid
-  looked-up-host at host script found old mid later h moment resolves memory once =
+      → HasReplied at (actions.LookupIp host) (replies.LookupIp found) old mid
+  looked-up-host at host found old mid later h moment resolves memory once =
       let c : TtlConfigContent = old.client.cache.config in
       let b : Bool = old.client.preserve_intermediates in
       let name : Result DomainName ParseError = name_of_text (string_bytes host) in
@@ -307,48 +304,48 @@ module _ (keep : UpdatesKeepZones) (chains : (zone : ZoneContent) (q : Query) �
       by (inl out) = absurd (true≢false (sym out ∙ memory))
       by (inr stays) = (subst Has (sym updates.rest) (has-after old (asks_of mid) h stays), stays.moment_is)
 
-  replied : (e : Event) (reply : EventReply) (old mid : RunState) (later : List (ℕ × Query)) → Has old
-      → (asks_of old).link.moment ≡ moment_of e → RepliesByZone old e reply mid → (asks_of mid).link.out_of_memory ≡ false
-      → HasNoReuse ((asks_of mid).sent ++ later) → HasReplied e reply old mid
-  replied (event.Lookup at name kind script) (replies.Lookup found) old mid later h moment r memory once =
-      looked-up at name kind script found old mid later h moment r memory once
-  replied (event.LookupIp at host script) (replies.LookupIp found) old mid later h moment r memory once =
-      looked-up-host at host script found old mid later h moment r memory once
-  replied (event.Clear at name kind script) (replies.Cleared done) old mid later h moment r memory once =
+  replied : (at : ℕ) (action : Action) (reply : EventReply) (old mid : RunState) (later : List (ℕ × Query)) → Has old
+      → (asks_of old).link.moment ≡ at → RepliesByZone old at action reply mid → (asks_of mid).link.out_of_memory ≡ false
+      → HasNoReuse ((asks_of mid).sent ++ later) → HasReplied at action reply old mid
+  replied at (actions.Lookup name kind) (replies.Lookup found) old mid later h moment r memory once =
+      looked-up at name kind found old mid later h moment r memory once
+  replied at (actions.LookupIp host) (replies.LookupIp found) old mid later h moment r memory once =
+      looked-up-host at host found old mid later h moment r memory once
+  replied at (actions.Clear name kind) (replies.Cleared done) old mid later h moment r memory once =
       let c = cleared name kind done old mid h r in
       record { has = c.0; moment_is = c.1; stands = λ history zones on. tt }
-  replied (event.ClearAll at script) (replies.Cleared done) old mid later h moment r memory once = record {
+  replied at actions.ClearAll (replies.Cleared done) old mid later h moment r memory once = record {
     has = has-cleared old mid _ h
         (held-empty (HasNoMinima config) (HasNoNegativeMinima config) (longest_of config) _ _ (asks_of old).link.moment old.client.cache) refl r.1;
     moment_is = ap (λ (s : RunState). (asks_of s).link.moment) r.1;
     stands = λ history zones on. tt;
   }
-  replied (event.Update at update script) (replies.Update reply) old mid later h moment r memory once =
+  replied at (actions.Update update) (replies.Update reply) old mid later h moment r memory once =
       let u = updated update.value reply old mid h r memory in
       record { has = u.0; moment_is = u.1; stands = λ history zones on. tt }
-  replied e reply old mid later h moment r memory once = absurd r
+  replied at action reply old mid later h moment r memory once = absurd r
 
   -- ---- one event
 
   pub record HasStepped (e : Event) (reply : EventReply) (new : RunState) : Type 0 where
     pub has : Has new
-    pub moment_is : (asks_of new).link.moment ≡ moment_of e
-    pub stands : IsStandingReply config origin (asks_of new).link.history settings e reply
+    pub moment_is : (asks_of new).link.moment ≡ e.at
+    pub stands : IsStandingReply config origin (asks_of new).link.history settings e.at e.action reply
 
   stepped : (e : Event) (report : EventReport) (old new : RunState) (later : List (ℕ × Query)) → Has old
-      → (asks_of old).link.moment ≤ moment_of e → Step old e report new → HasNoReuse ((asks_of new).sent ++ later)
+      → (asks_of old).link.moment ≤ e.at → Step old e report new → HasNoReuse ((asks_of new).sent ++ later)
       → HasStepped e report.reply new
   stepped e report old new later h less step once =
-      let b = begun e old h less in
+      let b = begun (update_of e.action) e.at e.script old h less in
       let sent : (asks_of new).sent ≡ (asks_of step.mid).sent = ap (λ (s : RunState). (asks_of s).sent) step.ends in
-      let r = replied e report.reply (begin_event e old) step.mid later b.0 b.1 step.replies (mid-memory old e report new step)
+      let r = replied e.at e.action report.reply (begin_event e old) step.mid later b.0 b.1 step.replies (mid-memory old e report new step)
       (subst (λ (s : List (ℕ × Query)). HasNoReuse (s ++ later)) sent once) in
       let stays = end-faithful keep origin (asks_of step.mid) r.has.faithful in
       let last : Has (end_event step.mid) = has-after step.mid (end (asks_of step.mid)) r.has stays in
       record {
         has = subst Has (sym step.ends) last;
         moment_is = ap (λ (s : RunState). (asks_of s).link.moment) step.ends ∙ stays.moment_is ∙ r.moment_is ∙ b.1;
-        stands = subst (λ (s : RunState). IsStandingReply config origin (asks_of s).link.history settings e report.reply) (sym step.ends)
+        stands = subst (λ (s : RunState). IsStandingReply config origin (asks_of s).link.history settings e.at e.action report.reply) (sym step.ends)
             (r.stands (end (asks_of step.mid)).link.history stays.faithful.history.versions stays.stands);
       }
 
@@ -362,7 +359,7 @@ module _ (keep : UpdatesKeepZones) (chains : (zone : ZoneContent) (q : Query) �
   events-stand past first last (e ∷ events) (report ∷ reports) (state ∷ states) (o ∷ occasions) h order runs once pasts =
       let more = runs-extend state last events reports states runs.1 in
       let s = stepped e report first state more.0 h order.0 runs.0 (subst HasNoReuse more.1 once) in (
-        subst (λ (vs : List Version). IsStandingReply config origin vs settings e report.reply) (ap (λ (p : Past). p.history) pasts.0) s.stands,
+        subst (λ (vs : List Version). IsStandingReply config origin vs settings e.at e.action report.reply) (ap (λ (p : Past). p.history) pasts.0) s.stands,
         events-stand (past_after_occasion past o) state last events reports states occasions s.has
             (subst (λ (t : ℕ). InOrder t events) (sym s.moment_is) order.2) runs.1 once pasts.1,
       )

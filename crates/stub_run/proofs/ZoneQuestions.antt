@@ -17,8 +17,8 @@ use Rattle.stub_link.proofs.SoundReplies.{zone-replies}
 use Rattle.stub_history.proofs.OutLaws.{ask-out}
 use Rattle.stub_run.specs.Questions.{AsksZone, IsAskable, IsOutOfMemory, IsReplyUnlessMemory, RepliesByQuestions}
 use Rattle.stub_run.specs.Run.{RepliesByZone, RunState}
-use Rattle.stub_run.specs.declared.event.Event.{Event}
-use Rattle.stub_run.specs.declared.event.Event.TheVariants as event
+use Rattle.stub_run.specs.declared.event.Action.{Action}
+use Rattle.stub_run.specs.declared.event.Action.TheVariants as actions
 use Rattle.stub_run.specs.declared.report.EventReply.{EventReply}
 use Rattle.stub_run.specs.declared.report.EventReply.TheVariants as replies
 use Rattle.stub_run.proofs.SupportedLaws.{host-turn, name-turn, resolver-supported, text-short}
@@ -130,15 +130,15 @@ module _ (options : DnsRequestOptions) (now : ℕ) where
 
 pub event-replies : ((number : ℕ) → type_number (type_of number) ≡ number)
     → ((text : List ℕ) (name : DomainName) → name_of_text text ≡ Ok name → Spells text name)
-    → (old new : RunState) (e : Event) (reply : EventReply) → IsAskable e → old.settings.options.edns_payload_len < 2 ^ 16
-    → RepliesByZone old e reply new → RepliesByQuestions old e reply new
-event-replies round spells old new (event.Lookup at name kind script) (replies.Lookup found) is small h =
+    → (old new : RunState) (at : ℕ) (action : Action) (reply : EventReply) → IsAskable action → old.settings.options.edns_payload_len < 2 ^ 16
+    → RepliesByZone old at action reply new → RepliesByQuestions old at action reply new
+event-replies round spells old new at (actions.Lookup name kind) (replies.Lookup found) is small h =
     name-turn (λ asks request now outcome after. AskZone asks request now outcome after)
     (λ asks request now outcome after. AsksZone asks request now outcome after) old new
     (resolver-supported (λ (state : AskState). IsOutOfMemory state)
     (λ asks request now outcome after. AskZone asks request now outcome after) zone-replies-soundly old small)
     round at (Ok name) kind found is.0 is.1 h
-event-replies round spells old new (event.LookupIp at host script) (replies.LookupIp found) is small h = record {
+event-replies round spells old new at (actions.LookupIp host) (replies.LookupIp found) is small h = record {
   address = h.address;
   is_address = h.is_address;
   lookup = host-turn (λ asks request now outcome after. AskZone asks request now outcome after)
@@ -148,7 +148,7 @@ event-replies round spells old new (event.LookupIp at host script) (replies.Look
       at h.address (name_of_text (string_bytes host)) found (text-short spells (string_bytes host)) h.lookup;
   settings = h.settings;
 }
-event-replies round spells old new (event.Clear at name kind script) (replies.Cleared done) is small h = h
-event-replies round spells old new (event.ClearAll at script) (replies.Cleared done) is small h = h
-event-replies round spells old new (event.Update at update script) (replies.Update reply) is small h = h
-event-replies round spells old new e reply is small h = absurd h
+event-replies round spells old new at (actions.Clear name kind) (replies.Cleared done) is small h = h
+event-replies round spells old new at actions.ClearAll (replies.Cleared done) is small h = h
+event-replies round spells old new at (actions.Update update) (replies.Update reply) is small h = h
+event-replies round spells old new at action reply is small h = absurd h

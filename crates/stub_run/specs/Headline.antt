@@ -20,8 +20,9 @@ use Rattle.stub_history.specs.Answered.{greatest_ttl, is_plain}
 use Rattle.stub_history.specs.Stands.{HasChainFor, HasShortChains, IsFreshFor}
 use Rattle.stub_run.specs.Run.{RunState}
 use Rattle.stub_run.specs.World.{BeginsWith, IsFirst}
+use Rattle.stub_run.specs.declared.event.Action.{Action}
+use Rattle.stub_run.specs.declared.event.Action.TheVariants as actions
 use Rattle.stub_run.specs.declared.event.Event.{Event}
-use Rattle.stub_run.specs.declared.event.Event.TheVariants as event
 use Rattle.stub_run.specs.declared.report.EventReply.{EventReply}
 use Rattle.stub_run.specs.declared.report.EventReply.TheVariants as replies
 use Rattle.stub_run.specs.declared.report.EventReport.{EventReport}
@@ -79,22 +80,22 @@ HasChainBy ttls history q now r = HasShortChains history → HasChainFor history
 -- other types the claims on whole sets say the same: their links are not aliases alone.)
 -- Excepted are records of the hosts for the names and types at which they are asked, and literal addresses. It holds of no reply to
 -- another kind of event.
-abbrev pub HoldsOfEvent : RecordClaim → Settings → Event → EventReply → Type 0
-HoldsOfEvent Claim settings (event.Lookup at name kind script) (replies.Lookup found) =
+abbrev pub HoldsOfEvent : RecordClaim → Settings → ℕ → Action → EventReply → Type 0
+HoldsOfEvent Claim settings at (actions.Lookup name kind) (replies.Lookup found) =
     is_plain (known_type kind) ≡ true → NameIsFrom Claim settings at (Ok name) kind found
-HoldsOfEvent Claim settings (event.LookupIp at host script) (replies.LookupIp found) =
+HoldsOfEvent Claim settings at (actions.LookupIp host) (replies.LookupIp found) =
     (address : Option IpAddr) × IsTextOf (string_bytes host) address
     × HostIsFrom Claim settings at address (name_of_text (string_bytes host)) found
-HoldsOfEvent Claim settings (event.Clear at name kind script) (replies.Cleared done) = Unit {0}
-HoldsOfEvent Claim settings (event.ClearAll at script) (replies.Cleared done) = Unit {0}
-HoldsOfEvent Claim settings (event.Update at update script) (replies.Update reply) = Unit {0}
-HoldsOfEvent Claim settings e reply = ⊥
+HoldsOfEvent Claim settings at (actions.Clear name kind) (replies.Cleared done) = Unit {0}
+HoldsOfEvent Claim settings at actions.ClearAll (replies.Cleared done) = Unit {0}
+HoldsOfEvent Claim settings at (actions.Update update) (replies.Update reply) = Unit {0}
+HoldsOfEvent Claim settings at action reply = ⊥
 
 -- A claim holds of each reply, by the versions of the zone's rows up to the end of its event.
 abbrev pub HoldsOfEvents : HistoryClaim → Settings → Past → List Event → List EventReport → List Occasion → Type 0
 HoldsOfEvents Claim settings past [] [] [] = Unit {0}
 HoldsOfEvents Claim settings past (e ∷ events) (report ∷ reports) (occasion ∷ occasions) =
-    HoldsOfEvent (Claim (past_after_occasion past occasion).history) settings e report.reply
+    HoldsOfEvent (Claim (past_after_occasion past occasion).history) settings e.at e.action report.reply
     × HoldsOfEvents Claim settings (past_after_occasion past occasion) events reports occasions
 HoldsOfEvents Claim settings past events reports occasions = ⊥
 

@@ -3,7 +3,7 @@ use Rattle.std.specs.Prelude.{◌≡◌, ◌⊎◌, List, [], ◌∷◌, Option,
 use Rattle.dns_messages.specs.declared.message.Message.{Message}
 use Rattle.stub_lookup.specs.declared.error.NetError.TheVariants as net
 use Rattle.stub_link.specs.History.{Occasion, Past, past_after_occasion, past_of}
-use Rattle.stub_run.specs.Event.{moment_of, script_of, update_of}
+use Rattle.stub_run.specs.Event.{update_of}
 use Rattle.stub_run.specs.Run.{RunState, asks_of}
 use Rattle.stub_run.specs.declared.event.Event.{Event}
 use Rattle.stub_run.specs.declared.report.EventReply.{EventReply}
@@ -17,9 +17,9 @@ IsUpdateOf (Some m) reply update = (update ≡ Some (Some m)) ⊎ ((update ≡ S
 
 -- what the link sees of an event
 pub record IsOccasion (e : Event) (reply : EventReply) (occasion : Occasion) : Type 0 where
-  pub moment : occasion.moment ≡ moment_of e
-  pub script : occasion.script ≡ script_of e
-  pub update : IsUpdateOf (update_of e) reply occasion.update
+  pub moment : occasion.moment ≡ e.at
+  pub script : occasion.script ≡ e.script
+  pub update : IsUpdateOf (update_of e.action) reply occasion.update
 
 -- event by event
 abbrev pub AreOccasions : List Event → List EventReport → List Occasion → Type 0

@@ -7,8 +7,9 @@ use Rattle.stub_client.specs.declared.request.DnsRequest.{DnsRequest}
 use Rattle.stub_link.specs.AskState.{AskState, AskZone, UpdateZone}
 use Rattle.stub_link.specs.SoundQuestion.{IsShort, SupportedUnless}
 use Rattle.stub_run.specs.Run.{Replies, RunState}
+use Rattle.stub_run.specs.declared.event.Action.{Action}
+use Rattle.stub_run.specs.declared.event.Action.TheVariants as actions
 use Rattle.stub_run.specs.declared.event.Event.{Event}
-use Rattle.stub_run.specs.declared.event.Event.TheVariants as event
 use Rattle.stub_run.specs.declared.report.EventReply.{EventReply}
 
 -- the link or the server has run out of memory
@@ -29,18 +30,18 @@ IsReplyUnlessMemory (Err error) = ⊥
 
 -- ---- events
 
--- An event names no name above 255 bytes, and a type whose number has 16 bits.
-abbrev pub IsAskable : Event → Type 0
-IsAskable (event.Lookup at name kind script) = IsShort name × (type_number kind < 2 ^ 16)
-IsAskable e = Unit {0}
+-- A lookup names no name above 255 bytes, and a type whose number has 16 bits.
+abbrev pub IsAskable : Action → Type 0
+IsAskable (actions.Lookup name kind) = IsShort name × (type_number kind < 2 ^ 16)
+IsAskable action = Unit {0}
 
--- the same of each of some events
+-- the same of each of some events' lookups
 abbrev pub AreAskable : List Event → Type 0
 AreAskable [] = Unit {0}
-AreAskable (e ∷ events) = IsAskable e × AreAskable events
+AreAskable (e ∷ events) = IsAskable e.action × AreAskable events
 
 -- what a resolver replies that asks the zone's server questions alone
-abbrev pub RepliesByQuestions : RunState → Event → EventReply → RunState → Type 0
-RepliesByQuestions old e reply new =
+abbrev pub RepliesByQuestions : RunState → ℕ → Action → EventReply → RunState → Type 0
+RepliesByQuestions old at action reply new =
     Replies (λ asks request now outcome after. AsksZone asks request now outcome after)
-    (λ asks update reply after. UpdateZone asks update reply after) old e reply new
+    (λ asks update reply after. UpdateZone asks update reply after) old at action reply new

@@ -16,9 +16,11 @@ use Rattle.stub_core.specs.declared.resolver.Resolver.{Resolver}
 use Rattle.stub_link.specs.AskState.{AskState, AskZone, UpdateZone, begin, begin_with_update, end}
 use Rattle.stub_link.specs.LinkState.{Course, Honest, Listed}
 use Rattle.stub_link.specs.Request.{IsUpdate}
-use Rattle.stub_run.specs.Event.{TakesMemory, moment_of}
+use Rattle.stub_link.specs.declared.link.script.Script.{Script}
+use Rattle.stub_run.specs.Event.{TakesMemory, update_of}
+use Rattle.stub_run.specs.declared.event.Action.{Action}
+use Rattle.stub_run.specs.declared.event.Action.TheVariants as actions
 use Rattle.stub_run.specs.declared.event.Event.{Event}
-use Rattle.stub_run.specs.declared.event.Event.TheVariants as event
 use Rattle.stub_run.specs.declared.report.EventReply.{EventReply}
 use Rattle.stub_run.specs.declared.report.EventReply.TheVariants as replies
 use Rattle.stub_run.specs.declared.report.EventReport.{EventReport}
@@ -31,7 +33,7 @@ use Rattle.stub_run.specs.declared.report.Stopped.TheVariants as stops
 -- moments do not go back, and none is after 2 ^ 62
 abbrev pub InOrder : ℕ → List Event → Type 0
 InOrder last [] = Unit {0}
-InOrder last (e ∷ events) = (last ≤ moment_of e) × (moment_of e ≤ 2 ^ 62) × InOrder (moment_of e) events
+InOrder last (e ∷ events) = (last ≤ e.at) × (e.at ≤ 2 ^ 62) × InOrder e.at events
 
 -- ---- states
 
@@ -44,16 +46,13 @@ abbrev pub asks_of : RunState → AskState
 asks_of state = state.client.handle
 
 -- An event begins at its moment with its script: what it asks is counted anew, and an update has a place among the updates.
-abbrev pub begin_asks : Event → AskState → AskState
-begin_asks (event.Lookup at name kind script) asks = begin at script asks
-begin_asks (event.LookupIp at host script) asks = begin at script asks
-begin_asks (event.Clear at name kind script) asks = begin at script asks
-begin_asks (event.ClearAll at script) asks = begin at script asks
-begin_asks (event.Update at update script) asks = begin_with_update at script asks
+abbrev pub begin_asks : Option Message → ℕ → Script → AskState → AskState
+begin_asks None at script asks = begin at script asks
+begin_asks (Some update) at script asks = begin_with_update at script asks
 
 -- an event begins on the link, and what it counts is counted anew
 abbrev pub begin_event : Event → RunState → RunState
-begin_event e state = with_handle state (begin_asks e (asks_of state))
+begin_event e state = with_handle state (begin_asks (update_of e.action) e.at e.script (asks_of state))
 
 -- An event ends: what its script has not delivered yet is delivered.
 abbrev pub end_event : RunState → RunState
@@ -75,30 +74,30 @@ pub record Updates {H : Type 0} (sends : H → Message → Result ResponseCode N
   pub sent : sends old.client.handle update reply new.client.handle
   pub rest : new ≡ with_handle old new.client.handle
 
--- what a resolver replies to an event, over a handle that asks questions by `gives` and updates by `sends`
+-- what a resolver replies to an action at a moment, over a handle that asks questions by `gives` and updates by `sends`
 abbrev pub Replies : {H : Type 0} → (H → DnsRequest → ℕ → Outcome → H → Type 0)
-    → (H → Message → Result ResponseCode NetError → H → Type 0) → Resolver H → Event → EventReply → Resolver H → Type 0
-Replies gives sends old (event.Lookup at name kind script) (replies.Lookup found) new =
+    → (H → Message → Result ResponseCode NetError → H → Type 0) → Resolver H → ℕ → Action → EventReply → Resolver H → Type 0
+Replies gives sends old at (actions.Lookup name kind) (replies.Lookup found) new =
     ResolvesName gives at (Ok name) kind old found new
-Replies gives sends old (event.LookupIp at host script) (replies.LookupIp found) new =
+Replies gives sends old at (actions.LookupIp host) (replies.LookupIp found) new =
     ResolvesHost gives at (IsTextOf (string_bytes host)) (name_of_text (string_bytes host)) old found new
-Replies gives sends old (event.Clear at name kind script) (replies.Cleared done) new = Clears name kind old done new
-Replies gives sends old (event.ClearAll at script) (replies.Cleared done) new =
+Replies gives sends old at (actions.Clear name kind) (replies.Cleared done) new = Clears name kind old done new
+Replies gives sends old at actions.ClearAll (replies.Cleared done) new =
     (done ≡ Ok tt) × (new ≡ record old { client = with_entries old.client [] })
-Replies gives sends old (event.Update at update script) (replies.Update reply) new = Updates sends update.value old reply new
-Replies gives sends old e reply new = ⊥
+Replies gives sends old at (actions.Update update) (replies.Update reply) new = Updates sends update.value old reply new
+Replies gives sends old at action reply new = ⊥
 
 -- what a resolver replies that asks the zone's server
-abbrev pub RepliesByZone : RunState → Event → EventReply → RunState → Type 0
-RepliesByZone old e reply new =
+abbrev pub RepliesByZone : RunState → ℕ → Action → EventReply → RunState → Type 0
+RepliesByZone old at action reply new =
     Replies (λ asks request now outcome after. AskZone asks request now outcome after)
-    (λ asks update reply after. UpdateZone asks update reply after) old e reply new
+    (λ asks update reply after. UpdateZone asks update reply after) old at action reply new
 
 -- An event, its report and the state afterwards: it begins, the resolver replies, and it ends. The link and the server have not
 -- run out of memory.
 pub record Step (old : RunState) (e : Event) (report : EventReport) (new : RunState) : Type 0 where
   pub mid : RunState
-  pub replies : RepliesByZone (begin_event e old) e report.reply mid
+  pub replies : RepliesByZone (begin_event e old) e.at e.action report.reply mid
   pub ends : new ≡ end_event mid
   pub faults : report.faults ≡ (asks_of new).faults
   pub questions : report.questions ≡ (asks_of new).questions
@@ -130,9 +129,9 @@ IsDelivered (Listed events) = events ≡ []
 -- asks; or as the event ends, if something is left to deliver.
 pub data RunsOut (old : RunState) (e : Event) : Type 0 where
   at_begin : TakesMemory e → RunsOut old e
-  at_ask : (reply : EventReply) (new : RunState) → RepliesByZone (begin_event e old) e reply new
+  at_ask : (reply : EventReply) (new : RunState) → RepliesByZone (begin_event e old) e.at e.action reply new
       → (asks_of new).link.out_of_memory ≡ true → RunsOut old e
-  at_end : (reply : EventReply) (new : RunState) → RepliesByZone (begin_event e old) e reply new
+  at_end : (reply : EventReply) (new : RunState) → RepliesByZone (begin_event e old) e.at e.action reply new
       → ¬ IsDelivered (asks_of new).link.course → RunsOut old e
 
 -- After so many events a run stops: before any event, or at the next one.

@@ -65,7 +65,7 @@ pub record Happens {L : Type 0} (rules : LinkRules L) (old : Resolver (WireHandl
     (new : Resolver (WireHandle L)) : Type 0 where
   pub begun : Resolver (WireHandle L)
   pub begins : BeginsOver rules old e begun
-  pub replies : Replies rules.asks rules.updates begun e reply new
+  pub replies : Replies rules.asks rules.updates begun e.at e.action reply new
 
 -- An event, its report and the resolver afterwards: it begins, the resolver replies, and it ends. The link has not run out of
 -- memory.

@@ -15,14 +15,14 @@ use Rattle.stub_run.specs.declared.report.EventReport.{EventReport}
 -- always had these rows.
 abbrev pub IsSteadyEvent : TtlConfigContent → DomainName → Settings → Past → Past → Event → EventReport → Type 0
 IsSteadyEvent ttls origin settings first after e report =
-    IsUnchanged first after.history → IsStandingReply ttls origin (always first.zone.rows) settings e report.reply
+    IsUnchanged first after.history → IsStandingReply ttls origin (always first.zone.rows) settings e.at e.action report.reply
 
 -- event by event
 abbrev pub AreSteadyEvents : TtlConfigContent → DomainName → Settings → Past → Past → List Event → List EventReport → List Occasion → Type 0
 AreSteadyEvents ttls origin settings first past [] [] [] = Unit {0}
 AreSteadyEvents ttls origin settings first past (e ∷ events) (report ∷ reports) (occasion ∷ occasions) =
-    IsSteadyEvent ttls origin settings (past_since e first past) (past_after_occasion past occasion) e report
-    × AreSteadyEvents ttls origin settings (past_since e first past) (past_after_occasion past occasion) events reports occasions
+    IsSteadyEvent ttls origin settings (past_since e.action first past) (past_after_occasion past occasion) e report
+    × AreSteadyEvents ttls origin settings (past_since e.action first past) (past_after_occasion past occasion) events reports occasions
 AreSteadyEvents ttls origin settings first past events reports occasions = ⊥
 
 -- Where the rows do not change, the replies to the lookups of a run with these occasions stood in the zone as it is.

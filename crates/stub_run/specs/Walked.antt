@@ -14,8 +14,9 @@ use Rattle.stub_walk.specs.Agreement.{Agree}
 use Rattle.stub_walk.specs.Answered.{HasShortAliases, IsWalkedLookup}
 use Rattle.stub_walk.specs.Walk.{ByWalk, walks_everywhere}
 use Rattle.stub_run.specs.Headline.{WorldContent, settings_of}
+use Rattle.stub_run.specs.declared.event.Action.{Action}
+use Rattle.stub_run.specs.declared.event.Action.TheVariants as actions
 use Rattle.stub_run.specs.declared.event.Event.{Event}
-use Rattle.stub_run.specs.declared.event.Event.TheVariants as event
 use Rattle.stub_run.specs.declared.report.EventReply.{EventReply}
 use Rattle.stub_run.specs.declared.report.EventReply.TheVariants as replies
 use Rattle.stub_run.specs.declared.report.EventReport.{EventReport}
@@ -23,9 +24,9 @@ use Rattle.stub_run.specs.declared.report.EventReport.{EventReport}
 -- ---- zones that do not change
 
 -- the past from which on the zone must not change: that before the last full clear, or the first one
-abbrev pub past_since : Event → Past → Past → Past
-past_since (event.ClearAll at script) first past = past
-past_since e first past = first
+abbrev pub past_since : Action → Past → Past → Past
+past_since actions.ClearAll first past = past
+past_since action first past = first
 
 -- each version that was added since has the same rows
 abbrev pub IsUnchanged : Past → List Version → Type 0
@@ -36,30 +37,30 @@ IsUnchanged first history =
 
 -- A lookup of records, or of a host, is one in which questions are walked over the zone. A walk has neither a cache nor a link. No
 -- reply to another kind of event is walked.
-abbrev pub IsWalkedReply : ZoneContent → Settings → Event → EventReply → Type 0
-IsWalkedReply zone settings (event.Lookup at name kind script) (replies.Lookup found) =
+abbrev pub IsWalkedReply : ZoneContent → Settings → ℕ → Action → EventReply → Type 0
+IsWalkedReply zone settings at (actions.Lookup name kind) (replies.Lookup found) =
     IsWalkedLookup zone settings at (Ok name) kind found
-IsWalkedReply zone settings (event.LookupIp at host script) (replies.LookupIp found) =
+IsWalkedReply zone settings at (actions.LookupIp host) (replies.LookupIp found) =
     (address : Option IpAddr) × IsTextOf (string_bytes host) address
     × LooksUpHost settings at (ByWalk zone) address (name_of_text (string_bytes host)) tt found tt
-IsWalkedReply zone settings (event.Clear at name kind script) (replies.Cleared done) = Unit {0}
-IsWalkedReply zone settings (event.ClearAll at script) (replies.Cleared done) = Unit {0}
-IsWalkedReply zone settings (event.Update at update script) (replies.Update reply) = Unit {0}
-IsWalkedReply zone settings e reply = ⊥
+IsWalkedReply zone settings at (actions.Clear name kind) (replies.Cleared done) = Unit {0}
+IsWalkedReply zone settings at actions.ClearAll (replies.Cleared done) = Unit {0}
+IsWalkedReply zone settings at (actions.Update update) (replies.Update reply) = Unit {0}
+IsWalkedReply zone settings at action reply = ⊥
 
 -- If no delivery changed the rows since the last full clear, or the start, up to the end of the event, no chain of aliases in the
 -- zone passes seven links, and the link met no fault in this event, its reply is walked.
 abbrev pub IsWalkedEvent : Settings → Past → Past → Event → EventReport → Type 0
 IsWalkedEvent settings first after e report =
     IsUnchanged first after.history → HasShortAliases first.zone → report.faults ≡ 0
-    → IsWalkedReply first.zone settings e report.reply
+    → IsWalkedReply first.zone settings e.at e.action report.reply
 
 -- event by event
 abbrev pub AreWalkedEvents : Settings → Past → Past → List Event → List EventReport → List Occasion → Type 0
 AreWalkedEvents settings first past [] [] [] = Unit {0}
 AreWalkedEvents settings first past (e ∷ events) (report ∷ reports) (occasion ∷ occasions) =
-    IsWalkedEvent settings (past_since e first past) (past_after_occasion past occasion) e report
-    × AreWalkedEvents settings (past_since e first past) (past_after_occasion past occasion) events reports occasions
+    IsWalkedEvent settings (past_since e.action first past) (past_after_occasion past occasion) e report
+    × AreWalkedEvents settings (past_since e.action first past) (past_after_occasion past occasion) events reports occasions
 AreWalkedEvents settings first past events reports occasions = ⊥
 
 -- ---- runs
@@ -84,14 +85,14 @@ with_sizes size limit ids content =
 -- ---- two runs of the same events
 
 -- Two replies to a lookup of a plain type or of aliases, or of a host, agree, TTLs aside. No replies to other kinds of events do.
-abbrev pub AgreeOn : Event → EventReply → EventReply → Type 0
-AgreeOn (event.Lookup at name kind script) (replies.Lookup one) (replies.Lookup other) =
+abbrev pub AgreeOn : Action → EventReply → EventReply → Type 0
+AgreeOn (actions.Lookup name kind) (replies.Lookup one) (replies.Lookup other) =
     walks_everywhere (known_type kind) ≡ true → Agree one other
-AgreeOn (event.LookupIp at host script) (replies.LookupIp one) (replies.LookupIp other) = Agree one other
-AgreeOn (event.Clear at name kind script) (replies.Cleared one) (replies.Cleared other) = Unit {0}
-AgreeOn (event.ClearAll at script) (replies.Cleared one) (replies.Cleared other) = Unit {0}
-AgreeOn (event.Update at update script) (replies.Update one) (replies.Update other) = Unit {0}
-AgreeOn e one other = ⊥
+AgreeOn (actions.LookupIp host) (replies.LookupIp one) (replies.LookupIp other) = Agree one other
+AgreeOn (actions.Clear name kind) (replies.Cleared one) (replies.Cleared other) = Unit {0}
+AgreeOn actions.ClearAll (replies.Cleared one) (replies.Cleared other) = Unit {0}
+AgreeOn (actions.Update update) (replies.Update one) (replies.Update other) = Unit {0}
+AgreeOn action one other = ⊥
 
 -- no memory was lacking for the datagram of an update
 abbrev pub HasSentUpdate : EventReport → Type 0
@@ -102,9 +103,9 @@ HasSentUpdate report = report.reply ≢ replies.Update (Err net.Memory)
 abbrev pub AreAgreedEvents : Past → Past → List Event → List EventReport → List EventReport → List Occasion → Type 0
 AreAgreedEvents first past [] [] [] [] = Unit {0}
 AreAgreedEvents first past (e ∷ events) (one ∷ reports) (other ∷ others) (occasion ∷ occasions) =
-    (IsUnchanged (past_since e first past) (past_after_occasion past occasion).history
-    → HasShortAliases (past_since e first past).zone → one.faults ≡ 0 → other.faults ≡ 0 → AgreeOn e one.reply other.reply)
-    × AreAgreedEvents (past_since e first past) (past_after_occasion past occasion) events reports others occasions
+    (IsUnchanged (past_since e.action first past) (past_after_occasion past occasion).history
+    → HasShortAliases (past_since e.action first past).zone → one.faults ≡ 0 → other.faults ≡ 0 → AgreeOn e.action one.reply other.reply)
+    × AreAgreedEvents (past_since e.action first past) (past_after_occasion past occasion) events reports others occasions
 AreAgreedEvents first past events reports others occasions = ⊥
 
 -- two runs over a zone with these occasions agree

@@ -1,6 +1,6 @@
 -- What a run promises of whole answers: sets of records and negative answers are returned as they stood in the zone, at one
 -- moment.
-use Rattle.std.specs.Prelude.{string_bytes, List, [], ◌∷◌, Option, Ok}
+use Rattle.std.specs.Prelude.{string_bytes, List, [], ◌∷◌, ℕ, Option, Ok}
 use Rattle.std.specs.declared.net.ip_addr.IpAddr.{IpAddr}
 use Rattle.dns_names.specs.Name.{DomainName}
 use Rattle.dns_names.specs.Parse.{name_of_text}
@@ -12,31 +12,32 @@ use Rattle.stub_link.specs.History.{Occasion, Past, first_past, past_after_occas
 use Rattle.stub_link.specs.LinkState.{Version}
 use Rattle.stub_answers.specs.Lookups.{ByStanding}
 use Rattle.stub_run.specs.Headline.{WorldContent, settings_of, ttls_of}
+use Rattle.stub_run.specs.declared.event.Action.{Action}
+use Rattle.stub_run.specs.declared.event.Action.TheVariants as actions
 use Rattle.stub_run.specs.declared.event.Event.{Event}
-use Rattle.stub_run.specs.declared.event.Event.TheVariants as event
 use Rattle.stub_run.specs.declared.report.EventReply.{EventReply}
 use Rattle.stub_run.specs.declared.report.EventReply.TheVariants as replies
 use Rattle.stub_run.specs.declared.report.EventReport.{EventReport}
 
 -- A lookup, of a name or of a host, is one in which the reply to each question stood: for each attempted name,
 -- and each type of addresses. No reply to another kind of event is one.
-abbrev pub IsStandingReply : TtlConfigContent → DomainName → List Version → Settings → Event → EventReply → Type 0
-IsStandingReply ttls origin history settings (event.Lookup at name kind script) (replies.Lookup found) =
+abbrev pub IsStandingReply : TtlConfigContent → DomainName → List Version → Settings → ℕ → Action → EventReply → Type 0
+IsStandingReply ttls origin history settings at (actions.Lookup name kind) (replies.Lookup found) =
     LooksUp settings at (ByStanding ttls settings.options.preserve_intermediates origin history at) (Ok name) kind tt found tt
-IsStandingReply ttls origin history settings (event.LookupIp at host script) (replies.LookupIp found) =
+IsStandingReply ttls origin history settings at (actions.LookupIp host) (replies.LookupIp found) =
     (address : Option IpAddr) × IsTextOf (string_bytes host) address
     × LooksUpHost settings at (ByStanding ttls settings.options.preserve_intermediates origin history at) address
     (name_of_text (string_bytes host)) tt found tt
-IsStandingReply ttls origin history settings (event.Clear at name kind script) (replies.Cleared done) = Unit {0}
-IsStandingReply ttls origin history settings (event.ClearAll at script) (replies.Cleared done) = Unit {0}
-IsStandingReply ttls origin history settings (event.Update at update script) (replies.Update reply) = Unit {0}
-IsStandingReply ttls origin history settings e reply = ⊥
+IsStandingReply ttls origin history settings at (actions.Clear name kind) (replies.Cleared done) = Unit {0}
+IsStandingReply ttls origin history settings at actions.ClearAll (replies.Cleared done) = Unit {0}
+IsStandingReply ttls origin history settings at (actions.Update update) (replies.Update reply) = Unit {0}
+IsStandingReply ttls origin history settings at action reply = ⊥
 
 -- event by event, by the versions of the zone up to the end of the event
 abbrev pub AreStandingEvents : TtlConfigContent → DomainName → Settings → Past → List Event → List EventReport → List Occasion → Type 0
 AreStandingEvents ttls origin settings past [] [] [] = Unit {0}
 AreStandingEvents ttls origin settings past (e ∷ events) (report ∷ reports) (occasion ∷ occasions) =
-    IsStandingReply ttls origin (past_after_occasion past occasion).history settings e report.reply
+    IsStandingReply ttls origin (past_after_occasion past occasion).history settings e.at e.action report.reply
     × AreStandingEvents ttls origin settings (past_after_occasion past occasion) events reports occasions
 AreStandingEvents ttls origin settings past events reports occasions = ⊥
 

@@ -11,98 +11,81 @@ use dns_wire::RecordType;
 use stub_link::{Script, UpdateEvent};
 use stub_lookup::Moment;
 
-/// Something that happens in a run at a moment, in seconds, while the link follows a script.
-#[derive(Drop)]
-pub enum Event {
-    /// A lookup of records of a type for a name.
-    Lookup {
-        at: Moment,
-        name: Name,
-        rtype: RecordType,
-        script: Script,
-    },
-    /// A lookup of the addresses of a host: a literal address or a name.
-    LookupIp {
-        at: Moment,
-        host: String,
-        script: Script,
-    },
-    /// Removal from the cache of what a lookup of records of a type for a name asks for.
-    Clear {
-        at: Moment,
-        name: Name,
-        rtype: RecordType,
-        script: Script,
-    },
-    /// Removal of all entries of the cache.
-    ClearAll {
-        at: Moment,
-        script: Script,
-    },
-    /// An update of the zone, sent under its own id (RFC 2136 section 2).
-    Update {
-        at: Moment,
-        update: Box<UpdateEvent>,
-        script: Script,
-    },
+/// Something that happens in a run at a moment, while the link follows a script.
+pub struct Event {
+    /// When the event happens, in seconds.
+    pub at: Moment,
+    /// What the link does during the event.
+    pub script: Script,
+    /// What happens.
+    pub action: Action,
 }
 
-impl Event {
-    ghost use Rattle.stub_run.specs.Event.{moment_of, script_of, update_of};
+impl Drop for Event {
+    fn drop(self) {
+        let Event {
+            at: _at,
+            script,
+            action,
+        } = self;
+        drop(script);
+        drop(action);
+    }
+}
 
-    /// Returns when the event happens.
-    pub fn at(&self) -> Moment
-        ensures { result ≡ moment_of self.now }
-    {
+/// What happens in an event.
+pub enum Action {
+    /// A lookup of records of a type for a name.
+    Lookup { name: Name, rtype: RecordType },
+    /// A lookup of the addresses of a host: a literal address or a name.
+    LookupIp { host: String },
+    /// Removal from the cache of what a lookup of records of a type for a name asks for.
+    Clear { name: Name, rtype: RecordType },
+    /// Removal of all entries of the cache.
+    ClearAll,
+    /// An update of the zone, sent under its own id (RFC 2136 section 2).
+    Update(Box<UpdateEvent>),
+}
+
+impl Drop for Action {
+    fn drop(self) {
         match self {
-            Event::Lookup { at, .. }
-            | Event::LookupIp { at, .. }
-            | Event::Clear { at, .. }
-            | Event::ClearAll { at, .. }
-            | Event::Update { at, .. } => *at,
+            Action::Lookup { name, rtype: _ } | Action::Clear { name, rtype: _ } => drop(name),
+            Action::LookupIp { host } => drop(host),
+            Action::ClearAll => {}
+            Action::Update(update) => drop(update),
         }
     }
+}
+
+impl Action {
+    ghost use Rattle.stub_run.specs.Event.{update_of};
 
     /// Tells the prover that a name that is looked up has at most 255 bytes, and its type 16 bits.
     pub(crate) fn know_name(&self)
         ensures { IsAskable self.now }
     {
         match self {
-            Event::Lookup { name, rtype, .. } => {
+            Action::Lookup { name, rtype } => {
                 let _length = name.encoded_len();
                 let _number = u16::from(*rtype);
             }
-            Event::LookupIp { .. }
-            | Event::Clear { .. }
-            | Event::ClearAll { .. }
-            | Event::Update { .. } => {}
+            Action::LookupIp { .. } | Action::Clear { .. } | Action::ClearAll | Action::Update(_) =>
+                {}
         }
     }
 
-    /// Returns what the link does during the event.
-    pub fn script(&self) -> &Script
-        ensures { result.now ≡ script_of self.now }
-    {
-        match self {
-            Event::Lookup { script, .. }
-            | Event::LookupIp { script, .. }
-            | Event::Clear { script, .. }
-            | Event::ClearAll { script, .. }
-            | Event::Update { script, .. } => script,
-        }
-    }
-
-    /// Returns the message of an update, or `None` if the event is not one.
+    /// Returns the message of an update, or `None` if the action is not one.
     pub fn update(&self) -> Option<&Message>
         ensures message { option_copied result ≡ update_of self.now }
         ensures sound { IfSome (update_of self.now) IsUpdate }
     {
         match self {
-            Event::Update { update, .. } => Some(update.message()),
-            Event::Lookup { .. }
-            | Event::LookupIp { .. }
-            | Event::Clear { .. }
-            | Event::ClearAll { .. } => None,
+            Action::Update(update) => Some(update.message()),
+            Action::Lookup { .. }
+            | Action::LookupIp { .. }
+            | Action::Clear { .. }
+            | Action::ClearAll => None,
         }
     }
 }

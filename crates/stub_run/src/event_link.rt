@@ -47,9 +47,9 @@ impl EventLink for ScriptedLink {
     ghost is_out = { is_out_of_memory };
 
     fn begin(&mut self, event: &Event) -> Result<(), AllocError> {
-        match event.update() {
-            Some(_) => self.begin_update(event.script()),
-            None => self.begin_event(event.script()),
+        match event.action.update() {
+            Some(_) => self.begin_update(&event.script),
+            None => self.begin_event(&event.script),
         }
     }
 

@@ -14,7 +14,7 @@ mod runs;
 mod traced_events;
 mod world;
 
-pub use event::Event;
+pub use event::{Action, Event};
 pub use event_link::EventLink;
 pub use report::{EventReply, EventReport, Report, Stopped};
 pub use runs::{happen, is_in_order, know_names, reserve_for, run, run_events};

@@ -3,7 +3,7 @@
 ghost use Rattle.std.specs.Prelude.{◌≡◌, ◌≤◌, ◌<◌, ◌+◌, ◌++◌, ◌∷◌, ◌↔◌, ◌^◌, ◌*◌, ◌-◌, min, IfOk, IsOk, OnOk, OnErr, IfSome, IsTrue, true, false, [], length, take, vec_len, vec_capacity, Err, None};
 ghost use Rattle.stub_core.specs.Resolver.{max_questions};
 ghost use Rattle.stub_link.specs.WireHandle.{Asks, SendsUpdate};
-ghost use Rattle.stub_run.specs.Event.{TakesMemory, moment_of};
+ghost use Rattle.stub_run.specs.Event.{TakesMemory};
 ghost use Rattle.stub_run.specs.Counts.{HasFew};
 ghost use Rattle.stub_run.specs.Headline.{IsMadeOf, WorldContent, report_in, reported, settings_of};
 ghost use Rattle.stub_run.specs.OneHistory.{HasOneHistory};
@@ -12,7 +12,7 @@ ghost use Rattle.stub_run.specs.Run.{InOrder, IsReportBefore, IsReportOf, Replie
 ghost use Rattle.stub_run.specs.RunOver.{BeginsOver, EndsOver, IsReportBeforeOver, IsReportOver, RunsOutOver, StepOver, rules_of, with_sent};
 ghost use Rattle.stub_run.specs.World.{BeginsWith};
 
-use crate::event::Event;
+use crate::event::{Action, Event};
 use crate::event_link::EventLink;
 use crate::laws::runs_have_one_history;
 use crate::report::{EventReply, EventReport, Report, Stopped};
@@ -74,7 +74,7 @@ pub fn know_names(events: &[Event])
     ensures { AreAskable events.now }
 {
     for event in events {
-        event.know_name();
+        event.action.know_name();
     }
 }
 
@@ -142,7 +142,7 @@ pub fn is_in_order(events: &[Event]) -> bool
 {
     let mut last = 0;
     for event in events {
-        let now = event.at();
+        let now = event.at;
         if now < last || now > MAX_MOMENT {
             return false;
         }
@@ -218,7 +218,7 @@ pub fn happen<L: EventLink>(
     resolver: &mut Resolver<WireHandle<L>>,
     event: &Event,
 ) -> Option<EventReport>
-    requires { moment_of event.now ≤ 2 ^ 62 }
+    requires { event.now.at ≤ 2 ^ 62 }
     ensures step { IfSome result (λ report. StepOver (rules_of L.begins L.ends L.is_out L.sends
         L.receives L.streams L.failure_count) resolver.old event.now report resolver.new) }
     ensures stop { result ≡ None → RunsOutOver (rules_of L.begins L.ends L.is_out L.sends
@@ -288,29 +288,26 @@ fn event_report<L: EventLink>(
 
 /// Returns the reply of a resolver to an event.
 fn reply_to<L: Link>(resolver: &mut Resolver<WireHandle<L>>, event: &Event) -> EventReply
-    requires { moment_of event.now ≤ 2 ^ 62 }
+    requires { event.now.at ≤ 2 ^ 62 }
     ensures { Replies (Asks L.sends L.receives L.streams L.failure_count)
-        (SendsUpdate L.sends L.receives L.streams L.failure_count) resolver.old event.now result
-        resolver.new }
+        (SendsUpdate L.sends L.receives L.streams L.failure_count) resolver.old event.now.at
+        event.now.action result resolver.new }
 {
-    match event {
-        Event::Lookup {
-            at,
-            name,
-            rtype,
-            ..
-        } => EventReply::Lookup(resolver.lookup(name, *rtype, *at)),
-        Event::LookupIp { at, host, .. } => {
-            EventReply::LookupIp(resolver.lookup_ip(host.as_str(), *at))
+    match &event.action {
+        Action::Lookup { name, rtype } => {
+            EventReply::Lookup(resolver.lookup(name, *rtype, event.at))
         }
-        Event::Clear { name, rtype, .. } => {
+        Action::LookupIp { host } => {
+            EventReply::LookupIp(resolver.lookup_ip(host.as_str(), event.at))
+        }
+        Action::Clear { name, rtype } => {
             EventReply::Cleared(resolver.clear_lookup_cache(name, *rtype))
         }
-        Event::ClearAll { .. } => {
+        Action::ClearAll => {
             resolver.clear_cache();
             EventReply::Cleared(Ok(()))
         }
-        Event::Update { update, .. } => {
+        Action::Update(update) => {
             // Tells the prover that the message is an update.
             let _message = update.message();
             EventReply::Update(resolver.handle_mut().send_update(&**update))

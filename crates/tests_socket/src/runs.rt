@@ -1,7 +1,7 @@
 //! Runs over sockets.
 
 ghost use Rattle.std.specs.Prelude.{◌≤◌, IfOk};
-ghost use Rattle.stub_run.specs.Event.{AreHonest, moment_of};
+ghost use Rattle.stub_run.specs.Event.{AreHonest};
 
 use crate::opening::{ONE_ADDRESS, link_to};
 use dns_names::Name;
@@ -12,7 +12,7 @@ use std::alloc::Global;
 use std::net::{Net, TcpListener, TcpStream};
 use stub_config::{ResolverConfig, ResolverOpts};
 use stub_hosts::Hosts;
-use stub_run::{Event, EventReply, Report, Script};
+use stub_run::{Action, Event, EventReply, Report, Script};
 use stub_socket::{SocketLink, SocketWorld, run_sockets};
 
 /// A run of one lookup.
@@ -24,11 +24,13 @@ pub(crate) fn run_of_lookup<R: Net<Listener = TcpListener, Stream = TcpStream> +
         return Err(RowFault::Lacks("a world"));
     };
     let name = Name::from_ascii(alloc, "a.t.").map_err(|_| RowFault::Lacks("a name"))?;
-    let event = Event::Lookup {
+    let event = Event {
         at: 0,
-        name,
-        rtype: RecordType::A,
         script: Script::Honest,
+        action: Action::Lookup {
+            name,
+            rtype: RecordType::A,
+        },
     };
     match run_sockets(world, &[event]) {
         Ok(report) => report_text(alloc, &report),

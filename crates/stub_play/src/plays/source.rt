@@ -12,7 +12,7 @@ use stub_client::{SpecialAnswer, special_answer};
 use stub_core::names_to_attempt;
 use stub_hosts::Hosts;
 use stub_lookup::NetError;
-use stub_run::{Event, EventReply, EventReport};
+use stub_run::{Action, Event, EventReply, EventReport};
 use stub_trace::{Note, RequestNote};
 
 /// Where the answer to a question comes from.
@@ -49,14 +49,14 @@ pub(super) fn write_sources<W: io::Write>(
     if !is_answered(told) {
         return Ok(());
     }
-    match event {
-        Event::Lookup { name, rtype, .. } => {
+    match &event.action {
+        Action::Lookup { name, rtype } => {
             write_source(alloc, types, hosts, notes, name, *rtype, writer)
         }
-        Event::LookupIp { host, .. } => {
+        Action::LookupIp { host } => {
             write_host_sources(alloc, types, hosts, notes, host.as_str(), writer)
         }
-        Event::Clear { .. } | Event::ClearAll { .. } | Event::Update { .. } => Ok(()),
+        Action::Clear { .. } | Action::ClearAll | Action::Update(_) => Ok(()),
     }
 }
 

@@ -10,7 +10,6 @@ ghost use Rattle.stub_client.specs.Looks.{Reply};
 ghost use Rattle.stub_core.specs.Resolver.{known_type};
 ghost use Rattle.stub_core.specs.declared.resolver.settings.Settings.{Settings};
 ghost use Rattle.stub_link.specs.History.{Occasion, first_past};
-ghost use Rattle.stub_link.specs.declared.link.script.Script.{Script};
 ghost use Rattle.stub_walk.specs.Agreement.{Agree};
 ghost use Rattle.stub_walk.specs.Walk.{walks_everywhere};
 ghost use Rattle.stub_history.specs.Faithful.{HasNoReuse};
@@ -24,6 +23,7 @@ ghost use Rattle.stub_run.specs.Steady.{AreSteady};
 ghost use Rattle.stub_run.specs.Walked.{AreAgreed, AreWalked, HasSentUpdate, IsWalkedReply, with_cache_size, with_sizes};
 ghost use Rattle.stub_run.specs.Whole.{AreWhole};
 ghost use Rattle.stub_run.specs.World.{IsFirst};
+ghost use Rattle.stub_run.specs.declared.event.Action.{Action};
 ghost use Rattle.stub_run.specs.declared.event.Event.{Event};
 ghost use Rattle.stub_run.specs.declared.report.EventReply.{EventReply};
 ghost use Rattle.stub_run.specs.declared.report.EventReport.{EventReport};
@@ -154,15 +154,15 @@ pub fn runs_have_one_history()
 /// of the cache, the limit of datagrams or the ids.
 pub fn walked_replies_agree()
     ensures name { (zone : ZoneContent) (settings : Settings) (size at later : ℕ)
-        (name : DomainName) (kind : RecordType) (script other : Script) (one two : Reply)
-        → IsWalkedReply zone settings (Event.Lookup at name kind script) (EventReply.Lookup one)
-        → IsWalkedReply zone (with_cache_size size settings) (Event.Lookup later name kind other)
+        (name : DomainName) (kind : RecordType) (one two : Reply)
+        → IsWalkedReply zone settings at (Action.Lookup name kind) (EventReply.Lookup one)
+        → IsWalkedReply zone (with_cache_size size settings) later (Action.Lookup name kind)
         (EventReply.Lookup two)
         → walks_everywhere (known_type kind) ≡ true → Agree one two }
     ensures host { (zone : ZoneContent) (settings : Settings) (size at later : ℕ) (host : _)
-        (script other : Script) (one two : Reply)
-        → IsWalkedReply zone settings (Event.LookupIp at host script) (EventReply.LookupIp one)
-        → IsWalkedReply zone (with_cache_size size settings) (Event.LookupIp later host other)
+        (one two : Reply)
+        → IsWalkedReply zone settings at (Action.LookupIp host) (EventReply.LookupIp one)
+        → IsWalkedReply zone (with_cache_size size settings) later (Action.LookupIp host)
         (EventReply.LookupIp two)
         → Agree one two }
     ensures settings { (content : WorldContent) (size limit : ℕ) (ids : List ℕ)

@@ -20,7 +20,7 @@ ghost use Rattle.stub_link.specs.WireHandle.{Asks};
 ghost use Rattle.stub_link.specs.declared.wire_handle.WireHandle.{WireHandle};
 ghost use Rattle.stub_run.specs.Questions.{AsksZone, IsAskable, IsReplyUnlessMemory, RepliesByQuestions};
 ghost use Rattle.stub_run.specs.Run.{RepliesByZone, RunState};
-ghost use Rattle.stub_run.specs.declared.event.Event.{Event};
+ghost use Rattle.stub_run.specs.declared.event.Action.{Action};
 ghost use Rattle.stub_run.specs.declared.report.EventReply.{EventReply};
 
 use dns_codes::laws::type_number_round_trips;
@@ -76,9 +76,10 @@ pub fn resolvers_ask_the_zone_sound_questions()
         → LooksUpHost old.settings now (asks_of_client
         (λ asks request now outcome after. AsksZone asks request now outcome after) now old)
         address name old.client reply new.client }
-    ensures events { (old new : RunState) (event : Event) (reply : EventReply) → IsAskable event
-        → old.settings.options.edns_payload_len < 2 ^ 16 → RepliesByZone old event reply new
-        → RepliesByQuestions old event reply new }
+    ensures events { (old new : RunState) (at : ℕ) (action : Action) (reply : EventReply)
+        → IsAskable action
+        → old.settings.options.edns_payload_len < 2 ^ 16 → RepliesByZone old at action reply new
+        → RepliesByQuestions old at action reply new }
 {
     type_number_round_trips();
     parsing_follows_the_grammar();

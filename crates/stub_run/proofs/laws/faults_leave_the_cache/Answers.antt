@@ -1,4 +1,4 @@
-use Rattle.std.proofs.Common.{◌≡◌, ap, refl}
+use Rattle.std.proofs.Common.{ap, refl}
 use Rattle.stub_lookup.specs.declared.error.NetError.TheVariants as net
 use Rattle.stub_client.specs.Handle.{Outcome}
 use Rattle.stub_client.specs.Looks.{lookup_settings}

@@ -1,7 +1,6 @@
-use Rattle.std.proofs.Common.{◌≡◌, true, false, Ok, sym, ◌∙◌, ap}
+use Rattle.std.proofs.Common.{Ok, sym, ◌∙◌}
 use Rattle.stub_run.specs.Event.{TakesMemory}
 use Rattle.stub_run.specs.RunOver.{BeginsOver, EndsOver, Happens, link_is_out, no_beginning, no_end, rules_of}
-use Rattle.stub_run.specs.declared.report.EventReport.{EventReport}
 use Rattle.stub_run.proofs.RunningOver.{as-err, as-ok, front-same, happens-front, if-err, if-ok, if-some, step-of}
 use Rattle.stub_run.proofs.runs.happen.Goals as goal
 
@@ -34,7 +33,7 @@ returns-then-is_err-2 g c =
     record {
       step = tt;
       stop = λ none. no_end reply replied c.end.new.resolver error.0 happens error.1;
-      front = happens-front g.L.Link.sends g.L.Link.receives g.L.Link.streams g.L.Link.failure_count old begun replied c.end.new.resolver e reply
+      front = happens-front g.L.Link.sends g.L.Link.receives g.L.Link.streams g.L.Link.failure_count old begun replied c.end.new.resolver e.at e.action reply
           c.reply_to-reply.ensures c.begin.ensures.sent c.end.ensures.sent;
     }
 
@@ -58,6 +57,6 @@ returns g c =
       step = if-some _ _ c.event_report.result
           (λ report reports. step-of rules old replied ended e reply report happens ends reports.0 reports.1) c.event_report.ensures.report;
       stop = λ none. link_is_out reply replied ended happens ends (c.event_report.ensures.none none);
-      front = happens-front g.L.Link.sends g.L.Link.receives g.L.Link.streams g.L.Link.failure_count old begun replied ended e reply
+      front = happens-front g.L.Link.sends g.L.Link.receives g.L.Link.streams g.L.Link.failure_count old begun replied ended e.at e.action reply
           c.reply_to-reply.ensures c.begin.ensures.sent c.end.ensures.sent;
     }

@@ -1,7 +1,6 @@
 use Rattle.std.proofs.Common.{◌≡◌, ◌≤◌, ◌+◌, ◌++◌, false, ℕ, List, [], ◌∷◌, is_err, length, take, vec_len, vec_capacity, refl, sym, ap, subst, ◌∙◌, arith, ◌^◌, inl}
 use Rattle.std.proofs.lemmas.List.{take_more, take_all}
 use Rattle.std.specs.Global.{Vec}
-use Rattle.stub_run.specs.Event.{moment_of}
 use Rattle.stub_run.specs.RunOver.{HasRunOver, rules_of}
 use Rattle.stub_run.specs.declared.event.Event.{Event}
 use Rattle.stub_run.specs.declared.report.EventReport.{EventReport}
@@ -81,7 +80,7 @@ pub happen-requires : goal.happen-requires
 happen-requires g c =
     let i = c.loop-event.event-index in
     let order = c.is_in_order.ensures.0 c.if-not-is_in_order.false in
-    subst (λ (e : Event). moment_of e ≤ 2 ^ 62) (sym c.event-item.is)
+    subst (λ (e : Event). e.at ≤ 2 ^ 62) (sym c.event-item.is)
     (moment-in-order 0 c.args.events.now i c.event-item.result order c.loop-event-test.true)
 
 pub returns : goal.returns

@@ -1,7 +1,6 @@
 use Rattle.std.proofs.Common.{◌≡◌, ◌≤◌, ◌+◌, ◌++◌, ◌^◌, [], ◌∷◌, Ok, Err, List, take, refl, sym, ap, subst, ◌∙◌, inl}
 use Rattle.std.proofs.lemmas.List.{take_more, take_all}
 use Rattle.std.proofs.lemmas.Result.{err_from_is_err_and}
-use Rattle.stub_run.specs.Event.{moment_of}
 use Rattle.stub_run.specs.Run.{InOrder}
 use Rattle.stub_run.specs.RunOver.{StopsAtOver, rules_of}
 use Rattle.stub_run.specs.declared.event.Event.{Event}
@@ -19,7 +18,7 @@ loop-event-init g c =
 pub happen-requires : goal.happen-requires
 happen-requires g c =
     let order = c.is_in_order.ensures.0 c.if-not-is_in_order.false in
-    subst (λ (e : Event). moment_of e ≤ 2 ^ 62) (sym c.event-item.is)
+    subst (λ (e : Event). e.at ≤ 2 ^ 62) (sym c.event-item.is)
     (moment-in-order 0 c.as_slice-events.result.now c.loop-event.event-index c.event-item.result order c.loop-event-test.true)
 
 pub loop-event-preserved : goal.loop-event-preserved

@@ -9,11 +9,11 @@ use Rattle.stub_run.proofs.RunsAgree.{one-address}
 use Rattle.stub_run.proofs.laws.headline.walked_replies_agree.Goals as goal
 
 pub returns-clause-name : goal.returns-clause-name
-returns-clause-name c = λ zone settings size at later name kind script other one two h k every.
+returns-clause-name c = λ zone settings size at later name kind one two h k every.
     looks-up-agree zone at later settings tt tt one two tt tt (Ok name) kind (h.everywhere every) (k.everywhere every)
 
 pub returns-clause-host : goal.returns-clause-host
-returns-clause-host c = λ zone settings size at later host script other one two h k.
+returns-clause-host c = λ zone settings size at later host one two h k.
     looks-up-host-agree zone at later settings tt tt one two tt tt h.0 (name_of_text (string_bytes host)) h.2
     (subst (λ (a : Option IpAddr). LooksUpHost settings later (ByWalk zone) a (name_of_text (string_bytes host)) tt two tt)
     (sym (one-address (string_bytes host) h.0 k.0 h.1 k.1)) k.2)
