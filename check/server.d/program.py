@@ -41,6 +41,17 @@ WRONG = [
     ["zone", "--plain", "--minimal-any"], ["zone", "--differences", "x"],
 ]  # fmt: skip
 
+# Options that need another one or exclude it, and what clap says of them.
+MISUSED = [
+    (["--journal-limit", "8192"], "the following required arguments were not provided:\n  --journal <FILE>\n"),
+    (["--compact"], "the following required arguments were not provided:\n  --journal <FILE>\n"),
+    (["--compact", "--compact"], "the argument '--compact' cannot be used multiple times\n"),
+    (["--journal", "j", "--compact", "--compact"], "the argument '--compact' cannot be used multiple times\n"),
+    (["--compact=true"], "unexpected value 'true' for '--compact' found; no more were expected\n"),
+    (["--plain", "--minimal-any"], "the argument '--plain' cannot be used with '--minimal-any'\n"),
+    (["--minimal-any", "--plain"], "the argument '--minimal-any' cannot be used with '--plain'\n"),
+]
+
 
 def run(program: str, files: Dict[str, str], words: Sequence[str], seconds: float = SECONDS) -> Tuple[int, str, str]:
     """The status and both outputs of a program that ends by itself, in a folder with these files."""
@@ -64,6 +75,9 @@ def try_arguments(report: Report, program: str) -> None:
     for words in WRONG:
         status, output, errors = run(program, {"zone": ZONE}, words)
         report.check(f"{words}", (2, "", True), (status, output, bool(errors)))
+    for words, said in MISUSED:
+        status, output, errors = run(program, {"zone": ZONE}, ["zone", *words])
+        report.check(f"{words}: {errors!r}", (2, "", True), (status, output, errors.startswith(f"error: {said}")))
     listen = ["--listen", "127.0.0.1:0"]
     unreadable = [
         ["none"],

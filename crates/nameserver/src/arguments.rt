@@ -143,7 +143,6 @@ pub(crate) fn read_arguments(alloc: Global, words: &[&str]) -> Result<Arguments,
 /// Returns what the words stand for.
 fn arguments_of(alloc: Global, matches: &ArgMatches<'_>) -> Result<Arguments, Ending> {
     let limit = limit_in(alloc, matches)?;
-    let answering = answering_in(alloc, matches)?;
     let files = texts_in(alloc, matches, "FILE")?;
     let addresses = addresses_in(alloc, matches)?;
     let updaters = updaters_in(alloc, matches)?;
@@ -155,7 +154,7 @@ fn arguments_of(alloc: Global, matches: &ArgMatches<'_>) -> Result<Arguments, En
         files,
         addresses,
         updaters,
-        answering,
+        answering: answering_in(matches),
         secondaries,
         raises_serials: raises_serials_in(matches),
         differences: differences_in(alloc, matches)?,
@@ -200,7 +199,8 @@ fn command<'a>(alloc: Global) -> Result<Command<'a>, AllocError> {
             alloc,
             "minimal-any",
             "Answer a question for ANY with one record set of the name (RFC 8482)",
-        ))?
+        )
+        .conflicts_with("plain")?)?
         .arg(option(alloc, "faults", "FILE", "The fault table"))?
         .arg(option(
             alloc,
@@ -387,18 +387,14 @@ fn differences_in(alloc: Global, matches: &ArgMatches<'_>) -> Result<usize, Endi
     }
 }
 
-/// Returns how requests are answered that are not updates.
-fn answering_in(alloc: Global, matches: &ArgMatches<'_>) -> Result<Answering, Ending> {
-    let is_plain = matches.get_str("plain") == Some("true");
-    let is_minimal = matches.get_str("minimal-any") == Some("true");
-    match (is_plain, is_minimal) {
-        (false, false) => Ok(Answering::Whole(AnyAnswer::AllSets)),
-        (false, true) => Ok(Answering::Whole(AnyAnswer::FirstSet)),
-        (true, false) => Ok(Answering::Plain),
-        (true, true) => {
-            let reason = "a server that answers by each zone alone does not answer ANY";
-            Err(Ending::invalid(alloc, "minimal-any", "true", reason))
-        }
+/// Returns how requests are answered that are not updates. Clap has found that at most one of the two options is given.
+fn answering_in(matches: &ArgMatches<'_>) -> Answering {
+    if matches.get_str("plain") == Some("true") {
+        Answering::Plain
+    } else if matches.get_str("minimal-any") == Some("true") {
+        Answering::Whole(AnyAnswer::FirstSet)
+    } else {
+        Answering::Whole(AnyAnswer::AllSets)
     }
 }
 

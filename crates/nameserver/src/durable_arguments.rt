@@ -64,12 +64,14 @@ pub(crate) fn with_durable_options<'a>(
             "journal-limit",
             "BYTES",
             "The length of the journal from which on the zone file takes its place, 16777216 if none is given",
-        ))?
+        )
+        .requires_arg("journal")?)?
         .arg(flag(
             alloc,
             "compact",
             "Replace the zone file by the zone with the updates of its journal, and end",
-        ))?
+        )
+        .requires_arg("journal")?)?
         .arg(option(
             alloc,
             "key",
@@ -93,12 +95,11 @@ pub(crate) fn durable_in(
     file_count: usize,
 ) -> Result<DurableArguments, Ending> {
     let journal = text_in(alloc, matches, "journal")?;
-    let compact = matches.get_str("compact") == Some("true");
-    check_journal(alloc, matches, journal.is_some(), compact, file_count)?;
+    check_journal(alloc, matches, file_count)?;
     let durable = DurableArguments {
         journal,
         journal_limit: limit_in(alloc, matches)?,
-        compact,
+        compact: matches.get_str("compact") == Some("true"),
         keys: texts_in(alloc, matches, "key")?,
         grants: texts_in(alloc, matches, "grant")?,
     };
@@ -108,22 +109,14 @@ pub(crate) fn durable_in(
     Ok(durable)
 }
 
-/// Refuses a journal with several zone files, and what needs a journal without one.
-fn check_journal(
-    alloc: Global,
-    matches: &ArgMatches<'_>,
-    has_journal: bool,
-    compact: bool,
-    file_count: usize,
-) -> Result<(), Ending> {
-    if has_journal && file_count > 1 {
-        let path = matches.get_str("journal").unwrap_or("");
-        return Err(Ending::invalid(alloc, "journal", path, "there is more than one zone file"));
+/// Refuses a journal with several zone files.
+fn check_journal(alloc: Global, matches: &ArgMatches<'_>, file_count: usize) -> Result<(), Ending> {
+    match matches.get_str("journal") {
+        Some(path) if file_count > 1 => {
+            Err(Ending::invalid(alloc, "journal", path, "there is more than one zone file"))
+        }
+        _ => Ok(()),
     }
-    if compact && !has_journal {
-        return Err(Ending::invalid(alloc, "compact", "true", "there is no journal"));
-    }
-    Ok(())
 }
 
 /// Refuses a fault table beside keys or a journal.
