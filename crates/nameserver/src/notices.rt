@@ -54,37 +54,32 @@ impl Notices {
 
     /// Takes a response to a notification. Returns `false` if it is none that was expected.
     pub(crate) fn take_response(&mut self, response: &Request<'_>) -> bool {
-        for follower in self.followers.as_mut_slice() {
-            if follower.notifier.receive(response.bytes, response.peer) == Ok(true) {
-                return true;
-            }
-        }
-        false
+        let mut followers = self.followers.as_mut_slice().iter_mut();
+        followers.any(|it| it.notifier.receive(response.bytes, response.peer) == Ok(true))
     }
 
     /// Returns the earliest moment at which a notification is due.
     pub(crate) fn next_moment(&self) -> Option<Milliseconds> {
-        let mut first: Option<Milliseconds> = None;
-        for follower in self.followers.as_slice() {
-            first = match (first, follower.notifier.next_moment()) {
-                (Some(first), Some(moment)) => Some(first.min(moment)),
-                (None, moment) => moment,
-                (first, None) => first,
-            };
-        }
-        first
+        self.followers
+            .iter()
+            .filter_map(|follower| follower.notifier.next_moment())
+            .min()
     }
 
     /// Returns the next notification that is due. Without memory, it is lost, as any datagram may be.
     pub(crate) fn next_notice(&mut self, rt: &HostRuntime, now: Milliseconds) -> Option<Notice> {
-        for follower in self.followers.as_mut_slice() {
-            if let Some(peer) = follower.notifier.next_due(now) {
-                let bytes = Vec::from_slice(rt.alloc(), follower.notifier.message()).ok()?;
-                return Some(Notice { peer, bytes });
-            }
-        }
-        None
+        self.followers
+            .as_mut_slice()
+            .iter_mut()
+            .find_map(|follower| notice_of(rt, follower, now))
     }
+}
+
+/// Returns the next notification of a zone that is due. Without memory, it is lost.
+fn notice_of(rt: &HostRuntime, follower: &mut Follower, now: Milliseconds) -> Option<Notice> {
+    let peer = follower.notifier.next_due(now)?;
+    let bytes = Vec::from_slice(rt.alloc(), follower.notifier.message()).ok()?;
+    Some(Notice { peer, bytes })
 }
 
 /// Creates the follower of a zone.
