@@ -17,11 +17,19 @@ WRONG: List[List[str]] = [
     ["a.test.", "--timeout", "-1"], ["a.test.", "--attempts", "x"], ["a.test.", "--attempts", "-1"],
     ["a.test.", "--ndots", "x"], ["a.test.", "--strategy", "all"], ["a..b."], ["a.test.", "--search", "a..b"],
     ["a.test.", "--resolv-conf"],
-    ["--update", "append a 60 A 10.0.0.1", "--server", "127.0.0.1:1"], ["--update", "append a 60 A", "--zone", "t."],
+    ["--update", "append a 60 A 10.0.0.1", "--server", "127.0.0.1:1"], ["--zone", "t."], ["--key", "me.key"],
+    ["--update", "append a 60 A 10.0.0.1", "--zone", "t.", "--key-name", "me."], ["--update", "append a 60 A", "--zone", "t."],
     ["--update", "add a 60 A 10.0.0.1", "--zone", "t."], ["--update", "append a 60 A 10.0.0.1", "--zone", "a..b"],
     ["--update", "swap a 60 A 10.0.0.1", "--zone", "t."], ["--update", "", "--zone", "t."],
     ["--update", "append @ 60 A 10.0.0.1", "--zone", "t."], ["--update", "delete-set u. A", "--zone", "t."],
 ]  # fmt: skip
+# Options that are for updates alone, and what is said of them beside a name.
+WITHOUT_UPDATE: List[Tuple[List[str], str]] = [
+    (["--zone", "t."], "--zone names the zone of an update, and there is no --update"),
+    (["--zone", "t.", "--key", "me.key"], "--zone names the zone of an update, and there is no --update"),
+    (["--key", "me.key"], "--key signs an update, and there is no --update"),
+    (["--key", "me.key", "--key-name", "me."], "--key signs an update, and there is no --update"),
+]
 
 
 def try_arguments(report: Report, given: Given) -> None:
@@ -34,6 +42,9 @@ def try_arguments(report: Report, given: Given) -> None:
         for words in WRONG:
             run = resolver.run(*words, seconds=60)
             report.check(f"{words}", (2, "", True), (run.status, run.output, bool(run.errors)))
+        for words, said in WITHOUT_UPDATE:
+            run = resolver.run("a.test.", *words)
+            report.check(f"{words}: what is said", (2, "", f"lookup: {said}\n"), run[:3])
         run = resolver.run("a.test.", "--resolv-conf", "/nonexistent/resolv.conf")
         report.check("a missing resolv.conf", (2, True), (run.status, bool(run.errors)))
 

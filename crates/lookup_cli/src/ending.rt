@@ -13,6 +13,10 @@ pub enum Ending {
     InvalidValue(String),
     /// An argument is not valid UTF-8.
     NotUtf8,
+    /// The zone of an update is given, and no update.
+    ZoneWithoutUpdate,
+    /// A key that signs an update is given, and no update.
+    KeyWithoutUpdate,
     /// A file could not be read: its path, as given, and the error.
     CannotRead(String, io::Error),
     /// A line of the hosts file is not valid UTF-8: its path, as given.
@@ -112,6 +116,14 @@ impl fmt::Display for Ending {
             Ending::Arguments(error) => write!(f, "{error}"),
             Ending::InvalidValue(line) => writeln!(f, "lookup: {line}"),
             Ending::NotUtf8 => f.write_str("lookup: arguments are not valid UTF-8\n"),
+            Ending::ZoneWithoutUpdate => {
+                f.write_str(
+                    "lookup: --zone names the zone of an update, and there is no --update\n",
+                )
+            }
+            Ending::KeyWithoutUpdate => {
+                f.write_str("lookup: --key signs an update, and there is no --update\n")
+            }
             Ending::CannotRead(path, error) => writeln!(f, "lookup: cannot read {path}: {error}"),
             Ending::HostsNotUtf8(path) => {
                 writeln!(f, "lookup: {path}: a line is not valid UTF-8")
