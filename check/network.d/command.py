@@ -99,6 +99,14 @@ def try_lines(report: Report, given: Given) -> None:
         run = asked.resolver.run("-", lines=[f"a.{ORIGIN} A", f"b.{ORIGIN} A"])
         lines = [f"; a.{ORIGIN} A", f"a.{ORIGIN} 60 IN A 10.0.0.1", f"; b.{ORIGIN} A", f"b.{ORIGIN} 60 IN A 10.0.0.2"]
         report.check("plain lines", (lines, 0), (run.output.splitlines(), run.status))
+        lines = [f"a.{ORIGIN} WHAT", f"a.{ORIGIN}\tIN  A ", f'a.{ORIGIN} "\u00e9\\']
+        texts = [f"a.{ORIGIN} WHAT", f"a.{ORIGIN} IN  A", f'a.{ORIGIN} "\u00e9\\']
+        run = asked.resolver.run("-", lines=lines)
+        wanted = ("".join(f"; {it}\n" for it in texts), "".join(f"{it}: no such type\n" for it in texts))
+        report.check("what is not a type", (3, *wanted), run[:3])
+        outcomes = asked.resolver.ask(lines)
+        wanted = [("WHAT", "no such type", 0), ("IN  A", "no such type", 0), ('"\u00e9\\', "no such type", 0)]
+        report.check("what is not a type, as JSON", wanted, [(it.type, it.error, it.questions) for it in outcomes])
         with asked.resolver.interactive() as conversation:
             for name, address in (("a", "10.0.0.1"), ("b", "10.0.0.2"), ("a", "10.0.0.1")):
                 outcome = conversation.ask(f"{name}.{ORIGIN} A")

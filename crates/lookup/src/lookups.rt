@@ -54,9 +54,8 @@ impl Program<'_> {
         let arguments = self.arguments;
         let has_heading = arguments.reads_input || arguments.items.len() > 1;
         for item in arguments.items.as_slice() {
-            let name = item.name.clone()?;
-            let question = item.question;
-            self.look_up(Item { name, question }, has_heading)?;
+            let item = Item::new(self.rt.alloc(), item.name.clone()?, item.question);
+            self.look_up(item, has_heading)?;
         }
         if arguments.reads_input {
             self.look_up_input()?;
@@ -144,10 +143,7 @@ impl Program<'_> {
             "from the cache"
         };
         // A failure to write to standard error can't be reported.
-        let _written = eprintln!(self.rt;
-            "{moment} ms {} {} answered {source}",
-            item.name, item.question
-        );
+        let _written = eprintln!(self.rt; "{moment} ms {item} answered {source}");
     }
 
     /// Returns `true` if the hosts answer an item.

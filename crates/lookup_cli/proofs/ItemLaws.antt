@@ -23,7 +23,7 @@ splits-at-space g f text (Some x) found tests = (found.0, found.1, found.2 is_wh
 
 -- a line with white space names a type after it
 pub typed-item : (line : List ℕ) (default : Question) (item : Item) (parts : Bor (List ℕ) × Bor (List ℕ))
-    → SplitsAtSpace line (Some parts) → string_bytes item.name ≡ parts.0.now
+    → SplitsAtSpace line (Some parts) → string_bytes item.name ≡ parts.0.now → string_bytes item.type_text ≡ trim parts.1.now
     → item.question ≡ question_of_type (trim parts.1.now) → IsItemOf line default item
-typed-item line default item parts split name question =
-    typed split.0 split.1 split.2 (name ∙ split.3) (question ∙ ap (λ text. question_of_type (trim text)) split.4)
+typed-item line default item parts split name text question =
+    typed split.0 split.1 split.2 (name ∙ split.3) (text ∙ ap trim split.4) (question ∙ ap (λ rest. question_of_type (trim rest)) split.4)

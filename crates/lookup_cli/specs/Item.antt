@@ -1,12 +1,13 @@
 -- What is asked about a name.
-use Rattle.std.specs.Prelude.{◌≡◌, List, ℕ, Option, Some, None, Result, Ok, IfOk, drop, take, string_bytes}
+use Rattle.std.specs.Prelude.{◌≡◌, ◌++◌, codes, [], List, ℕ, Option, Some, None, Result, Ok, IfOk, drop, take, string_bytes}
 use Rattle.std.specs.Borrow.{Bor}
 use Rattle.std.specs.Char.{is_whitespace}
 use Rattle.std.specs.Str.{NoCharPasses, trim}
 use Rattle.std.specs.Str.Pattern.{HasPassingCharAt}
 use Rattle.std.specs.declared.alloc.AllocError.{AllocError}
 use Rattle.std.specs.declared.net.ip_addr.IpAddr.{IpAddr}
-use Rattle.dns_bitmaps.specs.TypeWord.{type_of_word}
+use Rattle.dns_bitmaps.specs.TypeWord.{type_of_word, word_of_type}
+use Rattle.dns_codes.specs.RecordType.{type_number}
 use Rattle.dns_codes.specs.declared.record_type.RecordType.{RecordType}
 use Rattle.dns_codes.specs.declared.record_type.RecordType.TheVariants.{PTR}
 use Rattle.dns_names.specs.Print.{text_of_name}
@@ -32,7 +33,8 @@ reversed_question other = other
 -- an item with the reverse name of an address
 abbrev pub IsReversed : Item → IpAddr → Item → Type 0
 IsReversed item address other =
-    (string_bytes other.name ≡ text_of_name (reverse_name address)) × (other.question ≡ reversed_question item.question)
+    (string_bytes other.name ≡ text_of_name (reverse_name address)) × (other.type_text ≡ item.type_text)
+    × (other.question ≡ reversed_question item.question)
 
 -- an item is made one with the reverse name of the address that its name is, if memory allows, or stays as it is
 abbrev pub Reverses : Item → Option IpAddr → Result Item AllocError → Type 0
@@ -52,6 +54,27 @@ SplitsAtSpace text (Some parts) = (start : ℕ) × (end : ℕ) × HasFirstSpace 
 -- What a line without white space around it asks: a line without white space is a name, with the default question; any other is a name
 -- up to the first white space, after which a text spells the type.
 pub data IsItemOf (line : List ℕ) (default : Question) (item : Item) : Type 0 where
-  alone : NoCharPasses is_whitespace line → string_bytes item.name ≡ line → item.question ≡ default → IsItemOf line default item
+  alone : NoCharPasses is_whitespace line → string_bytes item.name ≡ line → string_bytes item.type_text ≡ [] → item.question ≡ default
+      → IsItemOf line default item
   typed : (start end : ℕ) → HasFirstSpace line start end → string_bytes item.name ≡ take start line
-      → item.question ≡ question_of_type (trim (drop end line)) → IsItemOf line default item
+      → string_bytes item.type_text ≡ trim (drop end line) → item.question ≡ question_of_type (trim (drop end line))
+      → IsItemOf line default item
+
+-- the type that is asked for, or the word for addresses
+abbrev pub question_text : Question → List ℕ
+question_text Addresses = codes "ADDRESSES"
+question_text (Records record_type) = word_of_type (type_number record_type)
+question_text Unknown = codes "?"
+
+-- the type of a question about a name, which is as it was given if it is not a type
+abbrev pub shown_type : Question → List ℕ → List ℕ
+shown_type Unknown given = given
+shown_type question given = question_text question
+
+-- the type of an item
+abbrev pub item_type : Item → List ℕ
+item_type item = shown_type item.question (string_bytes item.type_text)
+
+-- an item as a heading and a message have it: its name and its type
+abbrev pub item_text : Item → List ℕ
+item_text item = string_bytes item.name ++ (codes " " ++ item_type item)

@@ -201,7 +201,8 @@ fn items_in(
         if *text != INPUT {
             check_name(alloc, text)?;
             let name = String::from_str(alloc, text)?;
-            items.push(reversed_if(alloc, flag_in(matches, "reverse"), Item { name, question })?)?;
+            let item = Item::new(alloc, name, question);
+            items.push(reversed_if(alloc, flag_in(matches, "reverse"), item)?)?;
         }
     }
     Ok(items)

@@ -24,29 +24,46 @@ pub enum Question {
     Unknown,
 }
 
-/// A name, and what is asked about it.
+/// A name, and what is asked about it. `Display` writes the name and the type, as `a.t. MX`.
 #[derive(Drop)]
 pub struct Item {
     /// The name, as given.
     pub name: String,
+    /// The text that names the type, as given, which may name none. It is empty if the line has a name alone.
+    pub type_text: String,
     /// What is asked.
     pub question: Question,
 }
 
+/// The type of an item, which `Display` writes as that of its question, or as it was given if it is not a type.
+#[derive(Clone, Copy)]
+pub(crate) struct ItemType<'a>(pub(crate) &'a Item);
+
 impl Item {
+    /// Creates the item of a name and what is asked about it.
+    pub fn new(alloc: Global, name: String, question: Question) -> Item
+        ensures name { result.name ≡ name }
+        ensures type_text { string_bytes result.type_text ≡ [] }
+        ensures question { result.question ≡ question }
+    {
+        Item {
+            name,
+            type_text: String::new(alloc),
+            question,
+        }
+    }
+
     /// Returns the item with the reverse name of the address that its name is (RFC 1035 section 3.5, RFC 3596 section 2.5), for
     /// which PTR records are asked unless a type is given. An item with another name is returned as it is, without taking memory.
-    pub fn reversed(self, alloc: Global) -> Result<Item, AllocError>
+    pub fn reversed(mut self, alloc: Global) -> Result<Item, AllocError>
         ensures reversed { (address : Option IpAddr) × IsTextOf (string_bytes self.name) address
             × Reverses self address result }
     {
-        match parse_ip(self.name.as_str().as_bytes()) {
-            Some(address) => Ok(Item {
-                name: Name::from(alloc, address)?.to_ascii()?,
-                question: reversed_question(self.question),
-            }),
-            None => Ok(self),
+        if let Some(address) = parse_ip(self.name.as_str().as_bytes()) {
+            self.name = Name::from(alloc, address)?.to_ascii()?;
+            self.question = reversed_question(self.question);
         }
+        Ok(self)
     }
 }
 
@@ -85,12 +102,10 @@ fn item_of(alloc: Global, line: &str, default: Question) -> Result<Item, AllocEr
     match split_at_space(line) {
         Some((name, rest)) => Ok(Item {
             name: String::from_str(alloc, name)?,
+            type_text: String::from_str(alloc, rest.trim())?,
             question: question_of_type(rest.trim()),
         }),
-        None => Ok(Item {
-            name: String::from_str(alloc, line)?,
-            question: default,
-        }),
+        None => Ok(Item::new(alloc, String::from_str(alloc, line)?, default)),
     }
 }
 
@@ -111,8 +126,39 @@ fn question_of_type(text: &str) -> Question
     }
 }
 
+impl fmt::Display for Item {
+    ghost use Rattle.std.specs.Prelude.{Some};
+    ghost use Rattle.lookup_cli.specs.Item.{item_text};
+
+    ghost output = { λ item. Some (item_text item) };
+
+    fn fmt<W: fmt::Write>(&self, f: &mut fmt::Formatter<W>) -> fmt::Result {
+        let record_type = ItemType(self);
+        write!(f, "{} {record_type}", self.name)
+    }
+}
+
+impl fmt::Display for ItemType<'_> {
+    ghost use Rattle.std.specs.Prelude.{Some};
+    ghost use Rattle.lookup_cli.specs.Item.{item_type};
+
+    ghost output = { λ it. Some (item_type it.0.now) };
+
+    fn fmt<W: fmt::Write>(&self, f: &mut fmt::Formatter<W>) -> fmt::Result {
+        match self.0.question {
+            Question::Unknown => f.write_str(self.0.type_text.as_str()),
+            question => write!(f, "{question}"),
+        }
+    }
+}
+
 impl fmt::Display for Question {
-    /// Writes the type, or `ADDRESSES`.
+    ghost use Rattle.std.specs.Prelude.{Some};
+    ghost use Rattle.lookup_cli.specs.Item.{question_text};
+
+    ghost output = { λ question. Some (question_text question) };
+
+    /// Writes the type, or `ADDRESSES`, or `?` for what is not a type.
     fn fmt<W: fmt::Write>(&self, f: &mut fmt::Formatter<W>) -> fmt::Result {
         match self {
             Question::Addresses => f.write_str("ADDRESSES"),

@@ -1,6 +1,7 @@
 //! Answers as JSON (RFC 8259).
 
 use crate::answer::Answer;
+use crate::item::ItemType;
 use crate::plain::Reason;
 use crate::record_text::{OwnerText, RDataText, TypeText};
 use crate::status::Status;
@@ -47,7 +48,7 @@ impl<'a> JsonAnswer<'a> {
     pub fn new(alloc: Global, answer: &'a Answer) -> Result<JsonAnswer<'a>, AllocError> {
         Ok(JsonAnswer {
             answer,
-            record_type: text_of(alloc, answer.item.question)?,
+            record_type: text_of(alloc, ItemType(&answer.item))?,
             records: records_of(alloc, answer.records())?,
             error: error_of(alloc, answer)?,
         })
@@ -94,7 +95,7 @@ impl fmt::Display for JsonAnswer<'_> {
     /// Writes the object, with a line break.
     fn fmt<W: fmt::Write>(&self, f: &mut fmt::Formatter<W>) -> fmt::Result {
         let name = GivenText(self.answer.item.name.as_str());
-        let record_type = JsonText(self.record_type.as_bytes());
+        let record_type = GivenText(self.record_type.as_str());
         let status = self.answer.status().word();
         let code = CodeOrNull(self.answer.code());
         write!(

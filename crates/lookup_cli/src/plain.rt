@@ -27,8 +27,7 @@ pub(crate) struct Reason<'a>(pub(crate) &'a Answer);
 impl fmt::Display for PlainAnswer<'_> {
     fn fmt<W: fmt::Write>(&self, f: &mut fmt::Formatter<W>) -> fmt::Result {
         if self.has_heading {
-            let item = &self.answer.item;
-            writeln!(f, "; {} {}", item.name, item.question)?;
+            writeln!(f, "; {}", self.answer.item)?;
         }
         for found in self.answer.records() {
             let line = RecordText(found);
@@ -40,8 +39,7 @@ impl fmt::Display for PlainAnswer<'_> {
 
 impl fmt::Display for PlainReason<'_> {
     fn fmt<W: fmt::Write>(&self, f: &mut fmt::Formatter<W>) -> fmt::Result {
-        let item = &self.0.item;
-        writeln!(f, "{} {}: {}", item.name, item.question, Reason(self.0))
+        writeln!(f, "{}: {}", self.0.item, Reason(self.0))
     }
 }
 
