@@ -1,7 +1,7 @@
 //! `lookup NAME.. [OPTIONS]`: looks up names at name servers, or sends an update.
 //!
-//! - `network`: the network; `files`: the files that are read; `update`: the words of an update; `signed`: signed updates;
-//!   `lookups`: lookups, and their output
+//! - `network`: the network; `files`: the files that are read; `lookups`: lookups, and their output
+//! - `update`: the words of an update; `update_fault`: what is wrong with them; `signed`: signed updates
 #![tactic(auto)]
 
 mod files;
@@ -9,6 +9,7 @@ mod lookups;
 mod network;
 mod signed;
 mod update;
+mod update_fault;
 
 use files::{read_conf, read_hosts, read_traced_hosts};
 use lookup_cli::{Arguments, Ending, ExitStatus, Session, read_arguments, settings_of};
