@@ -157,8 +157,8 @@ def try_trace(report: Report, given: Given) -> None:
         requests = asked.requests(6)
         first, plain, stream, silent, cut, _ = requests
         patterns = [
-            sent("udp", where, first),
             rf"\d+ ms question {re.escape(f'ns.{ORIGIN}')} A",
+            sent("udp", where, first),
             received("udp", where, first),
             rf"\d+ ms reply to {re.escape(f'ns.{ORIGIN}')} A: NoError, records in the answer: 1",
             sent("udp", where, plain),
@@ -184,6 +184,26 @@ def try_trace(report: Report, given: Given) -> None:
         report.check("moments rise", sorted(numbers), numbers)
         report.check("two ids are not the same", True, first.id != plain.id and plain.id == stream.id)
         report.check("no trace unless it is asked for", "", asked.resolver.run("-", "--json", lines=lines[:1]).errors)
+    # The reply of `nameserver` to an update has no sections, as RFC 2136 section 3.8 allows.
+    for options, transport in (([], "udp"), (["--tcp"], "tcp")):
+        with Asked(given, options=options) as asked:
+            for words, question, reply in (
+                ([f"ns.{ORIGIN}", "-t", "A"], f"question ns.{ORIGIN} A", f"reply to ns.{ORIGIN} A: NoError, records in the answer: 1"),
+                ([f"no.{ORIGIN}", "-t", "A"], f"question no.{ORIGIN} A", f"reply to no.{ORIGIN} A: NXDomain, records in the answer: 0"),
+                (["--update", "append u 60 A 10.5.0.1", "--zone", ORIGIN], f"update of {ORIGIN}", "reply to update: NoError"),
+                (["--update", "create u 60 A 10.5.0.1", "--zone", ORIGIN], f"update of {ORIGIN}", "reply to update: YXRRSet"),
+            ):
+                run = asked.resolver.run("--trace", *words)
+                (request,) = asked.requests(1)
+                where = f"{transport} 127.0.0.1:{asked.server.port}"
+                wanted = [
+                    question,
+                    f"{where} sent {request.request_bytes} bytes, id {request.id}",
+                    f"{where} received {request.reply_bytes} bytes, id {request.id}",
+                    reply,
+                ]
+                got = [re.sub(r"^\d+ ms ", "", it) for it in run.errors.splitlines() if re.match(r"\d+ ms ", it)]
+                report.check(f"the lines of {words} over {transport}", wanted, got)
 
 
 def sent(transport: str, where: str, request) -> str:

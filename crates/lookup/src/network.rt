@@ -53,20 +53,36 @@ impl<'a> ProgramNetwork<'a> {
     }
 }
 
-/// Returns what a message asks or answers, or `None` if it has no question, cannot be read, or memory is refused.
+/// Returns what a message asks or answers, or `None` if it asks nothing, cannot be read, or memory is refused.
 fn description_of(alloc: Global, bytes: &[u8]) -> Option<String> {
     let Ok(message) = MessageView::of(bytes) else {
         return None;
     };
-    let question = message.queries().next()?;
-    let Ok(name) = question.name.to_name(alloc) else {
-        return None;
-    };
-    if message.metadata.op_code == OpCode::Update {
-        return described_update(alloc, &name, &message);
+    match message.queries().next() {
+        Some(question) => {
+            let Ok(name) = question.name.to_name(alloc) else {
+                return None;
+            };
+            if message.metadata.op_code == OpCode::Update {
+                return described_update(alloc, &name, &message);
+            }
+            let number = u16::from(question.query_type);
+            described_query(alloc, &name, TypeWord { number }, &message)
+        }
+        None => described_reply(alloc, &message),
     }
-    let number = u16::from(question.query_type);
-    described_query(alloc, &name, TypeWord { number }, &message)
+}
+
+/// Returns what a reply without a question answers, as one to an update may be (RFC 2136 section 3.8).
+fn described_reply(alloc: Global, message: &MessageView<'_>) -> Option<String> {
+    let code = message.metadata.response_code;
+    match (message.metadata.message_type, message.metadata.op_code) {
+        (MessageType::Query, _) => None,
+        (MessageType::Response, OpCode::Update) => {
+            format!(in alloc; "reply to update: {code}").ok()
+        }
+        (MessageType::Response, _) => { format!(in alloc; "reply without a question: {code}").ok() }
+    }
 }
 
 /// Returns what a query asks, or its reply answers.
@@ -108,11 +124,8 @@ impl Network for ProgramNetwork<'_> {
     ghost reads_clock = { λ _ _ _. Unit {0} };
 
     fn send(&mut self, server: SocketAddr, bytes: &[u8]) -> Result<(), LinkError> {
-        let outcome = self.traced.send(server, bytes);
-        if outcome.is_ok() {
-            self.tell(bytes);
-        }
-        outcome
+        self.tell(bytes);
+        self.traced.send(server, bytes)
     }
 
     fn receive_until(&mut self, deadline: u64) -> Result<Option<Vec<u8>>, LinkError> {
