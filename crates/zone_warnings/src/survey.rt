@@ -1,7 +1,7 @@
 //! What is known of a zone as a whole.
 
 ghost use Rattle.std.specs.Prelude.{◌≡◌, IfOk, map};
-ghost use Rattle.zone_warnings.specs.Survey.{Surveys, facts_view, lacks_origin, names_top};
+ghost use Rattle.zone_warnings.specs.Survey.{Surveys, facts_view, has_top_entry, lacks_origin, names_top};
 
 use crate::names::{doubled_origin, has_top_name};
 use crate::places::{Places, Trait};
@@ -73,13 +73,17 @@ fn lacks_origin(facts: &ZoneFacts<'_>, entries: &[EntryLine]) -> bool
 fn names_top(entries: &[EntryLine]) -> bool
     ensures { result ≡ names_top entries.now }
 {
-    for entry in entries {
-        if let EntryLine::Record(record_line) = entry
-            && record_line.has_dotless_name
-            && has_top_name(&record_line.rdata)
-        {
-            return true;
+    entries.iter().any(|entry| has_top_entry(entry))
+}
+
+/// Returns `true` if an entry is a record with a name in its data that the root completed.
+fn has_top_entry(entry: &EntryLine) -> bool
+    ensures { result ≡ has_top_entry entry.now }
+{
+    match entry {
+        EntryLine::Record(record_line) => {
+            record_line.has_dotless_name && has_top_name(&record_line.rdata)
         }
+        EntryLine::Fault(_) => false,
     }
-    false
 }
