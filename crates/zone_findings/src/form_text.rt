@@ -122,7 +122,8 @@ pub(crate) fn form_text(record_type: RecordType) -> Option<&'static str>
 
 /// Returns how the data of the type with a number is written, by a table.
 fn form_among(forms: &'static [(u16, &'static str)], number: u16) -> Option<&'static str>
-    ensures { option_copied result ≡ form_among (map (λ line. (line.0, line.1.now)) forms.now) number }
+    ensures { option_copied result
+        ≡ form_among (map (λ line. (line.0, line.1.now)) forms.now) number }
 {
     for (other, form) in forms {
         if *other == number {
