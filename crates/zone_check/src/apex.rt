@@ -84,12 +84,7 @@ pub(crate) fn is_start_record(record_line: &RecordLine) -> bool
 pub(crate) fn has_start(owner: &Name, entries: &[EntryLine]) -> bool
     ensures { result ≡ has_start owner.now entries.now }
 {
-    for entry in entries {
-        if is_start_at(owner, entry) {
-            return true;
-        }
-    }
-    false
+    entries.iter().any(|entry| is_start_at(owner, entry))
 }
 
 /// Returns `true` if an entry is an SOA record of an owner.
@@ -106,12 +101,7 @@ fn is_start_at(owner: &Name, entry: &EntryLine) -> bool
 pub(crate) fn some_starts(entries: &[EntryLine]) -> bool
     ensures { result ≡ some_starts entries.now }
 {
-    for entry in entries {
-        if may_start(entry) {
-            return true;
-        }
-    }
-    false
+    entries.iter().any(|entry| may_start(entry))
 }
 
 /// Returns `true` if an entry is an SOA record, or has a fault and may be meant as one.
