@@ -10,7 +10,7 @@ use Rattle.dns_zone.specs.declared.zone.ZoneFault.TheVariants as fault
 use Rattle.zone_check.specs.Apex.{some_starts}
 use Rattle.zone_check.specs.Fault.{Start, entry_said}
 use Rattle.zone_check.specs.Files.{ShownFiles, file_lines, file_name, finding_in, report_text}
-use Rattle.zone_check.specs.Report.{check_said, entries_said, faults_said, file_said, or_file, outcome_said, said_of_warning, said_of_warnings, start_of_check, warnings_said, whole_said, zone_report}
+use Rattle.zone_check.specs.Report.{check_said, entries_said, faults_said, file_said, or_file, outcome_said, parts_said, said_of_warning, said_of_warnings, start_of_check, warnings_said, whole_said, zone_report}
 use Rattle.zone_check.specs.declared.check.ZoneCheck.{ZoneCheck}
 use Rattle.dns_zone_file.specs.declared.types.Types.{Types}
 use Rattle.zone_findings.specs.Finding.{Said, finding_text, number_part, said_by, severity_name, word_part}
@@ -136,7 +136,7 @@ whole_some types refusal entries said false is empty =
 accepted_by : (z : Start) (entries : List EntryLine) (outcome : Result ZoneContent ZoneFault) → (outcome_said z entries outcome ≡ []) ↔ IsOk outcome
 accepted_by z entries (Ok zone) = (λ none. let yes : true ≡ true = refl in yes, λ ok. refl)
 accepted_by z entries (Err refusal) = (
-  λ none. absurd (whole_some z.types refusal entries (entries_said z entries) (some_starts entries) refl none),
+  λ none. absurd (whole_some z.types refusal entries (parts_said z entries) (some_starts entries) refl none),
   λ ok. absurd (let wrong : false ≡ true = ok in let no : ⊥ = cc in no),
 )
 

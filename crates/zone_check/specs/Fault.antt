@@ -1,7 +1,6 @@
 -- The faults of the entries of a zone file.
-use Rattle.std.specs.Prelude.{◌==◌, ◌&&◌, nat_eq, nat_lt, not, if◌then◌else◌, ℕ, Bool, true, false, List, [], ◌∷◌, codes, option_copied, string_bytes, Option, Some, None, option_map}
-use Rattle.std.specs.List.{starts_with}
-use Rattle.std.specs.Option.{option_eq, option_map_or}
+use Rattle.std.specs.Prelude.{◌==◌, ◌&&◌, nat_lt, not, if◌then◌else◌, ℕ, Bool, true, false, List, option_copied, string_bytes, Option, Some, None, option_map}
+use Rattle.std.specs.Option.{option_map_or}
 use Rattle.dns_codes.specs.DNSClass.{class_number}
 use Rattle.dns_names.specs.Compare.{at_or_below, same_labels}
 use Rattle.dns_names.specs.Name.{DomainName}
@@ -11,6 +10,7 @@ use Rattle.dns_zone.specs.declared.zone.ZoneFault.TheVariants as fault
 use Rattle.dns_zone_file.specs.Error.{line_of}
 use Rattle.dns_zone_file.specs.declared.types.Types.{Types}
 use Rattle.zone_check.specs.Apex.{has_start, is_doubled, is_start_record}
+use Rattle.zone_check.specs.Mark.{has_mark}
 use Rattle.zone_check.specs.declared.fault.ZoneStart.{ZoneStart}
 use Rattle.zone_findings.specs.FaultText.{advice_on, fault_sentences}
 use Rattle.zone_findings.specs.Finding.{Said, Sentences}
@@ -36,10 +36,6 @@ pub record Start : Type 0 where
 -- what the code has of these
 abbrev pub start_view : ZoneStart → Start
 start_view s = record { apex = option_copied s.apex; has_start = s.has_start; has_mark = s.has_mark; types = s.types }
-
--- whether a text begins with a byte-order mark
-abbrev pub has_mark : List ℕ → Bool
-has_mark text = starts_with nat_eq text (0xEF ∷ 0xBB ∷ 0xBF ∷ [])
 
 -- what decides on the records of a file with these entries
 abbrev pub zone_of : FileText → Option DomainName → List EntryLine → Start
@@ -94,18 +90,9 @@ abbrev pub record_said : Start → RecordLine → Option Said
 record_said z r =
     option_map (λ refusal. fault_said r.at.source (Some r.at.line) None (record_advice z r refusal)) (record_fault z r)
 
--- the sentences of a byte-order mark
-abbrev pub mark_said : Sentences
-mark_said = record {
-  reason = codes "a byte-order mark at the start of the file";
-  hint = codes "save the file as UTF-8 without a byte-order mark";
-}
-
 -- the sentences of an entry that could not be read, with the word at fault, if it is known
 abbrev pub entry_advice : Start → FaultLine → Sentences
-entry_advice z f =
-    if z.has_mark && f.source == 0 && option_eq ◌==◌ (line_of f.error) (Some 1) then mark_said
-    else advice_on z.types f.error (option_map string_bytes f.word) f.record_type
+entry_advice z f = advice_on z.types f.error (option_map string_bytes f.word) f.record_type
 
 -- what is said of an entry that could not be read
 abbrev pub fault_line_said : Start → FaultLine → Said

@@ -2,6 +2,7 @@ pub mod Apex
 pub mod Check
 pub mod Fault
 pub mod Files
+pub mod Mark
 pub mod Report
 pub mod ScriptLine
 pub mod ScriptText

@@ -1,5 +1,5 @@
 -- What is said of a zone file: its faults, and then its warnings, in the order of its lines.
-use Rattle.std.specs.Prelude.{if◌then◌else◌, is_some, ℕ, List, [], ◌∷◌, ◌++◌, flat_map, slice_get, Option, Some, None, option_map, option_and_then, Result, Ok, Err}
+use Rattle.std.specs.Prelude.{if◌then◌else◌, is_some, ℕ, Bool, true, false, List, [], ◌∷◌, ◌++◌, flat_map, slice_get, Option, Some, None, option_map, option_and_then, Result, Ok, Err}
 use Rattle.std.specs.Option.{option_to_list}
 use Rattle.dns_names.specs.Name.{DomainName}
 use Rattle.dns_names.specs.Print.{text_of_name}
@@ -10,6 +10,7 @@ use Rattle.zone_check.specs.Apex.{some_starts}
 use Rattle.dns_zone_file.specs.declared.types.Types.{Types}
 use Rattle.zone_check.specs.Fault.{Start, entry_said, fault_said, zone_of}
 use Rattle.zone_check.specs.Files.{report_text}
+use Rattle.zone_check.specs.Mark.{mark_said}
 use Rattle.zone_check.specs.declared.check.ZoneCheck.{ZoneCheck}
 use Rattle.zone_findings.specs.FaultText.{fault_sentences}
 use Rattle.zone_findings.specs.Finding.{Said}
@@ -46,10 +47,19 @@ abbrev pub whole_said : Types → ZoneFault → List EntryLine → List Said →
 whole_said types refusal entries said =
     if some_starts entries then or_file types refusal said else said ++ file_said types fault.NoSoa ∷ []
 
+-- what is said of a byte-order mark at the start of a file, if there is one
+abbrev pub marks_said : Bool → List Said
+marks_said true = fault_said 0 (Some 1) None mark_said ∷ []
+marks_said false = []
+
+-- what is said of the mark and the entries of a file
+abbrev pub parts_said : Start → List EntryLine → List Said
+parts_said z entries = marks_said z.has_mark ++ entries_said z entries
+
 -- what is said of the faults of a file: nothing of a zone
 abbrev pub outcome_said : Start → List EntryLine → Result ZoneContent ZoneFault → List Said
 outcome_said z entries (Ok zone) = []
-outcome_said z entries (Err refusal) = whole_said z.types refusal entries (entries_said z entries)
+outcome_said z entries (Err refusal) = whole_said z.types refusal entries (parts_said z entries)
 
 -- what decides on the records of a check
 abbrev pub start_of_check : FileText → ZoneCheck → Start

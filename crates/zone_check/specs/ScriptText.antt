@@ -2,7 +2,8 @@
 use Rattle.std.specs.Prelude.{◌≡◌, ◌==◌, ◌&&◌, ℕ, Bool, List, codes, IfSome, Option, Some, None}
 use Rattle.std.specs.Str.{bytes_eq}
 use Rattle.std.specs.Str.Lines.{lines}
-use Rattle.zone_check.specs.Fault.{fault_said, has_mark, mark_said}
+use Rattle.zone_check.specs.Fault.{fault_said}
+use Rattle.zone_check.specs.Mark.{has_mark, mark_said}
 use Rattle.zone_check.specs.ScriptLine.{IsWordOf}
 use Rattle.zone_findings.specs.Finding.{Said, Sentences, finding_text, line_text}
 use Rattle.zone_findings.specs.declared.format.ReportFormat.{ReportFormat}

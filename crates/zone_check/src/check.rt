@@ -2,10 +2,12 @@
 
 ghost use Rattle.std.specs.Prelude.{◌≡◌, IfOk, option_copied};
 ghost use Rattle.zone_check.specs.Check.{ReadsZoneText, checked_origin, is_plain, warnings_at_origin, warnings_if_known};
+ghost use Rattle.zone_check.specs.Mark.{unmarked};
 ghost use Rattle.zone_lines.specs.Reading.{ReadsFile};
 ghost use Rattle.zone_lines.specs.Source.{text_view};
 
 use crate::apex::apex_of;
+use crate::mark::unmarked;
 use dns_names::Name;
 use dns_zone::{Zone, ZoneFault};
 use dns_zone_file::Types;
@@ -26,7 +28,9 @@ pub struct ZoneCheck {
     pub warnings: Vec<Warning>,
 }
 
-/// Checks a zone file. The origin completes relative names and is the zone's, as for [`Zone::from_text_with`]. Signatures must not have expired at a time, in seconds since 1970 and modulo 2^32, if one is given.
+/// Checks a zone file. The origin completes relative names and is the zone's, as for [`Zone::from_text_with`]. Signatures must not
+/// have expired at a time, in seconds since 1970 and modulo 2^32, if one is given. A byte-order mark at the start of the file is a
+/// fault, and the entry after it is read without it.
 pub fn check_zone(
     alloc: Global,
     file: &ZoneText<'_>,
@@ -35,19 +39,21 @@ pub fn check_zone(
 ) -> Result<ZoneCheck, AllocError>
     ensures outcome { IfOk result (λ check.
         ReadsZoneText (text_view file.entry.now) (option_copied origin.entry) check.outcome) }
-    ensures entries { IfOk result (λ check.
-        ReadsFile (text_view file.entry.now) (option_copied origin.entry) check.entries.items) }
+    ensures entries { IfOk result (λ check. ReadsFile (unmarked (text_view file.entry.now))
+        (option_copied origin.entry) check.entries.items) }
     ensures origin { IfOk result (λ check. check.origin
         ≡ checked_origin check.outcome (option_copied origin.entry) check.entries.items) }
-    ensures warnings { IfOk result (λ check. check.warnings.items ≡ warnings_at_origin
-        (option_copied origin.entry) now (text_view file.entry.now) check.origin check.entries.items) }
+    ensures warnings { IfOk result (λ check. check.warnings.items
+        ≡ warnings_at_origin (option_copied origin.entry) now
+        (unmarked (text_view file.entry.now)) check.origin check.entries.items) }
 {
-    let entries = read_lines(alloc, file, origin)?;
+    let unmarked = unmarked(file);
+    let entries = read_lines(alloc, &unmarked, origin)?;
     let outcome = zone_of(alloc, file, origin)?;
     let apex = checked_origin(&outcome, origin, entries.as_slice())?;
     let warnings = warnings_at(
         alloc,
-        file,
+        &unmarked,
         origin.is_some(),
         now,
         apex.as_ref(),

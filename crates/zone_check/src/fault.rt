@@ -1,11 +1,12 @@
 //! The faults of the entries of a zone file.
 
 ghost use Rattle.std.specs.Prelude.{◌≡◌, IfOk, option_copied, option_map};
-ghost use Rattle.zone_check.specs.Fault.{entry_said, fault_line_said, fault_said, has_mark, lacks_dot, mark_said, record_advice, record_fault, record_said, start_fault, start_view, zone_of};
+ghost use Rattle.zone_check.specs.Fault.{entry_said, fault_line_said, fault_said, lacks_dot, record_advice, record_fault, record_said, start_fault, start_view, zone_of};
 ghost use Rattle.zone_findings.specs.Finding.{said_by, sentences};
 ghost use Rattle.zone_lines.specs.Source.{text_view};
 
 use crate::apex::{has_start, is_doubled, is_start_record};
+use crate::mark::begins_with_mark;
 use dns_names::Name;
 use dns_wire::DNSClass;
 use dns_zone::ZoneFault;
@@ -17,9 +18,6 @@ use zone_warnings::WarningKind;
 
 /// The greatest length of data that can be encoded (RFC 1035 section 3.2.1).
 const MAX_DATA_LENGTH: u128 = 65_535;
-
-/// The bytes of a byte-order mark, which the server takes for the start of the first word.
-const BYTE_ORDER_MARK: [u8; 3] = [0xEF, 0xBB, 0xBF];
 
 /// What decides on the records of a zone file.
 #[derive(Clone, Copy)]
@@ -54,13 +52,6 @@ pub(crate) fn zone_start<'a>(
     }
 }
 
-/// Returns `true` if a text begins with a byte-order mark.
-pub(crate) fn begins_with_mark(text: &str) -> bool
-    ensures { result ≡ has_mark text.now }
-{
-    text.as_bytes().starts_with(&BYTE_ORDER_MARK)
-}
-
 /// Returns what is said of the fault of an entry, if it has one.
 pub(crate) fn entry_finding<'a>(
     start: &ZoneStart<'_>,
@@ -83,23 +74,8 @@ fn fault_finding<'a>(start: &ZoneStart<'_>, fault: &'a FaultLine) -> Finding<'a>
         Some(word) => Some(word.as_str()),
         None => None,
     };
-    let line = fault.error.line();
-    let advice = if start.has_mark && fault.source == 0 && line == Some(1) {
-        mark_text()
-    } else {
-        advice_on(start.types, &fault.error, word, fault.record_type)
-    };
-    finding_on(fault.source, line, word, advice)
-}
-
-/// Returns what a byte-order mark says.
-pub(crate) fn mark_text() -> Advice
-    ensures { sentences result ≡ mark_said }
-{
-    Advice {
-        reason: "a byte-order mark at the start of the file",
-        hint: "save the file as UTF-8 without a byte-order mark",
-    }
+    let advice = advice_on(start.types, &fault.error, word, fault.record_type);
+    finding_on(fault.source, fault.error.line(), word, advice)
 }
 
 /// Returns what is said of a record that the zone cannot have.

@@ -1,7 +1,7 @@
 //! The check of a zone file or a script that a person wrote: what is wrong, on which line, and what to write instead.
 //!
 //! - `check`: the zone of a file, or its faults, with the warnings; `apex`: the origin of a file, also of one with faults;
-//!   `fault`: the faults of entries;
+//!   `fault`: the faults of entries; `mark`: the byte-order mark at the start of a file;
 //! - `report`: the text of a whole check; `files`: the files that it shows; `summary`: the line about a file of which there is
 //!   nothing to say; `origin`: what is said of the origin alone;
 //! - `script_text`: the text of the check of a script; `script_line`: the word at fault in a line of a script;
@@ -14,6 +14,7 @@ mod encoding;
 mod fault;
 mod files;
 pub mod laws;
+mod mark;
 mod origin;
 mod report;
 mod script_line;
@@ -22,6 +23,7 @@ mod summary;
 
 pub use check::{ZoneCheck, check_zone};
 pub use encoding::encoding_report;
+pub use mark::without_mark;
 pub use origin::{keep_origin_warnings, states_origin};
 pub use report::zone_report;
 pub use script_text::{moment_report, script_report};

@@ -3,7 +3,7 @@
 ghost use Rattle.std.specs.Prelude.{◌≡◌, ◌↔◌, ◌++◌, [], IfOk, IsOk, OnOk, map, option_copied, string_bytes};
 ghost use Rattle.zone_check.specs.Fault.{start_view};
 ghost use Rattle.zone_check.specs.Files.{files_view, finding_in, names_view, report_text};
-ghost use Rattle.zone_check.specs.Report.{doubled_apex, entries_said, entry_warned, file_said, outcome_said, said_of_warning, said_of_warnings, shown_name, warning_said, warnings_said, whole_said, word_said, zone_report};
+ghost use Rattle.zone_check.specs.Report.{doubled_apex, entries_said, entry_warned, file_said, marks_said, outcome_said, parts_said, said_of_warning, said_of_warnings, shown_name, warning_said, warnings_said, whole_said, word_said, zone_report};
 ghost use Rattle.zone_findings.specs.Finding.{said_by};
 ghost use Rattle.zone_lines.specs.Source.{text_view};
 
@@ -11,6 +11,7 @@ use crate::apex::some_starts;
 use crate::check::ZoneCheck;
 use crate::fault::{ZoneStart, entry_finding, finding_on, zone_start};
 use crate::files::Files;
+use crate::mark::mark_text;
 use dns_names::Name;
 use dns_zone::ZoneFault;
 use std::alloc::{AllocError, Global};
@@ -75,10 +76,36 @@ fn faults<'a>(
     match &check.outcome {
         Ok(_) => Ok(Vec::new(alloc)),
         Err(fault) => {
-            let found = entry_faults(alloc, start, check.entries.as_slice())?;
+            let found = faults_of_parts(alloc, start, check.entries.as_slice())?;
             with_whole(start, found, fault, check.entries.as_slice())
         }
     }
+}
+
+/// Returns the fault of a byte-order mark, if there is one, and then those of entries.
+fn faults_of_parts<'a>(
+    alloc: Global,
+    start: &ZoneStart<'_>,
+    entries: &'a [EntryLine],
+) -> Result<Vec<Finding<'a>>, AllocError>
+    ensures { IfOk result (λ found.
+        map said_by found.items ≡ parts_said (start_view start.entry.now) entries.now) }
+{
+    let mut found = mark_faults(alloc, start.has_mark)?;
+    let mut others = entry_faults(alloc, start, entries)?;
+    found.append(&mut others)?;
+    Ok(found)
+}
+
+/// Returns the fault of a byte-order mark, if there is one.
+fn mark_faults<'a>(alloc: Global, has_mark: bool) -> Result<Vec<Finding<'a>>, AllocError>
+    ensures { IfOk result (λ found. map said_by found.items ≡ marks_said has_mark) }
+{
+    let mut found = Vec::new(alloc);
+    if has_mark {
+        found.push(finding_on(0, Some(1), None, mark_text()))?;
+    }
+    Ok(found)
 }
 
 /// Returns the faults of entries.

@@ -6,7 +6,8 @@ ghost use Rattle.zone_check.specs.ScriptLine.{IsWordOf};
 ghost use Rattle.zone_check.specs.ScriptText.{IsLineReport, is_mark_reason, is_marked, moment_said};
 ghost use Rattle.zone_findings.specs.Finding.{finding_text};
 
-use crate::fault::{begins_with_mark, finding_on, mark_text};
+use crate::fault::finding_on;
+use crate::mark::{begins_with_mark, mark_text};
 use crate::script_line::{Mistake, mistake_in};
 use std::alloc::{AllocError, Global};
 use zone_findings::{Advice, ReportFormat, text_at};

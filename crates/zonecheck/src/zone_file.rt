@@ -9,7 +9,9 @@ use dns_names::Name;
 use dns_zone::Zone;
 use std::alloc::AllocError;
 use std::time::{SystemTime, UNIX_EPOCH};
-use zone_check::{ReportFormat, ZoneCheck, ZoneText, check_zone, zone_report, zone_summary};
+use zone_check::{
+    ReportFormat, ZoneCheck, ZoneText, check_zone, without_mark, zone_report, zone_summary,
+};
 
 /// What became of a zone file.
 #[derive(Drop)]
@@ -31,7 +33,7 @@ pub(crate) fn check_zone_file(
             origin: None,
         });
     };
-    let includes = read_includes(rt, path, text.as_str(), arguments)?;
+    let includes = read_includes(rt, path, without_mark(text.as_str()), arguments)?;
     let check = check_text(rt, text.as_str(), includes.texts.as_slice(), arguments)?;
     let names = names_of(rt, path, &includes)?;
     tell_findings(
