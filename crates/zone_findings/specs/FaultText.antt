@@ -8,6 +8,7 @@ use Rattle.dns_formats.specs.declared.fault.FormatFault.{FormatFault}
 use Rattle.dns_formats.specs.declared.fault.FormatFault.TheVariants as format
 use Rattle.dns_formats.specs.declared.fault.TokenFault.{TokenFault}
 use Rattle.dns_formats.specs.declared.fault.TokenFault.TheVariants as token
+use Rattle.dns_service.specs.declared.fault.ServiceFault.TheVariants as service
 use Rattle.dns_text.specs.declared.error.LexerError.{LexerError}
 use Rattle.dns_text.specs.declared.error.LexerError.TheVariants as lexer
 use Rattle.dns_zone.specs.declared.zone.ZoneFault.{ZoneFault}
@@ -92,6 +93,10 @@ token_reason other = codes "not a name"
 abbrev pub format_sentences : FormatFault → Sentences
 format_sentences (format.MissingToken place) = data_sentences rdata.MissingToken
 format_sentences (format.UnexpectedToken place) = data_sentences rdata.UnexpectedToken
+format_sentences (format.InvalidToken place (token.Parameter service.Repeated)) = record {
+  reason = codes "a parameter whose key occurs twice";
+  hint = codes "remove one of them";
+}
 format_sentences (format.InvalidToken place fault) = record { reason = token_reason fault; hint = fields_hint }
 format_sentences format.WrongLength = record {
   reason = codes "data of more or fewer bytes than it says";
@@ -271,12 +276,19 @@ fault_sentences types fault.Memory = record {
 
 -- ---- words at fault
 
+-- whether a fault is that data that is read as bytes does not have the fields of its type: a parameter that is repeated has its
+-- form
+abbrev pub is_about_format : FormatFault → Bool
+is_about_format (format.MissingToken place) = true
+is_about_format (format.InvalidToken place (token.Parameter service.Repeated)) = false
+is_about_format (format.InvalidToken place fault) = true
+is_about_format other = false
+
 -- whether a fault is that data does not have the fields of its type
 abbrev pub is_about_fields : EntryFault → Bool
 is_about_fields (entry.InvalidData rdata.MissingToken) = true
 is_about_fields (entry.InvalidData rdata.InvalidToken) = true
-is_about_fields (entry.InvalidFormat (format.MissingToken place)) = true
-is_about_fields (entry.InvalidFormat (format.InvalidToken place fault)) = true
+is_about_fields (entry.InvalidFormat refusal) = is_about_format refusal
 is_about_fields other = false
 
 -- the sentences of a fault of an entry, with how the data of the type that it states is written, if the data is at fault and this

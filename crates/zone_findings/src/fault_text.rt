@@ -1,14 +1,14 @@
 //! The sentences of faults.
 
 ghost use Rattle.std.specs.Prelude.{◌≡◌, option_copied, option_map};
-ghost use Rattle.zone_findings.specs.FaultText.{advice_on, common_sentences, data_sentences, entry_sentences, fault_sentences, file_sentences, format_sentences, generate_sentences, is_about_fields, lexer_sentences, own_sentences, token_reason, with_form};
+ghost use Rattle.zone_findings.specs.FaultText.{advice_on, common_sentences, data_sentences, entry_sentences, fault_sentences, file_sentences, format_sentences, generate_sentences, is_about_fields, is_about_format, lexer_sentences, own_sentences, token_reason, with_form};
 ghost use Rattle.zone_findings.specs.Finding.{sentences};
 
 use crate::finding::Advice;
 use crate::form_text::form_text;
 use crate::word_text::word_text;
 use dns_data::RDataParseError;
-use dns_formats::{FormatFault, TokenFault};
+use dns_formats::{FormatFault, ServiceFault, TokenFault};
 use dns_text::LexerError;
 use dns_wire::RecordType;
 use dns_zone::ZoneFault;
@@ -78,12 +78,19 @@ fn is_about_fields(fault: &EntryFault) -> bool
                 RDataParseError::MissingToken | RDataParseError::InvalidToken
             )
         }
-        EntryFault::InvalidFormat(error) => {
-            matches!(
-                error,
-                FormatFault::MissingToken(_) | FormatFault::InvalidToken(_, _)
-            )
-        }
+        EntryFault::InvalidFormat(error) => is_about_format(error),
+        _ => false,
+    }
+}
+
+/// Returns `true` if a fault is that data that is read as bytes does not have the fields of its type. A parameter that is repeated
+/// has its form.
+fn is_about_format(fault: &FormatFault) -> bool
+    ensures { result ≡ is_about_format fault.now }
+{
+    match fault {
+        FormatFault::InvalidToken(_, TokenFault::Parameter(ServiceFault::Repeated)) => false,
+        FormatFault::MissingToken(_) | FormatFault::InvalidToken(_, _) => true,
         _ => false,
     }
 }
@@ -302,6 +309,10 @@ fn format_text(fault: &FormatFault) -> Advice
     match fault {
         FormatFault::MissingToken(_) => data_text(&RDataParseError::MissingToken),
         FormatFault::UnexpectedToken(_) => data_text(&RDataParseError::UnexpectedToken),
+        FormatFault::InvalidToken(_, TokenFault::Parameter(ServiceFault::Repeated)) => Advice {
+            reason: "a parameter whose key occurs twice",
+            hint: "remove one of them",
+        },
         FormatFault::InvalidToken(_, fault) => Advice {
             reason: token_reason(*fault),
             hint: FIELDS,
