@@ -13,7 +13,7 @@ use std::alloc::{AllocError, Global};
 use std::fmt::{self, Write};
 use std::io;
 use std::time::Instant;
-use zone_check::{ReportFormat, ZoneText, check_zone, zone_report};
+use zone_check::{ReportFormat, ZoneText, check_zone, without_mark, zone_report};
 
 /// Reads the zone files, and returns a server of their zones. Standard error has a line for each.
 pub(crate) fn read_zones(rt: &HostRuntime, arguments: &Arguments) -> Result<Server, Ending> {
@@ -77,7 +77,7 @@ pub(crate) fn add_zone(
 /// Reads a zone file, with the files that it includes.
 fn read_zone(rt: &HostRuntime, path: &str, arguments: &Arguments) -> Result<Zone, Ending> {
     let text = text_of(rt.alloc(), path, read_file(rt, path)?)?;
-    let includes = read_includes(rt, path, text.as_str(), arguments.reach)?;
+    let includes = read_includes(rt, path, without_mark(text.as_str()), arguments.reach)?;
     zone_of(
         rt,
         path,
