@@ -1,5 +1,7 @@
 //! Why a text is not an update.
 
+ghost use Rattle.std.specs.Prelude.{◌<◌, IfSome, length};
+
 use dns_codes::parse_decimal;
 use dns_names::{Name, ParseError};
 use dns_zone_file::Types;
@@ -194,7 +196,7 @@ impl<'a> Form<'a> {
         if !self.text.ends_with("-> DATA") {
             return Ok(UpdateFault::NotData(data, record_type));
         }
-        match data.iter().position(|word| *word == "->") {
+        match arrow_place(data) {
             Some(arrow) => self.fault_of_swap(record_type, &data[..arrow], &data[arrow + 1..]),
             None => Ok(UpdateFault::Missing("->", self.text)),
         }
@@ -227,6 +229,13 @@ impl<'a> Form<'a> {
         let update = parse_update(self.alloc, text.as_str().as_bytes(), zone, 0, Types::All)?;
         Ok(update.is_some())
     }
+}
+
+/// Returns the place of the first arrow among words.
+fn arrow_place(words: &[&str]) -> Option<usize>
+    ensures { IfSome result (λ place. place < length words.now) }
+{
+    words.iter().position(|word| *word == "->")
 }
 
 /// Returns `true` if a word is a type.
