@@ -1,4 +1,4 @@
-use Rattle.std.proofs.Common.{rules, inl, inr}
+use Rattle.std.proofs.Common.{rules, inl, inr, refl}
 use Rattle.stub_run.specs.Run.{InOrder}
 use Rattle.stub_play.proofs.OrderLaws.{Happens, IsOut, leads_on, out_is_first, out_is_not_in_order, none_is_in_order}
 use Rattle.stub_play.proofs.plays.first_out_of_order.Goals as goal
