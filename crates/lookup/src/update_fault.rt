@@ -127,10 +127,10 @@ impl<'a> Form<'a> {
     /// Returns where words depart from the form. They begin with its action.
     fn fault_of(self, words: &'a [&'a str]) -> Result<UpdateFault<'a>, AllocError> {
         let mut rest = words;
-        let mut last = "";
+        let mut read = words;
         for part in self.text.split(' ') {
             if part == "DATA" {
-                return self.fault_of_data(last, rest);
+                return self.fault_of_data(read, rest);
             }
             let [word, after @ ..] = rest else {
                 return Ok(UpdateFault::Missing(part, self.text));
@@ -138,7 +138,7 @@ impl<'a> Form<'a> {
             if let Some(fault) = self.fault_of_word(part, *word)? {
                 return Ok(fault);
             }
-            last = *word;
+            read = rest;
             rest = after;
         }
         match rest {
@@ -184,20 +184,23 @@ impl<'a> Form<'a> {
         }
     }
 
-    /// Returns what is wrong with the data of a type.
+    /// Returns what is wrong with data, whose type is the first of the words that were read last.
     fn fault_of_data(
         self,
-        record_type: &'a str,
+        read: &'a [&'a str],
         data: &'a [&'a str],
     ) -> Result<UpdateFault<'a>, AllocError> {
+        let [record_type, ..] = read else {
+            return Ok(UpdateFault::Missing("TYPE", self.text));
+        };
         if data.is_empty() {
             return Ok(UpdateFault::Missing("DATA", self.text));
         }
         if !self.text.ends_with("-> DATA") {
-            return Ok(UpdateFault::NotData(data, record_type));
+            return Ok(UpdateFault::NotData(data, *record_type));
         }
         match arrow_place(data) {
-            Some(arrow) => self.fault_of_swap(record_type, &data[..arrow], &data[arrow + 1..]),
+            Some(arrow) => self.fault_of_swap(*record_type, &data[..arrow], &data[arrow + 1..]),
             None => Ok(UpdateFault::Missing("->", self.text)),
         }
     }
