@@ -48,8 +48,8 @@ MISUSED = [
     (["--compact", "--compact"], "the argument '--compact' cannot be used multiple times\n"),
     (["--journal", "j", "--compact", "--compact"], "the argument '--compact' cannot be used multiple times\n"),
     (["--compact=true"], "unexpected value 'true' for '--compact' found; no more were expected\n"),
-    (["--plain", "--minimal-any"], "the argument '--plain' cannot be used with '--minimal-any'\n"),
-    (["--minimal-any", "--plain"], "the argument '--minimal-any' cannot be used with '--plain'\n"),
+    # check/server gives --plain to every server.
+    (["--minimal-any"], "the argument '--plain' cannot be used with '--minimal-any'\n"),
 ]
 
 

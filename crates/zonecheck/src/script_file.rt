@@ -45,10 +45,10 @@ pub(crate) fn check_script(
 fn line_out_of_order(script: &ScriptText) -> Option<usize> {
     let mut latest = 0;
     for (event, line) in script.events.iter().zip(script.lines.iter()) {
-        if event.at() < latest || event.at() > MAX_MOMENT {
+        if event.at < latest || event.at > MAX_MOMENT {
             return Some(*line);
         }
-        latest = event.at();
+        latest = event.at;
     }
     None
 }
