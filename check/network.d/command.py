@@ -21,12 +21,14 @@ WRONG: List[List[str]] = [
     ["--update", "append a 60 A 10.0.0.1", "--zone", "a..b"],
     ["--update", "append a 60 A 10.0.0.1", "--zone", "t.", "--key-name", "me."],
 ]  # fmt: skip
-# Options that are for updates alone, and what is said of them beside a name.
+NO_UPDATE = "lookup: --zone names the zone of an update, and there is no --update\n"
+MISSING_UPDATE = "error: the following required arguments were not provided:\n  --zone <NAME>\n  --update <WORDS>\n"
+# Options that are for updates alone, and how what is said of them beside a name begins.
 WITHOUT_UPDATE: List[Tuple[List[str], str]] = [
-    (["--zone", "t."], "--zone names the zone of an update, and there is no --update"),
-    (["--zone", "t.", "--key", "me.key"], "--zone names the zone of an update, and there is no --update"),
-    (["--key", "me.key"], "--key signs an update, and there is no --update"),
-    (["--key", "me.key", "--key-name", "me."], "--key signs an update, and there is no --update"),
+    (["--zone", "t."], NO_UPDATE),
+    (["--zone", "t.", "--key", "me.key"], NO_UPDATE),
+    (["--key", "me.key"], MISSING_UPDATE),
+    (["--key", "me.key", "--key-name", "me."], MISSING_UPDATE),
 ]
 APPEND = "the form is 'append NAME TTL TYPE DATA'"
 SWAP = "the form is 'swap NAME TTL TYPE DATA -> DATA'"
@@ -82,7 +84,7 @@ def try_arguments(report: Report, given: Given) -> None:
             report.check(f"{words}", (2, "", True), (run.status, run.output, bool(run.errors)))
         for words, said in WITHOUT_UPDATE:
             run = resolver.run("a.test.", *words)
-            report.check(f"{words}: what is said", (2, "", f"lookup: {said}\n"), run[:3])
+            report.check(f"{words}: {run.errors!r}", (2, "", True), (run.status, run.output, run.errors.startswith(said)))
         for text, reason in NO_UPDATES:
             run = resolver.run("--update", text, "--zone", "t")
             said = f"lookup: invalid value '{text}' for '--update': {reason}\n"
