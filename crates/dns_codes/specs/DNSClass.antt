@@ -1,5 +1,5 @@
 -- Classes and their numbers (RFC 1035 sections 3.2.4 and 3.2.5, RFC 2136 section 1.3).
-use Rattle.std.specs.Prelude.{ℕ, ◌==◌, if◌then◌else◌}
+use Rattle.std.specs.Prelude.{ℕ, ◌==◌, Bool, if◌then◌else◌}
 use Rattle.dns_codes.specs.declared.dns_class.DNSClass.{DNSClass}
 use Rattle.dns_codes.specs.declared.dns_class.DNSClass.TheVariants.{IN, CH, HS, NONE, ANY, OPT, Unknown}
 
@@ -12,6 +12,10 @@ class_number NONE = 254
 class_number ANY = 255
 class_number (OPT payload) = payload
 class_number (Unknown number) = number
+
+-- classes are equal if their numbers are (RFC 3597 section 3)
+abbrev pub same_class : DNSClass → DNSClass → Bool
+same_class a b = class_number a == class_number b
 
 -- the class with a number
 abbrev pub class_of : ℕ → DNSClass

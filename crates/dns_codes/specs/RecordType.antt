@@ -51,6 +51,10 @@ type_number AXFR = 252
 type_number ANY = 255
 type_number kind = later_type_number kind
 
+-- types are equal if their numbers are (RFC 3597 section 3)
+abbrev pub same_type : RecordType → RecordType → Bool
+same_type a b = type_number a == type_number b
+
 -- ---- the type with a number
 
 -- the type later than RFC 1035 with a number, or `Unknown`

@@ -9,7 +9,9 @@ use std::fmt;
 use std::str::FromStr;
 
 /// A class of a record or a question.
-#[derive(Clone, Copy, Debug, PartialEq, Eq)]
+///
+/// Classes are equal if their numbers are: `Unknown(1)` equals `IN` (RFC 3597 section 3).
+#[derive(Clone, Copy, Debug)]
 pub enum DNSClass {
     /// The Internet, 1.
     IN,
@@ -90,8 +92,29 @@ impl From<DNSClass> for u16 {
     }
 }
 
+impl PartialEq for DNSClass {
+    ghost use Rattle.std.specs.Cmp.{nat_eq_equiv, on_equiv, partial_equiv_from_equiv};
+    ghost use Rattle.dns_codes.specs.DNSClass.{class_number, same_class};
+
+    ghost eq = { same_class };
+
+    ghost laws = { partial_equiv_from_equiv (on_equiv class_number nat_eq_equiv) };
+
+    /// Returns `true` if the numbers are equal.
+    fn eq(&self, other: &DNSClass) -> bool {
+        u16::from(*self) == u16::from(*other)
+    }
+}
+
+impl Eq for DNSClass {
+    ghost use Rattle.std.specs.Cmp.{nat_eq_equiv, on_equiv};
+    ghost use Rattle.dns_codes.specs.DNSClass.{class_number};
+
+    ghost laws = { on_equiv class_number nat_eq_equiv };
+}
+
 impl DNSClass {
-    ghost use Rattle.std.specs.Prelude.{◌≡◌, ◌==◌};
+    ghost use Rattle.std.specs.Prelude.{◌≡◌};
     ghost use Rattle.dns_codes.specs.DNSClass.{class_number, class_of};
 
     /// Returns the variant that the class's number decodes to: `Unknown(1)` becomes `IN` (RFC 3597 section 3).
@@ -99,14 +122,6 @@ impl DNSClass {
         ensures { result ≡ class_of (class_number self) }
     {
         DNSClass::from(u16::from(self))
-    }
-
-    /// Returns `true` if the classes have the same number. `==` compares variants, and distinguishes `IN` from
-    /// `Unknown(1)`.
-    pub fn is_same(self, other: DNSClass) -> bool
-        ensures { result ≡ (class_number self == class_number other) }
-    {
-        u16::from(self) == u16::from(other)
     }
 }
 
@@ -124,12 +139,10 @@ fn find_named(classes: &[DNSClass], text: &[u8]) -> Option<DNSClass>
     ensures { result
         ≡ find (λ class. str_eq_ignore_ascii_case (class_name class) text.now) classes.now }
 {
-    for class in classes {
-        if is_same_word(class.name().as_bytes(), text) {
-            return Some(*class);
-        }
-    }
-    None
+    classes
+        .iter()
+        .copied()
+        .find(|class| is_same_word(class.name().as_bytes(), text))
 }
 
 impl DNSClass {

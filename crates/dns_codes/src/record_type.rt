@@ -10,7 +10,9 @@ use std::fmt;
 use std::str::FromStr;
 
 /// A type of a record or a question.
-#[derive(Clone, Copy, Debug, PartialEq, Eq)]
+///
+/// Types are equal if their numbers are: `Unknown(1)` equals `A` (RFC 3597 section 3).
+#[derive(Clone, Copy, Debug)]
 pub enum RecordType {
     /// An address of IPv4, 1.
     A,
@@ -247,8 +249,28 @@ impl From<RecordType> for u16 {
     }
 }
 
+impl PartialEq for RecordType {
+    ghost use Rattle.std.specs.Cmp.{nat_eq_equiv, on_equiv, partial_equiv_from_equiv};
+    ghost use Rattle.dns_codes.specs.RecordType.{same_type, type_number};
+
+    ghost eq = { same_type };
+
+    ghost laws = { partial_equiv_from_equiv (on_equiv type_number nat_eq_equiv) };
+
+    /// Returns `true` if the numbers are equal.
+    fn eq(&self, other: &RecordType) -> bool {
+        u16::from(*self) == u16::from(*other)
+    }
+}
+
+impl Eq for RecordType {
+    ghost use Rattle.std.specs.Cmp.{nat_eq_equiv, on_equiv};
+    ghost use Rattle.dns_codes.specs.RecordType.{type_number};
+
+    ghost laws = { on_equiv type_number nat_eq_equiv };
+}
+
 impl RecordType {
-    ghost use Rattle.std.specs.Prelude.{◌==◌};
     ghost use Rattle.dns_codes.specs.RecordType.{type_number, type_of};
 
     /// Returns the variant that the type's number decodes to: `Unknown(1)` becomes `A` (RFC 3597 section 3).
@@ -256,14 +278,6 @@ impl RecordType {
         ensures { result ≡ type_of (type_number self) }
     {
         RecordType::from(u16::from(self))
-    }
-
-    /// Returns `true` if the types have the same number. `==` compares variants, and distinguishes `A` from
-    /// `Unknown(1)`.
-    pub fn is_same(self, other: RecordType) -> bool
-        ensures { result ≡ (type_number self == type_number other) }
-    {
-        u16::from(self) == u16::from(other)
     }
 }
 
@@ -313,12 +327,10 @@ const NAMED: [RecordType; 38] = [
 fn find_named(types: &[RecordType], text: &[u8]) -> Option<RecordType>
     ensures { result ≡ find (λ kind. str_eq_ignore_ascii_case (type_name kind) text.now) types.now }
 {
-    for kind in types {
-        if is_same_word(kind.name().as_bytes(), text) {
-            return Some(*kind);
-        }
-    }
-    None
+    types
+        .iter()
+        .copied()
+        .find(|kind| is_same_word(kind.name().as_bytes(), text))
 }
 
 impl RecordType {

@@ -2,7 +2,6 @@
 use Rattle.std.proofs.Common.{◌≡◌, ◌≢◌, ℕ, ◌-◌, ◌<◌, ◌≤◌, ◌^◌, Bool, true, false, cond, List, [], ◌∷◌, ◌++◌, length, replicate, Option, Some, None, Result, Ok, Err, inl, inr, refl, sym, ap, subst, ◌∙◌, arith, length-append}
 use Rattle.std.specs.Prelude.{nat_le, nat_lt, if◌then◌else◌, ◌&&◌, not}
 use Rattle.std.proofs.lemmas.Bool.{and_parts}
-use Rattle.dns_data.specs.rdata.Order.{is_number}
 use Rattle.std.specs.List.{AllByRecursion}
 use Rattle.std.specs.Net.Addr.{ipv6_segments}
 use Rattle.std.specs.Net.Grammar.{IsColonHex}
@@ -147,6 +146,11 @@ pub record IsTextType (t : RecordType) : Type 0 where
   pub named : type_of (type_number t) ≡ t
   pub not_opt : t ≢ types.OPT
   pub not_tsig : t ≢ types.TSIG
+
+-- whether a type is only a number
+abbrev is_number : RecordType → Bool
+is_number (types.Unknown number) = true
+is_number t = false
 
 -- a type with a text form has a name, and its number fits 16 bits
 text_type_facts : (t : RecordType) → (if has_text (kinds_of_type t) then nat_lt (type_number t) 65536 && not (is_number t) else true) ≡ true

@@ -151,8 +151,8 @@ impl Query {
         ensures { result ≡ same_question self.now other.now }
     {
         self.name.eq_ignore_root(&other.name)
-            && self.query_type.is_same(other.query_type)
-            && self.query_class.is_same(other.query_class)
+            && self.query_type == other.query_type
+            && self.query_class == other.query_class
     }
 }
 
@@ -177,7 +177,11 @@ fn is_named_class(class: DNSClass) -> bool
     ensures fits { class_number class < 2 ^ 16 }
 {
     let _number = u16::from(class);
-    class.canonical() == class
+    match class {
+        DNSClass::OPT(_) => false,
+        DNSClass::Unknown(number) => matches!(DNSClass::from(number), DNSClass::Unknown(_)),
+        _ => true,
+    }
 }
 
 impl Clone for Query {

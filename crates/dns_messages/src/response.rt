@@ -133,12 +133,11 @@ impl DnsResponse {
     pub fn contains_answer(&self) -> bool
         ensures { result ≡ contains_answer self.now.message }
     {
-        for query in self.message.queries.as_slice() {
-            if answers_question(&self.message, query) {
-                return true;
-            }
-        }
-        false
+        self.message
+            .queries
+            .as_slice()
+            .iter()
+            .any(|query| answers_question(&self.message, query))
     }
 
     /// Returns the bytes.
@@ -211,12 +210,9 @@ fn has_record_at(message: &Message, query: &Query) -> bool
 fn is_record_at(records: &[Record], query: &Query) -> bool
     ensures { result ≡ list_any (is_at query.now) records.now }
 {
-    for record in records {
-        if record.name.eq_ignore_root(&query.name) {
-            return true;
-        }
-    }
-    false
+    records
+        .iter()
+        .any(|record| record.name.eq_ignore_root(&query.name))
 }
 
 /// Returns `true` if there is an SOA record of a zone that has the name of a question.
@@ -231,12 +227,8 @@ fn has_soa_above(message: &Message, query: &Query) -> bool
 fn is_any_soa_above(records: &[Record], query: &Query) -> bool
     ensures { result ≡ list_any (is_soa_above query.now) records.now }
 {
-    for record in records {
-        if is_of_type(record, RecordType::SOA) && record.name.zone_of(&query.name) {
-            return true;
-        }
-    }
-    false
+    records.iter().any(|record| is_of_type(record, RecordType::SOA)
+        && record.name.zone_of(&query.name))
 }
 
 /// Returns `true` if a record of a type is at the name of a question.
@@ -251,17 +243,12 @@ fn has_record_of_type(message: &Message, kind: RecordType, query: &Query) -> boo
 fn is_any_of_type(records: &[Record], kind: RecordType, query: &Query) -> bool
     ensures { result ≡ list_any (λ r. has_type kind r && is_at query.now r) records.now }
 {
-    for record in records {
-        if is_of_type(record, kind) && record.name.eq_ignore_root(&query.name) {
-            return true;
-        }
-    }
-    false
+    records.iter().any(|record| is_of_type(record, kind) && record.name.eq_ignore_root(&query.name))
 }
 
 /// Returns `true` if a record has this type.
 fn is_of_type(record: &Record, kind: RecordType) -> bool
     ensures { result ≡ has_type kind «record».now }
 {
-    record.record_type().is_same(kind)
+    record.record_type() == kind
 }

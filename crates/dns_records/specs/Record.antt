@@ -7,10 +7,9 @@ use Rattle.std.specs.Int.{w16, w32, to_be_bytes}
 use Rattle.dns_wire.specs.Encodable.{Piece, Plain, Domain, Position, form, after}
 use Rattle.dns_wire.specs.declared.error.DecodeError.{DecodeError}
 use Rattle.dns_codes.specs.RecordType.{type_number}
-use Rattle.dns_codes.specs.DNSClass.{class_number}
+use Rattle.dns_codes.specs.DNSClass.{class_number, same_class}
 use Rattle.dns_codes.specs.CodeText.{class_text, type_text}
 use Rattle.dns_codes.specs.declared.record_type.RecordType.{RecordType}
-use Rattle.dns_codes.specs.contracts.dns_class.DNSClassPartialEq.TheImpl as class
 use Rattle.dns_names.specs.Compare.{same_name, name_cmp}
 use Rattle.dns_names.specs.Print.{text_of_name}
 use Rattle.dns_data.specs.declared.rdata.RData.{RData}
@@ -40,7 +39,7 @@ record_of_rdata rdata r = record {
 abbrev pub same_record : {R : Type 0} → (R → R → Bool) → generic.Record R → generic.Record R → Bool
 same_record same_data =
     eq_of_both (on (λ r. r.name) same_name)
-    (eq_of_both (on (λ r. r.dns_class) class.eq-value.it) (on (λ r. r.rdata) same_data))
+    (eq_of_both (on (λ r. r.dns_class) same_class) (on (λ r. r.rdata) same_data))
 
 -- The order of records: by owner, ignoring ASCII case, then by the numbers of type and class, then by TTL, then by data.
 abbrev pub record_cmp : {R : Type 0} → (R → RData) → (R → R → Ordering) → generic.Record R → generic.Record R → Ordering

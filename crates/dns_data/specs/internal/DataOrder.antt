@@ -9,10 +9,8 @@ use Rattle.std.specs.Cmp.Derive.{by_total, of_values, Tied, tie, on_tied, then_t
 use Rattle.std.specs.Cmp.Lexicographic.{slice_cmp, lists_total, lists_ties, nat_list_cmp_total, texts_ties}
 use Rattle.std.specs.Net.Addr.{ipv4_octets, ipv6_segments}
 use Rattle.std.specs.Str.{bytes_eq}
-use Rattle.dns_codes.specs.RecordType.{type_number}
+use Rattle.dns_codes.specs.RecordType.{same_type, type_number}
 use Rattle.dns_codes.specs.declared.record_type.RecordType.{RecordType}
-use Rattle.dns_codes.specs.declared.record_type.RecordType.TheVariants as types
-use Rattle.dns_codes.specs.contracts.record_type.RecordTypePartialEq.TheImpl as type
 use Rattle.dns_names.specs.Compare.{name_cmp, same_name}
 use Rattle.dns_names.specs.internal.Compare.{name_cmp-total, names_agree}
 use Rattle.dns_data.specs.Field.{option_cmp}
@@ -24,12 +22,12 @@ use Rattle.dns_data.specs.declared.rdata.soa.SOA.{SOA}
 use Rattle.dns_data.specs.declared.rdata.srv.SRV.{SRV}
 use Rattle.dns_data.specs.internal.Order.{option_cmp-total, options_tie}
 use Rattle.dns_data.specs.rdata.{same_data}
-use Rattle.dns_data.specs.rdata.Order.{is_number, type_cmp, mx_cmp, soa_cmp, srv_cmp, data_cmp}
+use Rattle.dns_data.specs.rdata.Order.{type_cmp, mx_cmp, soa_cmp, srv_cmp, data_cmp}
 
 -- ---- total
 
 pub type_cmp-total : IsTotalOrder type_cmp
-type_cmp-total = then_total (on_total is_number bool_cmp_total) (on_total type_number nat_cmp_total)
+type_cmp-total = on_total type_number nat_cmp_total
 
 mx_cmp-total : IsTotalOrder mx_cmp
 mx_cmp-total = then_total (on_total (λ (x : MX). x.preference) nat_cmp_total) (on_total (λ (x : MX). x.exchange) name_cmp-total)
@@ -144,11 +142,8 @@ data_cmp-total = subst IsTotalOrder (λ i x y. derived x y i) derived_cmp-total
 
 -- ---- equal means the same
 
-type_tie : (t u : RecordType) → type.eq-value.it t u ≡ is_eq (type_cmp t u)
-type_tie types.A types.A = refl
-type_tie (types.Unknown n) (types.Unknown m) = unsigned_ties n m
-type_tie t types.A = refl
-type_tie t u = refl
+type_tie : (t u : RecordType) → same_type t u ≡ is_eq (type_cmp t u)
+type_tie t u = unsigned_ties (type_number t) (type_number u)
 
 numbers : Tied nat_eq nat_cmp
 numbers = tie nat_cmp unsigned_ties
@@ -179,7 +174,7 @@ data_tie (of.TXT x) (of.TXT y) = lists_ties (slice_cmp nat_cmp) texts_ties x y
 data_tie (of.OPT x) (of.OPT y) = lists_ties option_cmp options_tie x y
 data_tie (of.Update0 t) (of.Update0 u) = type_tie t u
 data_tie (of.Unknown t x) (of.Unknown u y) =
-    both_tied (type.eq-value.it t u) (bytes_eq x y) (type_cmp t u) (slice_cmp nat_cmp x y) (type_tie t u) (texts_ties x y)
+    both_tied (same_type t u) (bytes_eq x y) (type_cmp t u) (slice_cmp nat_cmp x y) (type_tie t u) (texts_ties x y)
 data_tie x y = refl
 
 -- the order of data agrees with their equality

@@ -1,12 +1,11 @@
 -- The order of record data: by variant, and data of one variant by their fields.
-use Rattle.std.specs.Prelude.{Bool, true, false, ℕ}
+use Rattle.std.specs.Prelude.{ℕ}
 use Rattle.std.specs.declared.cmp.Ordering.{Ordering}
-use Rattle.std.specs.Ordering.{nat_cmp, bool_cmp, on, ordering_then, then_cmp}
+use Rattle.std.specs.Ordering.{nat_cmp, on, ordering_then, then_cmp}
 use Rattle.std.specs.Cmp.Lexicographic.{slice_cmp}
 use Rattle.std.specs.Net.Addr.{ipv4_octets, ipv6_segments}
 use Rattle.dns_codes.specs.RecordType.{type_number}
 use Rattle.dns_codes.specs.declared.record_type.RecordType.{RecordType}
-use Rattle.dns_codes.specs.declared.record_type.RecordType.TheVariants as types
 use Rattle.dns_names.specs.Compare.{name_cmp}
 use Rattle.dns_data.specs.Field.{option_cmp}
 use Rattle.dns_data.specs.declared.rdata.RData.{RData}
@@ -15,15 +14,9 @@ use Rattle.dns_data.specs.declared.rdata.mx.MX.{MX}
 use Rattle.dns_data.specs.declared.rdata.soa.SOA.{SOA}
 use Rattle.dns_data.specs.declared.rdata.srv.SRV.{SRV}
 
--- whether a type is only a number
-abbrev pub is_number : RecordType → Bool
-is_number (types.Unknown number) = true
-is_number t = false
-
--- Types compare by number, those with a variant of their own before the others: the number 1 without a variant is not equal
--- to the type A.
+-- types compare by number
 abbrev pub type_cmp : RecordType → RecordType → Ordering
-type_cmp = then_cmp (on is_number bool_cmp) (on type_number nat_cmp)
+type_cmp = on type_number nat_cmp
 
 -- MX data compare by preference, and then by exchange
 abbrev pub mx_cmp : MX → MX → Ordering

@@ -60,15 +60,11 @@ impl PartialOrd for RData {
     }
 }
 
-/// Compares types by number, those with a variant of their own before the others.
+/// Compares types by number.
 fn cmp_types(own: RecordType, others: RecordType) -> Ordering
     ensures { result ≡ type_cmp own others }
 {
-    let own_is_number = matches!(own, RecordType::Unknown(_));
-    let others_is_number = matches!(others, RecordType::Unknown(_));
-    own_is_number
-        .cmp(&others_is_number)
-        .then(u16::from(own).cmp(&u16::from(others)))
+    u16::from(own).cmp(&u16::from(others))
 }
 
 /// Returns the place of a variant among all.

@@ -40,5 +40,5 @@ fn is_without_dnssec(record: &Record, asked: RecordType) -> bool
     ensures { result ≡ is_without_dnssec asked «record».now }
 {
     let kind = record.record_type();
-    kind.is_same(asked) || !kind.is_dnssec()
+    kind == asked || !kind.is_dnssec()
 }

@@ -65,7 +65,8 @@ fn run_end(bytes: &[u8], place: usize, room: usize) -> Result<(usize, usize), De
 fn read_target(bytes: &[u8], place: usize) -> Result<Option<usize>, DecodeError>
     requires within { place ≤ length bytes.now }
     requires ends { IsRunEnd bytes.now place }
-    ensures shows { MatchResult result (λ target. element_at bytes.now place ≡ Ok (element_of target))
+    ensures shows { MatchResult result
+        (λ target. element_at bytes.now place ≡ Ok (element_of target))
         (λ error. element_at bytes.now place ≡ Err error) }
     ensures within { IfOk result (λ target. place + element_len target ≤ length bytes.now) }
 {

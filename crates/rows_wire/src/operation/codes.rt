@@ -78,7 +78,7 @@ fn class_answer(alloc: Global, class: DNSClass) -> Answer {
 pub(crate) fn same_types(alloc: Global, input: &str) -> Answer {
     let (one, other) = two_words(input)?;
     let (one, other) = (type_of(one)?, type_of(other)?);
-    let is_same = one.is_same(other);
+    let is_same = one == other;
     let (one, other) = (one.canonical(), other.canonical());
     Ok(format!(in alloc; "{one} {other} {is_same}")?)
 }
@@ -96,7 +96,7 @@ fn type_of(text: &str) -> Result<RecordType, RowFault> {
 pub(crate) fn same_classes(alloc: Global, input: &str) -> Answer {
     let (one, other) = two_words(input)?;
     let (one, other) = (class_of(one)?, class_of(other)?);
-    let is_same = one.is_same(other);
+    let is_same = one == other;
     let (one, other) = (one.canonical(), other.canonical());
     Ok(format!(in alloc; "{one} {other} {is_same}")?)
 }

@@ -1,9 +1,0 @@
-use Rattle.std.proofs.Common.{◌≡◌, drop, find}
-use Rattle.std.specs.Str.{str_eq_ignore_ascii_case}
-use Rattle.dns_codes.specs.CodeText.{class_name}
-use Rattle.dns_codes.proofs.dns_class.find_named.Given as goal
-
--- none of the classes before the index is it
-abbrev pub invariant-loop-class : goal.invariant-loop-class
-invariant-loop-class l =
-    find (λ class. str_eq_ignore_ascii_case (class_name class) l.text) (drop l.class-index l.classes) ≡ find (λ class. str_eq_ignore_ascii_case (class_name class) l.text) l.classes
