@@ -3,13 +3,13 @@ use Rattle.std.proofs.Common.{◌≡◌, ℕ, List, IfOk, IfErr, OnErr, Result, 
 use Rattle.api_buffer.specs.Buffer.{bytes_in}
 use Rattle.api_buffer.specs.declared.refusal.Refusal.{Refusal}
 use Rattle.api_zones.specs.Serving.{IsRefused, IsUnserved, Replies, Serves}
-use Rattle.api_zones.specs.Transport.{IsRoad}
+use Rattle.api_zones.specs.Transport.{IsTransport}
 use Rattle.dns_zone.specs.Rows.{ZoneContent}
-use Rattle.dns_zone.specs.declared.road.Road.{Road}
+use Rattle.dns_zone.specs.declared.transport.Transport.{Transport}
 
-pub over_road : {V : Type 0} (items : V → List ℕ) (found : Result V Refusal) {zone after : ZoneContent} {transport limit room : ℕ} {bytes : List ℕ} (road : Road)
-    → IsRoad transport limit road → IfOk found (λ v. Serves zone road bytes room (items v) after) → IfErr found (IsUnserved bytes) → OnErr found (after ≡ zone)
+pub over_transport : {V : Type 0} (items : V → List ℕ) (found : Result V Refusal) {zone after : ZoneContent} {transport limit room : ℕ} {bytes : List ℕ} (reply_transport : Transport)
+    → IsTransport transport limit reply_transport → IfOk found (λ v. Serves zone reply_transport bytes room (items v) after) → IfErr found (IsUnserved bytes) → OnErr found (after ≡ zone)
     → Replies zone transport limit bytes room (bytes_in items found) after
-over_road items (Ok v) {after = after} road is serves unserved same = Replies.served road (items v) after is serves
-over_road items (Err refusal) {zone = zone} {transport = transport} {limit = limit} {room = room} {bytes = bytes} road is serves unserved same =
-    subst (λ z. Replies zone transport limit bytes room (Err refusal) z) (sym same) (Replies.unserved refusal (IsRefused.by_request road is unserved))
+over_transport items (Ok v) {after = after} reply_transport is serves unserved same = Replies.served reply_transport (items v) after is serves
+over_transport items (Err refusal) {zone = zone} {transport = transport} {limit = limit} {room = room} {bytes = bytes} reply_transport is serves unserved same =
+    subst (λ z. Replies zone transport limit bytes room (Err refusal) z) (sym same) (Replies.unserved refusal (IsRefused.by_request reply_transport is unserved))

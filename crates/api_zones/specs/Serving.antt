@@ -6,8 +6,8 @@ use Rattle.dns_messages.specs.declared.message.Message.{Message}
 use Rattle.dns_zone.specs.Request.{DecodesRequest, IsRequest}
 use Rattle.dns_zone.specs.Rows.{ZoneContent}
 use Rattle.dns_zone.specs.Serving.{IsReplyTo, zone_after}
-use Rattle.dns_zone.specs.declared.road.Road.{Road}
-use Rattle.api_zones.specs.Transport.{IsRoad}
+use Rattle.dns_zone.specs.declared.transport.Transport.{Transport}
+use Rattle.api_zones.specs.Transport.{IsTransport}
 use Rattle.api_zones.specs.Transport as by
 
 -- the zone after a request, if its reply fits the room
@@ -15,10 +15,10 @@ abbrev pub zone_within : ℕ → List ℕ → ZoneContent → Message → ZoneCo
 zone_within room reply zone m = if nat_le (length reply) room then zone_after zone m else zone
 
 -- The bytes are a request, which has this reply, and leaves this zone.
-pub record Serves (zone : ZoneContent) (road : Road) (bytes : List ℕ) (room : ℕ) (reply : List ℕ) (after : ZoneContent) : Type 0 where
+pub record Serves (zone : ZoneContent) (reply_transport : Transport) (bytes : List ℕ) (room : ℕ) (reply : List ℕ) (after : ZoneContent) : Type 0 where
   pub request : Message
   pub decodes : IsRequest bytes request
-  pub replied : IsReplyTo zone road request reply
+  pub replied : IsReplyTo zone reply_transport request reply
   pub after_is : after ≡ zone_within room reply zone request
 
 -- why a request has no reply
@@ -30,13 +30,13 @@ IsUnserved bytes other = ⊥
 -- why a request over a transport is refused: by the number of the transport, or by what the request is
 pub data IsRefused (transport limit : ℕ) (bytes : List ℕ) (refusal : Refusal) : Type 0 where
   by_transport : by.IsRefused transport limit refusal → IsRefused transport limit bytes refusal
-  by_request : (road : Road) → IsRoad transport limit road → IsUnserved bytes refusal
+  by_request : (reply_transport : Transport) → IsTransport transport limit reply_transport → IsUnserved bytes refusal
       → IsRefused transport limit bytes refusal
 
 -- the reply to a request over a transport, with the zone that it leaves, or why there is none, and the zone as it was
 pub data Replies (zone : ZoneContent) (transport limit : ℕ) (bytes : List ℕ) (room : ℕ)
     : Result (List ℕ) Refusal → ZoneContent → Type 0 where
-  served : (road : Road) (reply : List ℕ) (after : ZoneContent) → IsRoad transport limit road
-      → Serves zone road bytes room reply after → Replies zone transport limit bytes room (Ok reply) after
+  served : (reply_transport : Transport) (reply : List ℕ) (after : ZoneContent) → IsTransport transport limit reply_transport
+      → Serves zone reply_transport bytes room reply after → Replies zone transport limit bytes room (Ok reply) after
   unserved : (refusal : Refusal) → IsRefused transport limit bytes refusal
       → Replies zone transport limit bytes room (Err refusal) zone

@@ -2,13 +2,13 @@
 use Rattle.std.specs.Prelude.{◌≡◌, ◌≢◌, ◌<◌, ℕ}
 use Rattle.api_buffer.specs.declared.refusal.Refusal.{Refusal}
 use Rattle.api_buffer.specs.declared.refusal.Refusal.TheVariants as refusal
-use Rattle.dns_zone.specs.declared.road.Road.{Road}
-use Rattle.dns_zone.specs.declared.road.Road.TheVariants.{Datagram, Stream}
+use Rattle.dns_zone.specs.declared.transport.Transport.{Transport}
+use Rattle.dns_zone.specs.declared.transport.Transport.TheVariants.{Datagram, Stream}
 
 -- 0 is the number of datagrams, whose replies have a maximum size, and 1 that of streams
-abbrev pub IsRoad : ℕ → ℕ → Road → Type 0
-IsRoad transport limit (Datagram size) = (transport ≡ 0) × (size ≡ limit)
-IsRoad transport limit Stream = transport ≡ 1
+abbrev pub IsTransport : ℕ → ℕ → Transport → Type 0
+IsTransport transport limit (Datagram size) = (transport ≡ 0) × (size ≡ limit)
+IsTransport transport limit Stream = transport ≡ 1
 
 -- another number is refused, and so is a maximum size of a datagram below 512
 abbrev pub IsRefused : ℕ → ℕ → Refusal → Type 0

@@ -12,5 +12,5 @@ mod zone;
 
 pub use fault::zone_fault;
 pub use serving::serve_request;
-pub use transport::road_of;
+pub use transport::transport_of;
 pub use zone::{read_zone, zone_text};

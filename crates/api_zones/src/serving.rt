@@ -6,13 +6,13 @@ ghost use Rattle.dns_zone.specs.Serving.{IsReplyTo, zone_after};
 ghost use Rattle.api_buffer.specs.Buffer.{bytes_in};
 ghost use Rattle.api_zones.specs.Serving.{IsUnserved, Replies, Serves, zone_within};
 
-use crate::transport::road_of;
+use crate::transport::transport_of;
 use api_buffer::Refusal;
 use dns_messages::{Message, OpCode};
-use dns_zone::{Road, Zone, decode_request};
+use dns_zone::{Transport, Zone, decode_request};
 use std::alloc::{AllocError, Global};
 
-/// Serves a request over the transport with a number, as for [`road_of`], to a sender with room for so many bytes, and
+/// Serves a request over the transport with a number, as for [`transport_of`], to a sender with room for so many bytes, and
 /// returns its reply.
 ///
 /// An update with the response code `NoError` changes the zone, unless its reply is longer than the room: then nothing
@@ -20,7 +20,7 @@ use std::alloc::{AllocError, Global};
 ///
 /// # Errors
 ///
-/// - [`Refusal::Transport`] and [`Refusal::Limit`] as for [`road_of`];
+/// - [`Refusal::Transport`] and [`Refusal::Limit`] as for [`transport_of`];
 /// - [`Refusal::NoReply`] if the bytes do not decode, or are a response;
 /// - [`Refusal::Memory`] if memory is refused.
 pub fn serve_request(
@@ -34,8 +34,8 @@ pub fn serve_request(
     ensures { Replies zone.old transport limit request.now room
         (bytes_in (λ reply. reply.items) result) zone.new }
 {
-    match road_of(transport, limit) {
-        Ok(road) => serve_over(alloc, zone, request, road, room),
+    match transport_of(transport, limit) {
+        Ok(reply_transport) => serve_over(alloc, zone, request, reply_transport, room),
         Err(refusal) => Err(refusal),
     }
 }
@@ -45,15 +45,15 @@ fn serve_over(
     alloc: Global,
     zone: &mut Zone,
     request: &[u8],
-    road: Road,
+    reply_transport: Transport,
     room: usize,
 ) -> Result<Vec<u8>, Refusal>
-    ensures ok { IfOk result (λ reply. Serves zone.old road request.now room reply.items zone.new) }
+    ensures ok { IfOk result (λ reply. Serves zone.old reply_transport request.now room reply.items zone.new) }
     ensures refused { IfErr result (IsUnserved request.now) }
     ensures err { OnErr result (zone.new ≡ zone.old) }
 {
     match decode_request(alloc, request)? {
-        Some(message) => Ok(answer(zone, &message, road, room)?),
+        Some(message) => Ok(answer(zone, &message, reply_transport, room)?),
         None => Err(Refusal::NoReply),
     }
 }
@@ -62,16 +62,16 @@ fn serve_over(
 fn answer(
     zone: &mut Zone,
     request: &Message,
-    road: Road,
+    reply_transport: Transport,
     room: usize,
 ) -> Result<Vec<u8>, AllocError>
     requires { IsSound request.now }
-    ensures reply { IfOk result (λ reply. IsReplyTo zone.old road request.now reply.items) }
+    ensures reply { IfOk result (λ reply. IsReplyTo zone.old reply_transport request.now reply.items) }
     ensures ok { IfOk result (λ reply.
         zone.new ≡ zone_within room reply.items zone.old request.now) }
     ensures err { OnErr result (zone.new ≡ zone.old) }
 {
-    let reply = zone.reply_bytes(request, road)?;
+    let reply = zone.reply_bytes(request, reply_transport)?;
     if reply.len() <= room {
         take(zone, request)?;
     }

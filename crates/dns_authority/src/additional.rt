@@ -134,7 +134,7 @@ fn has_set(records: &[Record], name: &Name, record_type: RecordType) -> bool
     ensures { result ≡ has_set records.now name.now record_type }
 {
     records.iter().any(|record| {
-        name.eq_ignore_root(&record.name) && record.rdata.record_type().is_same(record_type)
+        name.eq_ignore_root(&record.name) && record.rdata.record_type() == record_type
     })
 }
 

@@ -39,7 +39,7 @@ impl AuthorityView<'_> {
         if is_unanswered(query.query_type) {
             return Ok(AuthorityAnswer::refusal(alloc, ResponseCode::NotImp));
         }
-        if !query.query_class.is_same(DNSClass::IN) {
+        if query.query_class != DNSClass::IN {
             return Ok(AuthorityAnswer::refusal(alloc, ResponseCode::Refused));
         }
         self.answer_along(alloc, query)

@@ -6,7 +6,7 @@ use Rattle.dns_messages.specs.declared.message.Message.{Message}
 use Rattle.dns_messages.specs.Encoding.{Encodes}
 use Rattle.dns_messages.specs.Grammar.{ReadsMessage}
 use Rattle.dns_messages.specs.Header.{peeked_metadata}
-use Rattle.dns_zone.specs.declared.road.Road.{Road}
+use Rattle.dns_zone.specs.declared.transport.Transport.{Transport}
 use Rattle.dns_zone.specs.Request.{IsRequest}
 use Rattle.dns_zone.specs.Rows.{ZoneContent}
 use Rattle.dns_zone.specs.Serving.{has_query_header, reply_limit}
@@ -28,12 +28,12 @@ IsSentForOther bytes (Some out) = IsFormErr bytes out
 
 -- The bytes that are sent for bytes with the header of a query: those of the reply to the request that these are, or, if they do
 -- not decode, those of the reply to their header.
-pub data IsSentFor (any : AnyAnswer) (zones : List ZoneContent) (road : Road) (bytes out : List ℕ) : Type 0 where
-  replied : (m : Message) → IsRequest bytes m → Encodes (reply_limit road m) (sent (reply_limit road m) (reply any zones m)) out
-      → IsSentFor any zones road bytes out
-  malformed : ((m : Message) → ReadsMessage bytes m → ⊥) → IsFormErr bytes out → IsSentFor any zones road bytes out
+pub data IsSentFor (any : AnyAnswer) (zones : List ZoneContent) (transport : Transport) (bytes out : List ℕ) : Type 0 where
+  replied : (m : Message) → IsRequest bytes m → Encodes (reply_limit transport m) (sent (reply_limit transport m) (reply any zones m)) out
+      → IsSentFor any zones transport bytes out
+  malformed : ((m : Message) → ReadsMessage bytes m → ⊥) → IsFormErr bytes out → IsSentFor any zones transport bytes out
 
 -- Each request has a reply. Only bytes that do not begin with the header of a query have none.
-abbrev pub Responds : AnyAnswer → List ZoneContent → Road → List ℕ → Option (List ℕ) → Type 0
-Responds any zones road bytes None = has_query_header bytes ≡ false
-Responds any zones road bytes (Some out) = IsSentFor any zones road bytes out
+abbrev pub Responds : AnyAnswer → List ZoneContent → Transport → List ℕ → Option (List ℕ) → Type 0
+Responds any zones transport bytes None = has_query_header bytes ≡ false
+Responds any zones transport bytes (Some out) = IsSentFor any zones transport bytes out

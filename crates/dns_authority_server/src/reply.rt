@@ -15,7 +15,7 @@ use crate::sending::send;
 use dns_authority::AuthorityAnswer;
 use dns_messages::{Edns, Message, Metadata, OpCode, Query, ResponseCode};
 use dns_names::Name;
-use dns_zone::Road;
+use dns_zone::Transport;
 use std::alloc::{AllocError, Global};
 
 /// The number of bytes that every reply may have (RFC 1035 section 4.2.1).
@@ -26,10 +26,10 @@ pub(crate) fn reply_bytes(
     alloc: Global,
     request: &Message,
     answer: &AuthorityAnswer,
-    road: Road,
+    transport: Transport,
 ) -> Result<Vec<u8>, AllocError>
-    ensures { IfOk result (λ out. Encodes (reply_limit road request.now)
-        (sent (reply_limit road request.now) (reply_with request.now answer.now)) out.items) }
+    ensures { IfOk result (λ out. Encodes (reply_limit transport request.now)
+        (sent (reply_limit transport request.now) (reply_with request.now answer.now)) out.items) }
 {
     let edns = edns_of_reply(alloc, &request.edns, answer.code);
     bytes_with(
@@ -37,7 +37,7 @@ pub(crate) fn reply_bytes(
         request,
         answer,
         edns.as_ref(),
-        limit_of(road, request),
+        limit_of(transport, request),
     )
 }
 
@@ -140,12 +140,12 @@ fn only(queries: &[Query]) -> &[Query]
 }
 
 /// Returns how many bytes a reply to a request may have: at least 512.
-fn limit_of(road: Road, request: &Message) -> u16
-    ensures value { result ≡ reply_limit road request.now }
+fn limit_of(transport: Transport, request: &Message) -> u16
+    ensures value { result ≡ reply_limit transport request.now }
     ensures least { 512 ≤ result }
 {
-    match road {
-        Road::Datagram(limit) => limit.value().min(request.max_payload()),
-        Road::Stream => 65_535,
+    match transport {
+        Transport::Datagram(limit) => limit.value().min(request.max_payload()),
+        Transport::Stream => 65_535,
     }
 }

@@ -124,7 +124,9 @@ impl<'a> ReplyRef<'a> {
     pub(crate) fn is_referral(&self) -> bool
         ensures { result ≡ is_referral (borrowed_message self.now) }
     {
-        self.authorities.iter().any(|record| record.rdata.record_type().is_same(RecordType::NS))
+        self.authorities
+            .iter()
+            .any(|record| record.rdata.record_type() == RecordType::NS)
     }
 
     /// Returns the message without its additional records. The OPT record stays.

@@ -12,7 +12,7 @@ ghost use Rattle.dns_authority_server.specs.Sending.{sent};
 use crate::reply::{malformed_bytes, reply_bytes};
 use dns_authority::{AuthorityAnswer, AuthorityView};
 use dns_messages::{Message, MessageType, Metadata, OpCode, Query, ResponseCode};
-use dns_zone::{Road, decode_request};
+use dns_zone::{Transport, decode_request};
 use std::alloc::{AllocError, Global};
 
 /// Returns the reply to a request, or `None` for fewer bytes than a header has, and for a response.
@@ -23,17 +23,17 @@ pub fn respond(
     alloc: Global,
     authority: &AuthorityView<'_>,
     request: &[u8],
-    road: Road,
+    transport: Transport,
 ) -> Result<Option<Vec<u8>>, AllocError>
     ensures reply { IfOk result (λ found. Responds authority.now.any authority.now.zones.now
-        road request.now (option_map (λ out. out.items) found)) }
+        transport request.now (option_map (λ out. out.items) found)) }
     ensures header { has_query_header request.now ≡ false → result ≡ Ok None }
 {
     let Some(metadata) = query_metadata(request) else {
         return Ok(None);
     };
     match decode_request(alloc, request)? {
-        Some(message) => Ok(Some(respond_to(alloc, authority, &message, road)?)),
+        Some(message) => Ok(Some(respond_to(alloc, authority, &message, transport)?)),
         None => Ok(Some(malformed_bytes(alloc, &metadata)?)),
     }
 }
@@ -43,14 +43,14 @@ pub fn respond_to(
     alloc: Global,
     authority: &AuthorityView<'_>,
     request: &Message,
-    road: Road,
+    transport: Transport,
 ) -> Result<Vec<u8>, AllocError>
-    ensures { IfOk result (λ out. Encodes (reply_limit road request.now)
-        (sent (reply_limit road request.now)
+    ensures { IfOk result (λ out. Encodes (reply_limit transport request.now)
+        (sent (reply_limit transport request.now)
         (reply authority.now.any authority.now.zones.now request.now)) out.items) }
 {
     let answer = answer_to(alloc, authority, request)?;
-    reply_bytes(alloc, request, &answer, road)
+    reply_bytes(alloc, request, &answer, transport)
 }
 
 /// Returns the reply to bytes that are not a request: `FormErr` for those that begin with the header of a query (RFC 1035 section

@@ -35,6 +35,5 @@ fn continues_set(records: &[Record], place: usize) -> bool
 fn are_one_set(one: &Record, other: &Record) -> bool
     ensures { result ≡ are_one_set one.now other.now }
 {
-    one.name.eq_ignore_root(&other.name)
-        && one.rdata.record_type().is_same(other.rdata.record_type())
+    one.name.eq_ignore_root(&other.name) && one.rdata.record_type() == other.rdata.record_type()
 }

@@ -3,21 +3,25 @@
 ghost use Rattle.std.specs.Prelude.{◌≡◌, IfOk, OnErr, option_map};
 
 use dns_server::{ListResponder, Responder, Server, Updates};
-use dns_zone::{Road, Zone};
+use dns_zone::{Transport, Zone};
 use std::alloc::AllocError;
 
 /// Replies to requests, whose transport limits the size of their replies.
 pub trait DatagramResponder {
     ghost use Rattle.std.specs.Prelude.{List, ℕ, Option};
-    ghost use Rattle.dns_zone.specs.declared.road.Road.{Road};
+    ghost use Rattle.dns_zone.specs.declared.transport.Transport.{Transport};
 
     /// Whether a request that arrives over a transport has a reply, or none, and leaves the responder in a state.
-    ghost replies: { Self → Road → List ℕ → Option (List ℕ) → Self → Type 0 };
+    ghost replies: { Self → Transport → List ℕ → Option (List ℕ) → Self → Type 0 };
 
     /// Returns the reply to a request that arrives over a transport, or `None` if it has none. An error leaves the responder
     /// unchanged.
-    fn reply_by(&mut self, request: &[u8], road: Road) -> Result<Option<Vec<u8>>, AllocError>
-        ensures ok { IfOk result (λ reply. replies self.old road request.now
+    fn reply_by(
+        &mut self,
+        request: &[u8],
+        transport: Transport,
+    ) -> Result<Option<Vec<u8>>, AllocError>
+        ensures ok { IfOk result (λ reply. replies self.old transport request.now
             (option_map (λ bytes. bytes.items) reply) self.new) }
         ensures err { OnErr result (self.new ≡ self.old) };
 }
@@ -26,10 +30,14 @@ pub trait DatagramResponder {
 impl DatagramResponder for Zone {
     ghost use Rattle.dns_zone.specs.Serving.{Serves};
 
-    ghost replies = { λ zone road request reply after. Serves zone road request reply after };
+    ghost replies = { λ zone transport request reply after. Serves zone transport request reply after };
 
-    fn reply_by(&mut self, request: &[u8], road: Road) -> Result<Option<Vec<u8>>, AllocError> {
-        self.serve(request, road)
+    fn reply_by(
+        &mut self,
+        request: &[u8],
+        transport: Transport,
+    ) -> Result<Option<Vec<u8>>, AllocError> {
+        self.serve(request, transport)
     }
 }
 
@@ -38,11 +46,15 @@ impl DatagramResponder for Server {
     ghost use Rattle.dns_server.specs.Server.{Responds};
     ghost use Rattle.dns_server.specs.declared.updates.Updates.TheVariants.{Allowed};
 
-    ghost replies = { λ server road request reply after.
-        Responds server road Allowed request reply after };
+    ghost replies = { λ server transport request reply after.
+        Responds server transport Allowed request reply after };
 
-    fn reply_by(&mut self, request: &[u8], road: Road) -> Result<Option<Vec<u8>>, AllocError> {
-        self.respond(request, road, Updates::Allowed)
+    fn reply_by(
+        &mut self,
+        request: &[u8],
+        transport: Transport,
+    ) -> Result<Option<Vec<u8>>, AllocError> {
+        self.respond(request, transport, Updates::Allowed)
     }
 }
 
@@ -55,7 +67,11 @@ impl<'a> DatagramResponder for ListResponder<'a> {
         GivesNext (map (λ bytes. bytes.items) now.left.now) reply
         (map (λ bytes. bytes.items) after.left.now) };
 
-    fn reply_by(&mut self, request: &[u8], _road: Road) -> Result<Option<Vec<u8>>, AllocError> {
+    fn reply_by(
+        &mut self,
+        request: &[u8],
+        _transport: Transport,
+    ) -> Result<Option<Vec<u8>>, AllocError> {
         self.reply_to(request, Updates::Refused)
     }
 }

@@ -1,13 +1,13 @@
 //! The end of an exchange that serves requests.
 
 ghost use Rattle.std.specs.Prelude.{◌≡◌};
-ghost use Rattle.dns_zone.specs.declared.road.Road.TheVariants.{Datagram};
+ghost use Rattle.dns_zone.specs.declared.transport.Transport.TheVariants.{Datagram};
 ghost use Rattle.dns_blocking.specs.Serving.{MayServe, ServesAtMost};
 
 use crate::calls::{or_failed, receive, send_to};
 use crate::error::SocketError;
 use crate::responder::DatagramResponder;
-use dns_zone::{DatagramLimit, Road};
+use dns_zone::{DatagramLimit, Transport};
 use std::alloc::{AllocError, Global};
 use std::net::{Net, SocketAddr, TcpListener, TcpStream, UdpSocket};
 
@@ -125,7 +125,7 @@ fn serve_datagram<D: DatagramResponder>(
 ) -> Result<(), AllocError>
     ensures { MayServe D.replies (Datagram limit) responder.old responder.new }
 {
-    match responder.reply_by(request, Road::Datagram(limit))? {
+    match responder.reply_by(request, Transport::Datagram(limit))? {
         Some(reply) => {
             let _sent = send_to(socket, reply.as_slice(), sender);
             Ok(())

@@ -155,12 +155,12 @@ front_one_more policy zones mid after (Other bytes) messages judged is takes = s
 
 -- the reply to a request that is served
 pub plain_served : {T E : Type 0} (result : Result T E) (out_of : T → List ℕ) (answering : Answering) (stored : Bool) (updates : Updates) (zones after : List ZoneContent) (a : Admitted) → a.admission ≡ Serve updates
-    → is_unstored stored a ≡ false → IfOk result (λ x. IsServiceReply answering updates zones a.incoming.terms.now.road a.message (out_of x))
+    → is_unstored stored a ≡ false → IfOk result (λ x. IsServiceReply answering updates zones a.incoming.terms.now.transport a.message (out_of x))
     → OnOk result (after ≡ zones_after updates zones a.message) → IfOk result (λ x. IsPlainReply answering stored zones after a (out_of x))
 plain_served (Ok x) out_of answering stored updates zones after a by un replied left = record {
   after_is = left ∙ served_left stored updates zones a by un;
-  replied = subst (λ (b : Bool). IsReplyBut b answering a.admission zones a.incoming.terms.now.road a.message (out_of x)) (sym un)
-      (subst (λ (y : Admission). IsReplyOf answering y zones a.incoming.terms.now.road a.message (out_of x)) (sym by) replied);
+  replied = subst (λ (b : Bool). IsReplyBut b answering a.admission zones a.incoming.terms.now.transport a.message (out_of x)) (sym un)
+      (subst (λ (y : Admission). IsReplyOf answering y zones a.incoming.terms.now.transport a.message (out_of x)) (sym by) replied);
 }
 plain_served (Err e) out_of answering stored updates zones after a by un replied left = tt
 

@@ -6,7 +6,7 @@ use Rattle.dns_messages.specs.declared.response_code.ResponseCode.TheVariants as
 use Rattle.dns_server.specs.declared.updates.Updates.TheVariants as may
 use Rattle.dns_server.specs.Server.{zones_after}
 use Rattle.dns_tsig.specs.Reply.{IsReply}
-use Rattle.dns_zone.specs.declared.road.Road.{Road}
+use Rattle.dns_zone.specs.declared.transport.Transport.{Transport}
 use Rattle.dns_zone.specs.Request.{IsEncodedReply, reply_without_zone}
 use Rattle.dns_zone.specs.Rows.{ZoneContent}
 use Rattle.dns_zone_service.specs.Answering.{IsReplyToOther, IsServiceReply}
@@ -30,19 +30,19 @@ zones_left true zones (Other bytes) = zones
 zones_left false zones a = zones
 
 -- a reply with a response code and without a zone
-abbrev pub IsBareReply : ResponseCode → Road → Message → List ℕ → Type 0
-IsBareReply code road m out = IsEncodedReply (reply_without_zone m code) road m out
+abbrev pub IsBareReply : ResponseCode → Transport → Message → List ℕ → Type 0
+IsBareReply code transport m out = IsEncodedReply (reply_without_zone m code) transport m out
 
 -- the reply to a request that is served, or refused
-abbrev pub IsReplyOf : Answering → Admission → List ZoneContent → Road → Message → List ℕ → Type 0
-IsReplyOf answering (Serve updates) zones road m out = IsServiceReply answering updates zones road m out
-IsReplyOf answering Malformed zones road m out = IsBareReply codes.FormErr road m out
-IsReplyOf answering NotAuthentic zones road m out = IsBareReply codes.NotAuth road m out
+abbrev pub IsReplyOf : Answering → Admission → List ZoneContent → Transport → Message → List ℕ → Type 0
+IsReplyOf answering (Serve updates) zones transport m out = IsServiceReply answering updates zones transport m out
+IsReplyOf answering Malformed zones transport m out = IsBareReply codes.FormErr transport m out
+IsReplyOf answering NotAuthentic zones transport m out = IsBareReply codes.NotAuth transport m out
 
 -- the reply to a request, by whether it is an update that may be made and is not on the disk: ServFail (RFC 2136 section 3.5)
-abbrev pub IsReplyBut : Bool → Answering → Admission → List ZoneContent → Road → Message → List ℕ → Type 0
-IsReplyBut true answering admission zones road m out = IsBareReply codes.ServFail road m out
-IsReplyBut false answering admission zones road m out = IsReplyOf answering admission zones road m out
+abbrev pub IsReplyBut : Bool → Answering → Admission → List ZoneContent → Transport → Message → List ℕ → Type 0
+IsReplyBut true answering admission zones transport m out = IsBareReply codes.ServFail transport m out
+IsReplyBut false answering admission zones transport m out = IsReplyOf answering admission zones transport m out
 
 -- whether a request is an update that may be made, and is not on the disk
 abbrev pub is_unstored : Bool → Admitted → Bool
@@ -53,7 +53,7 @@ is_unstored false a = makes_change a
 pub record IsPlainReply (answering : Answering) (stored : Bool) (zones after : List ZoneContent) (a : Admitted)
     (out : List ℕ) : Type 0 where
   pub after_is : after ≡ zones_left stored zones (Request a)
-  pub replied : IsReplyBut (is_unstored stored a) answering a.admission zones a.incoming.terms.now.road a.message out
+  pub replied : IsReplyBut (is_unstored stored a) answering a.admission zones a.incoming.terms.now.transport a.message out
 
 -- the reply to a request, which is signed if the request is
 pub record IsSignedReply (policy : Policy) (stored : Bool) (zones after : List ZoneContent) (a : Admitted)

@@ -112,13 +112,20 @@ fn plain_reply(
     ensures failed { OnErr result (server.new ≡ server.old) }
 {
     let message = &admitted.message;
-    let road = admitted.incoming.terms.road();
+    let transport = admitted.incoming.terms.transport();
     if !is_stored && admitted.is_change() {
-        return bare_reply_bytes(alloc, message, ResponseCode::ServFail, road);
+        return bare_reply_bytes(alloc, message, ResponseCode::ServFail, transport);
     }
     match admitted.admission {
-        Admission::Serve(updates) => answering.respond_to(alloc, server, message, road, updates),
-        Admission::Malformed => bare_reply_bytes(alloc, message, ResponseCode::FormErr, road),
-        Admission::NotAuthentic => bare_reply_bytes(alloc, message, ResponseCode::NotAuth, road),
+        Admission::Serve(updates) => answering.respond_to(
+            alloc, server, message, transport, updates,
+        ),
+        Admission::Malformed => bare_reply_bytes(alloc, message, ResponseCode::FormErr, transport),
+        Admission::NotAuthentic => bare_reply_bytes(
+            alloc,
+            message,
+            ResponseCode::NotAuth,
+            transport,
+        ),
     }
 }

@@ -11,7 +11,7 @@ use dns_frames::write_frame;
 use dns_messages::{Message, Metadata, OpCode};
 use dns_server::Updates;
 use dns_tsig::{Checked, verify_request};
-use dns_zone::{Road, decode_request};
+use dns_zone::{Transport, decode_request};
 use std::alloc::{AllocError, Global};
 
 /// The greatest length of a message in a frame.
@@ -21,7 +21,7 @@ const MAX_REQUEST_LEN: usize = 65_535;
 #[derive(Clone, Copy, Debug, PartialEq, Eq)]
 pub struct Terms {
     /// The transport, with its limit.
-    pub road: Road,
+    pub transport: Transport,
     /// Whether its address may update without a key.
     pub local: Updates,
     /// The time, in seconds since 1 January 1970 (UTC).
@@ -30,12 +30,12 @@ pub struct Terms {
 
 impl Terms {
     /// Returns the transport.
-    pub(crate) fn road(&self) -> Road
-        ensures { result ≡ self.now.road }
+    pub(crate) fn transport(&self) -> Transport
+        ensures { result ≡ self.now.transport }
     {
-        match self.road {
-            Road::Datagram(limit) => Road::Datagram(limit),
-            Road::Stream => Road::Stream,
+        match self.transport {
+            Transport::Datagram(limit) => Transport::Datagram(limit),
+            Transport::Stream => Transport::Stream,
         }
     }
 }

@@ -6,7 +6,7 @@ ghost use Rattle.dns_durable.specs.Durable.{IsTaken, Replays, Takes};
 
 use crate::error::ReplayError;
 use dns_server::{Server, Updates};
-use dns_zone::{Road, decode_request};
+use dns_zone::{Transport, decode_request};
 use std::alloc::Global;
 
 /// The message of the first frame of bytes, and what follows the frame.
@@ -69,7 +69,7 @@ fn replay_message(
     let Some(request) = decode_request(alloc, message)? else {
         return Err(ReplayError::NotUpdates(entry));
     };
-    let _reply = server.respond_to(&request, Road::Stream, Updates::Allowed)?;
+    let _reply = server.respond_to(&request, Transport::Stream, Updates::Allowed)?;
     Ok(())
 }
 

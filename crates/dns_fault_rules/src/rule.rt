@@ -62,7 +62,7 @@ impl TypePattern {
     {
         match self {
             TypePattern::Any => true,
-            TypePattern::Exactly(own) => own.is_same(record_type),
+            TypePattern::Exactly(own) => *own == record_type,
         }
     }
 }

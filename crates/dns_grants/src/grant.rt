@@ -38,7 +38,7 @@ fn permits_record(grants: &[Grant], key: &[u8], change: &Record) -> bool
     ensures { result ≡ permits_record grants.now key.now change.now }
 {
     let record_type = change.record_type();
-    if record_type.is_same(RecordType::ANY) {
+    if record_type == RecordType::ANY {
         return may_change_name(grants, key, &change.name);
     }
     may_change(grants, key, &change.name, record_type)
@@ -94,5 +94,5 @@ fn allows_type(types: &[RecordType], record_type: RecordType) -> bool
 fn has_type(types: &[RecordType], record_type: RecordType) -> bool
     ensures { result ≡ has_type types.now (type_number record_type) }
 {
-    types.iter().any(|other| other.is_same(record_type))
+    types.iter().any(|other| *other == record_type)
 }

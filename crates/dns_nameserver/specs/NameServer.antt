@@ -4,8 +4,8 @@ use Rattle.dns_messages.specs.declared.op_code.OpCode.TheVariants as ops
 use Rattle.dns_messages.specs.declared.message.Message.{Message}
 use Rattle.dns_messages.specs.Grammar.{ReadsMessage}
 use Rattle.dns_zone.specs.Rows.{ZoneContent}
-use Rattle.dns_zone.specs.declared.road.Road.{Road}
-use Rattle.dns_zone.specs.declared.road.Road.TheVariants as roads
+use Rattle.dns_zone.specs.declared.transport.Transport as reply
+use Rattle.dns_zone.specs.declared.transport.Transport.TheVariants as replies
 use Rattle.dns_server.specs.Server.{zones_after}
 use Rattle.dns_server.specs.declared.updates.Updates.{Updates}
 use Rattle.dns_server.specs.declared.updates.Updates.TheVariants as may
@@ -31,7 +31,7 @@ formers_after updated f m = option_map (λ f. former_after updated f m) f
 
 -- A request is served by the zone that it is for, and remembered as an update that was applied if it was one.
 pub record Serves (old : ZoneServer) (context : Context) (m : Message) (reply : List ℕ) (new : ZoneServer) : Type 0 where
-  pub replied : IsServiceReply old.answering context.updates old.server context.road m reply
+  pub replied : IsServiceReply old.answering context.updates old.server context.transport m reply
   pub zones : new.server ≡ zones_after context.updates old.server m
   pub updated : new.has_updated ≡ is_accepted reply
   pub formers : new.former ≡ formers_after (is_accepted reply) old.former m
@@ -39,7 +39,7 @@ pub record Serves (old : ZoneServer) (context : Context) (m : Message) (reply : 
 
 -- A request is served by these zones from before the last update. No update is allowed.
 pub record ServesBy (f : Former) (old : ZoneServer) (context : Context) (m : Message) (reply : List ℕ) (new : ZoneServer) : Type 0 where
-  pub replied : IsServiceReply old.answering may.Refused f.zones context.road m reply
+  pub replied : IsServiceReply old.answering may.Refused f.zones context.transport m reply
   pub zones : new.server ≡ old.server
   pub updated : new.has_updated ≡ false
   pub formers : new.former ≡ Some (record f { zones = zones_after may.Refused f.zones m })
@@ -53,9 +53,9 @@ pub record ServesStale (old : ZoneServer) (context : Context) (m : Message) (rep
       → MatchOption old.former (Serves old context m reply new) (λ f. ServesBy f old context m reply new)
 
 -- a transport, with the maximum size of datagrams
-abbrev pub road_of : Transport → ℕ → Road
-road_of transports.Datagram limit = roads.Datagram limit
-road_of transports.Stream limit = roads.Stream
+abbrev pub reply_transport : Transport → ℕ → reply.Transport
+reply_transport transports.Datagram limit = replies.Datagram limit
+reply_transport transports.Stream limit = replies.Stream
 
 -- whether the requestors of an address may update
 abbrev pub updates_of : Bool → Updates
@@ -101,7 +101,7 @@ pub record AnswersRequest (old : NameServer) (request : List ℕ) (address : IpA
   pub coverage : IsCoverageOf old.updaters address covered
   pub served : Sending
   pub responds : Responds Serves ServesStale (forgetful old.zones) old.faults request transport
-      (record { road = road_of transport old.limit; updates = updates_of covered }) served line new.zones new.faults
+      (record { transport = reply_transport transport old.limit; updates = updates_of covered }) served line new.zones new.faults
   pub sent_is : IsSentIf served.reply old.zones.answering request line served sent
   pub updated_is : updated ≡ new.zones.has_updated
   pub limit_kept : new.limit ≡ old.limit

@@ -9,7 +9,7 @@ ghost use Rattle.dns_nameserver.specs.Former.{former_after, is_accepted};
 
 use dns_messages::{Message, Metadata, OpCode, ResponseCode};
 use dns_server::{Server, Updates};
-use dns_zone::Road;
+use dns_zone::Transport;
 use dns_zone_service::Answering;
 use std::alloc::{AllocError, Global};
 use std::marker::Model;
@@ -59,12 +59,12 @@ impl FormerZones {
         answering: Answering,
         current: &mut Server,
         request: &Message,
-        road: Road,
+        transport: Transport,
         updates: Updates,
     ) -> Result<Vec<u8>, AllocError>
         requires { IsSound request.now }
         ensures reply { IfOk result (λ out.
-            IsServiceReply answering updates current.old road request.now out.items) }
+            IsServiceReply answering updates current.old transport request.now out.items) }
         ensures current { OnOk result (current.new ≡ zones_after updates current.old request.now) }
         ensures former { IfOk result (λ out.
             self.new ≡ former_after (is_accepted out.items) self.old request.now) }
@@ -74,11 +74,11 @@ impl FormerZones {
         if let Some(update) = &self.missing {
             let _reply = self
                 .server
-                .respond_to(update, Road::Stream, Updates::Allowed)?;
+                .respond_to(update, Transport::Stream, Updates::Allowed)?;
         }
         self.missing = None;
         let update = request.clone()?;
-        let reply = answering.respond_to(alloc, current, request, road, updates)?;
+        let reply = answering.respond_to(alloc, current, request, transport, updates)?;
         if is_accepted(reply.as_slice()) {
             self.missing = self.last.take();
             self.last = Some(update);
@@ -92,11 +92,11 @@ impl FormerZones {
         alloc: Global,
         answering: Answering,
         request: &Message,
-        road: Road,
+        transport: Transport,
     ) -> Result<Vec<u8>, AllocError>
         requires { IsSound request.now }
         ensures reply { IfOk result (λ out.
-            IsServiceReply answering may.Refused self.old.zones road request.now out.items) }
+            IsServiceReply answering may.Refused self.old.zones transport request.now out.items) }
         ensures ok { OnOk result (self.new
             ≡ record self.old { zones = zones_after may.Refused self.old.zones request.now }) }
         ensures err { OnErr result (self.new ≡ self.old) }
@@ -104,10 +104,16 @@ impl FormerZones {
         if let Some(update) = &self.missing {
             let _reply = self
                 .server
-                .respond_to(update, Road::Stream, Updates::Allowed)?;
+                .respond_to(update, Transport::Stream, Updates::Allowed)?;
         }
         self.missing = None;
-        answering.respond_to(alloc, &mut self.server, request, road, Updates::Refused)
+        answering.respond_to(
+            alloc,
+            &mut self.server,
+            request,
+            transport,
+            Updates::Refused,
+        )
     }
 }
 

@@ -13,5 +13,5 @@ mod zone_server;
 
 pub use former::{FormerZones, is_accepted};
 pub use log_entry::request_entry;
-pub use name_server::{Answered, NameServer, road_of, updates_of};
+pub use name_server::{Answered, NameServer, reply_transport, updates_of};
 pub use zone_server::{Context, ZoneServer};

@@ -2,13 +2,13 @@
 
 ghost use Rattle.std.specs.Prelude.{◌≡◌, None, IfOk, OnErr};
 ghost use Rattle.dns_faults.specs.Delivery.{sending};
-ghost use Rattle.dns_nameserver.specs.NameServer.{AnswersRequest, LeavesZones, IsSentIf, road_of, updates_of};
+ghost use Rattle.dns_nameserver.specs.NameServer.{AnswersRequest, LeavesZones, IsSentIf, reply_transport, updates_of};
 
 use crate::zone_server::{Context, ZoneServer};
 use dns_fault_rules::{FaultTable, Transport};
 use dns_faults::{Delivery, Outcome, respond};
 use dns_server::{AddressList, Updates};
-use dns_zone::{DatagramLimit, Road};
+use dns_zone::{DatagramLimit, Transport as ReplyTransport};
 use dns_zone_service::Answering;
 use std::alloc::{AllocError, Global};
 use std::net::IpAddr;
@@ -57,7 +57,7 @@ impl NameServer {
         ensures zones { LeavesZones self.old.zones.server request.now self.new.zones.server }
     {
         let context = Context {
-            road: road_of(transport, self.limit),
+            transport: reply_transport(transport, self.limit),
             updates: updates_of(self.updaters.contains(address)),
         };
         let answering = self.zones.answering;
@@ -111,11 +111,11 @@ pub fn updates_of(is_listed: bool) -> Updates
 }
 
 /// Returns a transport, with the maximum size of datagrams.
-pub fn road_of(transport: Transport, limit: DatagramLimit) -> Road
-    ensures { result ≡ road_of transport limit }
+pub fn reply_transport(transport: Transport, limit: DatagramLimit) -> ReplyTransport
+    ensures { result ≡ reply_transport transport limit }
 {
     match transport {
-        Transport::Datagram => Road::Datagram(limit),
-        Transport::Stream => Road::Stream,
+        Transport::Datagram => ReplyTransport::Datagram(limit),
+        Transport::Stream => ReplyTransport::Stream,
     }
 }

@@ -4,7 +4,7 @@ use crate::former::{FormerZones, is_accepted};
 use dns_faults::FaultServer;
 use dns_messages::{Message, OpCode};
 use dns_server::{Server, Updates};
-use dns_zone::Road;
+use dns_zone::Transport;
 use dns_zone_service::Answering;
 use std::alloc::{AllocError, Global};
 
@@ -12,7 +12,7 @@ use std::alloc::{AllocError, Global};
 #[derive(Clone, Copy, Debug, PartialEq, Eq)]
 pub struct Context {
     /// The transport, with its limit.
-    pub road: Road,
+    pub transport: Transport,
     /// Whether the requestor may update.
     pub updates: Updates,
 }
@@ -47,12 +47,12 @@ impl FaultServer for ZoneServer {
         request: &Message,
         context: Context,
     ) -> Result<Vec<u8>, AllocError> {
-        let Context { road, updates } = context;
+        let Context { transport, updates } = context;
         let (alloc, answering) = (self.alloc, self.answering);
         let server = &mut self.server;
         let reply = match &mut self.former {
-            Some(former) => former.follow(alloc, answering, server, request, road, updates)?,
-            None => answering.respond_to(alloc, server, request, road, updates)?,
+            Some(former) => former.follow(alloc, answering, server, request, transport, updates)?,
+            None => answering.respond_to(alloc, server, request, transport, updates)?,
         };
         self.has_updated = is_accepted(reply.as_slice());
         Ok(reply)
@@ -69,7 +69,7 @@ impl FaultServer for ZoneServer {
         }
         match &mut self.former {
             Some(former) => {
-                let reply = former.serve(self.alloc, self.answering, request, context.road)?;
+                let reply = former.serve(self.alloc, self.answering, request, context.transport)?;
                 self.has_updated = false;
                 Ok(reply)
             }

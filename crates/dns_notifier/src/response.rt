@@ -67,6 +67,6 @@ fn asks_for_start(origin: &Name, queries: &[Query]) -> bool
         return false;
     };
     query.name.eq_ignore_root(origin)
-        && query.query_type.is_same(RecordType::SOA)
-        && query.query_class.is_same(DNSClass::IN)
+        && query.query_type == RecordType::SOA
+        && query.query_class == DNSClass::IN
 }

@@ -12,7 +12,7 @@ use Rattle.dns_messages.specs.declared.op_code.OpCode.TheVariants as ops
 use Rattle.dns_messages.specs.declared.response_code.ResponseCode.{ResponseCode}
 use Rattle.dns_messages.specs.declared.response_code.ResponseCode.TheVariants.{NoError}
 use Rattle.dns_updates.specs.Code.{update_code}
-use Rattle.dns_zone.specs.declared.road.Road.{Road}
+use Rattle.dns_zone.specs.declared.transport.Transport.{Transport}
 use Rattle.dns_zone.specs.Rows.{ZoneContent, IsZone}
 use Rattle.dns_zone.specs.Serving.{IsReplyTo, zone_after, zone_by_code, zone_by_op}
 use Rattle.dns_server.specs.declared.server.route.Route.TheVariants as by
@@ -160,10 +160,10 @@ pub on-ok : {A E : Type 0} (r : Result A E) (P Q : Type 0) → OnOk r P → (P �
 on-ok (Ok v) P Q h f = f h
 on-ok (Err e) P Q h f = tt
 
-pub reply-at : (zones : List ZoneContent) (place : ℕ) (zone : ZoneContent) (road : Road) (m : Message) (out : List ℕ)
-    → slice_get zones place ≡ Some zone → IsReplyTo zone road m out → IsReplyBy zones (by.Zone place) road m out
-reply-at zones place zone road m out e r =
-    subst (λ (o : Option ZoneContent). IsSomeAnd o (λ z. IsReplyTo z road m out)) (sym e) r
+pub reply-at : (zones : List ZoneContent) (place : ℕ) (zone : ZoneContent) (transport : Transport) (m : Message) (out : List ℕ)
+    → slice_get zones place ≡ Some zone → IsReplyTo zone transport m out → IsReplyBy zones (by.Zone place) transport m out
+reply-at zones place zone transport m out e r =
+    subst (λ (o : Option ZoneContent). IsSomeAnd o (λ z. IsReplyTo z transport m out)) (sym e) r
 
 pub after-at : (zones : List ZoneContent) (place : ℕ) (zone new : ZoneContent) (m : Message) → slice_get zones place ≡ Some zone
     → new ≡ zone_after zone m → slice_set zones place new ≡ zones_by zones m (by.Zone place)

@@ -6,7 +6,7 @@ use Rattle.dns_messages.specs.declared.response_code.ResponseCode.TheVariants as
 use Rattle.dns_messages.specs.declared.query.Query.{Query}
 use Rattle.dns_messages.specs.Header.{code_number, code_of}
 use Rattle.dns_messages.specs.declared.message.Message.{Message}
-use Rattle.dns_zone.specs.declared.road.Road.{Road}
+use Rattle.dns_zone.specs.declared.transport.Transport.{Transport}
 use Rattle.dns_zone.specs.Rows.{ZoneContent}
 use Rattle.dns_zone.specs.Serving.{IsReplyTo, zone_after}
 use Rattle.dns_zone.specs.Request.{DecodesRequest, IsRequest, IsEncodedReply, reply_without_zone}
@@ -53,9 +53,9 @@ IsRouteOf zones (by.Code code) = (code_number code < 16) × (code_of (code_numbe
 -- ---- replies, and the zones after them
 
 -- The bytes are the reply to a request: that of the zone at a place, or one that no zone decides.
-abbrev pub IsReplyBy : List ZoneContent → Route → Road → Message → List ℕ → Type 0
-IsReplyBy zones (by.Zone place) road m out = IsSomeAnd (slice_get zones place) (λ zone. IsReplyTo zone road m out)
-IsReplyBy zones (by.Code code) road m out = IsEncodedReply (reply_without_zone m code) road m out
+abbrev pub IsReplyBy : List ZoneContent → Route → Transport → Message → List ℕ → Type 0
+IsReplyBy zones (by.Zone place) transport m out = IsSomeAnd (slice_get zones place) (λ zone. IsReplyTo zone transport m out)
+IsReplyBy zones (by.Code code) transport m out = IsEncodedReply (reply_without_zone m code) transport m out
 
 -- zones, with the one at a place as a request leaves it
 abbrev pub zones_with : List ZoneContent → ℕ → Message → Option ZoneContent → List ZoneContent
@@ -72,13 +72,13 @@ abbrev pub zones_after : Updates → List ZoneContent → Message → List ZoneC
 zones_after updates zones m = zones_by zones m (route updates zones m)
 
 -- the bytes are a request, out is its reply, and after are the zones that it leaves
-pub record AreServed (zones : List ZoneContent) (road : Road) (updates : Updates) (bytes out : List ℕ) (after : List ZoneContent) : Type 0 where
+pub record AreServed (zones : List ZoneContent) (transport : Transport) (updates : Updates) (bytes out : List ℕ) (after : List ZoneContent) : Type 0 where
   pub request : Message
   pub is_request : IsRequest bytes request
-  pub replied : IsReplyBy zones (route updates zones request) road request out
+  pub replied : IsReplyBy zones (route updates zones request) transport request out
   pub after_is : after ≡ zones_after updates zones request
 
 -- Every request has a reply. Only bytes that do not decode, and responses, have none, and leave the zones unchanged.
-abbrev pub Responds : List ZoneContent → Road → Updates → List ℕ → Option (List ℕ) → List ZoneContent → Type 0
-Responds zones road updates bytes None after = (after ≡ zones) × DecodesRequest bytes None
-Responds zones road updates bytes (Some out) after = AreServed zones road updates bytes out after
+abbrev pub Responds : List ZoneContent → Transport → Updates → List ℕ → Option (List ℕ) → List ZoneContent → Type 0
+Responds zones transport updates bytes None after = (after ≡ zones) × DecodesRequest bytes None
+Responds zones transport updates bytes (Some out) after = AreServed zones transport updates bytes out after

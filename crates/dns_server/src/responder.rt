@@ -4,7 +4,7 @@ ghost use Rattle.std.specs.Prelude.{◌≡◌, [], ◌∷◌, IfOk, OnErr, optio
 
 use crate::server::Server;
 use crate::updates::Updates;
-use dns_zone::Road;
+use dns_zone::Transport;
 use std::alloc::{AllocError, Global};
 
 /// Replies to messages that arrive over a stream.
@@ -23,7 +23,7 @@ pub trait Responder {
 }
 
 impl Responder for Server {
-    ghost use Rattle.dns_zone.specs.declared.road.Road.TheVariants.{Stream};
+    ghost use Rattle.dns_zone.specs.declared.transport.Transport.TheVariants.{Stream};
     ghost use Rattle.dns_server.specs.Server.{Responds};
 
     ghost replies = { λ server updates message reply after.
@@ -34,7 +34,7 @@ impl Responder for Server {
         message: &[u8],
         updates: Updates,
     ) -> Result<Option<Vec<u8>>, AllocError> {
-        self.respond(message, Road::Stream, updates)
+        self.respond(message, Transport::Stream, updates)
     }
 }
 

@@ -14,7 +14,7 @@ use crate::server::route::{Route, route_of};
 use crate::updates::Updates;
 use dns_messages::Message;
 use dns_names::Name;
-use dns_zone::{Road, Zone, bare_reply_bytes, decode_request};
+use dns_zone::{Transport, Zone, bare_reply_bytes, decode_request};
 use std::alloc::{AllocError, Global};
 use std::marker::Model;
 
@@ -95,10 +95,10 @@ impl Server {
     pub fn respond(
         &mut self,
         request: &[u8],
-        road: Road,
+        transport: Transport,
         updates: Updates,
     ) -> Result<Option<Vec<u8>>, AllocError>
-        ensures reply { IfOk result (λ reply. Responds self.old road updates request.now
+        ensures reply { IfOk result (λ reply. Responds self.old transport updates request.now
             (option_map (λ out. out.items) reply) self.new) }
         ensures err { OnErr result (self.new ≡ self.old) }
         ensures header { has_query_header request.now ≡ false → result ≡ Ok None }
@@ -106,7 +106,7 @@ impl Server {
     {
         self.servable();
         match decode_request(self.alloc, request)? {
-            Some(message) => Ok(Some(self.respond_to(&message, road, updates)?)),
+            Some(message) => Ok(Some(self.respond_to(&message, transport, updates)?)),
             None => Ok(None),
         }
     }
@@ -115,20 +115,20 @@ impl Server {
     pub fn respond_to(
         &mut self,
         request: &Message,
-        road: Road,
+        transport: Transport,
         updates: Updates,
     ) -> Result<Vec<u8>, AllocError>
         requires { IsSound request.now }
         ensures reply { IfOk result (λ out. IsReplyBy self.old (route updates self.old request.now)
-            road request.now out.items) }
+            transport request.now out.items) }
         ensures ok { OnOk result (self.new ≡ zones_after updates self.old request.now) }
         ensures err { OnErr result (self.new ≡ self.old) }
         ensures servable { AreServable self.new }
     {
         self.servable();
         match route_of(self.zones.as_slice(), request, updates) {
-            Route::Zone(place) => self.serve_at(place, request, road),
-            Route::Code(code) => bare_reply_bytes(self.alloc, request, code, road),
+            Route::Zone(place) => self.serve_at(place, request, transport),
+            Route::Code(code) => bare_reply_bytes(self.alloc, request, code, transport),
         }
     }
 
@@ -137,18 +137,18 @@ impl Server {
         &mut self,
         place: usize,
         request: &Message,
-        road: Road,
+        transport: Transport,
     ) -> Result<Vec<u8>, AllocError>
         requires sound { IsSound request.now }
         requires within { place < length self.old }
         ensures reply { IfOk result (λ out. IsReplyBy self.old (by.Zone place)
-            road request.now out.items) }
+            transport request.now out.items) }
         ensures ok { OnOk result (self.new ≡ zones_by self.old request.now (by.Zone place)) }
         ensures err { OnErr result (self.new ≡ self.old) }
         ensures servable { AreServable self.new }
     {
         let zone = &mut self.zones[place];
-        zone.serve_message(request, road)
+        zone.serve_message(request, transport)
     }
 
     /// Proves that the zones can be served; nothing is computed.

@@ -19,8 +19,8 @@ use Rattle.dns_tsig.specs.declared.verify.Verdict.{Verdict}
 use Rattle.dns_tsig.specs.declared.verify.Verdict.TheVariants as verdicts
 use Rattle.dns_zone.specs.Request.{reply_without_zone, DecodesRequest, IsEncodedReply}
 use Rattle.dns_zone.specs.Rows.{ZoneContent}
-use Rattle.dns_zone.specs.declared.road.Road.{Road}
-use Rattle.dns_zone.specs.declared.road.Road.TheVariants.{Datagram, Stream}
+use Rattle.dns_zone.specs.declared.transport.Transport.{Transport}
+use Rattle.dns_zone.specs.declared.transport.Transport.TheVariants.{Datagram, Stream}
 use Rattle.dns_zone_transfers.specs.Reply.{IsReply}
 use Rattle.dns_zone_transfers.specs.Request.{is_transfer}
 use Rattle.dns_transfer_replies.specs.Incremental.{SendsIncremental}
@@ -44,15 +44,15 @@ refusal_of (verdicts.BadTime index) = Some NotAuth
 refusal_of (verdicts.BadTrunc index) = Some NotAuth
 
 -- the messages of the reply to a request, by whether it is for a whole transfer
-abbrev pub SendsBy : Bool → List ZoneContent → List ZoneHistory → Road → Bool → Message → Option (List (List ℕ)) → Type 0
-SendsBy true zones histories road is_permitted m None = ⊥
-SendsBy true zones histories road is_permitted m (Some messages) = IsReply zones road is_permitted m messages
-SendsBy false zones histories road is_permitted m found = SendsIncremental zones histories road is_permitted m found
+abbrev pub SendsBy : Bool → List ZoneContent → List ZoneHistory → Transport → Bool → Message → Option (List (List ℕ)) → Type 0
+SendsBy true zones histories transport is_permitted m None = ⊥
+SendsBy true zones histories transport is_permitted m (Some messages) = IsReply zones transport is_permitted m messages
+SendsBy false zones histories transport is_permitted m found = SendsIncremental zones histories transport is_permitted m found
 
 -- the messages of the reply to a request for a transfer, before they are signed; none to another request
-abbrev pub SendsPlain : List ZoneContent → List ZoneHistory → Road → Bool → Message → Option (List (List ℕ)) → Type 0
-SendsPlain zones histories road is_permitted m found =
-    SendsBy (is_transfer m) zones histories road is_permitted m found
+abbrev pub SendsPlain : List ZoneContent → List ZoneHistory → Transport → Bool → Message → Option (List (List ℕ)) → Type 0
+SendsPlain zones histories transport is_permitted m found =
+    SendsBy (is_transfer m) zones histories transport is_permitted m found
 
 -- the histories, unless the reply is signed
 abbrev pub unless_signed : Verdict → List ZoneHistory → List ZoneHistory
@@ -61,23 +61,23 @@ unless_signed other histories = histories
 
 -- The histories by which a request is answered: none in a datagram that is signed, where a signature follows the message that has to
 -- fit.
-abbrev pub histories_for : Road → Verdict → List ZoneHistory → List ZoneHistory
+abbrev pub histories_for : Transport → Verdict → List ZoneHistory → List ZoneHistory
 histories_for Stream verdict histories = histories
 histories_for (Datagram limit) verdict histories = unless_signed verdict histories
 
 -- one message, with a code and no records, signed as the request allows
-pub record IsSignedRefusal (keys : List Key) (checked : Checked) (time : ℕ) (road : Road) (m : Message)
+pub record IsSignedRefusal (keys : List Key) (checked : Checked) (time : ℕ) (transport : Transport) (m : Message)
     (code : ResponseCode) (out : List ℕ) : Type 0 where
   pub plain : List ℕ
   pub mac : List ℕ
-  pub refuses : IsEncodedReply (reply_without_zone m code) road m plain
+  pub refuses : IsEncodedReply (reply_without_zone m code) transport m plain
   pub signed : IsSignedReply keys checked.found checked.verdict time plain mac out
 
 -- that message alone
-abbrev pub IsSignedAlone : List Key → Checked → ℕ → Road → Message → ResponseCode → List (List ℕ) → Type 0
-IsSignedAlone keys checked time road m code [] = ⊥
-IsSignedAlone keys checked time road m code (out ∷ []) = IsSignedRefusal keys checked time road m code out
-IsSignedAlone keys checked time road m code (out ∷ other ∷ more) = ⊥
+abbrev pub IsSignedAlone : List Key → Checked → ℕ → Transport → Message → ResponseCode → List (List ℕ) → Type 0
+IsSignedAlone keys checked time transport m code [] = ⊥
+IsSignedAlone keys checked time transport m code (out ∷ []) = IsSignedRefusal keys checked time transport m code out
+IsSignedAlone keys checked time transport m code (out ∷ other ∷ more) = ⊥
 
 -- the key whose holder signed a request
 abbrev pub verified_key : List Key → Verdict → Option Key
@@ -91,20 +91,20 @@ code_of_request other = []
 
 -- The messages of a reply, of which each is signed with the key of the request (RFC 8945 section 5.3.1). If one of them has no room
 -- for a signature, one with the code ServFail takes the place of all.
-abbrev pub SignsWith : Option Key → List Key → Checked → ℕ → Road → Message → List (List ℕ) → List (List ℕ) → Type 0
-SignsWith None keys checked time road m plain out = out ≡ plain
-SignsWith (Some key) keys checked time road m plain out =
+abbrev pub SignsWith : Option Key → List Key → Checked → ℕ → Transport → Message → List (List ℕ) → List (List ℕ) → Type 0
+SignsWith None keys checked time transport m plain out = out ≡ plain
+SignsWith (Some key) keys checked time transport m plain out =
     SignsEach key time (code_of_request checked.found) Variables plain out
-    ⊎ (GetsFull key time (code_of_request checked.found) Variables plain × IsSignedAlone keys checked time road m ServFail out)
+    ⊎ (GetsFull key time (code_of_request checked.found) Variables plain × IsSignedAlone keys checked time transport m ServFail out)
 
 -- the messages of the reply to a request that is not refused for its TSIG record
 abbrev pub SendsSigned : List ZoneContent → List ZoneHistory → List Key → Checked → Terms → Message → Option (List (List ℕ)) → Type 0
 SendsSigned zones histories keys checked terms m None =
-    SendsPlain zones (histories_for terms.road checked.verdict histories) terms.road terms.is_permitted m None
+    SendsPlain zones (histories_for terms.transport checked.verdict histories) terms.transport terms.is_permitted m None
 SendsSigned zones histories keys checked terms m (Some out) =
     (plain : List (List ℕ))
-    × (SendsPlain zones (histories_for terms.road checked.verdict histories) terms.road terms.is_permitted m (Some plain)
-    × SignsWith (verified_key keys checked.verdict) keys checked terms.time terms.road m plain out)
+    × (SendsPlain zones (histories_for terms.transport checked.verdict histories) terms.transport terms.is_permitted m (Some plain)
+    × SignsWith (verified_key keys checked.verdict) keys checked terms.time terms.transport m plain out)
 
 -- the messages of the reply to a request for a transfer, by the code with which it is refused for its TSIG record
 abbrev pub SendsChecked : Option ResponseCode → List ZoneContent → List ZoneHistory → List Key → Checked → Terms → Message
@@ -112,7 +112,7 @@ abbrev pub SendsChecked : Option ResponseCode → List ZoneContent → List Zone
 SendsChecked None zones histories keys checked terms m sent = SendsSigned zones histories keys checked terms m sent
 SendsChecked (Some code) zones histories keys checked terms m None = ⊥
 SendsChecked (Some code) zones histories keys checked terms m (Some out) =
-    IsSignedAlone keys checked terms.time terms.road m code out
+    IsSignedAlone keys checked terms.time terms.transport m code out
 
 -- what is checked of the bytes of a request, and the messages of its reply
 pub record RepliesChecked (zones : List ZoneContent) (histories : List ZoneHistory) (keys : List Key) (terms : Terms)

@@ -16,7 +16,7 @@ use dns_difference_transfers::incremental_transfer;
 use dns_differences::Difference;
 use dns_messages::{Message, ResponseCode};
 use dns_transfers::TransferError;
-use dns_zone::{Road, Zone, bare_reply_bytes};
+use dns_zone::{Transport, Zone, bare_reply_bytes};
 use dns_zone_serials::{first_serial, zone_serial};
 use dns_zone_transfers::reply_with_zone;
 use std::alloc::{AllocError, Global};
@@ -31,17 +31,17 @@ pub(crate) fn reply_to_incremental(
     zones: &[Zone],
     histories: &[ZoneHistory],
     request: &Message,
-    road: Road,
+    transport: Transport,
     is_permitted: bool,
 ) -> Result<Option<Vec<Vec<u8>>>, AllocError>
     requires { IsSound request.now }
-    ensures { IfOk result (λ found. SendsIncremental zones.now histories.now road is_permitted
+    ensures { IfOk result (λ found. SendsIncremental zones.now histories.now transport is_permitted
         request.now (option_map (λ messages. map (λ bytes. bytes.items) messages.items) found)) }
 {
     match incremental_question(request) {
         Some(query) => {
             let zone = zone_at(zones, query);
-            let messages = reply_for(alloc, zone, histories, request, road, is_permitted)?;
+            let messages = reply_for(alloc, zone, histories, request, transport, is_permitted)?;
             Ok(Some(messages))
         }
         None => Ok(None),
@@ -54,17 +54,17 @@ fn reply_for(
     zone: Option<&Zone>,
     histories: &[ZoneHistory],
     request: &Message,
-    road: Road,
+    transport: Transport,
     is_permitted: bool,
 ) -> Result<Vec<Vec<u8>>, AllocError>
     requires sound { IsSound request.now }
     requires few { length request.now.queries ≤ 1 }
-    ensures { IfOk result (λ messages. SendsFound (option_copied zone.entry) histories.now road
+    ensures { IfOk result (λ messages. SendsFound (option_copied zone.entry) histories.now transport
         is_permitted request.now (map (λ bytes. bytes.items) messages.items)) }
 {
     match zone {
-        Some(zone) => reply_if(alloc, zone, histories, request, road, is_permitted),
-        None => refused(alloc, request, road, ResponseCode::NotAuth),
+        Some(zone) => reply_if(alloc, zone, histories, request, transport, is_permitted),
+        None => refused(alloc, request, transport, ResponseCode::NotAuth),
     }
 }
 
@@ -74,19 +74,19 @@ fn reply_if(
     zone: &Zone,
     histories: &[ZoneHistory],
     request: &Message,
-    road: Road,
+    transport: Transport,
     is_permitted: bool,
 ) -> Result<Vec<Vec<u8>>, AllocError>
     requires sound { IsSound request.now }
     requires few { length request.now.queries ≤ 1 }
     ensures { IfOk result (λ messages. SendsIf is_permitted
-        (known_differences histories.now zone.now.origin) zone.now road request.now
+        (known_differences histories.now zone.now.origin) zone.now transport request.now
         (map (λ bytes. bytes.items) messages.items)) }
 {
     if is_permitted {
-        reply_since(alloc, zone, histories, request, road)
+        reply_since(alloc, zone, histories, request, transport)
     } else {
-        refused(alloc, request, road, ResponseCode::Refused)
+        refused(alloc, request, transport, ResponseCode::Refused)
     }
 }
 
@@ -96,17 +96,17 @@ fn reply_since(
     zone: &Zone,
     histories: &[ZoneHistory],
     request: &Message,
-    road: Road,
+    transport: Transport,
 ) -> Result<Vec<Vec<u8>>, AllocError>
     requires sound { IsSound request.now }
     requires few { length request.now.queries ≤ 1 }
     ensures { IfOk result (λ messages. SendsSince (rows_serial (rows_of request.now.authorities))
-        (known_differences histories.now zone.now.origin) zone.now road request.now
+        (known_differences histories.now zone.now.origin) zone.now transport request.now
         (map (λ bytes. bytes.items) messages.items)) }
 {
     match first_serial(request.authorities.as_slice()) {
-        Some(serial) => reply_from(alloc, zone, histories, request, road, serial),
-        None => refused(alloc, request, road, ResponseCode::FormErr),
+        Some(serial) => reply_from(alloc, zone, histories, request, transport, serial),
+        None => refused(alloc, request, transport, ResponseCode::FormErr),
     }
 }
 
@@ -116,21 +116,21 @@ fn reply_from(
     zone: &Zone,
     histories: &[ZoneHistory],
     request: &Message,
-    road: Road,
+    transport: Transport,
     serial: u32,
 ) -> Result<Vec<Vec<u8>>, AllocError>
     requires sound { IsSound request.now }
     requires few { length request.now.queries ≤ 1 }
     ensures { IfOk result (λ messages. SendsFrom (zone_serial zone.now) serial
-        (known_differences histories.now zone.now.origin) zone.now road request.now
+        (known_differences histories.now zone.now.origin) zone.now transport request.now
         (map (λ bytes. bytes.items) messages.items)) }
 {
     match zone_serial(zone) {
         Some(current) => {
             let differences = lacking(histories, zone.origin(), current, serial);
-            reply_with(alloc, zone, differences, request, road)
+            reply_with(alloc, zone, differences, request, transport)
         }
-        None => start_alone(alloc, zone, request, road),
+        None => start_alone(alloc, zone, request, transport),
     }
 }
 
@@ -140,16 +140,16 @@ fn reply_with(
     zone: &Zone,
     lacking: Option<&[Difference]>,
     request: &Message,
-    road: Road,
+    transport: Transport,
 ) -> Result<Vec<Vec<u8>>, AllocError>
     requires sound { IsSound request.now }
     requires few { length request.now.queries ≤ 1 }
-    ensures { IfOk result (λ messages. SendsLacking (option_copied lacking.entry) zone.now road
+    ensures { IfOk result (λ messages. SendsLacking (option_copied lacking.entry) zone.now transport
         request.now (map (λ bytes. bytes.items) messages.items)) }
 {
     match lacking {
-        Some(differences) => reply_with_known(alloc, zone, differences, request, road),
-        None => reply_with_unknown(alloc, zone, request, road),
+        Some(differences) => reply_with_known(alloc, zone, differences, request, transport),
+        None => reply_with_unknown(alloc, zone, request, transport),
     }
 }
 
@@ -159,16 +159,22 @@ fn reply_with_known(
     zone: &Zone,
     differences: &[Difference],
     request: &Message,
-    road: Road,
+    transport: Transport,
 ) -> Result<Vec<Vec<u8>>, AllocError>
     requires sound { IsSound request.now }
     requires few { length request.now.queries ≤ 1 }
-    ensures { IfOk result (λ messages. SendsKnown road zone.now differences.now request.now
+    ensures { IfOk result (λ messages. SendsKnown transport zone.now differences.now request.now
         (map (λ bytes. bytes.items) messages.items)) }
 {
-    match road {
-        Road::Stream => differences_or_failure(alloc, zone, differences, request, road),
-        Road::Datagram(_) => differences_or_start(alloc, zone, differences, request, road),
+    match transport {
+        Transport::Stream => differences_or_failure(alloc, zone, differences, request, transport),
+        Transport::Datagram(_) => differences_or_start(
+            alloc,
+            zone,
+            differences,
+            request,
+            transport,
+        ),
     }
 }
 
@@ -177,16 +183,16 @@ fn reply_with_unknown(
     alloc: Global,
     zone: &Zone,
     request: &Message,
-    road: Road,
+    transport: Transport,
 ) -> Result<Vec<Vec<u8>>, AllocError>
     requires sound { IsSound request.now }
     requires few { length request.now.queries ≤ 1 }
-    ensures { IfOk result (λ messages. SendsUnknown road zone.now request.now
+    ensures { IfOk result (λ messages. SendsUnknown transport zone.now request.now
         (map (λ bytes. bytes.items) messages.items)) }
 {
-    match road {
-        Road::Stream => reply_with_zone(alloc, zone, request, road),
-        Road::Datagram(_) => start_alone(alloc, zone, request, road),
+    match transport {
+        Transport::Stream => reply_with_zone(alloc, zone, request, transport),
+        Transport::Datagram(_) => start_alone(alloc, zone, request, transport),
     }
 }
 
@@ -196,16 +202,16 @@ fn differences_or_failure(
     zone: &Zone,
     differences: &[Difference],
     request: &Message,
-    road: Road,
+    transport: Transport,
 ) -> Result<Vec<Vec<u8>>, AllocError>
     requires sound { IsSound request.now }
     requires few { length request.now.queries ≤ 1 }
-    ensures { IfOk result (λ messages. DiffersOrFails zone.now differences.now road request.now
+    ensures { IfOk result (λ messages. DiffersOrFails zone.now differences.now transport request.now
         (map (λ bytes. bytes.items) messages.items)) }
 {
     match incremental_transfer(alloc, zone, differences, request) {
         Ok(messages) => Ok(messages),
-        Err(TransferError::TooLong) => refused(alloc, request, road, ResponseCode::ServFail),
+        Err(TransferError::TooLong) => refused(alloc, request, transport, ResponseCode::ServFail),
         // The memory for a message was refused.
         Err(TransferError::Memory) => Err(AllocError),
     }
@@ -217,16 +223,16 @@ fn differences_or_start(
     zone: &Zone,
     differences: &[Difference],
     request: &Message,
-    road: Road,
+    transport: Transport,
 ) -> Result<Vec<Vec<u8>>, AllocError>
     requires sound { IsSound request.now }
     requires few { length request.now.queries ≤ 1 }
-    ensures { IfOk result (λ messages. DiffersOrStarts zone.now differences.now road request.now
+    ensures { IfOk result (λ messages. DiffersOrStarts zone.now differences.now transport request.now
         (map (λ bytes. bytes.items) messages.items)) }
 {
-    match alone(alloc, zone, differences, request, &road)? {
+    match alone(alloc, zone, differences, request, &transport)? {
         Some(messages) => Ok(messages),
-        None => start_alone(alloc, zone, request, road),
+        None => start_alone(alloc, zone, request, transport),
     }
 }
 
@@ -235,16 +241,16 @@ fn start_alone(
     alloc: Global,
     zone: &Zone,
     request: &Message,
-    road: Road,
+    transport: Transport,
 ) -> Result<Vec<Vec<u8>>, AllocError>
     requires sound { IsSound request.now }
     requires few { length request.now.queries ≤ 1 }
-    ensures { IfOk result (λ messages. StartsOrFails zone.now road request.now
+    ensures { IfOk result (λ messages. StartsOrFails zone.now transport request.now
         (map (λ bytes. bytes.items) messages.items)) }
 {
-    match alone(alloc, zone, &[], request, &road)? {
+    match alone(alloc, zone, &[], request, &transport)? {
         Some(messages) => Ok(messages),
-        None => refused(alloc, request, road, ResponseCode::ServFail),
+        None => refused(alloc, request, transport, ResponseCode::ServFail),
     }
 }
 
@@ -254,15 +260,15 @@ fn alone(
     zone: &Zone,
     differences: &[Difference],
     request: &Message,
-    road: &Road,
+    transport: &Transport,
 ) -> Result<Option<Vec<Vec<u8>>>, AllocError>
     requires { length request.now.queries ≤ 1 }
-    ensures { IfOk result (λ found. TriesAlone zone.now differences.now road.now
+    ensures { IfOk result (λ found. TriesAlone zone.now differences.now transport.now
         request.now (option_map (λ messages. map (λ bytes. bytes.items) messages.items) found)) }
 {
     match incremental_transfer(alloc, zone, differences, request) {
         Ok(messages) => {
-            if fits_alone(messages.as_slice(), limit_of(road, request)) {
+            if fits_alone(messages.as_slice(), limit_of(transport, request)) {
                 Ok(Some(messages))
             } else {
                 Ok(None)
@@ -285,12 +291,12 @@ fn fits_alone(messages: &[Vec<u8>], limit: usize) -> bool
 }
 
 /// Returns how many bytes a reply to a request may have.
-fn limit_of(road: &Road, request: &Message) -> usize
-    ensures { result ≡ reply_limit road.now request.now }
+fn limit_of(transport: &Transport, request: &Message) -> usize
+    ensures { result ≡ reply_limit transport.now request.now }
 {
-    match road {
-        Road::Datagram(limit) => usize::from(limit.value().min(request.max_payload())),
-        Road::Stream => 65_535,
+    match transport {
+        Transport::Datagram(limit) => usize::from(limit.value().min(request.max_payload())),
+        Transport::Stream => 65_535,
     }
 }
 
@@ -298,16 +304,16 @@ fn limit_of(road: &Road, request: &Message) -> usize
 fn refused(
     alloc: Global,
     request: &Message,
-    road: Road,
+    transport: Transport,
     code: ResponseCode,
 ) -> Result<Vec<Vec<u8>>, AllocError>
     requires sound { IsSound request.now }
     requires fits { code_number code < 16 }
     requires named { code_of (code_number code) ≡ code }
-    ensures { IfOk result (λ messages. IsRefusal request.now road code
+    ensures { IfOk result (λ messages. IsRefusal request.now transport code
         (map (λ bytes. bytes.items) messages.items)) }
 {
-    let bytes = bare_reply_bytes(alloc, request, code, road)?;
+    let bytes = bare_reply_bytes(alloc, request, code, transport)?;
     let mut messages = Vec::new(alloc);
     messages.push(bytes)?;
     Ok(messages)

@@ -11,7 +11,7 @@ use crate::signed_stream::sign_each;
 use crate::zone_history::ZoneHistory;
 use dns_messages::{Message, Metadata, OpCode, ResponseCode};
 use dns_tsig::{Checked, Found, Key, Verdict, sign_reply, verify_request};
-use dns_zone::{Road, Zone, bare_reply_bytes, decode_request};
+use dns_zone::{Transport, Zone, bare_reply_bytes, decode_request};
 use dns_zone_transfers::{is_transfer, reply_to_transfer};
 use std::alloc::{AllocError, Global};
 
@@ -19,7 +19,7 @@ use std::alloc::{AllocError, Global};
 #[derive(Clone, Copy, Debug, PartialEq, Eq)]
 pub struct Terms {
     /// The transport, with its limit.
-    pub road: Road,
+    pub transport: Transport,
     /// Whether the requestor may have the zones.
     pub is_permitted: bool,
     /// The time, in seconds since 1 January 1970 (UTC).
@@ -150,9 +150,9 @@ fn permitted_reply(
         terms.now request.now
         (option_map (λ messages. map (λ bytes. bytes.items) messages.items) found)) }
 {
-    let (road, is_permitted) = (terms.road, terms.is_permitted);
-    let known = histories_for(&road, checked.verdict, histories);
-    let Some(messages) = plain_reply(alloc, zones, known, request, road, is_permitted)? else {
+    let (transport, is_permitted) = (terms.transport, terms.is_permitted);
+    let known = histories_for(&transport, checked.verdict, histories);
+    let Some(messages) = plain_reply(alloc, zones, known, request, transport, is_permitted)? else {
         return Ok(None);
     };
     let messages = signed_reply(alloc, keys, request, checked, terms, messages)?;
@@ -165,31 +165,31 @@ fn plain_reply(
     zones: &[Zone],
     histories: &[ZoneHistory],
     request: &Message,
-    road: Road,
+    transport: Transport,
     is_permitted: bool,
 ) -> Result<Option<Vec<Vec<u8>>>, AllocError>
     requires { IsSound request.now }
-    ensures { IfOk result (λ found. SendsPlain zones.now histories.now road is_permitted
+    ensures { IfOk result (λ found. SendsPlain zones.now histories.now transport is_permitted
         request.now (option_map (λ messages. map (λ bytes. bytes.items) messages.items) found)) }
 {
     if is_transfer(request) {
-        let messages = reply_to_transfer(alloc, zones, request, road, is_permitted)?;
+        let messages = reply_to_transfer(alloc, zones, request, transport, is_permitted)?;
         return Ok(Some(messages));
     }
-    reply_to_incremental(alloc, zones, histories, request, road, is_permitted)
+    reply_to_incremental(alloc, zones, histories, request, transport, is_permitted)
 }
 
 /// Returns the histories by which a request with a verdict is answered: none in a datagram that is signed.
 fn histories_for<'a>(
-    road: &Road,
+    transport: &Transport,
     verdict: Verdict,
     histories: &'a [ZoneHistory],
 ) -> &'a [ZoneHistory]
-    ensures { result.now ≡ histories_for road.now verdict histories.now }
+    ensures { result.now ≡ histories_for transport.now verdict histories.now }
 {
-    match road {
-        Road::Stream => histories,
-        Road::Datagram(_) => unless_signed(verdict, histories),
+    match transport {
+        Transport::Stream => histories,
+        Transport::Datagram(_) => unless_signed(verdict, histories),
     }
 }
 
@@ -214,7 +214,7 @@ fn signed_reply(
 ) -> Result<Vec<Vec<u8>>, AllocError>
     requires { IsSound request.now }
     ensures { IfOk result (λ signed. SignsWith (verified_key keys.now checked.now.verdict) keys.now
-        checked.now terms.now.time terms.now.road request.now
+        checked.now terms.now.time terms.now.transport request.now
         (map (λ bytes. bytes.items) messages.items) (map (λ bytes. bytes.items) signed.items)) }
 {
     let Some(key) = verified_key(keys, checked.verdict) else {
@@ -261,7 +261,7 @@ fn refused(
     requires fits { code_number code < 16 }
     requires named { code_of (code_number code) ≡ code }
     ensures { IfOk result (λ messages. IsSignedAlone keys.now checked.now terms.now.time
-        terms.now.road request.now code (map (λ bytes. bytes.items) messages.items)) }
+        terms.now.transport request.now code (map (λ bytes. bytes.items) messages.items)) }
 {
     let bytes = signed_refusal(alloc, keys, request, checked, terms, code)?;
     let mut messages = Vec::new(alloc);
@@ -281,10 +281,10 @@ fn signed_refusal(
     requires sound { IsSound request.now }
     requires fits { code_number code < 16 }
     requires named { code_of (code_number code) ≡ code }
-    ensures { IfOk result (λ out. IsSignedRefusal keys.now checked.now terms.now.time terms.now.road
+    ensures { IfOk result (λ out. IsSignedRefusal keys.now checked.now terms.now.time terms.now.transport
         request.now code out.items) }
 {
-    let mut message = bare_reply_bytes(alloc, request, code, terms.road)?;
+    let mut message = bare_reply_bytes(alloc, request, code, terms.transport)?;
     match sign_reply(alloc, keys, checked, &mut message, terms.time) {
         Ok(_code) => Ok(message),
         // Memory for the signature was refused: the reply has a header and room for a record, and its key is there.

@@ -39,7 +39,7 @@ fn incremental_of(queries: &[Query]) -> Option<&Query>
 fn if_incremental(query: &Query) -> Option<&Query>
     ensures { option_copied result ≡ if_incremental query.now }
 {
-    if query.query_type.is_same(RecordType::IXFR) {
+    if query.query_type == RecordType::IXFR {
         Some(query)
     } else {
         None
@@ -50,7 +50,7 @@ fn if_incremental(query: &Query) -> Option<&Query>
 pub(crate) fn zone_at<'a>(zones: &'a [Zone], query: &Query) -> Option<&'a Zone>
     ensures { option_copied result ≡ zone_at zones.now query.now }
 {
-    if !query.query_class.is_same(DNSClass::IN) {
+    if query.query_class != DNSClass::IN {
         return None;
     }
     zone_of(zones, &query.name)

@@ -185,7 +185,7 @@ pub fn end_key(name: &Name) -> SetKey
 fn type_code(record_type: RecordType) -> u32
     ensures { result ≡ type_code record_type }
 {
-    if record_type.is_same(RecordType::SOA) {
+    if record_type == RecordType::SOA {
         return 0;
     }
     u32::from(u16::from(record_type)) + 1

@@ -21,7 +21,7 @@ pub fn is_in_class(dns_class: DNSClass) -> bool
 pub fn is_of_type(record_type: RecordType, resource_record: &Record) -> bool
     ensures { result ≡ is_of_type record_type resource_record.now }
 {
-    record_type.is_same(resource_record.record_type())
+    record_type == resource_record.record_type()
 }
 
 /// Returns `true` if a record has data.

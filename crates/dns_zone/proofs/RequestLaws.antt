@@ -19,7 +19,7 @@ use Rattle.dns_zone.specs.Section.{borrowed_answer}
 use Rattle.dns_zone.specs.Serving.{bare_reply, reply_limit}
 use Rattle.dns_zone.specs.Request.{IsEncodedReply, only_query, repeated_by_code, repeated_queries, reply_without_zone}
 use Rattle.dns_zone.specs.declared.zone.answer.AnswerRef.{AnswerRef}
-use Rattle.dns_zone.specs.declared.road.Road.{Road}
+use Rattle.dns_zone.specs.declared.transport.Transport.{Transport}
 use Rattle.dns_zone.proofs.ServingLaws.{bare_fits, bare_sound}
 
 -- ---- header and question fit every datagram
@@ -85,9 +85,9 @@ is_without m code queries a one e = λ i. record (bare_reply m (e i).code) { que
 
 -- ---- its bytes
 
-pub encoded : (road : Road) (m whole is : Message) (limit : ℕ) (out : List ℕ) → whole ≡ is → limit ≡ reply_limit road m
-    → IsSound whole → Encodes limit whole out → IsEncodedReply is road m out
-encoded road m whole is limit out w l sound encodes = record {
+pub encoded : (transport : Transport) (m whole is : Message) (limit : ℕ) (out : List ℕ) → whole ≡ is → limit ≡ reply_limit transport m
+    → IsSound whole → Encodes limit whole out → IsEncodedReply is transport m out
+encoded transport m whole is limit out w l sound encodes = record {
   form_is = encodes.form_is ∙ (λ i. cut_form (l i) (w i));
   decodes = subst (ReadsMessage out) (λ i. cut (l i) (w i)) (encodes.decodes sound);
   within = subst (λ (most : ℕ). length out ≤ most) l encodes.within;

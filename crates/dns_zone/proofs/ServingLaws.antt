@@ -27,7 +27,7 @@ use Rattle.dns_zone.specs.Answer.{answer, IsSoundAnswer}
 use Rattle.dns_zone.specs.Section.{borrowed_answer}
 use Rattle.dns_zone.specs.Serving.{is_query, has_query_header, bare_reply, query_reply, reply_metadata, reply_edns, reply_to_queries, reply_by_code, reply, reply_limit, IsReplyTo}
 use Rattle.dns_zone.specs.declared.zone.answer.AnswerRef.{AnswerRef}
-use Rattle.dns_zone.specs.declared.road.Road.{Road}
+use Rattle.dns_zone.specs.declared.transport.Transport.{Transport}
 
 -- ---- the header
 
@@ -145,9 +145,9 @@ is_reply zone m q op one = sym (ap (reply_by_code zone m) op ∙ ap (reply_to_qu
 
 -- ---- the bytes of the reply
 
-pub replied : (zone : ZoneContent) (road : Road) (m whole : Message) (limit : ℕ) (out : List ℕ) → whole ≡ reply zone m → limit ≡ reply_limit road m
-    → IsSound whole → Encodes limit whole out → IsReplyTo zone road m out
-replied zone road m whole limit out w l sound encodes = record {
+pub replied : (zone : ZoneContent) (transport : Transport) (m whole : Message) (limit : ℕ) (out : List ℕ) → whole ≡ reply zone m → limit ≡ reply_limit transport m
+    → IsSound whole → Encodes limit whole out → IsReplyTo zone transport m out
+replied zone transport m whole limit out w l sound encodes = record {
   form_is = encodes.form_is ∙ (λ i. cut_form (l i) (w i));
   decodes = subst (ReadsMessage out) (λ i. cut (l i) (w i)) (encodes.decodes sound);
   within = subst (λ (most : ℕ). length out ≤ most) l encodes.within;

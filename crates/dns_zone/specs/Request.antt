@@ -9,7 +9,7 @@ use Rattle.dns_messages.specs.declared.message.Message.{Message}
 use Rattle.dns_messages.specs.Cut.{cut, cut_form}
 use Rattle.dns_messages.specs.Grammar.{ReadsMessage}
 use Rattle.dns_messages.specs.Sound.{IsSound}
-use Rattle.dns_zone.specs.declared.road.Road.{Road}
+use Rattle.dns_zone.specs.declared.transport.Transport.{Transport}
 use Rattle.dns_zone.specs.Serving.{bare_reply, reply_limit}
 
 -- bytes are the encoding of a request
@@ -42,7 +42,7 @@ abbrev pub reply_without_zone : Message → ResponseCode → Message
 reply_without_zone m code = record (bare_reply m code) { queries = repeated_queries m }
 
 -- The bytes are the encoding of what is left of a reply to a request, decode to it, and are within its limit.
-pub record IsEncodedReply (whole : Message) (road : Road) (m : Message) (out : List ℕ) : Type 0 where
-  pub form_is : out ≡ cut_form (reply_limit road m) whole
-  pub decodes : ReadsMessage out (cut (reply_limit road m) whole)
-  pub within : length out ≤ reply_limit road m
+pub record IsEncodedReply (whole : Message) (transport : Transport) (m : Message) (out : List ℕ) : Type 0 where
+  pub form_is : out ≡ cut_form (reply_limit transport m) whole
+  pub decodes : ReadsMessage out (cut (reply_limit transport m) whole)
+  pub within : length out ≤ reply_limit transport m

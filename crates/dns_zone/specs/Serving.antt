@@ -9,8 +9,8 @@ use Rattle.dns_messages.specs.declared.header.Metadata.{Metadata}
 use Rattle.dns_messages.specs.declared.edns.Edns.{Edns}
 use Rattle.dns_messages.specs.declared.query.Query.{Query}
 use Rattle.dns_messages.specs.declared.message.Message.{Message}
-use Rattle.dns_zone.specs.declared.road.Road.{Road}
-use Rattle.dns_zone.specs.declared.road.Road.TheVariants.{Datagram, Stream}
+use Rattle.dns_zone.specs.declared.transport.Transport.{Transport}
+use Rattle.dns_zone.specs.declared.transport.Transport.TheVariants.{Datagram, Stream}
 use Rattle.dns_zone.specs.Rows.{ZoneContent}
 use Rattle.dns_zone.specs.declared.zone.answer.Answer.{Answer}
 use Rattle.dns_zone.specs.declared.zone.reply.ReplyRef.{ReplyRef}
@@ -111,19 +111,19 @@ borrowed_reply r = record {
 
 -- The maximum size of a reply: in a datagram, what the request announces, at least 512 (RFC 6891 section 6.2.3), and no more
 -- than the server's own maximum; in a stream, 65,535 (RFC 1035 sections 4.2.1 and 4.2.2).
-abbrev pub reply_limit : Road → Message → ℕ
+abbrev pub reply_limit : Transport → Message → ℕ
 reply_limit (Datagram limit) m = min limit (payload_of m.edns)
 reply_limit Stream m = 65535
 
 -- what is left of the reply under its limit
-abbrev pub sent_reply : ZoneContent → Road → Message → Message
-sent_reply zone road m = cut (reply_limit road m) (reply zone m)
+abbrev pub sent_reply : ZoneContent → Transport → Message → Message
+sent_reply zone transport m = cut (reply_limit transport m) (reply zone m)
 
 -- The bytes are the encoding of what is left of the reply to a request, decode to it, and are within its limit.
-pub record IsReplyTo (zone : ZoneContent) (road : Road) (m : Message) (out : List ℕ) : Type 0 where
-  pub form_is : out ≡ cut_form (reply_limit road m) (reply zone m)
-  pub decodes : ReadsMessage out (sent_reply zone road m)
-  pub within : length out ≤ reply_limit road m
+pub record IsReplyTo (zone : ZoneContent) (transport : Transport) (m : Message) (out : List ℕ) : Type 0 where
+  pub form_is : out ≡ cut_form (reply_limit transport m) (reply zone m)
+  pub decodes : ReadsMessage out (sent_reply zone transport m)
+  pub within : length out ≤ reply_limit transport m
 
 -- the zone after an update with this response code: only NoError changes its rows
 abbrev pub zone_by_code : ZoneContent → Message → ResponseCode → ZoneContent
@@ -140,15 +140,15 @@ abbrev pub zone_after : ZoneContent → Message → ZoneContent
 zone_after zone m = zone_by_op zone m m.metadata.op_code
 
 -- the bytes are a query, out is its reply, and after is the zone that it leaves
-pub record AreServed (zone : ZoneContent) (road : Road) (bytes out : List ℕ) (after : ZoneContent) : Type 0 where
+pub record AreServed (zone : ZoneContent) (transport : Transport) (bytes out : List ℕ) (after : ZoneContent) : Type 0 where
   pub request : Message
   pub reads : ReadsMessage bytes request
   pub asks : request.metadata.message_type ≡ kinds.Query
-  pub replied : IsReplyTo zone road request out
+  pub replied : IsReplyTo zone transport request out
   pub after_is : after ≡ zone_after zone request
 
 -- Every query has a reply. Only bytes that do not decode, and responses, have none, and leave the zone unchanged.
-abbrev pub Serves : ZoneContent → Road → List ℕ → Option (List ℕ) → ZoneContent → Type 0
-Serves zone road bytes None after =
+abbrev pub Serves : ZoneContent → Transport → List ℕ → Option (List ℕ) → ZoneContent → Type 0
+Serves zone transport bytes None after =
     (after ≡ zone) × ((m : Message) → ReadsMessage bytes m → m.metadata.message_type ≡ kinds.Response)
-Serves zone road bytes (Some out) after = AreServed zone road bytes out after
+Serves zone transport bytes (Some out) after = AreServed zone transport bytes out after

@@ -6,16 +6,17 @@
 //! - `zone`: zones; `zone::load`: the zone of a zone file; `zone::display`: the zone file of a zone; `zone::answer`: its
 //!   answers; `zone::chain`: those along alias chains; `zone::lookup`: its records, by owner and type; `zone::serve`: its
 //!   replies;
-//! - `sets`: record sets; `rows`: their records; `road`: the transports of a message;
+//! - `sets`: record sets; `rows`: their records; `transport`: the transports of a message;
 //! - `laws`: theorems about the definitions of this crate.
 #![tactic(auto)]
 
 pub mod laws;
-mod road;
 mod rows;
 mod sets;
+mod transport;
 mod zone;
 
-pub use road::{DatagramLimit, LimitTooSmall, Road};
 pub use sets::Sets;
+// `Road` is the former name of `Transport`.
+pub use transport::{DatagramLimit, LimitTooSmall, Transport, Transport as Road};
 pub use zone::{Answer, Zone, ZoneFault, bare_reply_bytes, decode_request};

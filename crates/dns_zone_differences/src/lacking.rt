@@ -85,7 +85,7 @@ fn is_same(other: &Record, owner: &Name, stored: &Record) -> bool
 fn is_at(other: &Record, owner: &Name, record_type: RecordType) -> bool
     ensures { result ≡ eq_by_cmp key_cmp (key_of other.now) (key owner.now.labels record_type) }
 {
-    other.name.eq_ignore_root(owner) && other.record_type().is_same(record_type)
+    other.name.eq_ignore_root(owner) && other.record_type() == record_type
 }
 
 /// Returns `true` if two records have the same TTL, and equal data.

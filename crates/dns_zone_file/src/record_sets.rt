@@ -101,9 +101,7 @@ impl RecordSets {
             .index
             .get(&resource_record.name, resource_record.record_type())
         {
-            Some(place) => !self.sets[place]
-                .dns_class()
-                .is_same(resource_record.dns_class),
+            Some(place) => self.sets[place].dns_class() != resource_record.dns_class,
             None => false,
         }
     }

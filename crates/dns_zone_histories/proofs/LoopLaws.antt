@@ -5,7 +5,7 @@ use Rattle.dns_differences.specs.declared.history.Limits.{Limits}
 use Rattle.dns_transfer_replies.specs.declared.zone_history.ZoneHistory.{ZoneHistory}
 use Rattle.dns_server.specs.Server.{Responds}
 use Rattle.dns_server.specs.declared.updates.Updates.TheVariants as may
-use Rattle.dns_zone.specs.declared.road.Road.TheVariants as roads
+use Rattle.dns_zone.specs.declared.transport.Transport.TheVariants as transports
 use Rattle.dns_zone.specs.Rows.{ZoneContent}
 use Rattle.std.specs.List.{HoldsAt}
 use Rattle.std.specs.Option.{option_copied}
@@ -99,7 +99,7 @@ raise_is zones w x o found same at is =
 
 -- an update that is made as bytes
 pub made_by : (zones after : List ZoneContent) (sent bytes : List ℕ) (reply : Option (List ℕ)) → sent ≡ bytes
-    → Responds zones roads.Stream may.Allowed sent reply after → IsMade zones bytes after
+    → Responds zones transports.Stream may.Allowed sent reply after → IsMade zones bytes after
 made_by zones after sent bytes reply same responds = subst (λ (b : List ℕ). IsMade zones b after) same (reply, responds)
 
 -- ---- if memory was refused for one of both

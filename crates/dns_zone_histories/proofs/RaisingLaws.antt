@@ -16,7 +16,7 @@ use Rattle.dns_server.specs.Zones.{has_origin, is_at, AreServable}
 use Rattle.dns_server.specs.declared.updates.Updates.TheVariants as may
 use Rattle.dns_zone.specs.Request.{IsRequest}
 use Rattle.dns_zone.specs.Rows.{ZoneContent, rows_at, IsZone}
-use Rattle.dns_zone.specs.declared.road.Road.TheVariants as roads
+use Rattle.dns_zone.specs.declared.transport.Transport.TheVariants as transports
 use Rattle.dns_zone_serials.specs.NamedSet.{has_changed}
 use Rattle.dns_zone_serials.specs.Raise.{due_serial, RaisesRows, RaisesTo}
 use Rattle.dns_zone_serials.specs.declared.named_rows.NamedRows.{NamedRows}
@@ -153,7 +153,7 @@ module _ (zones : List ZoneContent) (watched : List WatchedZone) (servable : Are
   AreRequests from after = (ms : List Message) × (AreLeft from ms after × AreRaising zones watched ms)
 
   one_made : (from mid after : List ZoneContent) (bytes : List ℕ) (reply : Option (List ℕ)) → ((m : Message) → IsRequest bytes m → IsRaising zones watched m)
-      → Responds from roads.Stream may.Allowed bytes reply mid → AreRequests mid after → AreRequests from after
+      → Responds from transports.Stream may.Allowed bytes reply mid → AreRequests mid after → AreRequests from after
   one_made from mid after bytes None is responds rest = subst (λ (zs : List ZoneContent). AreRequests zs after) responds.0 rest
   one_made from mid after bytes (Some out) is served rest = (
     served.request ∷ rest.0,

@@ -6,7 +6,7 @@ use Rattle.dns_names.specs.Compare.{same_labels}
 use Rattle.dns_server.specs.Server.{Responds, zones_after}
 use Rattle.dns_server.specs.declared.updates.Updates.{Updates}
 use Rattle.dns_server.specs.declared.updates.Updates.TheVariants as may
-use Rattle.dns_zone.specs.declared.road.Road.TheVariants as roads
+use Rattle.dns_zone.specs.declared.transport.Transport.TheVariants as transports
 use Rattle.dns_zone.specs.Rows.{ZoneContent}
 use Rattle.dns_zone_serials.specs.NamedSet.{has_changed}
 use Rattle.dns_zone_serials.specs.Raise.{Raises}
@@ -55,7 +55,7 @@ AreRaises zones (w ∷ watched) raises =
 
 -- zones after an update that the server makes itself
 abbrev pub IsMade : List ZoneContent → List ℕ → List ZoneContent → Type 0
-IsMade zones bytes after = (reply : Option (List ℕ)) × Responds zones roads.Stream may.Allowed bytes reply after
+IsMade zones bytes after = (reply : Option (List ℕ)) × Responds zones transports.Stream may.Allowed bytes reply after
 
 -- zones after such updates, one after another
 abbrev pub AreMade : List ZoneContent → List (List ℕ) → List ZoneContent → Type 0

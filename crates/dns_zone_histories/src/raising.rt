@@ -7,7 +7,7 @@ ghost use Rattle.dns_zone_histories.specs.Requests.{AreMade, AreRaised, AreRaise
 use crate::watch::Watch;
 use crate::watched_zone::WatchedZone;
 use dns_server::{Server, Updates};
-use dns_zone::{Road, Zone};
+use dns_zone::{Transport, Zone};
 use dns_zone_serials::NamedRows;
 use std::alloc::{AllocError, Global};
 
@@ -92,7 +92,7 @@ fn make_all(server: &mut Server, raises: &[Vec<u8>]) -> Result<(), AllocError>
 {
     let mut rest = raises;
     while let [next, more @ ..] = rest {
-        let _reply = server.respond(next.as_slice(), Road::Stream, Updates::Allowed)?;
+        let _reply = server.respond(next.as_slice(), Transport::Stream, Updates::Allowed)?;
         rest = more;
     }
     Ok(())

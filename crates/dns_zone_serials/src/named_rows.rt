@@ -68,7 +68,7 @@ impl NamedRows {
         ensures serial { self.new.serial ≡ self.old.serial }
     {
         let record_type = change.record_type();
-        if record_type.is_same(RecordType::ANY) {
+        if record_type == RecordType::ANY {
             let types = zone.types_at(&change.name)?;
             return self.add_sets(zone, &change.name, types.as_slice());
         }

@@ -4,7 +4,7 @@ use Rattle.dns_messages.specs.declared.message.Message.{Message}
 use Rattle.dns_messages.specs.declared.op_code.OpCode.{OpCode}
 use Rattle.dns_messages.specs.declared.op_code.OpCode.TheVariants as ops
 use Rattle.dns_messages.specs.Encoding.{Encodes}
-use Rattle.dns_zone.specs.declared.road.Road.{Road}
+use Rattle.dns_zone.specs.declared.transport.Transport.{Transport}
 use Rattle.dns_zone.specs.Rows.{ZoneContent}
 use Rattle.dns_zone.specs.Serving.{reply_limit}
 use Rattle.dns_server.specs.Server.{IsReplyBy, route}
@@ -22,17 +22,17 @@ answering_for answering ops.Update = Plain
 answering_for answering other = answering
 
 -- The bytes are what is sent of the reply to a request by all zones (RFC 1034 section 4.3.2).
-abbrev pub IsWholeReply : AnyAnswer → List ZoneContent → Road → Message → List ℕ → Type 0
-IsWholeReply any zones road m out = Encodes (reply_limit road m) (sent (reply_limit road m) (reply any zones m)) out
+abbrev pub IsWholeReply : AnyAnswer → List ZoneContent → Transport → Message → List ℕ → Type 0
+IsWholeReply any zones transport m out = Encodes (reply_limit transport m) (sent (reply_limit transport m) (reply any zones m)) out
 
 -- The bytes are the reply to a request in one of the two ways.
-abbrev pub IsReplyIn : Answering → Updates → List ZoneContent → Road → Message → List ℕ → Type 0
-IsReplyIn Plain updates zones road m out = IsReplyBy zones (route updates zones m) road m out
-IsReplyIn (Whole any) updates zones road m out = IsWholeReply any zones road m out
+abbrev pub IsReplyIn : Answering → Updates → List ZoneContent → Transport → Message → List ℕ → Type 0
+IsReplyIn Plain updates zones transport m out = IsReplyBy zones (route updates zones m) transport m out
+IsReplyIn (Whole any) updates zones transport m out = IsWholeReply any zones transport m out
 
 -- The bytes are the reply to a request.
-abbrev pub IsServiceReply : Answering → Updates → List ZoneContent → Road → Message → List ℕ → Type 0
-IsServiceReply answering updates zones road m out = IsReplyIn (answering_for answering m.metadata.op_code) updates zones road m out
+abbrev pub IsServiceReply : Answering → Updates → List ZoneContent → Transport → Message → List ℕ → Type 0
+IsServiceReply answering updates zones transport m out = IsReplyIn (answering_for answering m.metadata.op_code) updates zones transport m out
 
 -- What is sent for bytes that are not a request: nothing, or FormErr for the header of a query.
 abbrev pub IsReplyToOther : Answering → List ℕ → Option (List ℕ) → Type 0

@@ -11,7 +11,7 @@ use dns_authority::{AnyAnswer, AuthorityView};
 use dns_authority_server::{respond_to, respond_to_other};
 use dns_messages::{Message, OpCode};
 use dns_server::{Server, Updates};
-use dns_zone::Road;
+use dns_zone::Transport;
 use std::alloc::{AllocError, Global};
 
 /// How requests are answered that are not updates.
@@ -33,20 +33,20 @@ impl Answering {
         alloc: Global,
         server: &mut Server,
         request: &Message,
-        road: Road,
+        transport: Transport,
         updates: Updates,
     ) -> Result<Vec<u8>, AllocError>
         requires { IsSound request.now }
         ensures reply { IfOk result (λ out.
-            IsServiceReply self updates server.old road request.now out.items) }
+            IsServiceReply self updates server.old transport request.now out.items) }
         ensures ok { OnOk result (server.new ≡ zones_after updates server.old request.now) }
         ensures err { OnErr result (server.new ≡ server.old) }
         ensures servable { AreServable server.new }
     {
         match self.for_code(request.metadata.op_code) {
-            Answering::Plain => server.respond_to(request, road, updates),
+            Answering::Plain => server.respond_to(request, transport, updates),
             Answering::Whole(any) => {
-                let reply = whole_reply(alloc, server, any, request, road)?;
+                let reply = whole_reply(alloc, server, any, request, transport)?;
                 Ok(reply)
             }
         }
@@ -86,15 +86,15 @@ fn whole_reply(
     server: &Server,
     any: AnyAnswer,
     request: &Message,
-    road: Road,
+    transport: Transport,
 ) -> Result<Vec<u8>, AllocError>
     ensures reply { IfOk result (λ out.
-        IsWholeReply any server.now road request.now out.items) }
+        IsWholeReply any server.now transport request.now out.items) }
     ensures servable { AreServable server.now }
 {
     let authority = AuthorityView {
         zones: server.zones(),
         any,
     };
-    respond_to(alloc, &authority, request, road)
+    respond_to(alloc, &authority, request, transport)
 }

@@ -12,7 +12,7 @@ use Rattle.dns_messages.specs.declared.message.Message.{Message}
 use Rattle.dns_messages.specs.declared.response_code.ResponseCode.{ResponseCode}
 use Rattle.dns_zone.specs.Rows.{ZoneContent}
 use Rattle.dns_zone.specs.Request.{reply_without_zone, DecodesRequest, IsEncodedReply, IsRequest}
-use Rattle.dns_zone.specs.declared.road.Road.{Road}
+use Rattle.dns_zone.specs.declared.transport.Transport.{Transport}
 use Rattle.dns_zone_transfers.specs.Request.{asked_by, if_transfer, is_transfer, only, refusal, zone_at}
 use Rattle.dns_zone_transfers.specs.Reply.{IsRefusal, IsReply, IsReplyBy, IsReplyFor, Transfers, TransfersTo}
 
@@ -51,25 +51,25 @@ pub some_copied : {X : Type 0} (found : Option (Bor X)) → is_some found ≡ is
 some_copied None = refl
 some_copied (Some x) = refl
 
-pub refused_by : (m : Message) (road : Road) (code : ResponseCode) (messages : List (Vec ℕ)) (bytes : Vec ℕ) → messages ≡ bytes ∷ [] → IsEncodedReply (reply_without_zone m code) road m bytes.items
-    → IsRefusal m road code (map (λ (b : Vec ℕ). b.items) messages)
-refused_by m road code messages bytes e h = subst (λ (l : List (Vec ℕ)). IsRefusal m road code (map (λ (b : Vec ℕ). b.items) l)) (sym e) h
+pub refused_by : (m : Message) (transport : Transport) (code : ResponseCode) (messages : List (Vec ℕ)) (bytes : Vec ℕ) → messages ≡ bytes ∷ [] → IsEncodedReply (reply_without_zone m code) transport m bytes.items
+    → IsRefusal m transport code (map (λ (b : Vec ℕ). b.items) messages)
+refused_by m transport code messages bytes e h = subst (λ (l : List (Vec ℕ)). IsRefusal m transport code (map (λ (b : Vec ℕ). b.items) l)) (sym e) h
 
 -- the messages for a question, by the zone that was found and why it is refused
-pub replied : (zones : List ZoneContent) (road : Road) (is_permitted : Bool) (m : Message) (q : Query) (found : Option ZoneContent) (code : Option ResponseCode) (messages : List (List ℕ)) → Some q ≡ asked_by m.metadata.op_code m.queries → found ≡ zone_at zones q
-    → code ≡ refusal road is_permitted (is_some found) → IsReplyBy code found road m messages → IsReply zones road is_permitted m messages
-replied zones road is_permitted m q found code messages e f g h =
-    subst (λ (o : Option Query). IsReplyFor o zones road is_permitted m messages) e
-    (subst (λ (z : Option ZoneContent). IsReplyBy (refusal road is_permitted (is_some z)) z road m messages) f
-    (subst (λ (k : Option ResponseCode). IsReplyBy k found road m messages) g h))
+pub replied : (zones : List ZoneContent) (transport : Transport) (is_permitted : Bool) (m : Message) (q : Query) (found : Option ZoneContent) (code : Option ResponseCode) (messages : List (List ℕ)) → Some q ≡ asked_by m.metadata.op_code m.queries → found ≡ zone_at zones q
+    → code ≡ refusal transport is_permitted (is_some found) → IsReplyBy code found transport m messages → IsReply zones transport is_permitted m messages
+replied zones transport is_permitted m q found code messages e f g h =
+    subst (λ (o : Option Query). IsReplyFor o zones transport is_permitted m messages) e
+    (subst (λ (z : Option ZoneContent). IsReplyBy (refusal transport is_permitted (is_some z)) z transport m messages) f
+    (subst (λ (k : Option ResponseCode). IsReplyBy k found transport m messages) g h))
 
 -- a reply with a code is the one that the refusal asks for
-pub by_refusal : {E : Type 0} (m : Message) (road : Road) (is_permitted : Bool) (found : Option ZoneContent) (code : ResponseCode) (r : Result (Vec (Vec ℕ)) E) → Some code ≡ refusal road is_permitted (is_some found)
-    → IfOk r (λ messages. IsRefusal m road code (map (λ (b : Vec ℕ). b.items) messages.items))
-    → IfOk r (λ messages. IsReplyBy (refusal road is_permitted (is_some found)) found road m (map (λ (b : Vec ℕ). b.items) messages.items))
-by_refusal m road is_permitted found code (Ok messages) e h =
-    subst (λ (o : Option ResponseCode). IsReplyBy o found road m (map (λ (b : Vec ℕ). b.items) messages.items)) e h
-by_refusal m road is_permitted found code (Err error) e h = tt
+pub by_refusal : {E : Type 0} (m : Message) (transport : Transport) (is_permitted : Bool) (found : Option ZoneContent) (code : ResponseCode) (r : Result (Vec (Vec ℕ)) E) → Some code ≡ refusal transport is_permitted (is_some found)
+    → IfOk r (λ messages. IsRefusal m transport code (map (λ (b : Vec ℕ). b.items) messages.items))
+    → IfOk r (λ messages. IsReplyBy (refusal transport is_permitted (is_some found)) found transport m (map (λ (b : Vec ℕ). b.items) messages.items))
+by_refusal m transport is_permitted found code (Ok messages) e h =
+    subst (λ (o : Option ResponseCode). IsReplyBy o found transport m (map (λ (b : Vec ℕ). b.items) messages.items)) e h
+by_refusal m transport is_permitted found code (Err error) e h = tt
 
 -- ---- bytes
 
@@ -77,18 +77,18 @@ abbrev bytes_of : Option (Vec (Vec ℕ)) → Option (List (List ℕ))
 bytes_of found = option_map {T = Vec (Vec ℕ)} {U = List (List ℕ)} (λ messages. map (λ (b : Vec ℕ). b.items) messages.items) found
 
 -- the message that bytes are decides
-pub by_bytes : {E : Type 0} (zones : List ZoneContent) (road : Road) (is_permitted : Bool) (bytes : List ℕ) (m : Message) (request : Option Message) → request ≡ Some m → DecodesRequest bytes request
+pub by_bytes : {E : Type 0} (zones : List ZoneContent) (transport : Transport) (is_permitted : Bool) (bytes : List ℕ) (m : Message) (request : Option Message) → request ≡ Some m → DecodesRequest bytes request
     → ((a b : Message) → ReadsMessage bytes a → ReadsMessage bytes b → a ≡ b) → (r : Result (Option (Vec (Vec ℕ))) E)
-    → IfOk r (λ found. TransfersTo zones road is_permitted m (bytes_of found)) → IfOk r (λ found. Transfers zones road is_permitted bytes (bytes_of found))
-by_bytes zones road is_permitted bytes m request e decodes same (Ok found) h = at found h
+    → IfOk r (λ found. TransfersTo zones transport is_permitted m (bytes_of found)) → IfOk r (λ found. Transfers zones transport is_permitted bytes (bytes_of found))
+by_bytes zones transport is_permitted bytes m request e decodes same (Ok found) h = at found h
   where
     is_request : IsRequest bytes m
     is_request = subst (DecodesRequest bytes) e decodes
 
-    at : (found : Option (Vec (Vec ℕ))) → TransfersTo zones road is_permitted m (bytes_of found) → Transfers zones road is_permitted bytes (bytes_of found)
+    at : (found : Option (Vec (Vec ℕ))) → TransfersTo zones transport is_permitted m (bytes_of found) → Transfers zones transport is_permitted bytes (bytes_of found)
     at None other = λ n is. ap is_transfer (same n m is.reads is_request.reads) ∙ other
     at (Some messages) found = (m, (is_request, found))
-by_bytes zones road is_permitted bytes m request e decodes same (Err error) h = tt
+by_bytes zones transport is_permitted bytes m request e decodes same (Err error) h = tt
 
 -- bytes that are no request are none for a transfer
 pub no_request : (bytes : List ℕ) (request : Option Message) → request ≡ None → DecodesRequest bytes request → (m : Message) → IsRequest bytes m → is_transfer m ≡ false

@@ -9,15 +9,15 @@ use Rattle.dns_transfers.specs.Sending.{start, CannotSend, SendsAll}
 use Rattle.dns_zone.specs.Lookup.{AreSetsOf}
 use Rattle.dns_zone.specs.Request.{reply_without_zone, IsEncodedReply, IsRequest}
 use Rattle.dns_zone.specs.Rows.{ZoneContent}
-use Rattle.dns_zone.specs.declared.road.Road.{Road}
+use Rattle.dns_zone.specs.declared.transport.Transport.{Transport}
 use Rattle.dns_zone_transfers.specs.Request.{asked_by, is_transfer, refusal, zone_at}
 use Rattle.dns_zone_transfers.specs.ZoneRecords.{transfer_records}
 
 -- one message, with a code and no records
-abbrev pub IsRefusal : Message → Road → ResponseCode → List (List ℕ) → Type 0
-IsRefusal m road code [] = ⊥
-IsRefusal m road code (bytes ∷ []) = IsEncodedReply (reply_without_zone m code) road m bytes
-IsRefusal m road code (bytes ∷ other ∷ more) = ⊥
+abbrev pub IsRefusal : Message → Transport → ResponseCode → List (List ℕ) → Type 0
+IsRefusal m transport code [] = ⊥
+IsRefusal m transport code (bytes ∷ []) = IsEncodedReply (reply_without_zone m code) transport m bytes
+IsRefusal m transport code (bytes ∷ other ∷ more) = ⊥
 
 -- the messages have the records of a zone, in the order of a transfer
 pub record IsTransfer (zone : ZoneContent) (m : Message) (messages : List (List ℕ)) : Type 0 where
@@ -32,35 +32,35 @@ pub record HasNoRoom (zone : ZoneContent) (m : Message) : Type 0 where
   pub stuck : CannotSend (start m (transfer_records zone.origin sets))
 
 -- the messages of a transfer, or, if a record has no room in a message, the one with the code ServFail
-abbrev pub TransfersOrFails : ZoneContent → Road → Message → List (List ℕ) → Type 0
-TransfersOrFails zone road m messages =
-    IsTransfer zone m messages ⊎ (HasNoRoom zone m × IsRefusal m road ServFail messages)
+abbrev pub TransfersOrFails : ZoneContent → Transport → Message → List (List ℕ) → Type 0
+TransfersOrFails zone transport m messages =
+    IsTransfer zone m messages ⊎ (HasNoRoom zone m × IsRefusal m transport ServFail messages)
 
 -- the messages for a zone that was found, or not, unless the transfer is refused
-abbrev pub IsReplyBy : Option ResponseCode → Option ZoneContent → Road → Message → List (List ℕ) → Type 0
-IsReplyBy (Some code) found road m messages = IsRefusal m road code messages
-IsReplyBy None None road m messages = ⊥
-IsReplyBy None (Some zone) road m messages = TransfersOrFails zone road m messages
+abbrev pub IsReplyBy : Option ResponseCode → Option ZoneContent → Transport → Message → List (List ℕ) → Type 0
+IsReplyBy (Some code) found transport m messages = IsRefusal m transport code messages
+IsReplyBy None None transport m messages = ⊥
+IsReplyBy None (Some zone) transport m messages = TransfersOrFails zone transport m messages
 
 -- the messages that reply to a question for a transfer
-abbrev pub IsReplyFor : Option Query → List ZoneContent → Road → Bool → Message → List (List ℕ) → Type 0
-IsReplyFor None zones road is_permitted m messages = ⊥
-IsReplyFor (Some q) zones road is_permitted m messages =
-    IsReplyBy (refusal road is_permitted (is_some (zone_at zones q))) (zone_at zones q) road m messages
+abbrev pub IsReplyFor : Option Query → List ZoneContent → Transport → Bool → Message → List (List ℕ) → Type 0
+IsReplyFor None zones transport is_permitted m messages = ⊥
+IsReplyFor (Some q) zones transport is_permitted m messages =
+    IsReplyBy (refusal transport is_permitted (is_some (zone_at zones q))) (zone_at zones q) transport m messages
 
 -- the messages that reply to a request for a transfer
-abbrev pub IsReply : List ZoneContent → Road → Bool → Message → List (List ℕ) → Type 0
-IsReply zones road is_permitted m messages =
-    IsReplyFor (asked_by m.metadata.op_code m.queries) zones road is_permitted m messages
+abbrev pub IsReply : List ZoneContent → Transport → Bool → Message → List (List ℕ) → Type 0
+IsReply zones transport is_permitted m messages =
+    IsReplyFor (asked_by m.metadata.op_code m.queries) zones transport is_permitted m messages
 
 -- a request has messages exactly if it is for a transfer
-abbrev pub TransfersTo : List ZoneContent → Road → Bool → Message → Option (List (List ℕ)) → Type 0
-TransfersTo zones road is_permitted m None = is_transfer m ≡ false
-TransfersTo zones road is_permitted m (Some messages) =
-    (is_transfer m ≡ true) × IsReply zones road is_permitted m messages
+abbrev pub TransfersTo : List ZoneContent → Transport → Bool → Message → Option (List (List ℕ)) → Type 0
+TransfersTo zones transport is_permitted m None = is_transfer m ≡ false
+TransfersTo zones transport is_permitted m (Some messages) =
+    (is_transfer m ≡ true) × IsReply zones transport is_permitted m messages
 
 -- bytes have messages exactly if they are a request for a transfer
-abbrev pub Transfers : List ZoneContent → Road → Bool → List ℕ → Option (List (List ℕ)) → Type 0
-Transfers zones road is_permitted bytes None = (m : Message) → IsRequest bytes m → is_transfer m ≡ false
-Transfers zones road is_permitted bytes (Some messages) =
-    (m : Message) × (IsRequest bytes m × ((is_transfer m ≡ true) × IsReply zones road is_permitted m messages))
+abbrev pub Transfers : List ZoneContent → Transport → Bool → List ℕ → Option (List (List ℕ)) → Type 0
+Transfers zones transport is_permitted bytes None = (m : Message) → IsRequest bytes m → is_transfer m ≡ false
+Transfers zones transport is_permitted bytes (Some messages) =
+    (m : Message) × (IsRequest bytes m × ((is_transfer m ≡ true) × IsReply zones transport is_permitted m messages))

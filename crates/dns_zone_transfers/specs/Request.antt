@@ -12,8 +12,8 @@ use Rattle.dns_messages.specs.Message.{version_of}
 use Rattle.dns_names.specs.Compare.{same_labels}
 use Rattle.dns_names.specs.Name.{DomainName}
 use Rattle.dns_zone.specs.Rows.{ZoneContent}
-use Rattle.dns_zone.specs.declared.road.Road.{Road}
-use Rattle.dns_zone.specs.declared.road.Road.TheVariants.{Datagram, Stream}
+use Rattle.dns_zone.specs.declared.transport.Transport.{Transport}
+use Rattle.dns_zone.specs.declared.transport.Transport.TheVariants.{Datagram, Stream}
 
 -- a question, if there is exactly one
 abbrev pub only : List Query → Option Query
@@ -48,7 +48,7 @@ zone_at zones q = if class_number q.query_class == 1 then zone_of zones q.name e
 
 -- Why a transfer is refused: it is not over a stream, the server is not authoritative for the zone, or the requestor may not have
 -- it.
-abbrev pub refusal : Road → Bool → Bool → Option ResponseCode
+abbrev pub refusal : Transport → Bool → Bool → Option ResponseCode
 refusal (Datagram limit) is_permitted is_known = Some FormErr
 refusal Stream is_permitted false = Some NotAuth
 refusal Stream false true = Some Refused

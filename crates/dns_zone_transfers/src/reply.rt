@@ -11,7 +11,7 @@ use crate::zone_records::ZoneRecords;
 use dns_messages::laws::messages_decode_unambiguously;
 use dns_messages::{Message, ResponseCode};
 use dns_transfers::{Transfer, TransferError};
-use dns_zone::{Road, Zone, bare_reply_bytes, decode_request};
+use dns_zone::{Transport, Zone, bare_reply_bytes, decode_request};
 use std::alloc::{AllocError, Global};
 
 /// Returns the messages of the reply to bytes that are a request for a transfer, or `None` for any others.
@@ -19,15 +19,15 @@ pub fn transfer(
     alloc: Global,
     zones: &[Zone],
     bytes: &[u8],
-    road: Road,
+    transport: Transport,
     is_permitted: bool,
 ) -> Result<Option<Vec<Vec<u8>>>, AllocError>
-    ensures { IfOk result (λ found. Transfers zones.now road is_permitted bytes.now
+    ensures { IfOk result (λ found. Transfers zones.now transport is_permitted bytes.now
         (option_map (λ messages. map (λ message. message.items) messages.items) found)) }
 {
     messages_decode_unambiguously();
     match decode_request(alloc, bytes)? {
-        Some(request) => transfer_to(alloc, zones, &request, road, is_permitted),
+        Some(request) => transfer_to(alloc, zones, &request, transport, is_permitted),
         None => Ok(None),
     }
 }
@@ -37,17 +37,17 @@ fn transfer_to(
     alloc: Global,
     zones: &[Zone],
     request: &Message,
-    road: Road,
+    transport: Transport,
     is_permitted: bool,
 ) -> Result<Option<Vec<Vec<u8>>>, AllocError>
     requires { IsSound request.now }
-    ensures { IfOk result (λ found. TransfersTo zones.now road is_permitted request.now
+    ensures { IfOk result (λ found. TransfersTo zones.now transport is_permitted request.now
         (option_map (λ messages. map (λ message. message.items) messages.items) found)) }
 {
     if !is_transfer(request) {
         return Ok(None);
     }
-    let messages = reply_to_transfer(alloc, zones, request, road, is_permitted)?;
+    let messages = reply_to_transfer(alloc, zones, request, transport, is_permitted)?;
     Ok(Some(messages))
 }
 
@@ -57,16 +57,22 @@ pub fn reply_to_transfer(
     alloc: Global,
     zones: &[Zone],
     request: &Message,
-    road: Road,
+    transport: Transport,
     is_permitted: bool,
 ) -> Result<Vec<Vec<u8>>, AllocError>
     requires sound { IsSound request.now }
     requires asks { is_transfer request.now ≡ true }
-    ensures { IfOk result (λ messages. IsReply zones.now road is_permitted request.now
+    ensures { IfOk result (λ messages. IsReply zones.now transport is_permitted request.now
         (map (λ bytes. bytes.items) messages.items)) }
 {
     match asked_by(request) {
-        Some(query) => reply_for(alloc, zone_at(zones, query), request, road, is_permitted),
+        Some(query) => reply_for(
+            alloc,
+            zone_at(zones, query),
+            request,
+            transport,
+            is_permitted,
+        ),
         None => unreachable!(),
     }
 }
@@ -76,20 +82,20 @@ fn reply_for(
     alloc: Global,
     zone: Option<&Zone>,
     request: &Message,
-    road: Road,
+    transport: Transport,
     is_permitted: bool,
 ) -> Result<Vec<Vec<u8>>, AllocError>
     requires sound { IsSound request.now }
     requires asks { is_transfer request.now ≡ true }
     ensures { IfOk result (λ messages. IsReplyBy
-        (refusal road is_permitted (is_some (option_copied zone.entry)))
-        (option_copied zone.entry) road request.now
+        (refusal transport is_permitted (is_some (option_copied zone.entry)))
+        (option_copied zone.entry) transport request.now
         (map (λ bytes. bytes.items) messages.items)) }
 {
-    match refusal(&road, is_permitted, zone.is_some()) {
-        Some(code) => refused(alloc, request, road, code),
+    match refusal(&transport, is_permitted, zone.is_some()) {
+        Some(code) => refused(alloc, request, transport, code),
         None => match zone {
-            Some(zone) => reply_with_zone(alloc, zone, request, road),
+            Some(zone) => reply_with_zone(alloc, zone, request, transport),
             None => unreachable!(),
         },
     }
@@ -101,17 +107,17 @@ pub fn reply_with_zone(
     alloc: Global,
     zone: &Zone,
     request: &Message,
-    road: Road,
+    transport: Transport,
 ) -> Result<Vec<Vec<u8>>, AllocError>
     requires sound { IsSound request.now }
     requires few { length request.now.queries ≤ 1 }
-    ensures { IfOk result (λ messages. TransfersOrFails zone.now road request.now
+    ensures { IfOk result (λ messages. TransfersOrFails zone.now transport request.now
         (map (λ bytes. bytes.items) messages.items)) }
 {
     let transfer = Transfer::new(alloc, request, ZoneRecords::new(zone));
     match transfer.into_messages() {
         Ok(messages) => Ok(messages),
-        Err(TransferError::TooLong) => refused(alloc, request, road, ResponseCode::ServFail),
+        Err(TransferError::TooLong) => refused(alloc, request, transport, ResponseCode::ServFail),
         // The memory for a message was refused.
         Err(TransferError::Memory) => Err(AllocError),
     }
@@ -121,16 +127,16 @@ pub fn reply_with_zone(
 fn refused(
     alloc: Global,
     request: &Message,
-    road: Road,
+    transport: Transport,
     code: ResponseCode,
 ) -> Result<Vec<Vec<u8>>, AllocError>
     requires sound { IsSound request.now }
     requires fits { code_number code < 16 }
     requires named { code_of (code_number code) ≡ code }
-    ensures { IfOk result (λ messages. IsRefusal request.now road code
+    ensures { IfOk result (λ messages. IsRefusal request.now transport code
         (map (λ bytes. bytes.items) messages.items)) }
 {
-    let bytes = bare_reply_bytes(alloc, request, code, road)?;
+    let bytes = bare_reply_bytes(alloc, request, code, transport)?;
     let mut messages = Vec::new(alloc);
     messages.push(bytes)?;
     Ok(messages)

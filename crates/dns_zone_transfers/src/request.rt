@@ -7,7 +7,7 @@ ghost use Rattle.dns_zone_transfers.specs.Request.{asked_by, has_origin, if_tran
 use dns_messages::{Message, OpCode, Query, ResponseCode};
 use dns_names::Name;
 use dns_wire::{DNSClass, RecordType};
-use dns_zone::{Road, Zone};
+use dns_zone::{Transport, Zone};
 
 /// Returns `true` if a request is for a transfer: its only question is for the type AXFR, and its version of EDNS is 0 (RFC 6891
 /// section 6.1.3).
@@ -22,7 +22,7 @@ fn asks_for_transfer(request: &Message) -> bool
     ensures { result ≡ if_transfer (asked_by request.now.metadata.op_code request.now.queries) }
 {
     match asked_by(request) {
-        Some(query) => query.query_type.is_same(RecordType::AXFR),
+        Some(query) => query.query_type == RecordType::AXFR,
         None => false,
     }
 }
@@ -51,7 +51,7 @@ fn only(queries: &[Query]) -> Option<&Query>
 pub(crate) fn zone_at<'a>(zones: &'a [Zone], query: &Query) -> Option<&'a Zone>
     ensures { option_copied result ≡ zone_at zones.now query.now }
 {
-    if !query.query_class.is_same(DNSClass::IN) {
+    if query.query_class != DNSClass::IN {
         return None;
     }
     zone_of(zones, &query.name)
@@ -72,13 +72,17 @@ fn has_origin(zone: &Zone, origin: &Name) -> bool
 }
 
 /// Returns why a transfer is refused.
-pub(crate) fn refusal(road: &Road, is_permitted: bool, is_known: bool) -> Option<ResponseCode>
-    ensures value { result ≡ refusal road.now is_permitted is_known }
+pub(crate) fn refusal(
+    transport: &Transport,
+    is_permitted: bool,
+    is_known: bool,
+) -> Option<ResponseCode>
+    ensures value { result ≡ refusal transport.now is_permitted is_known }
     ensures code { IfSome result (λ code.
         (code_number code < 16) × (code_of (code_number code) ≡ code)) }
     ensures known { result ≡ None → is_known ≡ true }
 {
-    let Road::Stream = road else {
+    let Transport::Stream = transport else {
         return Some(ResponseCode::FormErr);
     };
     if !is_known {

@@ -70,5 +70,5 @@ pub fn is_other<Z: ZoneRows>(
     ensures { result
         ≡ is_other_set (overlay (Z.rows zone.now) sets.now) owner.now record_type other }
 {
-    !record_type.is_same(other) && has_current(zone, sets, owner, other)
+    record_type != other && has_current(zone, sets, owner, other)
 }

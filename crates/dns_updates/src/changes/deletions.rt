@@ -136,7 +136,7 @@ fn is_kept_set(origin: &Name, owner: &Name, record_type: RecordType) -> bool
     ensures { result ≡ is_kept_set origin.now owner.now (type_number record_type) }
 {
     origin.eq_ignore_root(owner)
-        && (record_type.is_same(RecordType::SOA) || record_type.is_same(RecordType::NS))
+        && (record_type == RecordType::SOA || record_type == RecordType::NS)
 }
 
 /// Deletes the rows with the data of a record from those of its owner and type, unless they are kept, which takes no memory.

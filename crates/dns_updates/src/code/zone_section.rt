@@ -29,7 +29,7 @@ fn entry_code(origin: &Name, zone: &Query) -> ResponseCode
         (fault_if (not (is_origin origin.now zone.now.name && is_in_class zone.now.query_class))
         NotAuth) }
 {
-    if !RecordType::SOA.is_same(zone.query_type) {
+    if zone.query_type != RecordType::SOA {
         return ResponseCode::FormErr;
     }
     let is_zone = origin.eq_ignore_root(&zone.name) && is_in_class(zone.query_class);

@@ -23,7 +23,7 @@ pub struct SetList {
 fn is_at(set: &RecordSet, owner: &Name, record_type: RecordType) -> bool
     ensures { result ≡ eq_by_cmp key_cmp (key owner.now.labels record_type) (set_key set.now) }
 {
-    owner.eq_ignore_root(set.name()) && record_type.is_same(set.record_type())
+    owner.eq_ignore_root(set.name()) && record_type == set.record_type()
 }
 
 /// Returns the index of the first set of an owner and a type, or the number of sets if there is none.

@@ -112,7 +112,7 @@ fn answer_from<'a>(origin: &'a Name, sets: &'a ZoneSets, query: &'a Query) -> An
     if is_without_rows(query.query_type) {
         return AnswerRef::bare(origin, ResponseCode::NotImp);
     }
-    if !query.query_class.is_same(DNSClass::IN) || !origin.zone_of(&query.name) {
+    if query.query_class != DNSClass::IN || !origin.zone_of(&query.name) {
         return AnswerRef::bare(origin, ResponseCode::Refused);
     }
     answer_along(origin, sets, query)

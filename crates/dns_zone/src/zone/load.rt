@@ -218,8 +218,7 @@ fn fault_at(origin: &Name, sets: &[RecordSet]) -> Option<ZoneFault>
 fn has_other_class(sets: &[RecordSet]) -> bool
     ensures { result ≡ list_any (λ s. not (is_internet s)) sets.now }
 {
-    sets.iter()
-        .any(|set| !set.dns_class().is_same(DNSClass::IN))
+    sets.iter().any(|set| set.dns_class() != DNSClass::IN)
 }
 
 /// Returns `true` if some owner is not at or below the origin.
@@ -233,7 +232,7 @@ fn has_owner_outside(origin: &Name, sets: &[RecordSet]) -> bool
 fn is_soa(set: &RecordSet) -> bool
     ensures { result ≡ is_soa set.now }
 {
-    set.record_type().is_same(RecordType::SOA)
+    set.record_type() == RecordType::SOA
 }
 
 /// Returns `true` if a set has the SOA record of the origin.

@@ -11,7 +11,7 @@ ghost use Rattle.dns_messages.specs.Cut.{front_reach};
 ghost use Rattle.dns_messages.specs.Header.{code_number, code_of};
 ghost use Rattle.dns_messages.specs.Sound.{IsSound};
 
-use crate::road::Road;
+use crate::transport::Transport;
 use crate::zone::Zone;
 use crate::zone::answer::AnswerRef;
 use crate::zone::reply::ReplyRef;
@@ -69,12 +69,16 @@ impl Zone {
     }
 
     /// Returns the bytes of the reply to a request, under the limit of its transport. An update is not applied.
-    pub fn reply_bytes(&self, request: &Message, road: Road) -> Result<Vec<u8>, AllocError>
+    pub fn reply_bytes(
+        &self,
+        request: &Message,
+        transport: Transport,
+    ) -> Result<Vec<u8>, AllocError>
         ensures encodes { IfOk result (λ out. IsSound request.now
-            → IsReplyTo self.now road request.now out.items) }
+            → IsReplyTo self.now transport request.now out.items) }
     {
         let reply = self.reply_to(request);
-        match reply.to_vec_within(self.alloc, limit_of(road, request)) {
+        match reply.to_vec_within(self.alloc, limit_of(transport, request)) {
             Ok(out) => Ok(out),
             // The memory for the reply's bytes was refused.
             Err(EncodeError::Memory) => Err(AllocError),
@@ -87,8 +91,12 @@ impl Zone {
     ///
     /// Only an update with the response code `NoError` changes the zone (RFC 2136 section 3). Its reply is encoded before the
     /// change, so that an error leaves the zone unchanged.
-    pub fn serve(&mut self, bytes: &[u8], road: Road) -> Result<Option<Vec<u8>>, AllocError>
-        ensures reply { IfOk result (λ reply. Serves self.old road bytes.now
+    pub fn serve(
+        &mut self,
+        bytes: &[u8],
+        transport: Transport,
+    ) -> Result<Option<Vec<u8>>, AllocError>
+        ensures reply { IfOk result (λ reply. Serves self.old transport bytes.now
             (option_map (λ out. out.items) reply) self.new) }
         ensures err { OnErr result (self.new ≡ self.old) }
         ensures well_formed { IsZone self.new }
@@ -96,22 +104,26 @@ impl Zone {
     {
         self.well_formed();
         match decode_request(self.alloc, bytes)? {
-            Some(request) => Ok(Some(self.serve_message(&request, road)?)),
+            Some(request) => Ok(Some(self.serve_message(&request, transport)?)),
             None => Ok(None),
         }
     }
 
     /// Serves a request that is decoded: returns its reply, and applies an update whose response code is `NoError` (RFC 2136
     /// section 3). The reply is encoded before the change, so that an error leaves the zone unchanged.
-    pub fn serve_message(&mut self, request: &Message, road: Road) -> Result<Vec<u8>, AllocError>
+    pub fn serve_message(
+        &mut self,
+        request: &Message,
+        transport: Transport,
+    ) -> Result<Vec<u8>, AllocError>
         requires { IsSound request.now }
-        ensures reply { IfOk result (λ out. IsReplyTo self.old road request.now out.items) }
+        ensures reply { IfOk result (λ out. IsReplyTo self.old transport request.now out.items) }
         ensures ok { OnOk result (self.new ≡ zone_after self.old request.now) }
         ensures err { OnErr result (self.new ≡ self.old) }
         ensures well_formed { IsZone self.new }
     {
         self.well_formed();
-        let reply = self.reply_bytes(request, road)?;
+        let reply = self.reply_bytes(request, transport)?;
         self.take(request)?;
         Ok(reply)
     }
@@ -157,16 +169,16 @@ pub fn bare_reply_bytes(
     alloc: Global,
     request: &Message,
     code: ResponseCode,
-    road: Road,
+    transport: Transport,
 ) -> Result<Vec<u8>, AllocError>
     requires fits { code_number code < 16 }
     requires named { code_of (code_number code) ≡ code }
     ensures { IfOk result (λ out. IsSound request.now
-        → IsEncodedReply (reply_without_zone request.now code) road request.now out.items) }
+        → IsEncodedReply (reply_without_zone request.now code) transport request.now out.items) }
 {
     let owner = Name::root(alloc);
     let reply = without_zone(alloc, request, &owner, code);
-    match reply.to_vec_within(alloc, limit_of(road, request)) {
+    match reply.to_vec_within(alloc, limit_of(transport, request)) {
         Ok(out) => Ok(out),
         // The memory for the reply's bytes was refused.
         Err(EncodeError::Memory) => Err(AllocError),
@@ -227,12 +239,12 @@ fn has_query_header(bytes: &[u8]) -> bool
 }
 
 /// Returns how many bytes a reply to a request may have: at least 512.
-fn limit_of(road: Road, request: &Message) -> u16
-    ensures value { result ≡ reply_limit road request.now }
+fn limit_of(transport: Transport, request: &Message) -> u16
+    ensures value { result ≡ reply_limit transport request.now }
     ensures least { 512 ≤ result }
 {
-    match road {
-        Road::Datagram(limit) => limit.value().min(request.max_payload()),
-        Road::Stream => 65_535,
+    match transport {
+        Transport::Datagram(limit) => limit.value().min(request.max_payload()),
+        Transport::Stream => 65_535,
     }
 }

@@ -1,10 +1,10 @@
 use Rattle.api_zones.specs.Serving.{IsRefused, Replies}
-use Rattle.api_zones.proofs.ServingLaws.{over_road}
+use Rattle.api_zones.proofs.ServingLaws.{over_transport}
 use Rattle.api_zones.proofs.serving.serve_request.Goals as goal
 
 -- src/serving.rt:26:1
 pub returns-in-Ok : goal.returns-in-Ok
-returns-in-Ok c = over_road (λ reply. reply.items) c.serve_over.result c.in-Ok.road c.in-Ok.ensures.road c.serve_over.ensures.ok c.serve_over.ensures.refused c.serve_over.ensures.err
+returns-in-Ok c = over_transport (λ reply. reply.items) c.serve_over.result c.in-Ok.reply_transport c.in-Ok.ensures.reply_transport c.serve_over.ensures.ok c.serve_over.ensures.refused c.serve_over.ensures.err
 
 -- src/serving.rt:26:1
 pub returns-in-Err : goal.returns-in-Err

@@ -1,7 +1,7 @@
 use Rattle.std.proofs.Common.{◌≡◌, true, false, refl, sym, subst, ◌∙◌, arith}
 use Rattle.std.specs.Prelude.{IfOk}
 use Rattle.dns_zone_service.specs.Answering.{IsServiceReply}
-use Rattle.dns_zone.specs.declared.road.Road.{Road}
+use Rattle.dns_zone.specs.declared.transport.Transport.{Transport}
 use Rattle.dns_durable.specs.Reply.{is_unstored}
 use Rattle.dns_durable.proofs.AnsweringLaws.{is_on_disk, makes_none, plain_served}
 use Rattle.dns_durable.proofs.answering.plain_reply.Goals.{else-not-is_stored-via-then-not-is_stored+else-is_change, else-not-is_stored-via-else-not-is_stored}
@@ -14,5 +14,5 @@ returns-in-Serve-clause-replied c =
       | else-not-is_stored-via-else-not-is_stored w ↦ is_on_disk c.args.is_stored c.args.admitted.now (grind (arith, w.if-not-is_stored.false))
     ] in
     plain_served c.respond_to.result (λ out. out.items) c.args.answering c.args.is_stored c.in-Serve.updates c.args.server.now c.respond_to.new.server c.args.admitted.now c.in-Serve.is un
-    (subst (λ (r : Road). IfOk c.respond_to.result (λ out. IsServiceReply c.args.answering c.in-Serve.updates c.args.server.now r c.args.admitted.now.message out.items))
-    c.road-road.ensures c.respond_to.ensures.reply) c.respond_to.ensures.ok
+    (subst (λ (r : Transport). IfOk c.respond_to.result (λ out. IsServiceReply c.args.answering c.in-Serve.updates c.args.server.now r c.args.admitted.now.message out.items))
+    c.transport-transport.ensures c.respond_to.ensures.reply) c.respond_to.ensures.ok

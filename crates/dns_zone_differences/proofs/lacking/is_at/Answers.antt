@@ -8,7 +8,7 @@ use Rattle.dns_zone_differences.proofs.lacking.is_at.Goals as goal
 
 pub returns-then-eq_ignore_root : goal.returns-then-eq_ignore_root
 returns-then-eq_ignore_root c =
-    (λ i. c.if-eq_ignore_root.ensures i && c.is_same.ensures i)
+    (λ i. c.if-eq_ignore_root.ensures i && c.eq.ensures i)
     ∙ ap (λ (t : RecordType). same_labels c.args.other.now.name.labels c.args.owner.now.labels && (type_number t == type_number c.args.record_type)) c.record_type.ensures
     ∙ keys_tie c.args.other.now.name.labels c.args.owner.now.labels (type_of_record c.args.other.now) c.args.record_type
 

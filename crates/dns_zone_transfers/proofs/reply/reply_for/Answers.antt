@@ -6,6 +6,6 @@ use Rattle.dns_zone_transfers.proofs.reply.reply_for.Goals as goal
 
 pub returns-in-Some : goal.returns-in-Some
 returns-in-Some c =
-    by_refusal c.args.request.now c.args.road c.args.is_permitted (option_copied c.args.zone) c.in-Some.code c.refused.result
-    (sym c.in-Some.is ∙ c.refusal.ensures.value ∙ ap (refusal c.args.road c.args.is_permitted) (c.is_some.ensures ∙ some_copied c.args.zone))
+    by_refusal c.args.request.now c.args.transport c.args.is_permitted (option_copied c.args.zone) c.in-Some.code c.refused.result
+    (sym c.in-Some.is ∙ c.refusal.ensures.value ∙ ap (refusal c.args.transport c.args.is_permitted) (c.is_some.ensures ∙ some_copied c.args.zone))
     c.refused.ensures

@@ -3,7 +3,7 @@ use Rattle.dns_zone_transfers.proofs.reply.transfer.Goals as goal
 
 pub returns-in-Some : goal.returns-in-Some
 returns-in-Some c =
-    by_bytes c.args.zones.now c.args.road c.args.is_permitted c.args.bytes.now c.in-Some.request c.in_ok-request.field-0 c.in-Some.is c.in_ok-request.ensures.request
+    by_bytes c.args.zones.now c.args.transport c.args.is_permitted c.args.bytes.now c.in-Some.request c.in_ok-request.field-0 c.in-Some.is c.in_ok-request.ensures.request
     (c.messages_decode_unambiguously.ensures.same c.args.bytes.now) c.transfer_to.result c.transfer_to.ensures
 
 pub returns-in-None : goal.returns-in-None

@@ -1,4 +1,4 @@
-use Rattle.dns_zone.specs.declared.road.Road.TheVariants.{Datagram}
+use Rattle.dns_zone.specs.declared.transport.Transport.TheVariants.{Datagram}
 use Rattle.dns_blocking.specs.Serving.{ServesAtMost}
 use Rattle.dns_blocking.proofs.server_end.ServerEnd.serve_waiting.Given as goal
 

@@ -32,9 +32,9 @@ returns-clause-servable c = servable c
 
 pub returns-clause-reply : goal.returns-clause-reply
 returns-clause-reply c =
-    if-ok c.serve_message.result (λ out. IsReplyTo c.index_mut-zone.result.now c.args.road c.args.request.now out.items)
-    (λ out. IsReplyBy c.args.self.now (by.Zone c.args.place) c.args.road c.args.request.now out.items) c.serve_message.ensures.reply
-    (λ out r. reply-at c.args.self.now c.args.place c.index_mut-zone.result.now c.args.road c.args.request.now out.items (there c) r)
+    if-ok c.serve_message.result (λ out. IsReplyTo c.index_mut-zone.result.now c.args.transport c.args.request.now out.items)
+    (λ out. IsReplyBy c.args.self.now (by.Zone c.args.place) c.args.transport c.args.request.now out.items) c.serve_message.ensures.reply
+    (λ out r. reply-at c.args.self.now c.args.place c.index_mut-zone.result.now c.args.transport c.args.request.now out.items (there c) r)
 
 pub returns-clause-ok : goal.returns-clause-ok
 returns-clause-ok c =

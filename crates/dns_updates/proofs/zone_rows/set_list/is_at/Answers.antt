@@ -7,7 +7,7 @@ use Rattle.dns_updates.proofs.zone_rows.set_list.is_at.Goals as goal
 
 pub returns-then-eq_ignore_root : goal.returns-then-eq_ignore_root
 returns-then-eq_ignore_root c =
-    (λ i. c.if-eq_ignore_root.ensures i && c.is_same.ensures i)
+    (λ i. c.if-eq_ignore_root.ensures i && c.eq.ensures i)
     ∙ (λ i. same_labels c.args.owner.now.labels (c.name.ensures i).labels && (type_number c.args.record_type == type_number (c.record_type.ensures i)))
     ∙ keys_tie c.args.owner.now.labels c.args.set.now.name.labels c.args.record_type c.args.set.now.record_type
 

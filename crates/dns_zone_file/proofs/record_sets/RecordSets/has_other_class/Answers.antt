@@ -1,4 +1,4 @@
-use Rattle.std.proofs.Common.{◌≡◌, ◌==◌, ◌∙◌, ap, Bool, not, List, length, slice_get, None, Some, refl, arith, rules}
+use Rattle.std.proofs.Common.{◌≡◌, ◌==◌, ◌∙◌, ap, not, List, length, slice_get, None, Some, refl, arith, rules}
 use Rattle.std.proofs.lemmas.Option.{slice_get_read}
 use Rattle.dns_codes.specs.DNSClass.{class_number}
 use Rattle.dns_codes.specs.RecordType.{type_number}
@@ -23,7 +23,8 @@ returns-in-Some c =
     let at : place_of c.self.inside.index c.args.resource_record.now.name (type_number (data_type c.args.resource_record.now.rdata)) ≡ Some c.in-Some.place = search rules in
     let only = only_place c.self.inside.index c.self.inside.sets.items c.args.resource_record.now.name (type_number (data_type c.args.resource_record.now.rdata)) c.in-Some.place c.self.invariant.1 at in
     let there : slice_get c.self.inside.sets.items c.in-Some.place ≡ Some c.index.result.now = slice_get_read c.self.inside.sets.items (length c.self.inside.sets.items) c.in-Some.place c.index.result.now refl (within (is_set_for c.args.resource_record.now) c.self.inside.sets.items c.in-Some.place only.passes) c.index.ensures in
-    ap (λ (b : Bool). not b) (c.is_same.ensures ∙ ap (λ (d : DNSClass). class_number d == class_number c.args.resource_record.now.dns_class) c.dns_class.ensures)
+    c.ne.ensures
+    ∙ ap (λ (d : DNSClass). not (class_number d == class_number c.args.resource_record.now.dns_class)) c.dns_class.ensures
     ∙ class_found c.self.inside.sets.items c.args.resource_record.now c.in-Some.place c.index.result.now only there
     ∙ ap (λ (l : List RecordSetValue). has_other_class l c.args.resource_record.now) c.self.view_is
 

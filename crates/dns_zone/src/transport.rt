@@ -54,7 +54,7 @@ impl DatagramLimit {
 
 /// The transport on which a request arrives and its reply is sent. It limits the size of the reply.
 #[derive(Clone, Copy, Debug, PartialEq, Eq)]
-pub enum Road {
+pub enum Transport {
     /// A datagram (RFC 1035 section 4.2.1). The reply has at most the server's maximum size, and at most the size that the
     /// request announces in its OPT record, or 512 bytes (RFC 6891 section 6.2.3).
     Datagram(DatagramLimit),
