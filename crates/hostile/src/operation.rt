@@ -13,7 +13,7 @@ use crate::reader::Reader;
 use crate::readers::{
     FrameReader, HostsReader, MessageReader, NameReader, ScriptReader, ServedReader, ZoneFileReader,
 };
-use dns_zone::Road;
+use dns_zone::Transport;
 use rows::{Answer, RowFault, bytes_of, parsed, two_words, word_and_rest};
 use std::alloc::{AllocError, Global};
 
@@ -48,16 +48,21 @@ fn answer_of(alloc: Global, task: Task, reader: &str, input: &str) -> Answer {
         "hosts" => run(alloc, task, &mut HostsReader, input),
         "zone" => run(alloc, task, &mut ZoneFileReader::new(alloc)?, input),
         "script" => run(alloc, task, &mut ScriptReader::new(alloc)?, input),
-        "stream" => run_served(alloc, task, Road::Stream, input),
+        "stream" => run_served(alloc, task, Transport::Stream, input),
         "datagram" => run_served(alloc, task, ServedReader::datagram(4096), input),
         "small" => run_served(alloc, task, ServedReader::datagram(512), input),
         _ => Err(RowFault::Lacks("a reader")),
     }
 }
 
-/// The answer of a task for requests over a road.
-fn run_served(alloc: Global, task: Task, road: Road, input: &str) -> Answer {
-    run(alloc, task, &mut ServedReader::new(alloc, road)?, input)
+/// The answer of a task for requests over a transport.
+fn run_served(alloc: Global, task: Task, transport: Transport, input: &str) -> Answer {
+    run(
+        alloc,
+        task,
+        &mut ServedReader::new(alloc, transport)?,
+        input,
+    )
 }
 
 /// The answer of a task.

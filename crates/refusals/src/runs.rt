@@ -9,8 +9,9 @@ use std::alloc::Global;
 use std::fmt::Write;
 use stub_config::{ResolverConfig, ResolverOpts};
 use stub_hosts::Hosts;
-use stub_play::{PlayFormat, ScriptText, read_script, write_report};
+use stub_report::{PlayFormat, write_report};
 use stub_run::{Event, Report, Stopped, World};
+use stub_script::{ScriptText, read_script};
 
 /// A run: its zone and its script.
 #[derive(Clone, Copy)]

@@ -4,7 +4,7 @@ use crate::builders::new_address_update;
 use crate::parts::{TURNS, Turn, begin_call, begin_state, end_call, print_bytes, print_refusal};
 use anyhow::{Result, bail};
 use dns_messages::{Message, ResponseCode};
-use dns_zone::{DatagramLimit, Road, Zone};
+use dns_zone::{DatagramLimit, Transport, Zone};
 use std::alloc::{AllocError, Global};
 use std::fmt::Write;
 
@@ -29,17 +29,22 @@ pub(crate) fn serve<R: Print + AllocGlobal>(rt: &R, name: &str) -> Result<()> {
         bail!("512 bytes are a limit");
     };
     match name {
-        "serve" => serve_zone(rt, 1, QUESTION, Road::Stream),
-        "serve-datagram" => serve_zone(rt, 40, QUESTION_OF_512, Road::Datagram(limit)),
-        "serve-stream" => serve_zone(rt, 40, QUESTION_OF_512, Road::Stream),
-        _ => serve_zone(rt, 1, ADDITION, Road::Stream),
+        "serve" => serve_zone(rt, 1, QUESTION, Transport::Stream),
+        "serve-datagram" => serve_zone(rt, 40, QUESTION_OF_512, Transport::Datagram(limit)),
+        "serve-stream" => serve_zone(rt, 40, QUESTION_OF_512, Transport::Stream),
+        _ => serve_zone(rt, 1, ADDITION, Transport::Stream),
     }
 }
 
 /// Serves a request in a zone with some addresses at a.t.
-fn serve_zone<R: Print + AllocGlobal>(rt: &R, count: u8, request: &[u8], road: Road) -> Result<()> {
+fn serve_zone<R: Print + AllocGlobal>(
+    rt: &R,
+    count: u8,
+    request: &[u8],
+    transport: Transport,
+) -> Result<()> {
     let mut zone = Box::new(rt.alloc(), zone_of_addresses(rt.alloc(), count)?)?;
-    serve_twice(rt, &mut zone, request, &road)
+    serve_twice(rt, &mut zone, request, &transport)
 }
 
 /// Serves a request twice.
@@ -47,12 +52,12 @@ fn serve_twice<R: Print + AllocGlobal>(
     rt: &R,
     zone: &mut Zone,
     request: &[u8],
-    road: &Road,
+    transport: &Transport,
 ) -> Result<()> {
     print_state(rt, zone)?;
     for turn in TURNS {
         begin_call(rt, turn)?;
-        print_reply(rt, zone.serve(request, *road))?;
+        print_reply(rt, zone.serve(request, *transport))?;
         print_state(rt, zone)?;
     }
     Ok(())

@@ -5,7 +5,7 @@ use crate::zone::{groups_of, request, zone_text};
 use anyhow::Result;
 use dns_authority::{AnyAnswer, AuthorityView};
 use dns_authority_server::respond;
-use dns_zone::{DatagramLimit, Road, Zone};
+use dns_zone::{DatagramLimit, Transport, Zone};
 use std::alloc::Global;
 
 /// The delegation of `s`, with glue, and the addresses of all names below `w`.
@@ -63,7 +63,7 @@ fn zones_with_cuts(alloc: Global, groups: u32) -> Result<Vec<Zone>> {
 /// The length of the reply to a request in a datagram, or 0 if there is none.
 fn reply_len(alloc: Global, authority: &AuthorityView<'_>, request: &[u8]) -> Result<u64> {
     let limit = DatagramLimit::new(1232)?;
-    match respond(alloc, authority, request, Road::Datagram(limit))? {
+    match respond(alloc, authority, request, Transport::Datagram(limit))? {
         Some(reply) => Ok(reply.len() as u64),
         None => Ok(0),
     }

@@ -2,7 +2,7 @@
 //! are asked for and eight, and serving questions over that zone.
 
 use anyhow::Result;
-use dns_zone::{DatagramLimit, Road, Zone};
+use dns_zone::{DatagramLimit, Transport, Zone};
 use std::alloc::{AllocError, Global};
 use std::fmt::Write;
 
@@ -101,7 +101,7 @@ fn serve_by_turns(zone: &mut Zone, even: &[u8], odd: &[u8], count: u64) -> Resul
 /// The length of the reply to a request in a datagram, or 0 if there is none.
 fn reply_len(zone: &mut Zone, request: &[u8]) -> Result<u64> {
     let limit = DatagramLimit::new(1232)?;
-    match zone.serve(request, Road::Datagram(limit))? {
+    match zone.serve(request, Transport::Datagram(limit))? {
         Some(reply) => Ok(reply.len() as u64),
         None => Ok(0),
     }

@@ -1,11 +1,6 @@
 pub mod EventLaws
 pub mod HonestLaws
-pub mod HostLaws
-pub mod LineLaws
-pub mod MembersLaws
 pub mod OptionLaws
 pub mod OrderLaws
 pub mod PlayLaws
-pub mod ReportLaws
-pub mod ScriptLaws
 pub mod WordsLaws

@@ -1,15 +1,4 @@
-pub mod ClearLine
-pub mod EventContent
-pub mod LinkWords
-pub mod LookupLine
 pub mod PlayFault
 pub mod Plays
 pub mod Program
-pub mod Report
-pub mod ReportJson
-pub mod ReportMembers
-pub mod ReportText
-pub mod ScriptFields
-pub mod ScriptText
-pub mod UpdateLine
 pub mod Words

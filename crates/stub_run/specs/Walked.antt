@@ -65,7 +65,7 @@ AreWalkedEvents settings first past events reports occasions = ⊥
 
 -- ---- runs
 
--- Equality of roads: where nothing was updated and the link met no fault, the lookups of a run with these occasions return what
+-- Equality of transports: where nothing was updated and the link met no fault, the lookups of a run with these occasions return what
 -- walks over the zone come to.
 abbrev pub AreWalked : WorldContent → List Event → List EventReport → List Occasion → Type 0
 AreWalked content events reports occasions =

@@ -1,7 +1,7 @@
 -- Links over sockets: what their calls do to the zone and the counts. What sockets carry is not known.
 use Rattle.std.specs.Prelude.{◌≡◌, ◌+◌, ◌-◌, ◌^◌, min, true, Bool, ℕ, Result, Ok, Err}
-use Rattle.dns_zone.specs.declared.road.Road.{Road}
-use Rattle.dns_zone.specs.declared.road.Road.TheVariants.{Datagram, Stream}
+use Rattle.dns_zone.specs.declared.transport.Transport.{Transport}
+use Rattle.dns_zone.specs.declared.transport.Transport.TheVariants.{Datagram, Stream}
 use Rattle.stub_run.specs.RunOver.{LinkRules, rules_of}
 use Rattle.dns_zone.specs.Rows.{ZoneContent}
 use Rattle.dns_zone.specs.Serving.{Serves}
@@ -15,11 +15,11 @@ use Rattle.stub_socket.specs.declared.socket_link.SocketLink.{SocketLink}
 -- ---- the server
 
 -- A server served a message that arrived over a transport, or none.
-abbrev pub MayServe : Road → ZoneContent → ZoneContent → Type 0
+abbrev pub MayServe : Transport → ZoneContent → ZoneContent → Type 0
 MayServe = blocking.MayServe Serves
 
 -- A server served at most a number of messages, one after another. Nothing else changed the zone.
-abbrev pub ServesAtMost : Road → ZoneContent → ℕ → ZoneContent → Type 0
+abbrev pub ServesAtMost : Transport → ZoneContent → ℕ → ZoneContent → Type 0
 ServesAtMost = blocking.ServesAtMost Serves
 
 -- ---- calls

@@ -2,14 +2,14 @@
 
 ghost use Rattle.std.specs.Prelude.{◌≡◌, ◌≤◌, ◌⊎◌, Ok, Err, IfOk, MatchResult, false};
 ghost use Rattle.stub_link.specs.Link.{Rises};
-ghost use Rattle.dns_zone.specs.declared.road.Road.TheVariants.{Stream};
+ghost use Rattle.dns_zone.specs.declared.transport.Transport.TheVariants.{Stream};
 ghost use Rattle.stub_socket.specs.SocketLink.{MayServe, failures_after, link_error, memory_after};
 
 use dns_blocking::{
     AskerEnd, ServerEnd, SocketError, accept, close_waiting, connect, loopback, set_patience,
     transfer_message,
 };
-use dns_zone::{DatagramLimit, Road, Zone};
+use dns_zone::{DatagramLimit, Transport, Zone};
 use std::alloc::Global;
 use std::net::{Net, SocketAddr, TcpListener, TcpStream};
 use stub_link::{Link, LinkError};
@@ -34,7 +34,7 @@ pub struct SocketLink<R> {
 }
 
 impl<R: Net<Listener = TcpListener, Stream = TcpStream> + Drop> SocketLink<R> {
-    ghost use Rattle.dns_zone.specs.declared.road.Road.TheVariants.{Datagram};
+    ghost use Rattle.dns_zone.specs.declared.transport.Transport.TheVariants.{Datagram};
     ghost use Rattle.stub_socket.specs.SocketLink.{ServesAtMost};
 
     /// Opens a link to a server of the zone whose datagrams have at most `limit` bytes: two datagram sockets, and a listener,
@@ -155,7 +155,7 @@ fn ask_over(
     set_patience(asker)?;
     set_patience(server)?;
     let request = transfer_message(alloc, asker, server, bytes)?;
-    match zone.serve(request.as_slice(), Road::Stream)? {
+    match zone.serve(request.as_slice(), Transport::Stream)? {
         Some(reply) => transfer_message(alloc, server, asker, reply.as_slice()),
         None => Err(SocketError::Failed),
     }

@@ -2,7 +2,7 @@
 
 use dns_messages::Message;
 use dns_wire::DecodeError;
-use dns_zone::{Road, Zone, ZoneFault};
+use dns_zone::{Transport, Zone, ZoneFault};
 use std::alloc::Global;
 use std::fmt::Write;
 use std::test::Fail;
@@ -14,7 +14,7 @@ fn reply_to(alloc: Global, request: &[u8]) -> Result<Option<Vec<u8>>, ZoneFault>
                 @ SOA ns h ( 1 1h 10m 1d 30 )\n\
                 a A 10.0.0.1\n";
     let mut zone = Zone::from_text(alloc, text, &[], None)?;
-    Ok(zone.serve(request, Road::Stream)?)
+    Ok(zone.serve(request, Transport::Stream)?)
 }
 
 /// Decodes a message and formats the records of its answer section, one per line.

@@ -100,7 +100,7 @@ fn record_finding<'a>(
 fn record_fault(start: &ZoneStart<'_>, record_line: &RecordLine) -> Option<ZoneFault>
     ensures { result ≡ record_fault (start_view start.entry.now) record_line.now }
 {
-    if !record_line.dns_class.is_same(DNSClass::IN) {
+    if record_line.dns_class != DNSClass::IN {
         return Some(ZoneFault::NotInternet);
     }
     if let Some(apex) = start.apex {

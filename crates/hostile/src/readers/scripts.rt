@@ -7,7 +7,7 @@ use dns_names::Name;
 use dns_zone_file::Types;
 use rows::RowFault;
 use std::alloc::Global;
-use stub_play::{ScriptFault, read_script};
+use stub_script::{ScriptFault, read_script};
 
 /// A reader of scripts for the zone `t.`
 #[derive(Drop)]

@@ -5,7 +5,7 @@ use crate::readers::refusals::code_word;
 use crate::tally::Tally;
 use dns_messages::{Message, OpCode};
 use dns_wire::DecodeError;
-use dns_zone::{DatagramLimit, Road, Zone};
+use dns_zone::{DatagramLimit, Transport, Zone};
 use rows::RowFault;
 use std::alloc::Global;
 
@@ -22,27 +22,27 @@ const ZONE: &str = "$ORIGIN t.\n\
                     d CNAME example.\n\
                     x.y MX 10 a\n";
 
-/// A reader of requests to a zone over a road. Each is served by the same zone.
+/// A reader of requests to a zone over a transport. Each is served by the same zone.
 #[derive(Drop)]
 pub(crate) struct ServedReader {
     zone: Zone,
-    road: Road,
+    transport: Transport,
 }
 
 impl ServedReader {
-    /// Creates a reader of requests over a road.
-    pub(crate) fn new(alloc: Global, road: Road) -> Result<ServedReader, RowFault> {
+    /// Creates a reader of requests over a transport.
+    pub(crate) fn new(alloc: Global, transport: Transport) -> Result<ServedReader, RowFault> {
         Ok(ServedReader {
             zone: first_zone(alloc)?,
-            road,
+            transport,
         })
     }
 
-    /// Returns the road of datagrams of at most so many bytes, or a stream if they are fewer than 512.
-    pub(crate) fn datagram(most: u16) -> Road {
+    /// Returns the transport of datagrams of at most so many bytes, or a stream if they are fewer than 512.
+    pub(crate) fn datagram(most: u16) -> Transport {
         match DatagramLimit::new(most) {
-            Ok(limit) => Road::Datagram(limit),
-            Err(_) => Road::Stream,
+            Ok(limit) => Transport::Datagram(limit),
+            Err(_) => Transport::Stream,
         }
     }
 
@@ -67,9 +67,9 @@ impl Reader for ServedReader {
     }
 
     fn read(&mut self, alloc: Global, input: &[u8], tally: &mut Tally) -> Result<(), RowFault> {
-        match self.zone.serve(input, self.road)? {
+        match self.zone.serve(input, self.transport)? {
             Some(reply) => {
-                check_reply(alloc, self.road, input, reply.as_slice(), tally)?;
+                check_reply(alloc, self.transport, input, reply.as_slice(), tally)?;
                 if is_update(input) {
                     self.restore(alloc)?;
                 }
@@ -109,16 +109,16 @@ fn check_silence(alloc: Global, input: &[u8], tally: &mut Tally) -> Result<(), R
     }
 }
 
-/// Checks that a reply fits its road, and that its request and the reply itself decode.
+/// Checks that a reply fits its transport, and that its request and the reply itself decode.
 fn check_reply(
     alloc: Global,
-    road: Road,
+    transport: Transport,
     input: &[u8],
     reply: &[u8],
     tally: &mut Tally,
 ) -> Result<(), RowFault> {
     let limit = match Message::from_vec(alloc, input) {
-        Ok(request) => limit_of(road, request.max_payload()),
+        Ok(request) => limit_of(transport, request.max_payload()),
         // The allocator refused memory.
         Err(DecodeError::Memory) => return Err(RowFault::Memory),
         Err(_) => return Ok(tally.count("BROKEN: reply to no message")?),
@@ -129,10 +129,10 @@ fn check_reply(
 }
 
 /// Returns how many bytes a reply may have (RFC 1035 section 4.2, RFC 6891 section 6.2.3).
-fn limit_of(road: Road, payload: u16) -> usize {
-    match road {
-        Road::Datagram(limit) => usize::from(limit.value().min(payload)),
-        Road::Stream => 65_535,
+fn limit_of(transport: Transport, payload: u16) -> usize {
+    match transport {
+        Transport::Datagram(limit) => usize::from(limit.value().min(payload)),
+        Transport::Stream => 65_535,
     }
 }
 

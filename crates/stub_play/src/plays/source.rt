@@ -1,11 +1,11 @@
 //! Where the result of a lookup comes from.
 
-use crate::shown::{ShownOwner, ShownType};
 use dns_messages::Query;
 use dns_names::{Name, ParseError};
 use dns_text::parse_ip;
 use dns_wire::RecordType;
 use dns_zone_file::Types;
+use record_texts::{OwnerText, TypeText};
 use std::alloc::{AllocError, Global};
 use std::{fmt, io};
 use stub_client::{SpecialAnswer, special_answer};
@@ -111,8 +111,11 @@ fn write_source<W: io::Write>(
         return Ok(());
     };
     let source = source_of(alloc, hosts, notes, &query)?;
-    let owner = ShownOwner { name: query.name() };
-    let rtype = ShownType { types, rtype };
+    let owner = OwnerText { name: query.name() };
+    let rtype = TypeText {
+        types,
+        record_type: rtype,
+    };
     writeln!(writer, "  {owner} {rtype}: {source}")
 }
 

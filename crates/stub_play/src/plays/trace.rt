@@ -3,11 +3,11 @@
 use crate::plays::source::write_sources;
 use crate::plays::watcher::Watcher;
 use crate::plays::{PlayInput, read_hosts};
-use crate::report_text::write_event;
 use dns_zone_file::Types;
 use std::alloc::Global;
 use std::io;
 use stub_hosts::Hosts;
+use stub_report::write_event;
 use stub_run::{Event, EventReport};
 use stub_trace::{Note, TracedLink, write_notes};
 

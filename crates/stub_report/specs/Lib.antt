@@ -1,0 +1,4 @@
+pub mod Report
+pub mod ReportJson
+pub mod ReportMembers
+pub mod ReportText
