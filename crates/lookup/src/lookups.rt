@@ -7,10 +7,11 @@ use dns_names::Name;
 use dns_signer::TsigError;
 use dns_text::parse_ip;
 use dns_wire::RecordType;
-use lookup_cli::{
-    Answer, Arguments, Ending, ExitStatus, Item, JsonAnswer, JsonUpdate, PlainAnswer, PlainReason,
-    Question, Session, SignedSession, Status, UpdateArguments, item_of_line,
+use lookup_answers::{
+    Answer, ExitStatus, Item, JsonAnswer, JsonUpdate, PlainAnswer, PlainReason, Question, Status,
+    item_of_line,
 };
+use lookup_cli::{Arguments, Ending, Session, SignedSession, UpdateArguments};
 use std::fmt;
 use std::time::Instant;
 use stub_hosts::Hosts;
@@ -107,7 +108,7 @@ impl Program<'_> {
     /// Prints an answer.
     fn print_answer(&self, answer: &Answer, has_heading: bool) -> Result<(), Ending> {
         if self.arguments.json {
-            return self.print(JsonAnswer::new(self.rt.alloc(), answer)?);
+            return self.print(JsonAnswer(answer));
         }
         self.print(PlainAnswer {
             answer,
@@ -179,15 +180,14 @@ impl Program<'_> {
         let milliseconds = self.clock.milliseconds().saturating_sub(start);
         self.status.count(Status::of_update(&outcome.code));
         if self.arguments.json {
-            return self.print(JsonUpdate::new(
-                self.rt.alloc(),
-                arguments.words.as_str(),
-                &arguments.zone,
-                &outcome.code,
-                outcome.report,
-                outcome.questions,
+            return self.print(JsonUpdate {
+                words: arguments.words.as_str(),
+                zone: &arguments.zone,
+                outcome: &outcome.code,
+                report: outcome.report,
+                questions: outcome.questions,
                 milliseconds,
-            )?);
+            });
         }
         self.print_update(&arguments.zone, &outcome)
     }

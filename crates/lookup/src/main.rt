@@ -12,7 +12,8 @@ mod update;
 mod update_fault;
 
 use files::{read_conf, read_hosts, read_traced_hosts};
-use lookup_cli::{Arguments, Ending, ExitStatus, Session, read_arguments, settings_of};
+use lookup_answers::ExitStatus;
+use lookup_cli::{Arguments, Ending, Session, read_arguments, settings_of};
 use lookups::Program;
 use network::ProgramNetwork;
 use signed::open_signed;

@@ -1,2 +1,1 @@
-mod ItemLaws
 mod SessionLaws

@@ -6,7 +6,7 @@ use Rattle.std.specs.declared.io.ErrorKind.TheVariants.{OutOfMemory}
 use Rattle.clap.specs.Values.{kind_of}
 use Rattle.clap.specs.declared.error.kind.ErrorKind.TheVariants.{DisplayHelp, DisplayVersion}
 use Rattle.lookup_cli.specs.declared.ending.Ending.{Ending}
-use Rattle.lookup_cli.specs.declared.ending.Ending.TheVariants.{Arguments, InvalidValue, NotUtf8, ZoneWithoutUpdate, KeyWithoutUpdate, CannotRead, HostsNotUtf8, NoKey, CannotPrint, NoEntropy, Memory}
+use Rattle.lookup_cli.specs.declared.ending.Ending.TheVariants.{Arguments, InvalidValue, NotUtf8, ZoneWithoutUpdate, CannotRead, HostsNotUtf8, NoKey, CannotPrint, NoEntropy, Memory}
 
 -- the line for an invalid value of an argument
 abbrev pub invalid_text : (argument value reason : List ℕ) → List ℕ
@@ -36,7 +36,6 @@ abbrev pub ending_text : Ending → Option (List ℕ)
 ending_text (InvalidValue line) = said (string_bytes line ++ codes "\n")
 ending_text NotUtf8 = said (codes "arguments are not valid UTF-8\n")
 ending_text ZoneWithoutUpdate = said (codes "--zone names the zone of an update, and there is no --update\n")
-ending_text KeyWithoutUpdate = said (codes "--key signs an update, and there is no --update\n")
 ending_text (HostsNotUtf8 path) = said (string_bytes path ++ codes ": a line is not valid UTF-8\n")
 ending_text (NoKey path) = said (string_bytes path ++ codes ": there is no such key\n")
 ending_text CannotPrint = said (codes "cannot write to standard output\n")

@@ -2,11 +2,11 @@
 
 use crate::command::command;
 use crate::ending::Ending;
-use crate::item::{Item, Question};
 use crate::values::{check_name, name_of, server_of, strategy_of, timeout_of, type_of};
 use clap::ArgMatches;
 use clap::error::ErrorKind;
 use dns_names::Name;
+use lookup_answers::{Item, Question};
 use std::alloc::{AllocError, Global};
 use std::net::SocketAddr;
 use stub_config::LookupIpStrategy;
@@ -83,7 +83,7 @@ pub struct KeyArguments {
 ///
 /// - [`Ending::Arguments`] if an argument is missing, unknown or has no valid value, or help or the version is asked for;
 /// - [`Ending::InvalidValue`] if the value of an argument is none of its values;
-/// - [`Ending::ZoneWithoutUpdate`] or [`Ending::KeyWithoutUpdate`] if these options are given without an update;
+/// - [`Ending::ZoneWithoutUpdate`] if a name and the zone of an update are given, and no update;
 /// - [`Ending::Memory`] if memory is refused.
 pub fn read_arguments(alloc: Global, words: &[&str]) -> Result<Arguments, Ending> {
     let matches = match command(alloc)?.try_get_matches_from(words) {
@@ -262,12 +262,11 @@ fn timeout_in(alloc: Global, matches: &ArgMatches<'_>) -> Result<Option<u64>, En
     }
 }
 
-/// Returns the update. Clap has found that it has a zone, but beside a name it lets a zone and a key pass without an update.
+/// Returns the update. Clap has found that it has a zone, but beside a name it lets a zone pass without an update.
 fn update_in(alloc: Global, matches: &ArgMatches<'_>) -> Result<Option<UpdateArguments>, Ending> {
     match (matches.get_str("update"), matches.get_str("zone")) {
         (Some(words), Some(zone)) => Ok(Some(update_of(alloc, matches, words, zone)?)),
         (None, Some(_)) => Err(Ending::ZoneWithoutUpdate),
-        (_, None) if matches.get_str("key").is_some() => Err(Ending::KeyWithoutUpdate),
         (_, None) => Ok(None),
     }
 }

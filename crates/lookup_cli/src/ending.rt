@@ -15,8 +15,6 @@ pub enum Ending {
     NotUtf8,
     /// The zone of an update is given, and no update.
     ZoneWithoutUpdate,
-    /// A key that signs an update is given, and no update.
-    KeyWithoutUpdate,
     /// A file could not be read: its path, as given, and the error.
     CannotRead(String, io::Error),
     /// A line of the hosts file is not valid UTF-8: its path, as given.
@@ -120,9 +118,6 @@ impl fmt::Display for Ending {
                 f.write_str(
                     "lookup: --zone names the zone of an update, and there is no --update\n",
                 )
-            }
-            Ending::KeyWithoutUpdate => {
-                f.write_str("lookup: --key signs an update, and there is no --update\n")
             }
             Ending::CannotRead(path, error) => writeln!(f, "lookup: cannot read {path}: {error}"),
             Ending::HostsNotUtf8(path) => {

@@ -11,8 +11,8 @@ ghost use Rattle.stub_lookup.specs.declared.error.NetError.{NetError};
 ghost use Rattle.stub_net.specs.Network.{network_calls};
 ghost use Rattle.stub_net.specs.Pool.{Updates};
 
-use crate::item::{Item, Question};
 use dns_messages::ResponseCode;
+use lookup_answers::{Item, Question};
 use std::alloc::Global;
 use stub_config::{ResolverConfig, ResolverOpts};
 use stub_core::Resolver;

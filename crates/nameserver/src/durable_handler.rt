@@ -8,7 +8,7 @@ use dns_durable::{CompactError, DurableServer, Incoming, Policy, Terms, is_updat
 use dns_faults::Delivery;
 use dns_journal::State;
 use dns_journal_files::FileStorage;
-use dns_nameserver::{Answered, is_accepted, road_of, updates_of};
+use dns_nameserver::{Answered, is_accepted, reply_transport, updates_of};
 use dns_server::AddressList;
 use dns_sockets::{Handler, Milliseconds, Notice, Request};
 use dns_zone::DatagramLimit;
@@ -127,7 +127,7 @@ impl DurableHandler<'_> {
     /// Returns what decides on the reply to a request, beside its bytes.
     fn terms(&self, request: &Request<'_>) -> Terms {
         Terms {
-            road: road_of(request.transport, self.limit),
+            transport: reply_transport(request.transport, self.limit),
             local: updates_of(self.updaters.contains(request.peer.ip())),
             // Without a clock, no signature is in time.
             time: self.rt.since_1970().map_or(0, |time| time.as_secs()),
@@ -185,8 +185,9 @@ impl DurableHandler<'_> {
             histories: self.recorder.histories(),
             keys: self.policy.keys.as_slice(),
         };
-        let road = road_of(request.transport, self.limit);
-        self.transfers.by_datagram(self.rt, sources, request, road)
+        let transport = reply_transport(request.transport, self.limit);
+        self.transfers
+            .by_datagram(self.rt, sources, request, transport)
     }
 
     /// Lets the zone file take the place of a journal that is long, and tells the first failure on standard error.

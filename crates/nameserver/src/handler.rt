@@ -4,7 +4,7 @@ use crate::log_file::LogFile;
 use crate::notices::Notices;
 use crate::transfers::{Sources, Transfers};
 use dns_faults::Delivery;
-use dns_nameserver::{Answered, NameServer, road_of};
+use dns_nameserver::{Answered, NameServer, reply_transport};
 use dns_sockets::{Handler, Milliseconds, Notice, Request};
 use dns_zone_histories::Recorder;
 use std::alloc::AllocError;
@@ -88,8 +88,11 @@ impl LoggedServer<'_> {
             histories: self.recorder.histories(),
             keys: &[],
         };
-        let road = road_of(request.transport, self.server.limit);
-        if let Some(reply) = self.transfers.by_datagram(self.rt, sources, request, road)? {
+        let transport = reply_transport(request.transport, self.server.limit);
+        if let Some(reply) = self
+            .transfers
+            .by_datagram(self.rt, sources, request, transport)?
+        {
             return Ok(Answered {
                 delivery: Delivery::plain(Some(reply)),
                 line: None,

@@ -4,7 +4,7 @@ use dns_authority::AnyAnswer;
 use dns_durable::{DurableServer, Incoming, Policy, Terms};
 use dns_journal::Storage;
 use dns_server::Updates;
-use dns_zone::Road;
+use dns_zone::Transport;
 use dns_zone_histories::Watch;
 use dns_zone_service::Answering;
 use std::alloc::{AllocError, Global};
@@ -21,7 +21,7 @@ pub(crate) fn raise_with_journal<S: Storage>(
         answering: Answering::Whole(AnyAnswer::AllSets),
     };
     let terms = Terms {
-        road: Road::Stream,
+        transport: Transport::Stream,
         local: Updates::Allowed,
         time: 0,
     };

@@ -4,10 +4,10 @@ use crate::log_file::LogFile;
 use dns_faults::Delivery;
 use dns_nameserver::Answered;
 use dns_server::AddressList;
-use dns_sockets::{Request, Transport};
+use dns_sockets::{Request, Transport as RequestTransport};
 use dns_transfer_replies::{Terms, ZoneHistory, may_ask_by_datagram, transfer_reply};
 use dns_tsig::Key;
-use dns_zone::{Road, Zone};
+use dns_zone::{Transport, Zone};
 use std::alloc::AllocError;
 use std::time::Clock;
 
@@ -46,7 +46,7 @@ impl Transfers {
             return Ok(None);
         }
         let is_permitted = !is_busy && self.secondaries.contains(request.peer.ip());
-        let terms = terms(rt, Road::Stream, is_permitted);
+        let terms = terms(rt, Transport::Stream, is_permitted);
         let found = reply_to(rt, sources, request, &terms)?;
         if let (Some(messages), Some(log)) = (&found, log) {
             log_first(rt, log, request, messages.as_slice())?;
@@ -60,14 +60,14 @@ impl Transfers {
         rt: &HostRuntime,
         sources: Sources<'_>,
         request: &Request<'_>,
-        road: Road,
+        transport: Transport,
     ) -> Result<Option<Vec<u8>>, AllocError> {
-        let may_ask = request.transport == Transport::Datagram
+        let may_ask = request.transport == RequestTransport::Datagram
             && may_ask_by_datagram(request.bytes);
         if !self.are_offered || !may_ask {
             return Ok(None);
         }
-        let terms = terms(rt, road, self.secondaries.contains(request.peer.ip()));
+        let terms = terms(rt, transport, self.secondaries.contains(request.peer.ip()));
         match reply_to(rt, sources, request, &terms)? {
             Some(mut messages) => Ok(messages.pop()),
             None => Ok(None),
@@ -91,9 +91,9 @@ fn reply_to(
 }
 
 /// Returns what decides on the reply to a request for a transfer.
-fn terms(rt: &HostRuntime, road: Road, is_permitted: bool) -> Terms {
+fn terms(rt: &HostRuntime, transport: Transport, is_permitted: bool) -> Terms {
     Terms {
-        road,
+        transport,
         is_permitted,
         // Without a clock, no signature is in time.
         time: rt.since_1970().map_or(0, |time| time.as_secs()),

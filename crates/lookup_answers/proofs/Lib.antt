@@ -1,0 +1,4 @@
+mod EndLaws
+mod GivenTextLaws
+mod ItemLaws
+mod RecordsLaws
