@@ -2,13 +2,13 @@
 
 use crate::answering::authority_of;
 use dns_authority_server::respond;
-use dns_zone::{DatagramLimit, Road};
+use dns_zone::{DatagramLimit, Transport};
 use rows::{Answer, RowFault, bytes_of, digits_of, split, text, two_words};
 use std::alloc::Global;
 use std::fmt::Write;
 
-/// `respond ROAD HEX || TEXT || TEXT ..`: the bytes that the server of the zones of these texts replies to a request over a
-/// road: `stream`, or the limit of its datagrams.
+/// `respond TRANSPORT HEX || TEXT || TEXT ..`: the bytes that the server of the zones of these texts replies to a request over a
+/// transport: `stream`, or the limit of its datagrams.
 pub(crate) fn responded(alloc: Global, input: &str) -> Answer {
     match replied(alloc, input)? {
         Some(reply) => Ok(digits_of(alloc, reply.as_slice())?),
@@ -16,7 +16,7 @@ pub(crate) fn responded(alloc: Global, input: &str) -> Answer {
     }
 }
 
-/// `header ROAD HEX || TEXT || TEXT ..`: the number of bytes of the reply, and those of its header.
+/// `header TRANSPORT HEX || TEXT || TEXT ..`: the number of bytes of the reply, and those of its header.
 pub(crate) fn header_replied(alloc: Global, input: &str) -> Answer {
     let Some(reply) = replied(alloc, input)? else {
         return text(alloc, "no reply");
@@ -29,28 +29,28 @@ pub(crate) fn header_replied(alloc: Global, input: &str) -> Answer {
     Ok(shown)
 }
 
-/// The reply of the server of some zones to a request over a road.
+/// The reply of the server of some zones to a request over a transport.
 fn replied(alloc: Global, input: &str) -> Result<Option<Vec<u8>>, RowFault> {
     let (first, texts) = split(input, " ||", "a request and zones")?;
-    let (road, digits) = two_words(first)?;
-    let Some(road) = road_of(road) else {
-        return Err(RowFault::Lacks("a road"));
+    let (transport, digits) = two_words(first)?;
+    let Some(transport) = transport_of(transport) else {
+        return Err(RowFault::Lacks("a transport"));
     };
     let request = bytes_of(alloc, digits)?;
     let authority = authority_of(alloc, texts)?;
-    Ok(respond(alloc, &authority.view(), request.as_slice(), road)?)
+    Ok(respond(alloc, &authority.view(), request.as_slice(), transport)?)
 }
 
-/// The road that a word means.
-fn road_of(word: &str) -> Option<Road> {
+/// The transport that a word means.
+fn transport_of(word: &str) -> Option<Transport> {
     if word == "stream" {
-        return Some(Road::Stream);
+        return Some(Transport::Stream);
     }
     let Ok(number) = word.parse::<u16>() else {
         return None;
     };
     match DatagramLimit::new(number) {
-        Ok(limit) => Some(Road::Datagram(limit)),
+        Ok(limit) => Some(Transport::Datagram(limit)),
         Err(_) => None,
     }
 }

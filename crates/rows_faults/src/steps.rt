@@ -19,8 +19,8 @@ pub(crate) fn steps(alloc: Global, input: &str) -> Answer {
     let mut server = FixedServer::new(alloc, reply.as_slice(), stale.as_slice());
     let mut answer = String::new(alloc);
     for request in requests.split(", ") {
-        let (road, digits) = two_words(request)?;
-        let transport = transport_of(road)?;
+        let (word, digits) = two_words(request)?;
+        let transport = transport_of(word)?;
         let bytes = bytes_of(alloc, digits)?;
         let outcome = respond(
             alloc,

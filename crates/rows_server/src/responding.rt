@@ -2,24 +2,24 @@
 
 use crate::adding::zone_of;
 use dns_server::{Server, Updates};
-use dns_zone::{DatagramLimit, Road};
+use dns_zone::{DatagramLimit, Transport};
 use rows::{Answer, RowFault, bytes_of, digits_of, split, two_words};
 use std::alloc::Global;
 use std::fmt::Write;
 
-/// `respond ROAD UPDATES HEX, .. || TEXT || TEXT ..`: the replies of the server of the zones of these texts to requests, one
-/// after another, and which of the zones changed, counted from 0. A road is `stream`, or the limit of its datagrams; updates are
+/// `respond TRANSPORT UPDATES HEX, .. || TEXT || TEXT ..`: the replies of the server of the zones of these texts to requests, one
+/// after another, and which of the zones changed, counted from 0. A transport is `stream`, or the limit of its datagrams; updates are
 /// `allowed` or `refused`. Without a text the server has no zone.
 pub(crate) fn respond(alloc: Global, input: &str) -> Answer {
-    let (road, input) = two_words(input)?;
-    match road_of(road) {
-        Some(road) => responded(alloc, &road, input),
-        None => Err(RowFault::Lacks("a road")),
+    let (transport, input) = two_words(input)?;
+    match transport_of(transport) {
+        Some(transport) => responded(alloc, &transport, input),
+        None => Err(RowFault::Lacks("a transport")),
     }
 }
 
-/// The replies to requests over a road.
-fn responded(alloc: Global, road: &Road, input: &str) -> Answer {
+/// The replies to requests over a transport.
+fn responded(alloc: Global, transport: &Transport, input: &str) -> Answer {
     let (updates, input) = two_words(input)?;
     let (requests, texts) = split(input, " ||", "requests and zones")?;
     let updates = updates_of(updates)?;
@@ -32,7 +32,7 @@ fn responded(alloc: Global, road: &Road, input: &str) -> Answer {
             alloc,
             &mut answer,
             &mut server,
-            road,
+            transport,
             updates,
             bytes.as_slice(),
         )?;
@@ -47,11 +47,11 @@ fn push_reply(
     alloc: Global,
     answer: &mut String,
     server: &mut Server,
-    road: &Road,
+    transport: &Transport,
     updates: Updates,
     request: &[u8],
 ) -> Result<(), RowFault> {
-    match server.respond(request, *road, updates)? {
+    match server.respond(request, *transport, updates)? {
         Some(reply) => answer.push_str(digits_of(alloc, reply.as_slice())?.as_str())?,
         None => answer.push_str("no reply")?,
     }
@@ -92,16 +92,16 @@ fn server_of(alloc: Global, texts: &str) -> Result<Server, RowFault> {
     Ok(server)
 }
 
-/// The road that a word means.
-fn road_of(word: &str) -> Option<Road> {
+/// The transport that a word means.
+fn transport_of(word: &str) -> Option<Transport> {
     if word == "stream" {
-        return Some(Road::Stream);
+        return Some(Transport::Stream);
     }
     let Ok(number) = word.parse::<u16>() else {
         return None;
     };
     match DatagramLimit::new(number) {
-        Ok(limit) => Some(Road::Datagram(limit)),
+        Ok(limit) => Some(Transport::Datagram(limit)),
         Err(_) => None,
     }
 }

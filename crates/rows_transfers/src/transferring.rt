@@ -1,7 +1,7 @@
 //! Transfers of whole zones.
 
 use dns_transfer_replies::{Terms, may_ask_by_datagram, transfer_reply};
-use dns_zone::{DatagramLimit, Road, Zone};
+use dns_zone::{DatagramLimit, Transport, Zone};
 use dns_zone_file::Types;
 use dns_zone_transfers::transfer;
 use rows::{Answer, RowFault, bytes_of, digits_of, split};
@@ -56,12 +56,12 @@ pub(crate) fn wide_sent(alloc: Global, input: &str) -> Answer {
 /// `ixfr HEX || TEXT`: the messages that reply to a request for an incremental transfer, over a stream and with leave, if the server
 /// has the zone of a text.
 pub(crate) fn incremental_sent(alloc: Global, input: &str) -> Answer {
-    incremental(alloc, input, Road::Stream, true)
+    incremental(alloc, input, Transport::Stream, true)
 }
 
 /// `refused HEX || TEXT`: the same without leave.
 pub(crate) fn incremental_refused(alloc: Global, input: &str) -> Answer {
-    incremental(alloc, input, Road::Stream, false)
+    incremental(alloc, input, Transport::Stream, false)
 }
 
 /// `datagram LIMIT HEX || TEXT`: the same with leave, in a datagram of so many bytes at most.
@@ -69,7 +69,7 @@ pub(crate) fn incremental_datagram(alloc: Global, input: &str) -> Answer {
     let (limit, input) = split(input, " ", "a limit and an input")?;
     match limit.parse::<u16>() {
         Ok(limit) => match DatagramLimit::new(limit) {
-            Ok(limit) => incremental(alloc, input, Road::Datagram(limit), true),
+            Ok(limit) => incremental(alloc, input, Transport::Datagram(limit), true),
             Err(_) => Err(RowFault::Lacks("a limit")),
         },
         Err(_) => Err(RowFault::Lacks("a limit")),
@@ -77,7 +77,7 @@ pub(crate) fn incremental_datagram(alloc: Global, input: &str) -> Answer {
 }
 
 /// The messages that reply to a request, after the word that says whether its header is one of an incremental transfer.
-fn incremental(alloc: Global, input: &str, road: Road, is_permitted: bool) -> Answer {
+fn incremental(alloc: Global, input: &str, transport: Transport, is_permitted: bool) -> Answer {
     let (digits, text) = split(input, " || ", "a request and a zone")?;
     let bytes = bytes_of(alloc, digits)?;
     let Ok(zone) = Zone::from_text_with(alloc, text, &[], None, Types::All) else {
@@ -85,7 +85,7 @@ fn incremental(alloc: Global, input: &str, road: Road, is_permitted: bool) -> An
     };
     let zones = Vec::from_array(alloc, [zone])?;
     let terms = Terms {
-        road,
+        transport,
         is_permitted,
         time: 0,
     };
@@ -127,7 +127,7 @@ fn messages(alloc: Global, input: &str) -> Result<Vec<Vec<u8>>, RowFault> {
         alloc,
         zones.as_slice(),
         bytes.as_slice(),
-        Road::Stream,
+        Transport::Stream,
         true,
     )? {
         Some(messages) => Ok(messages),

@@ -1,7 +1,7 @@
 //! Requests and their replies.
 
 use crate::updating::zone_of;
-use dns_zone::{DatagramLimit, Road};
+use dns_zone::{DatagramLimit, Transport};
 use rows::{Answer, RowFault, bytes_of, digits_of, named, parsed, shown, split, text, two_words};
 use std::alloc::Global;
 
@@ -13,7 +13,7 @@ pub(crate) fn limit(alloc: Global, number: &str) -> Answer {
     }
 }
 
-/// `serve ROAD HEX || TEXT`: the bytes that the zone of the text replies, where the request comes over a road: `stream`,
+/// `serve TRANSPORT HEX || TEXT`: the bytes that the zone of the text replies, where the request comes over a transport: `stream`,
 /// or the limit of its datagrams.
 pub(crate) fn serve(alloc: Global, input: &str) -> Answer {
     match replied(alloc, input)? {
@@ -22,7 +22,7 @@ pub(crate) fn serve(alloc: Global, input: &str) -> Answer {
     }
 }
 
-/// `served-size ROAD HEX || TEXT`: the length of the reply, and its header.
+/// `served-size TRANSPORT HEX || TEXT`: the length of the reply, and its header.
 pub(crate) fn served_size(alloc: Global, input: &str) -> Answer {
     match replied(alloc, input)? {
         Some(reply) => size_text(alloc, reply.as_slice()),
@@ -42,25 +42,25 @@ fn size_text(alloc: Global, reply: &[u8]) -> Answer {
 /// The reply to the request of a row, if there is one.
 fn replied(alloc: Global, input: &str) -> Result<Option<Vec<u8>>, RowFault> {
     let (request, text) = split(input, " || ", "a request and a zone")?;
-    let (road, digits) = two_words(request)?;
-    let Some(road) = road_of(road) else {
-        return Err(RowFault::Lacks("a road"));
+    let (transport, digits) = two_words(request)?;
+    let Some(transport) = transport_of(transport) else {
+        return Err(RowFault::Lacks("a transport"));
     };
     let bytes = bytes_of(alloc, digits)?;
     let mut zone = zone_of(alloc, text)?;
-    Ok(zone.serve(bytes.as_slice(), road)?)
+    Ok(zone.serve(bytes.as_slice(), transport)?)
 }
 
-/// The road that a word means.
-pub(crate) fn road_of(word: &str) -> Option<Road> {
+/// The transport that a word means.
+pub(crate) fn transport_of(word: &str) -> Option<Transport> {
     if word == "stream" {
-        return Some(Road::Stream);
+        return Some(Transport::Stream);
     }
     let Ok(number) = word.parse::<u16>() else {
         return None;
     };
     match DatagramLimit::new(number) {
-        Ok(limit) => Some(Road::Datagram(limit)),
+        Ok(limit) => Some(Transport::Datagram(limit)),
         Err(_) => None,
     }
 }

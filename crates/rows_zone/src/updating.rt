@@ -1,19 +1,19 @@
 //! Updates of zones.
 
-use crate::serve::road_of;
+use crate::serve::transport_of;
 use dns_messages::Message;
-use dns_zone::{Road, Zone};
+use dns_zone::{Transport, Zone};
 use rows::{Answer, RowFault, bytes_of, digits_of, split, two_words, word_and_rest};
 use std::alloc::Global;
 use std::fmt::Write;
 
-/// `update ROAD HEX, .. || TEXT`: the replies of the zone of the text to requests over a road, one after another, and the
+/// `update TRANSPORT HEX, .. || TEXT`: the replies of the zone of the text to requests over a transport, one after another, and the
 /// records of the zone afterwards, `same` if it had them before, parted by ` / `.
 pub(crate) fn update(alloc: Global, input: &str) -> Answer {
-    let (road, input) = two_words(input)?;
-    match road_of(road) {
-        Some(road) => updated(alloc, &Some(road), input),
-        None => Err(RowFault::Lacks("a road")),
+    let (transport, input) = two_words(input)?;
+    match transport_of(transport) {
+        Some(transport) => updated(alloc, &Some(transport), input),
+        None => Err(RowFault::Lacks("a transport")),
     }
 }
 
@@ -22,15 +22,15 @@ pub(crate) fn apply(alloc: Global, input: &str) -> Answer {
     updated(alloc, &None, input)
 }
 
-/// What a zone makes of updates, which are served over a road or else applied, and its records afterwards.
-fn updated(alloc: Global, road: &Option<Road>, input: &str) -> Answer {
+/// What a zone makes of updates, which are served over a transport or else applied, and its records afterwards.
+fn updated(alloc: Global, transport: &Option<Transport>, input: &str) -> Answer {
     let (requests, text) = split(input, " || ", "requests and a zone")?;
     let mut zone = zone_of(alloc, text)?;
     let before = sorted_text(alloc, &zone)?;
     let mut answer = String::new(alloc);
     for request in requests.split(", ") {
         let bytes = bytes_of(alloc, request)?;
-        push_outcome(alloc, &mut answer, &mut zone, road, bytes.as_slice())?;
+        push_outcome(alloc, &mut answer, &mut zone, transport, bytes.as_slice())?;
     }
     let after = sorted_text(alloc, &zone)?;
     if before.as_str() == after.as_str() {
@@ -49,16 +49,16 @@ pub(crate) fn zone_of(alloc: Global, text: &str) -> Result<Zone, RowFault> {
     }
 }
 
-/// Adds the reply to a request over a road, or else the code of the update of a message.
+/// Adds the reply to a request over a transport, or else the code of the update of a message.
 fn push_outcome(
     alloc: Global,
     answer: &mut String,
     zone: &mut Zone,
-    road: &Option<Road>,
+    transport: &Option<Transport>,
     bytes: &[u8],
 ) -> Result<(), RowFault> {
-    match road {
-        Some(road) => push_reply(alloc, answer, zone, *road, bytes),
+    match transport {
+        Some(transport) => push_reply(alloc, answer, zone, *transport, bytes),
         None => push_applied(alloc, answer, zone, bytes),
     }
 }
@@ -68,10 +68,10 @@ fn push_reply(
     alloc: Global,
     answer: &mut String,
     zone: &mut Zone,
-    road: Road,
+    transport: Transport,
     request: &[u8],
 ) -> Result<(), RowFault> {
-    match zone.serve(request, road)? {
+    match zone.serve(request, transport)? {
         Some(reply) => answer.push_str(digits_of(alloc, reply.as_slice())?.as_str())?,
         None => answer.push_str("no reply")?,
     }

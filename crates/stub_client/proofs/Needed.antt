@@ -244,7 +244,7 @@ module _ (buffer : Vec ℕ Global) where
       ≡ Stops (errors.Dns (dns.NoRecordsFound (no_records (asking alias types.A) NoError)))
   too_many_aliases = refl
 
-  -- So does a reply with records of another type alone: a step that the replies of a road have to bear out.
+  -- So does a reply with records of another type alone: a step that the replies of a transport have to bear out.
   other_type : first_step (asking host types.AAAA) (response_to (asking host types.AAAA) (address host 60 ∷ []))
       ≡ Stops (errors.Dns (dns.NoRecordsFound (no_records (asking host types.AAAA) NoError)))
   other_type = refl

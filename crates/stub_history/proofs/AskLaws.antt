@@ -17,8 +17,8 @@ use Rattle.dns_messages.specs.declared.query.Query.{Query}
 use Rattle.dns_messages.specs.declared.response.DnsResponse.{DnsResponse}
 use Rattle.dns_zone.specs.Rows.{ZoneContent}
 use Rattle.dns_zone.specs.Serving.{query_reply, reply_by_code, reply_limit, sent_reply, zone_after}
-use Rattle.dns_zone.specs.declared.road.Road.{Road}
-use Rattle.dns_zone.specs.declared.road.Road.TheVariants.{Datagram, Stream}
+use Rattle.dns_zone.specs.declared.transport.Transport.{Transport}
+use Rattle.dns_zone.specs.declared.transport.Transport.TheVariants.{Datagram, Stream}
 use Rattle.stub_lookup.specs.declared.error.LinkFault.TheVariants as fault
 use Rattle.stub_lookup.specs.declared.error.NetError.TheVariants as net
 use Rattle.stub_client.specs.Handle.{Outcome}
@@ -61,23 +61,23 @@ no-reuse a b sent later c h = reuse-at a b later sent c.0 c.1 c.2 h
 -- ---- which replies match
 
 -- a reply to an update does not
-not-update : (zone : ZoneContent) (road : Road) (id : ℕ) (q : Query) (m : Message) → IsSoundUpdate m → matches id (Some q) (sent_reply zone road m) ≡ true → ⊥
-not-update zone road id q m u h =
-    let r : Message = sent_reply zone road m in
+not-update : (zone : ZoneContent) (transport : Transport) (id : ℕ) (q : Query) (m : Message) → IsSoundUpdate m → matches id (Some q) (sent_reply zone transport m) ≡ true → ⊥
+not-update zone transport id q m u h =
+    let r : Message = sent_reply zone transport m in
     let header = (both-true (is_reply_header id (Some q) r.metadata) (repeats (Some q) r.queries) h).0 in
     let rest = (both-true (is_response r.metadata.message_type) (is_reply_code (Some q) r.metadata.op_code && (r.metadata.id == id)) header).1 in
     let code : is_reply_code (Some q) r.metadata.op_code ≡ true = (both-true (is_reply_code (Some q) r.metadata.op_code) (r.metadata.id == id) rest).0 in
     let is : r.metadata.op_code ≡ ops.Update =
-    ap (λ (x : Message). (cut (reply_limit road m) x).metadata.op_code) (ap (reply_by_code zone m) u.op_code) ∙ u.op_code in
+    ap (λ (x : Message). (cut (reply_limit transport m) x).metadata.op_code) (ap (reply_by_code zone m) u.op_code) ∙ u.op_code in
     true≢false (sym code ∙ ap (is_reply_code (Some q)) is)
 
 -- a reply to a question has its id, and repeats it
-repeats-question : (zone : ZoneContent) (road : Road) (id : ℕ) (q : Query) (m : Message) (first : Query) → m.metadata.op_code ≡ ops.Query → m.queries ≡ first ∷ []
-    → matches id (Some q) (sent_reply zone road m) ≡ true → is_reuse (m.metadata.id, first) (id, q) ≡ true
-repeats-question zone road id q m first code only h =
-    let r : Message = cut (reply_limit road m) (query_reply zone m first) in
+repeats-question : (zone : ZoneContent) (transport : Transport) (id : ℕ) (q : Query) (m : Message) (first : Query) → m.metadata.op_code ≡ ops.Query → m.queries ≡ first ∷ []
+    → matches id (Some q) (sent_reply zone transport m) ≡ true → is_reuse (m.metadata.id, first) (id, q) ≡ true
+repeats-question zone transport id q m first code only h =
+    let r : Message = cut (reply_limit transport m) (query_reply zone m first) in
     let matched : matches id (Some q) r ≡ true =
-    subst (λ (x : Message). matches id (Some q) (cut (reply_limit road m) x) ≡ true) (is-query-reply zone m first code only) h in
+    subst (λ (x : Message). matches id (Some q) (cut (reply_limit transport m) x) ≡ true) (is-query-reply zone m first code only) h in
     let parts = both-true (is_reply_header id (Some q) r.metadata) (repeats (Some q) r.queries) matched in
     let rest = (both-true (is_response r.metadata.message_type) (is_reply_code (Some q) r.metadata.op_code && (r.metadata.id == id)) parts.0).1 in
     let same-id : (m.metadata.id == id) ≡ true = (both-true (is_reply_code (Some q) r.metadata.op_code) (r.metadata.id == id) rest).1 in
@@ -192,8 +192,8 @@ pub record HoldsAnswerThen (origin : DomainName) (earlier history : List Version
   pub stand : StandAt history moment rows
   pub holds : HoldsAnswer (zone_with origin rows) q m
   pub since : HoldSince earlier history rows
-  pub road : Road
-  pub reply : m ≡ sent_reply (zone_with origin rows) road datagram
+  pub transport : Transport
+  pub reply : m ≡ sent_reply (zone_with origin rows) transport datagram
 
 abbrev pub answer-since : (origin : DomainName) (earlier history : List Version) (moment : ℕ) (datagram : Message) (q : Query) (m : Message)
     → HoldsAnswerThen origin earlier history moment datagram q m → HoldsAnswerSince origin earlier history q m
@@ -409,7 +409,7 @@ module _ (keep : UpdatesKeepZones) (origin : DomainName) (sent : List (ℕ × Qu
                   (at-origin r.zone (sent_reply r.zone (Datagram limit) m) made.origin_is
                   (holds-answer r.zone (Datagram limit) m q code only (ap (λ (y : Message). y.metadata.truncation) (sym sent-is) ∙ whole)));
               since = both.2;
-              road = Datagram limit;
+              transport = Datagram limit;
               reply = subst (λ (o : DomainName). response.message ≡ sent_reply (zone_with o r.zone.rows) (Datagram limit) m) made.origin_is sent-is;
             }
 
@@ -422,7 +422,7 @@ module _ (keep : UpdatesKeepZones) (origin : DomainName) (sent : List (ℕ × Qu
               (at-origin g.0 (sent_reply g.0 Stream m) g.3
               (holds-answer g.0 Stream m q code only (ap (λ (y : Message). y.metadata.truncation) (sym g.4) ∙ whole)));
           since = g.2;
-          road = Stream;
+          transport = Stream;
           reply = subst (λ (o : DomainName). response.message ≡ sent_reply (zone_with o g.0.rows) Stream m) g.3 g.4;
         }
 

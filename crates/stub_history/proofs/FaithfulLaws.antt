@@ -213,7 +213,7 @@ module _ (keep : UpdatesKeepZones) (origin : DomainName) (old : AskState) (f : I
         × IsMadeFor origin old.link.history new.link.history old.link.moment (with_id id m) response.message
     ask-made q later only once response ok =
         let a = answers-then q later only once response ok in
-        (a.0, a.1, record { rows = a.2.rows; road = a.2.road; stand = a.2.stand; since = a.2.since; reply = a.2.reply })
+        (a.0, a.1, record { rows = a.2.rows; transport = a.2.transport; stand = a.2.stand; since = a.2.since; reply = a.2.reply })
 
   -- ---- updates
 

@@ -17,8 +17,8 @@ use Rattle.dns_messages.specs.declared.query.Query.{Query}
 use Rattle.dns_messages.specs.declared.response.DnsResponse.{DnsResponse}
 use Rattle.dns_zone.specs.Rows.{ZoneContent}
 use Rattle.dns_zone.specs.Serving.{reply_limit, sent_reply}
-use Rattle.dns_zone.specs.declared.road.Road.{Road}
-use Rattle.dns_zone.specs.declared.road.Road.TheVariants.{Stream}
+use Rattle.dns_zone.specs.declared.transport.Transport.{Transport}
+use Rattle.dns_zone.specs.declared.transport.Transport.TheVariants.{Stream}
 use Rattle.stub_lookup.specs.declared.error.LinkFault.TheVariants as fault
 use Rattle.stub_lookup.specs.declared.error.NetError.TheVariants as net
 use Rattle.stub_client.specs.Handle.{Outcome}
@@ -56,11 +56,11 @@ question-same q =
     ∙ ap (λ (b : Bool). b && (class_number q.query_class == class_number q.query_class)) (number-same (type_number q.query_type))
     ∙ number-same (class_number q.query_class)
 
--- what the server sends over any road to a question is its reply
-reply-matches : (zone : ZoneContent) (road : Road) (m : Message) (q : Query) → m.metadata.op_code ≡ ops.Query → m.queries ≡ q ∷ []
-    → matches m.metadata.id (Some q) (sent_reply zone road m) ≡ true
-reply-matches zone road m q code only =
-    subst (λ (r : Message). matches m.metadata.id (Some q) (cut (reply_limit road m) r) ≡ true) (sym (is-query-reply zone m q code only))
+-- what the server sends over any transport to a question is its reply
+reply-matches : (zone : ZoneContent) (transport : Transport) (m : Message) (q : Query) → m.metadata.op_code ≡ ops.Query → m.queries ≡ q ∷ []
+    → matches m.metadata.id (Some q) (sent_reply zone transport m) ≡ true
+reply-matches zone transport m q code only =
+    subst (λ (r : Message). matches m.metadata.id (Some q) (cut (reply_limit transport m) r) ≡ true) (sym (is-query-reply zone m q code only))
     (ap (λ (op : OpCode). (is_reply_code (Some q) op && (m.metadata.id == m.metadata.id)) && same_question q q) code
     ∙ ap (λ (b : Bool). b && same_question q q) (number-same m.metadata.id) ∙ question-same q)
 

@@ -24,7 +24,7 @@ use Rattle.dns_messages.specs.declared.response_code.ResponseCode.TheVariants.{N
 use Rattle.dns_zone.specs.Answer.{after_records, answer, answer_at, answer_by, bare, is_no_row_type, max_aliases, next_owner, record_of, rest_at}
 use Rattle.dns_zone.specs.Rows.{ZoneContent}
 use Rattle.dns_zone.specs.Serving.{query_reply, reply, reply_by_code, reply_limit, reply_to_queries, sent_reply}
-use Rattle.dns_zone.specs.declared.road.Road.{Road}
+use Rattle.dns_zone.specs.declared.transport.Transport.{Transport}
 use Rattle.dns_zone.specs.declared.zone.answer.Answer.{Answer}
 use Rattle.stub_history.specs.Answered.{HoldsAnswer}
 
@@ -116,21 +116,21 @@ is-query-reply zone m q code only =
     ap (reply_by_code zone m) code ∙ ap (reply_to_queries zone m) only
 
 -- a reply to a question that is sent without TC holds the answer
-pub holds-answer : (zone : ZoneContent) (road : Road) (m : Message) (q : Query) → m.metadata.op_code ≡ ops.Query → m.queries ≡ q ∷ []
-    → (sent_reply zone road m).metadata.truncation ≡ false → HoldsAnswer zone q (sent_reply zone road m)
-holds-answer zone road m q code only h =
-    subst (λ (r : Message). HoldsAnswer zone q (cut (reply_limit road m) r)) (sym (is-query-reply zone m q code only))
+pub holds-answer : (zone : ZoneContent) (transport : Transport) (m : Message) (q : Query) → m.metadata.op_code ≡ ops.Query → m.queries ≡ q ∷ []
+    → (sent_reply zone transport m).metadata.truncation ≡ false → HoldsAnswer zone q (sent_reply zone transport m)
+holds-answer zone transport m q code only h =
+    subst (λ (r : Message). HoldsAnswer zone q (cut (reply_limit transport m) r)) (sym (is-query-reply zone m q code only))
     (by (query_reply zone m q) refl refl refl refl refl
-    (subst (λ (r : Message). (cut (reply_limit road m) r).metadata.truncation ≡ false) (is-query-reply zone m q code only) h))
+    (subst (λ (r : Message). (cut (reply_limit transport m) r).metadata.truncation ≡ false) (is-query-reply zone m q code only) h))
   where
     by : (r : Message) → r.queries ≡ q ∷ [] → r.metadata.response_code ≡ (answer zone q).code → r.answers ≡ (answer zone q).answers
         → r.authorities ≡ (answer zone q).authorities → r.additionals ≡ []
-        → (cut (reply_limit road m) r).metadata.truncation ≡ false → HoldsAnswer zone q (cut (reply_limit road m) r)
+        → (cut (reply_limit transport m) r).metadata.truncation ≡ false → HoldsAnswer zone q (cut (reply_limit transport m) r)
     by r queries code answers authorities additionals h =
-        let whole = whole-cut (reply_limit road m) r h in
+        let whole = whole-cut (reply_limit transport m) r h in
         record {
           queries = queries;
-          code = remaining-same (remaining (reply_limit road m) r).edns r.metadata.response_code
+          code = remaining-same (remaining (reply_limit transport m) r).edns r.metadata.response_code
               (subst IsHeaderCode (sym code) (answer-code zone q)) ∙ code;
           answers = whole.answers ∙ answers;
           authorities = whole.authorities ∙ authorities;

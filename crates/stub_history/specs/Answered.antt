@@ -11,7 +11,7 @@ use Rattle.dns_messages.specs.declared.response_code.ResponseCode.{ResponseCode}
 use Rattle.dns_zone.specs.Answer.{answer}
 use Rattle.dns_zone.specs.Rows.{IsZone, ZoneContent}
 use Rattle.dns_zone.specs.Serving.{sent_reply}
-use Rattle.dns_zone.specs.declared.road.Road.{Road}
+use Rattle.dns_zone.specs.declared.transport.Transport.{Transport}
 use Rattle.stub_cache.specs.Ttl.{TtlConfigContent, bounds_of, positive_range}
 use Rattle.stub_client.specs.Handle.{Ask}
 use Rattle.stub_client.specs.Origins.{Asked}
@@ -82,10 +82,10 @@ pub record HoldsAnswerSince (origin : DomainName) (earlier history : List Versio
 -- the question of the datagram was open.
 pub record IsMadeFor (origin : DomainName) (earlier history : List Version) (moment : ℕ) (datagram m : Message) : Type 0 where
   pub rows : Rows
-  pub road : Road
+  pub transport : Transport
   pub stand : StandAt history moment rows
   pub since : HoldSince earlier history rows
-  pub reply : m ≡ sent_reply (zone_with origin rows) road datagram
+  pub reply : m ≡ sent_reply (zone_with origin rows) transport datagram
 
 -- The code of an update is that of the server's reply to a datagram that matches it, by the zone at the delivery of the datagram.
 pub record IsCodeAtDelivery (origin : DomainName) (history : List Version) (now id : ℕ) (code : ResponseCode) : Type 0 where

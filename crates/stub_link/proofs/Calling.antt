@@ -9,7 +9,7 @@ use Rattle.std.specs.Global.{Vec}
 use Rattle.std.proofs.lemmas.Bool.{true≢false}
 use Rattle.dns_messages.specs.declared.message.Message.{Message}
 use Rattle.dns_messages.specs.Grammar.{ReadsMessage}
-use Rattle.dns_zone.specs.declared.road.Road.TheVariants.{Stream}
+use Rattle.dns_zone.specs.declared.transport.Transport.TheVariants.{Stream}
 use Rattle.dns_zone.specs.Serving.{sent_reply}
 use Rattle.stub_link.specs.declared.link.LinkError.{LinkError}
 use Rattle.stub_link.specs.declared.link.LinkError.TheVariants.{Failed, Memory}

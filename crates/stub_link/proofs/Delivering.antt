@@ -9,8 +9,8 @@ use Rattle.std.proofs.lemmas.Option.{slice_get_past, slice_get_read}
 use Rattle.dns_messages.specs.declared.message_type.MessageType.TheVariants as kinds
 use Rattle.dns_messages.specs.declared.message.Message.{Message}
 use Rattle.dns_messages.specs.Grammar.{ReadsMessage}
-use Rattle.dns_zone.specs.declared.road.Road.{Road}
-use Rattle.dns_zone.specs.declared.road.Road.TheVariants.{Datagram, Stream}
+use Rattle.dns_zone.specs.declared.transport.Transport.{Transport}
+use Rattle.dns_zone.specs.declared.transport.Transport.TheVariants.{Datagram, Stream}
 use Rattle.dns_zone.specs.Rows.{ZoneContent}
 use Rattle.dns_zone.specs.Serving.{Serves, sent_reply, zone_after}
 use Rattle.stub_link.specs.declared.link.server.Server.{Server}
@@ -21,20 +21,20 @@ abbrev OneWay : Type 0
 OneWay = (bytes : List ℕ) (a b : Message) → ReadsMessage bytes a → ReadsMessage bytes b → a ≡ b
 
 -- a request has a reply
-pub replied : {P : Type 0} (zone : ZoneContent) (road : Road) (bytes : List ℕ) (after : ZoneContent) (m : Message) → IsRequest bytes m → Serves zone road bytes None after → P
-replied zone road bytes after m r s = absurd (let wrong : kinds.Query ≡ kinds.Response = sym r.kind ∙ s.1 m r.decodes in cc wrong)
+pub replied : {P : Type 0} (zone : ZoneContent) (transport : Transport) (bytes : List ℕ) (after : ZoneContent) (m : Message) → IsRequest bytes m → Serves zone transport bytes None after → P
+replied zone transport bytes after m r s = absurd (let wrong : kinds.Query ≡ kinds.Response = sym r.kind ∙ s.1 m r.decodes in cc wrong)
 
 -- the zone after a request
-served-zone : OneWay → (zone : ZoneContent) (road : Road) (bytes out : List ℕ) (after : ZoneContent) (state : LinkState) (m : Message) → zone ≡ state.zone → IsRequest bytes m → Serves zone road bytes (Some out) after
+served-zone : OneWay → (zone : ZoneContent) (transport : Transport) (bytes out : List ℕ) (after : ZoneContent) (state : LinkState) (m : Message) → zone ≡ state.zone → IsRequest bytes m → Serves zone transport bytes (Some out) after
     → after ≡ zone_after state.zone m
-served-zone one_way zone road bytes out after state m same r s =
+served-zone one_way zone transport bytes out after state m same r s =
     s.after_is ∙ (λ i. zone_after (same i) (one_way bytes s.request m s.reads r.decodes i))
 
 -- its reply
-pub served-reply : OneWay → (zone : ZoneContent) (road : Road) (bytes out : List ℕ) (after : ZoneContent) (state : LinkState) (m : Message) → zone ≡ state.zone → IsRequest bytes m → Serves zone road bytes (Some out) after
-    → ReadsMessage out (sent_reply state.zone road m)
-served-reply one_way zone road bytes out after state m same r s =
-    subst (ReadsMessage out) (λ i. sent_reply (same i) road (one_way bytes s.request m s.reads r.decodes i)) s.replied.decodes
+pub served-reply : OneWay → (zone : ZoneContent) (transport : Transport) (bytes out : List ℕ) (after : ZoneContent) (state : LinkState) (m : Message) → zone ≡ state.zone → IsRequest bytes m → Serves zone transport bytes (Some out) after
+    → ReadsMessage out (sent_reply state.zone transport m)
+served-reply one_way zone transport bytes out after state m same r s =
+    subst (ReadsMessage out) (λ i. sent_reply (same i) transport (one_way bytes s.request m s.reads r.decodes i)) s.replied.decodes
 
 abbrev pub IsReplyIn : ℕ → List ℕ → ServerReply → Type 0
 IsReplyIn limit bytes r = ReadsMessage bytes (message_of limit r)

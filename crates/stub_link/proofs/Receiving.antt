@@ -8,7 +8,7 @@ use Rattle.std.specs.Option.{option_to_list}
 use Rattle.std.proofs.lemmas.Bool.{true≢false}
 use Rattle.dns_messages.specs.declared.message.Message.{Message}
 use Rattle.dns_messages.specs.Grammar.{ReadsMessage}
-use Rattle.dns_zone.specs.declared.road.Road.TheVariants.{Datagram}
+use Rattle.dns_zone.specs.declared.transport.Transport.TheVariants.{Datagram}
 use Rattle.dns_zone.specs.Serving.{sent_reply}
 use Rattle.stub_link.specs.declared.link.LinkError.{LinkError}
 use Rattle.stub_link.specs.declared.link.LinkError.TheVariants.{Failed, Memory}

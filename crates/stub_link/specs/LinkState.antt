@@ -5,7 +5,7 @@ use Rattle.dns_messages.specs.declared.response_code.ResponseCode.{ResponseCode}
 use Rattle.dns_messages.specs.declared.response_code.ResponseCode.TheVariants.{NoError}
 use Rattle.dns_messages.specs.declared.message.Message.{Message}
 use Rattle.dns_messages.specs.Sound.{is_update_code}
-use Rattle.dns_zone.specs.declared.road.Road.TheVariants.{Datagram, Stream}
+use Rattle.dns_zone.specs.declared.transport.Transport.TheVariants.{Datagram, Stream}
 use Rattle.dns_zone.specs.Rows.{Rows, ZoneContent}
 use Rattle.dns_zone.specs.Serving.{reply, sent_reply, zone_after}
 use Rattle.stub_link.specs.declared.link.LinkError.{LinkError}

@@ -95,7 +95,7 @@ fn deciding_ttl(query_type: RecordType, message: &Message) -> Option<u32>
     ensures { result ≡ least_ttl (deciding_records query_type message.now) }
 {
     let answers = least_ttl(query_type, message.answers.as_slice());
-    if !query_type.is_same(RecordType::NS) {
+    if query_type != RecordType::NS {
         return answers;
     }
     let authorities = least_ttl(query_type, message.authorities.as_slice());
@@ -120,8 +120,7 @@ fn least_ttl(query_type: RecordType, records: &[Record]) -> Option<u32>
 fn is_deciding(query_type: RecordType, kind: RecordType) -> bool
     ensures { result ≡ is_deciding query_type kind }
 {
-    kind.is_same(query_type)
-        || kind.is_same(RecordType::CNAME) && !query_type.is_same(RecordType::NS)
+    kind == query_type || kind == RecordType::CNAME && query_type != RecordType::NS
 }
 
 /// Returns the lesser of two TTLs, or the only one.

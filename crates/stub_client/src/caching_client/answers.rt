@@ -66,7 +66,7 @@ fn is_found(query: &Query, chain: &Chain, entry: &Record) -> bool
 fn has_class(query: &Query, entry: &Record) -> bool
     ensures { result ≡ has_class query.now entry.now }
 {
-    entry.dns_class.is_same(query.query_class)
+    entry.dns_class == query.query_class
 }
 
 /// Returns `true` if a record has the type of a question, or any type is asked for (RFC 1035 section 3.2.3).
@@ -74,7 +74,7 @@ fn asks_for(query: &Query, entry: &Record) -> bool
     ensures { result ≡ asks_for query.now entry.now }
 {
     let asked = query.query_type;
-    asked.is_same(RecordType::ANY) || entry.record_type().is_same(asked)
+    asked == RecordType::ANY || entry.record_type() == asked
 }
 
 /// Returns `true` if a record is at the end of the aliases of a question, or at its name.
@@ -202,7 +202,7 @@ fn is_kept_alias(settings: LookupSettings, query: &Query, entry: &Record) -> boo
 fn is_alias(entry: &Record) -> bool
     ensures { result ≡ has_type types.CNAME entry.now }
 {
-    entry.record_type().is_same(RecordType::CNAME)
+    entry.record_type() == RecordType::CNAME
 }
 
 /// Copies a record, with a TTL of at most `most` seconds.

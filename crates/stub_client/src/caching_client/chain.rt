@@ -38,7 +38,7 @@ fn asks_for_aliases(query: &Query) -> bool
     ensures { result ≡ asks_for_aliases query.now }
 {
     let asked = query.query_type;
-    asked.is_same(RecordType::CNAME) || asked.is_same(RecordType::ANY)
+    asked == RecordType::CNAME || asked == RecordType::ANY
 }
 
 /// Returns where the aliases among answers lead from a name, each one from where those before it lead.

@@ -6,7 +6,7 @@ ghost use Rattle.stub_link.specs.ScriptedLink.{bytes_of};
 
 use dns_frames::{FrameError, ListSource, read_frame, write_frame};
 use dns_messages::laws::messages_decode_unambiguously;
-use dns_zone::{DatagramLimit, Road, Zone};
+use dns_zone::{DatagramLimit, Transport, Zone};
 use std::alloc::{AllocError, Global};
 
 /// The maximum size of a message, in bytes (RFC 1035 section 4.2.2).
@@ -29,7 +29,7 @@ impl Server {
     ghost use Rattle.std.specs.Prelude.{List, Option};
     ghost use Rattle.std.specs.List.{fold};
     ghost use Rattle.dns_messages.specs.declared.message.Message.{Message};
-    ghost use Rattle.dns_zone.specs.declared.road.Road.TheVariants.{Stream};
+    ghost use Rattle.dns_zone.specs.declared.transport.Transport.TheVariants.{Stream};
     ghost use Rattle.dns_zone.specs.Serving.{sent_reply};
     ghost use Rattle.stub_link.specs.LinkState.{LinkState, deliver, deliver_named, serve};
     ghost use Rattle.stub_link.specs.ScriptedLink.{AreRelated, IsPlace, IsRequest, IsServerOf, IsStreamReply};
@@ -57,7 +57,7 @@ impl Server {
     {
         messages_decode_unambiguously();
         self.replies.reserve(1)?;
-        match self.zone.serve(bytes, Road::Datagram(self.limit))? {
+        match self.zone.serve(bytes, Transport::Datagram(self.limit))? {
             Some(reply) => {
                 push_reply(&mut self.replies, reply);
                 Ok(true)
@@ -119,7 +119,7 @@ impl Server {
             return Ok(None);
         }
         let request = through_stream(self.alloc, bytes)?;
-        match self.zone.serve(request.as_slice(), Road::Stream)? {
+        match self.zone.serve(request.as_slice(), Transport::Stream)? {
             Some(reply) => Ok(Some(through_stream(self.alloc, reply.as_slice())?)),
             None => Ok(None),
         }

@@ -1,10 +1,14 @@
-use Rattle.std.proofs.Common.{◌∙◌, List, Option, ℕ, ap, sym}
+use Rattle.std.proofs.Common.{◌≡◌, ◌∙◌, Bool, true, false, not, List, Option, ℕ, ap, refl, sym}
 use Rattle.std.specs.List.{filter}
 use Rattle.dns_records.specs.Record.{Record}
 use Rattle.stub_cache.specs.Ttl.{least_ttl}
 use Rattle.stub_cache.specs.internal.Ttl.{is_deciding_record, lesser_of}
 use Rattle.stub_cache.proofs.LifetimeLaws.{least_for_ns}
 use Rattle.stub_cache.proofs.cache.clamping.deciding_ttl.Goals as goal
+
+of_negation : (b : Bool) → not b ≡ false → b ≡ true
+of_negation true is = refl
+of_negation false is = sym is
 
 pub returns : goal.returns
 returns c =
@@ -14,4 +18,4 @@ returns c =
     c.lesser_of.ensures
     ∙ ap (λ first. lesser_of first c.least_ttl-authorities.result) (c.least_ttl-answers.ensures ∙ ap least c.as_slice.ensures)
     ∙ ap (λ second. lesser_of (least m.answers) second) (c.least_ttl-authorities.ensures ∙ ap least c.as_slice-2.ensures)
-    ∙ least_for_ns asked m (sym c.is_same.ensures ∙ c.if-not-is_same.false)
+    ∙ least_for_ns asked m (of_negation _ (sym c.ne.ensures ∙ c.if-ne.false))

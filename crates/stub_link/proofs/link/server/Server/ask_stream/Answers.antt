@@ -1,6 +1,6 @@
 use Rattle.std.proofs.Common.{◌≡◌, ℕ, List, Some, refl, subst, sym, ◌∙◌}
 use Rattle.dns_messages.specs.Grammar.{ReadsMessage}
-use Rattle.dns_zone.specs.declared.road.Road.TheVariants.{Stream}
+use Rattle.dns_zone.specs.declared.transport.Transport.TheVariants.{Stream}
 use Rattle.dns_zone.specs.Serving.{Serves, sent_reply}
 use Rattle.stub_link.specs.ScriptedLink.{IsRequest}
 use Rattle.stub_link.proofs.Delivering.{replied, served-reply, streamed}

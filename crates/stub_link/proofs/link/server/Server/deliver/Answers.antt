@@ -1,6 +1,6 @@
 use Rattle.std.proofs.Common.{ap, refl, ◌∙◌, ◌++◌, ◌∷◌, [], List, ℕ, map}
 use Rattle.std.specs.Global.{Vec}
-use Rattle.dns_zone.specs.declared.road.Road.TheVariants.{Datagram}
+use Rattle.dns_zone.specs.declared.transport.Transport.TheVariants.{Datagram}
 use Rattle.stub_link.proofs.Delivering.{delivered, replied}
 use Rattle.stub_link.proofs.link.server.Server.deliver.Goals as goal
 
