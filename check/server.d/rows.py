@@ -22,7 +22,7 @@ def expanded(text: str) -> str:
 
 
 def rows():
-    """The rows: their operation, the road, the requests, the text of the zone, and the answer."""
+    """The rows: their operation, the transport, the requests, the text of the zone, and the answer."""
     for path in sorted(DATA.glob("*.rows")):
         for line in path.read_text(encoding="utf-8").splitlines():
             word, _, rest = line.partition(" ")
@@ -30,8 +30,8 @@ def rows():
                 continue
             asked, _, answer = expanded(rest).rpartition(" > ")
             requests, _, zone = asked.partition(" || ")
-            road, _, digits = requests.partition(" ")
-            yield f"{path.name}: {line[:120]}", word, road, [
+            transport, _, digits = requests.partition(" ")
+            yield f"{path.name}: {line[:120]}", word, transport, [
                 bytes.fromhex(it) for it in digits.split(", ") if it != "-"
             ], zone, answer
 
@@ -43,10 +43,10 @@ class OneZone(Server):
         return self.zones[0]
 
 
-def server_for(text: str, road: str):
+def server_for(text: str, transport: str):
     """The model of a server for a zone, or `None` for text that is not whole records in lines."""
     try:
-        return OneZone([zone_of(text)], 65535 if road == "stream" else int(road))
+        return OneZone([zone_of(text)], 65535 if transport == "stream" else int(transport))
     except (ValueError, AssertionError, IndexError):
         return None
 
@@ -68,14 +68,14 @@ def try_rows(report, _program, _missing) -> None:
     """Compares the answers of the model with those of all rows."""
     report.begin()
     tried = 0
-    for title, word, road, requests, text, answer in rows():
-        server = server_for(text, road)
+    for title, word, transport, requests, text, answer in rows():
+        server = server_for(text, transport)
         if server is None:
             continue
         tried += 1
         wanted = answer.split(" / ")
         before = contents(server.zones[0])
-        got = answer_of(word, server, requests, road == "stream")
+        got = answer_of(word, server, requests, transport == "stream")
         report.check(title, wanted[: len(got)], got)
         if word == "update" and wanted[-1] == "same":
             report.check(f"{title}: rows", before, contents(server.zones[0]))
