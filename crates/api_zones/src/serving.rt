@@ -48,7 +48,8 @@ fn serve_over(
     reply_transport: Transport,
     room: usize,
 ) -> Result<Vec<u8>, Refusal>
-    ensures ok { IfOk result (λ reply. Serves zone.old reply_transport request.now room reply.items zone.new) }
+    ensures ok { IfOk result (λ reply.
+        Serves zone.old reply_transport request.now room reply.items zone.new) }
     ensures refused { IfErr result (IsUnserved request.now) }
     ensures err { OnErr result (zone.new ≡ zone.old) }
 {
@@ -66,7 +67,8 @@ fn answer(
     room: usize,
 ) -> Result<Vec<u8>, AllocError>
     requires { IsSound request.now }
-    ensures reply { IfOk result (λ reply. IsReplyTo zone.old reply_transport request.now reply.items) }
+    ensures reply { IfOk result (λ reply.
+        IsReplyTo zone.old reply_transport request.now reply.items) }
     ensures ok { IfOk result (λ reply.
         zone.new ≡ zone_within room reply.items zone.old request.now) }
     ensures err { OnErr result (zone.new ≡ zone.old) }

@@ -227,7 +227,8 @@ fn differences_or_start(
 ) -> Result<Vec<Vec<u8>>, AllocError>
     requires sound { IsSound request.now }
     requires few { length request.now.queries ≤ 1 }
-    ensures { IfOk result (λ messages. DiffersOrStarts zone.now differences.now transport request.now
+    ensures { IfOk result (λ messages.
+        DiffersOrStarts zone.now differences.now transport request.now
         (map (λ bytes. bytes.items) messages.items)) }
 {
     match alone(alloc, zone, differences, request, &transport)? {

@@ -281,7 +281,8 @@ fn signed_refusal(
     requires sound { IsSound request.now }
     requires fits { code_number code < 16 }
     requires named { code_of (code_number code) ≡ code }
-    ensures { IfOk result (λ out. IsSignedRefusal keys.now checked.now terms.now.time terms.now.transport
+    ensures { IfOk result (λ out.
+        IsSignedRefusal keys.now checked.now terms.now.time terms.now.transport
         request.now code out.items) }
 {
     let mut message = bare_reply_bytes(alloc, request, code, terms.transport)?;

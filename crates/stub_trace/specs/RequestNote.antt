@@ -35,5 +35,6 @@ abbrev pub asked_text : Option Query → List ℕ
 asked_text (Some q) = codes " " ++ question_text q
 asked_text None = codes " update"
 
+-- its ID first, in decimal
 abbrev pub request_text : RequestNote → List ℕ
 request_text note = codes "id " ++ (decimal note.id ++ asked_text note.question)

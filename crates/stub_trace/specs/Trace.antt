@@ -35,18 +35,22 @@ IsNoted call old new =
 
 -- ---- the calls of a traced link, by those of the other link
 
+-- a datagram is sent by the other link, and the call is noted
 abbrev pub traced_sends : {L : Type 0} → (L → List ℕ → Result (Unit {0}) LinkError → L → Type 0)
     → TracedLink L → List ℕ → Result (Unit {0}) LinkError → TracedLink L → Type 0
 traced_sends sends old bytes result new = sends old.link bytes result new.link × IsNoted (sent bytes result) old new
 
+-- a datagram is received by the other link, and the call is noted
 abbrev pub traced_receives : {L : Type 0} → (L → Result (Option (List ℕ)) LinkError → L → Type 0)
     → TracedLink L → Result (Option (List ℕ)) LinkError → TracedLink L → Type 0
 traced_receives receives old result new = receives old.link result new.link × IsNoted (received result) old new
 
+-- a request is sent over a stream of the other link, and the call is noted with its reply
 abbrev pub traced_streams : {L : Type 0} → (L → List ℕ → Result (List ℕ) LinkError → L → Type 0)
     → TracedLink L → List ℕ → Result (List ℕ) LinkError → TracedLink L → Type 0
 traced_streams streams old bytes result new = streams old.link bytes result new.link × IsNoted (streamed bytes result) old new
 
+-- the failures that the other link has counted
 abbrev pub traced_count : {L : Type 0} → (L → ℕ) → TracedLink L → ℕ
 traced_count failure_count traced = failure_count traced.link
 
