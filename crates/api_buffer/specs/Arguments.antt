@@ -1,9 +1,8 @@
 -- Names and texts that a caller passes as bytes.
-use Rattle.std.specs.Prelude.{◌≡◌, true, List, [], ◌∷◌, ℕ, Option, Some, None, Result, Ok, Err}
+use Rattle.std.specs.Prelude.{true, List, [], ◌∷◌, ℕ, Option, Some, None, Result, Ok, Err}
 use Rattle.dns_names.specs.Name.{DomainName}
 use Rattle.dns_names.specs.Parse.{name_of_text}
 use Rattle.dns_names.specs.declared.error.ParseError.{ParseError}
-use Rattle.dns_names.specs.declared.error.ParseError.TheVariants as parse
 use Rattle.api_buffer.specs.declared.refusal.Refusal.{Refusal}
 use Rattle.api_buffer.specs.declared.refusal.Refusal.TheVariants as refusal
 

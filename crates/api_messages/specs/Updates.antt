@@ -1,5 +1,5 @@
 -- Updates: a zone, prerequisites and changes (RFC 2136 section 2).
-use Rattle.std.specs.Prelude.{◌≡◌, ◌<◌, ◌≤◌, false, IsOk, IsOkAnd, List, ℕ, Option, Some, None, Result, Ok, Err}
+use Rattle.std.specs.Prelude.{◌≡◌, ◌<◌, false, IsOk, IsOkAnd, List, ℕ, Option, Some, None, Result, Ok, Err}
 use Rattle.api_buffer.specs.Arguments.{name_in}
 use Rattle.api_buffer.specs.declared.refusal.Refusal.{Refusal}
 use Rattle.api_buffer.specs.declared.refusal.Refusal.TheVariants as refusal

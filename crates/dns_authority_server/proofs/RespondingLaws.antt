@@ -1,5 +1,5 @@
 -- Bytes with the header of a query that do not decode.
-use Rattle.std.proofs.Common.{◌≡◌, Bool, true, false, List, ℕ, ap, ◌∙◌, Option, Some, None}
+use Rattle.std.proofs.Common.{◌≡◌, true, false, List, ℕ, ap, ◌∙◌, Option, Some, None}
 use Rattle.dns_messages.specs.declared.message_type.MessageType.{MessageType}
 use Rattle.dns_messages.specs.declared.message_type.MessageType.TheVariants as kinds
 use Rattle.dns_messages.specs.declared.header.Metadata.{Metadata}

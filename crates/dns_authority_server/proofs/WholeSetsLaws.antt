@@ -1,6 +1,6 @@
 -- The start of the set at a place.
-use Rattle.std.proofs.Common.{◌≡◌, ◌≤◌, ◌-◌, zero, suc, Bool, true, false, if◌then◌else◌, List, ℕ, [], ◌∷◌, cond, length, refl, ap, ◌∙◌, sym, arith}
-use Rattle.std.proofs.Common.{ltb, take, length-take, Option, None}
+use Rattle.std.proofs.Common.{◌≡◌, ◌≤◌, ◌-◌, zero, suc, Bool, true, false, if◌then◌else◌, List, ℕ, [], ◌∷◌, cond, length, refl, ap, ◌∙◌, arith}
+use Rattle.std.proofs.Common.{ltb, take, length-take, None}
 use Rattle.dns_records.specs.Record.{Record}
 use Rattle.dns_wire.specs.Encodable.{Piece, Position, after, reach}
 use Rattle.dns_wire.specs.Items.{fitting_prefix}

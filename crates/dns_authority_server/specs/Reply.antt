@@ -1,5 +1,5 @@
 -- The reply to a request (RFC 1035 section 4.1, RFC 6891 sections 6.1.3 and 7).
-use Rattle.std.specs.Prelude.{◌<◌, nat_lt, if◌then◌else◌, List, [], ◌∷◌, ℕ, Option, None, option_map}
+use Rattle.std.specs.Prelude.{nat_lt, if◌then◌else◌, List, [], ◌∷◌, Option, None, option_map}
 use Rattle.dns_messages.specs.declared.op_code.OpCode.{OpCode}
 use Rattle.dns_messages.specs.declared.op_code.OpCode.TheVariants as ops
 use Rattle.dns_messages.specs.declared.response_code.ResponseCode.{ResponseCode}

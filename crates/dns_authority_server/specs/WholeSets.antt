@@ -1,5 +1,5 @@
 -- Sections of whole sets of records (RFC 2181 sections 5 and 9).
-use Rattle.std.specs.Prelude.{◌==◌, ◌&&◌, if◌then◌else◌, Bool, false, zero, suc, List, ℕ, Option, Some, None, slice_get}
+use Rattle.std.specs.Prelude.{◌==◌, ◌&&◌, if◌then◌else◌, Bool, false, zero, suc, List, ℕ, Option, Some, slice_get}
 use Rattle.dns_codes.specs.RecordType.{type_number}
 use Rattle.dns_data.specs.rdata.{data_type}
 use Rattle.dns_names.specs.Compare.{same_labels}

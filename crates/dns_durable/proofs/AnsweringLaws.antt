@@ -1,5 +1,5 @@
 -- What requests leave.
-use Rattle.std.proofs.Common.{◌≡◌, ◌≤◌, ℕ, zero, suc, Bool, true, false, if◌then◌else◌, List, [], ◌∷◌, ◌++◌, length, map, Option, Some, None, Result, Ok, Err, refl, sym, ap, subst, ◌∙◌, append_assoc}
+use Rattle.std.proofs.Common.{◌≡◌, ℕ, zero, suc, Bool, true, false, if◌then◌else◌, List, [], ◌∷◌, ◌++◌, Option, Some, None, Result, Ok, Err, refl, sym, ap, subst, ◌∙◌, append_assoc}
 use Rattle.std.specs.Prelude.{slice_get, slice_set, IfOk, OnOk}
 use Rattle.dns_frames.specs.Frame.{frame, stream_of}
 use Rattle.dns_messages.specs.declared.message.Message.{Message}
@@ -23,7 +23,7 @@ use Rattle.dns_durable.specs.declared.incoming.Admitted.{Admitted}
 use Rattle.dns_durable.specs.declared.incoming.Arrived.{Arrived}
 use Rattle.dns_durable.specs.declared.incoming.Arrived.TheVariants.{Request, Other}
 use Rattle.dns_durable.specs.declared.policy.Admission.{Admission}
-use Rattle.dns_durable.specs.declared.policy.Admission.TheVariants.{Serve, Malformed, NotAuthentic}
+use Rattle.dns_durable.specs.declared.policy.Admission.TheVariants.{Serve}
 use Rattle.dns_durable.specs.declared.policy.Policy.{Policy}
 
 -- ---- requests that change nothing

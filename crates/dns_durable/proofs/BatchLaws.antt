@@ -1,11 +1,11 @@
 -- Requests that are added to a batch, and loops over them.
-use Rattle.std.proofs.Common.{◌≡◌, ◌≤◌, ◌<◌, ◌-◌, ℕ, suc, Bool, true, false, List, [], ◌∷◌, ◌++◌, length, take, drop, get_or, map, Option, Some, None, Result, Ok, Err, refl, sym, ap, subst, ◌∙◌, ◌⊎◌, ⊎_elim, arith, append_assoc, append-nil}
+use Rattle.std.proofs.Common.{◌≡◌, ◌≤◌, ◌<◌, ◌-◌, ℕ, suc, Bool, true, false, List, [], ◌∷◌, ◌++◌, length, take, drop, get_or, map, Option, Result, Ok, Err, refl, sym, ap, subst, ◌∙◌, ◌⊎◌, ⊎_elim, arith, append_assoc, append-nil}
 use Rattle.std.proofs.lemmas.List.{take_all}
 use Rattle.std.specs.Prelude.{OnErr}
 use Rattle.dns_frames.specs.Frame.{frame, stream_of}
 use Rattle.dns_zone.specs.Rows.{ZoneContent}
 use Rattle.dns_durable.specs.Durable.{TakesFront}
-use Rattle.dns_durable.specs.Incoming.{AreAdmitted, AreJudged, IsAdmitted, IsJudged, IsJudgedIfAny, IsShortIfAny, change_of, changes_in}
+use Rattle.dns_durable.specs.Incoming.{AreAdmitted, AreJudged, IsAdmitted, IsJudgedIfAny, IsShortIfAny, change_of, changes_in}
 use Rattle.dns_durable.specs.Incoming.AreAdmitted.{no_request, a_request}
 use Rattle.dns_durable.specs.Reply.{AnswersAll, AnswersOne, zones_left}
 use Rattle.dns_durable.specs.Reply.AnswersAll.{no_request as no_reply, a_request as a_reply}

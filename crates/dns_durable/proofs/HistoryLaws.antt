@@ -5,17 +5,17 @@ use Rattle.dns_journal.specs.declared.journal.Position.{Position}
 use Rattle.dns_journal.specs.declared.journal.State.{State}
 use Rattle.dns_journal.specs.declared.journal.State.TheVariants as states
 use Rattle.dns_journal.specs.Event.{Event, Files}
-use Rattle.dns_journal.specs.Storage.{Always, Disk, Ends, Leaves, LeavesOnly}
+use Rattle.dns_journal.specs.Storage.{Always, Disk, Ends, LeavesOnly}
 use Rattle.dns_recovery.specs.Compacting.{Recovers}
 use Rattle.dns_recovery.specs.Updating.{IsOpen}
 use Rattle.dns_recovery.proofs.EventLaws.{always_weaker, ends_then, ends_weaker}
 use Rattle.dns_zone.specs.Rows.{ZoneContent}
 use Rattle.dns_durable.specs.Durable.{EndsIn, IsUnchanged, Keeps, LeadsTo, is_acknowledged}
 use Rattle.dns_durable.specs.declared.durable_server.Replies.{Replies}
-use Rattle.dns_durable.specs.History.{AreGenuine, Call, IsWholeOrNone, Kept, Outlasts, Runs, StandAfter, events_of}
+use Rattle.dns_durable.specs.History.{AreGenuine, Call, Kept, Outlasts, Runs, events_of}
 use Rattle.dns_durable.specs.History.Kept.{nothing, with_it, without_it}
-use Rattle.dns_durable.specs.History.Runs.{no_call, a_call}
-use Rattle.dns_durable.specs.Storing.{IsGenuine, IsWithOrWithout, entries_of}
+use Rattle.dns_durable.specs.History.Runs.{a_call}
+use Rattle.dns_durable.specs.Storing.{IsWithOrWithout, entries_of}
 use Rattle.dns_durable.proofs.StoringLaws.{entries_none}
 
 -- what always holds, holds at the end

@@ -1,18 +1,18 @@
 -- What requests keep.
-use Rattle.std.proofs.Common.{◌≡◌, ◌≢◌, ◌⊎◌, ℕ, Bool, true, false, List, [], ◌∷◌, ◌++◌, Result, Ok, Err, refl, sym, ap, subst, ◌∙◌, inl, inr, ⊎_elim}
+use Rattle.std.proofs.Common.{◌≡◌, ◌≢◌, ◌⊎◌, ℕ, Bool, true, false, List, [], ◌∷◌, ◌++◌, Result, Ok, Err, refl, sym, subst, ◌∙◌, inl, inr, ⊎_elim}
 use Rattle.std.specs.declared.alloc.AllocError.{AllocError}
-use Rattle.dns_frames.specs.Frame.{frame, stream_of}
+use Rattle.dns_frames.specs.Frame.{stream_of}
 use Rattle.dns_journal.specs.declared.journal.Position.{Position}
 use Rattle.dns_journal.specs.declared.journal.State.TheVariants as states
 use Rattle.dns_journal.specs.Event.{Event}
-use Rattle.dns_journal.specs.Storage.{Disk, Ends}
+use Rattle.dns_journal.specs.Storage.{Disk}
 use Rattle.dns_recovery.specs.Updating.{IsOpen}
 use Rattle.dns_recovery.proofs.EventLaws.{ends_weaker}
 use Rattle.dns_zone.specs.Rows.{ZoneContent}
-use Rattle.dns_durable.specs.Durable.{EndsIn, IsBehind, IsGivenUp, IsUnchanged, Keeps, LeadsTo, Responds, Takes, TakesFront}
+use Rattle.dns_durable.specs.Durable.{IsGivenUp, Keeps, LeadsTo, Responds, Takes, TakesFront}
 use Rattle.dns_durable.specs.Durable.Takes.{no_frame, a_frame}
 use Rattle.dns_durable.specs.Incoming.{changes_in}
-use Rattle.dns_durable.specs.Storing.{Asks, IsLeft, Stores, entries_of}
+use Rattle.dns_durable.specs.Storing.{Asks, Stores, entries_of}
 use Rattle.dns_durable.specs.declared.durable_server.Replies.{Replies}
 use Rattle.dns_durable.specs.declared.incoming.Incoming.{Incoming}
 use Rattle.dns_durable.specs.declared.policy.Policy.{Policy}

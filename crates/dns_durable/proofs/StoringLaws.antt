@@ -4,13 +4,13 @@ use Rattle.sha2.specs.Sha256.{sha256}
 use Rattle.dns_journal_format.specs.Format.{IsJournal}
 use Rattle.dns_journal.specs.declared.journal.Position.{Position}
 use Rattle.dns_journal.specs.declared.journal.State.TheVariants as states
-use Rattle.dns_journal.specs.Event.{Event, Files}
-use Rattle.dns_journal.specs.Storage.{Always, Disk, Ends, Leaves, LeavesOnly, at_rest}
+use Rattle.dns_journal.specs.Event.{Event}
+use Rattle.dns_journal.specs.Storage.{Disk, Ends, Leaves, LeavesOnly, at_rest}
 use Rattle.dns_recovery.specs.Compacting.{Recovers}
 use Rattle.dns_recovery.specs.Updating.{AppendsUpdate, IsBeforeOrAfterUpdate, IsOpen}
 use Rattle.dns_recovery.proofs.EventLaws.{always_weaker, rest_is}
 use Rattle.dns_recovery.proofs.UpdatingLaws.{recovers}
-use Rattle.dns_durable.specs.Storing.{Asks, IsLeft, IsWithOrWithout, Stores, entries_of}
+use Rattle.dns_durable.specs.Storing.{Asks, IsWithOrWithout, entries_of}
 
 pub entries_some : (frames : List ℕ) → frames ≢ [] → entries_of frames ≡ frames ∷ []
 entries_some [] some = absurd (some refl)

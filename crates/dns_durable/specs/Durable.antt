@@ -1,6 +1,6 @@
 -- Zones whose updates outlast a crash.
 use Rattle.std.specs.Prelude.{◌≡◌, ◌≢◌, ◌≤◌, ◌⊎◌, ℕ, Bool, true, false, List, [], ◌∷◌, ◌++◌, length, map, option_map}
-use Rattle.std.specs.Prelude.{Option, Result, Ok, Err}
+use Rattle.std.specs.Prelude.{Result, Ok, Err}
 use Rattle.std.specs.declared.alloc.AllocError.{AllocError}
 use Rattle.dns_frames.specs.Frame.{frame, stream_of}
 use Rattle.dns_journal.specs.declared.journal.Position.{Position}

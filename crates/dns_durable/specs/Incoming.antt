@@ -14,7 +14,7 @@ use Rattle.dns_durable.specs.declared.incoming.Arrived.{Arrived}
 use Rattle.dns_durable.specs.declared.incoming.Arrived.TheVariants.{Request, Other}
 use Rattle.dns_durable.specs.declared.incoming.Incoming.{Incoming}
 use Rattle.dns_durable.specs.declared.policy.Admission.{Admission}
-use Rattle.dns_durable.specs.declared.policy.Admission.TheVariants.{Serve, Malformed, NotAuthentic}
+use Rattle.dns_durable.specs.declared.policy.Admission.TheVariants.{Serve}
 use Rattle.dns_durable.specs.declared.policy.Policy.{Policy}
 
 -- whether an opcode is that of an update

@@ -1,5 +1,5 @@
 -- The actions of a rule, and those that apply on a transport.
-use Rattle.std.specs.Prelude.{◌||◌, Bool, true, false, Option, None, is_some}
+use Rattle.std.specs.Prelude.{◌||◌, Bool, true, false, None, is_some}
 use Rattle.dns_fault_rules.specs.declared.fault.Fault.{Fault}
 use Rattle.dns_fault_rules.specs.declared.fault.Service.{Service}
 use Rattle.dns_fault_rules.specs.declared.fault.Service.TheVariants as services

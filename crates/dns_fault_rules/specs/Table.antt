@@ -1,5 +1,5 @@
 -- Tables of rules, and the rule that decides.
-use Rattle.std.specs.Prelude.{◌+◌, ◌&&◌, min, nat_lt, if◌then◌else◌, Bool, true, List, [], ◌∷◌, ℕ, Option, Some, None, slice_get, slice_set}
+use Rattle.std.specs.Prelude.{◌+◌, ◌&&◌, min, nat_lt, if◌then◌else◌, Bool, true, List, [], ◌∷◌, ℕ, Option, Some, None}
 use Rattle.dns_codes.specs.declared.record_type.RecordType.{RecordType}
 use Rattle.dns_names.specs.Name.{DomainName}
 use Rattle.dns_fault_rules.specs.declared.fault.Transport.{Transport}

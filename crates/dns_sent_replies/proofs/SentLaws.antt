@@ -1,5 +1,5 @@
 -- What is left of a reply that is sent.
-use Rattle.std.proofs.Common.{◌≡◌, ◌≤◌, ◌<◌, ◌+◌, ◌∙◌, ℕ, zero, suc, Bool, true, false, cond, not, ◌||◌, ◌&&◌, List, [], ◌∷◌, length, take, refl, sym, ap, subst, arith, Option, Some, None}
+use Rattle.std.proofs.Common.{◌≡◌, ◌≤◌, ◌∙◌, ℕ, zero, suc, Bool, true, false, cond, ◌||◌, List, [], ◌∷◌, length, take, refl, ap, arith}
 use Rattle.std.proofs.lemmas.Bool.{ltb-false}
 use Rattle.std.specs.Prelude.{nat_lt}
 use Rattle.std.specs.List.{AllByRecursion}
@@ -16,14 +16,13 @@ use Rattle.dns_messages.specs.Encoding.{Encodes}
 use Rattle.dns_messages.specs.Grammar.{ReadsMessage}
 use Rattle.dns_messages.specs.Message.{truncated, version_of}
 use Rattle.dns_messages.specs.Sound.{IsSound}
-use Rattle.dns_records.specs.Record.{Record}
 use Rattle.dns_zone.specs.Rows.{ZoneContent}
 use Rattle.dns_authority.specs.declared.answer.AuthorityAnswer.{AuthorityAnswer}
 use Rattle.dns_authority.specs.declared.asked.AnyAnswer.{AnyAnswer}
 use Rattle.dns_authority.specs.Origin.{ComesFrom, IsAdditionalRecord, IsAnswerRecord, IsAuthorityRecord}
 use Rattle.dns_authority.specs.Step.{refusal}
 use Rattle.dns_authority.proofs.OriginLaws.{records_come}
-use Rattle.dns_authority_server.specs.Reply.{answer_by_code, answer_to, answer_to_queries, reply, reply_with}
+use Rattle.dns_authority_server.specs.Reply.{answer_by_code, answer_to, answer_to_queries, reply}
 use Rattle.dns_authority_server.specs.Sending.{fits, fitting_count, fullest_sent, is_referral, rest_sent, sent, with_fitting, without_additionals}
 use Rattle.dns_authority_server.specs.WholeSets.{set_start}
 use Rattle.dns_sent_replies.specs.Sent.{IsReplyWith, RecordsComeFrom}

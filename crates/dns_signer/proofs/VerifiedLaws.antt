@@ -1,13 +1,12 @@
 -- Accepted replies are verified.
-use Rattle.std.proofs.Common.{◌≡◌, ℕ, Bool, true, false, cond, not, List, Option, Some, None, Result, Ok, Err, refl, sym, subst, ap}
+use Rattle.std.proofs.Common.{◌≡◌, ℕ, Bool, true, false, cond, not, List, Option, Some, None, Result, Ok, refl}
 use Rattle.std.specs.Prelude.{nat_lt, length}
 use Rattle.dns_hmac.specs.Hmac.{hmac}
 use Rattle.dns_tsig.specs.Client.{judged}
-use Rattle.dns_tsig.specs.Found.{Finds, IsSignature}
+use Rattle.dns_tsig.specs.Found.{Finds}
 use Rattle.dns_tsig.specs.Judge.{is_allowed_len, is_in_time, is_mac_of, judgement, received_text}
 use Rattle.dns_tsig.specs.TsigFields.{TsigFields}
 use Rattle.dns_tsig.specs.Verify.{is_key_of}
-use Rattle.dns_tsig.specs.declared.client.ReplyVerdict.{ReplyVerdict}
 use Rattle.dns_tsig.specs.declared.client.ReplyVerdict.TheVariants as verdicts
 use Rattle.dns_tsig.specs.declared.covered.Coverage.TheVariants.{Variables}
 use Rattle.dns_tsig.specs.declared.found.Found.{Found}

@@ -1,5 +1,5 @@
 -- Why a reply is refused, and the errors of TSIG records.
-use Rattle.std.specs.Prelude.{ℕ, ◌==◌, if◌then◌else◌, List, [], ◌∷◌, length, Option, Some, None}
+use Rattle.std.specs.Prelude.{ℕ, ◌==◌, if◌then◌else◌, [], length, Option, Some, None}
 use Rattle.dns_tsig.specs.TsigFields.{TsigFields}
 use Rattle.dns_tsig.specs.declared.client.ReplyVerdict.{ReplyVerdict}
 use Rattle.dns_tsig.specs.declared.client.ReplyVerdict.TheVariants as verdicts

@@ -1,6 +1,5 @@
 -- The requestor's side of TSIG (RFC 8945 sections 5.1 and 5.4).
 use Rattle.std.specs.Prelude.{◌≡◌, ℕ, List, [], Option, Some, None, Result, Ok, Err}
-use Rattle.std.specs.Global.{Vec}
 use Rattle.dns_tsig.specs.Client.{judged}
 use Rattle.dns_tsig.specs.Found.{Finds}
 use Rattle.dns_tsig.specs.Sign.{IsSigned}

@@ -1,5 +1,5 @@
 -- Datagrams without a request, and the responses to them.
-use Rattle.std.specs.Prelude.{nat_lt, not, min, Bool, true, false, List, [], ◌∷◌, ℕ, Option, Some, None}
+use Rattle.std.specs.Prelude.{nat_lt, not, min, Bool, false, List, [], ◌∷◌, ℕ, Option, Some, None}
 
 -- whether bytes begin as a response does: QR, the first bit of the third byte, is set (RFC 1035 section 4.1.1)
 abbrev pub is_response : List ℕ → Bool

@@ -4,7 +4,7 @@ use Rattle.std.proofs.lemmas.List.{append-nil, append_assoc, drop-drop, drop-set
 use Rattle.std.specs.Global.{Vec}
 use Rattle.dns_tsig.specs.Sign.{IsSigned}
 use Rattle.dns_tsig.specs.declared.covered.Coverage.{Coverage}
-use Rattle.dns_tsig.specs.declared.covered.Coverage.TheVariants.{Timers, Variables}
+use Rattle.dns_tsig.specs.declared.covered.Coverage.TheVariants.{Variables}
 use Rattle.dns_tsig.specs.declared.key.Key.{Key}
 use Rattle.dns_transfer_replies.specs.Signing.{GetsFull, IsFull, SignsEach, SignsNext}
 use Rattle.dns_transfer_replies.specs.declared.signing.StreamSigner.{StreamSigner}

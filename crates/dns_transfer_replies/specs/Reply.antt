@@ -1,6 +1,5 @@
 -- Replies to requests for transfers, by their signatures (RFC 5936, RFC 1995, RFC 8945 sections 5.2 and 5.3).
 use Rattle.std.specs.Prelude.{◌≡◌, ◌⊎◌, ◌==◌, ◌&&◌, ◌||◌, not, is_some, slice_get, Bool, true, false, List, [], ◌∷◌, ℕ, Option, Some, None}
-use Rattle.dns_messages.specs.Header.{peeked_metadata}
 use Rattle.dns_messages.specs.declared.header.Metadata.{Metadata}
 use Rattle.dns_messages.specs.declared.message.Message.{Message}
 use Rattle.dns_messages.specs.declared.op_code.OpCode.{OpCode}

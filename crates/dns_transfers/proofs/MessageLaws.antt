@@ -1,5 +1,5 @@
 -- The messages of a transfer: their length, and that they are sound.
-use Rattle.std.proofs.Common.{◌≡◌, ◌<◌, ◌≤◌, ◌+◌, ◌-◌, ◌∙◌, ℕ, Bool, true, false, cond, List, [], ◌∷◌, ◌++◌, length, refl, sym, ap, subst, arith, lit<, Option, Some, None, option_map}
+use Rattle.std.proofs.Common.{◌≡◌, ◌<◌, ◌≤◌, ◌+◌, ◌-◌, ◌∙◌, Bool, false, List, [], ◌∷◌, length, refl, sym, ap, subst, arith, lit<, Option, Some, None, option_map}
 use Rattle.std.specs.Prelude.{IfSome}
 use Rattle.std.specs.List.{AllByRecursion}
 use Rattle.dns_wire.specs.Name.{name_len}
@@ -11,7 +11,7 @@ use Rattle.dns_messages.specs.declared.query.Query.{Query}
 use Rattle.dns_messages.specs.declared.message.Message.{Message}
 use Rattle.dns_messages.specs.Cut.{cut, edns_item, header_end, items_len, listed, query_item, record_item, twelve_zeros, uncompressed_len}
 use Rattle.dns_messages.specs.Edns.{IsSoundEdns}
-use Rattle.dns_messages.specs.Sound.{IsSound, IsSoundIn, IsSoundQuery, is_update_code}
+use Rattle.dns_messages.specs.Sound.{IsSound, IsSoundIn, is_update_code}
 use Rattle.dns_messages.proofs.FitLaws.{uncut}
 use Rattle.dns_records.specs.Record.{Record}
 use Rattle.dns_soundness.proofs.SizeLaws.{edns-len, query-len}

@@ -8,7 +8,7 @@ use Rattle.dns_names.specs.Compare.{lower, same_labels}
 use Rattle.dns_records.specs.Rows.{Rows}
 use Rattle.dns_messages.specs.declared.response_code.ResponseCode.{ResponseCode}
 use Rattle.dns_messages.specs.declared.response_code.ResponseCode.TheVariants.{NoError, NXDomain, YXDomain, YXRRSet, NXRRSet, NotAuth, NotZone}
-use Rattle.dns_updates.specs.Records.{has_rows, has_set, is_in_zone, is_origin, is_type}
+use Rattle.dns_updates.specs.Records.{has_rows, has_set, is_in_zone, is_type}
 use Rattle.dns_updates.specs.Code.{fault_if, first_fault, update_code, zone_code}
 use Rattle.dns_updates.specs.Builders.{empty_record, update_message, zone_section}
 

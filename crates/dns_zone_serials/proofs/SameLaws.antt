@@ -1,9 +1,8 @@
 -- Rows that are compared one after another.
-use Rattle.std.proofs.Common.{◌≡◌, ◌≢◌, ◌+◌, ◌<◌, ◌≤◌, ◌&&◌, ◌∙◌, ℕ, Bool, true, false, List, [], ◌∷◌, length, map, drop, get_or, refl, sym, ap, arith, suc}
+use Rattle.std.proofs.Common.{◌≡◌, ◌+◌, ◌<◌, ◌&&◌, ◌∙◌, ℕ, Bool, true, false, List, [], ◌∷◌, length, drop, get_or, refl, sym, ap, suc}
 use Rattle.std.proofs.lemmas.List.{drop_more}
 use Rattle.dns_records.specs.Record.{Record}
 use Rattle.dns_records.specs.Rows.{row_of, rows_of}
-use Rattle.dns_records.specs.declared.row.Row.{Row}
 use Rattle.dns_zone_serials.specs.NamedSet.{same_row, same_rows}
 
 -- one step on

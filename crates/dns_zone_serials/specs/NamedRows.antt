@@ -1,5 +1,5 @@
 -- Which rows of a zone an update names.
-use Rattle.std.specs.Prelude.{◌≡◌, ◌==◌, ◌++◌, map, if◌then◌else◌, Bool, true, false, List, [], ◌∷◌}
+use Rattle.std.specs.Prelude.{◌≡◌, ◌==◌, ◌++◌, map, Bool, true, false, List, [], ◌∷◌}
 use Rattle.std.specs.List.{filter}
 use Rattle.dns_codes.specs.RecordType.{type_number}
 use Rattle.dns_codes.specs.declared.record_type.RecordType.{RecordType}

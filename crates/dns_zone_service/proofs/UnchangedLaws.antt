@@ -13,7 +13,7 @@ use Rattle.dns_zone.specs.Serving.{zone_after, zone_by_op}
 use Rattle.dns_authority.specs.declared.asked.AnyAnswer.{AnyAnswer}
 use Rattle.dns_zone_service.specs.Answering.{answering_for}
 use Rattle.dns_zone_service.specs.declared.answering.Answering.{Answering}
-use Rattle.dns_zone_service.specs.declared.answering.Answering.TheVariants.{Plain, Whole}
+use Rattle.dns_zone_service.specs.declared.answering.Answering.TheVariants.{Whole}
 
 set_same : (zones : List ZoneContent) (place : ℕ) (zone : ZoneContent) → slice_get zones place ≡ Some zone → slice_set zones place zone ≡ zones
 set_same [] place zone is = refl

@@ -1,5 +1,5 @@
 -- Every lookup keeps a claim that outlasts the cache and that the replies bear out.
-use Rattle.std.proofs.Common.{◌≡◌, ℕ, suc, ◌+◌, ◌-◌, ◌≤◌, ◌==◌, ◌&&◌, true, List, [], ◌∷◌, map, Option, Some, None, Result, Ok, Err, All, IfSome, refl, sym, ap, subst, ◌∙◌, ◌⊎◌, inl, inr, arith, nat_le, slice_index_or}
+use Rattle.std.proofs.Common.{◌≡◌, ℕ, suc, ◌+◌, ◌-◌, ◌≤◌, ◌==◌, ◌&&◌, true, List, [], ◌∷◌, map, Option, Some, None, Ok, Err, All, IfSome, refl, sym, ap, subst, inl, inr, arith, nat_le, slice_index_or}
 use Rattle.std.specs.List.{find}
 use Rattle.std.proofs.lemmas.Bool.Decides.{nat_tests}
 use Rattle.std.proofs.lemmas.List.Elements.{All-nil, All-cons, All-head, All-map, All-tail}

@@ -1,5 +1,5 @@
 -- An error that a lookup returns, other than a negative answer or want of memory, is what its last outcome means.
-use Rattle.std.proofs.Common.{◌≡◌, ℕ, suc, ◌++◌, ◌⊎◌, List, [], ◌∷◌, Option, Some, None, Ok, Err, refl, sym, ap, subst, ◌∙◌, inl, inr}
+use Rattle.std.proofs.Common.{◌≡◌, ℕ, suc, ◌⊎◌, List, [], ◌∷◌, Option, Some, None, Ok, Err, sym, ap, subst, ◌∙◌, inl, inr}
 use Rattle.std.specs.Prelude.{◌≢◌}
 use Rattle.dns_records.specs.Record.{Record}
 use Rattle.dns_messages.specs.declared.query.Query.{Query}
@@ -11,7 +11,7 @@ use Rattle.stub_lookup.specs.declared.error.NoRecords.{NoRecords}
 use Rattle.stub_cache.specs.Cache.{CacheContent, Kept, current}
 use Rattle.stub_client.specs.Handle.{Ask, Outcome}
 use Rattle.stub_client.specs.Laws.{IsFailure}
-use Rattle.stub_client.specs.Looks.{IsAnsweredHere, Looks, Proceeds, Reply, Stores, cached_reply, given_reply, kept_of, negative, out_of_memory}
+use Rattle.stub_client.specs.Looks.{IsAnsweredHere, Looks, Proceeds, Reply, Stores, given_reply, kept_of, negative, out_of_memory}
 use Rattle.stub_client.specs.Outcomes.{EndsInError}
 use Rattle.stub_client.specs.SpecialNames.{special_answer}
 use Rattle.stub_client.specs.Step.{meaning, step_of, step_on}

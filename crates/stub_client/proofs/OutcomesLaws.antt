@@ -1,5 +1,5 @@
 -- What questions come to where the outcomes are those of a list of asks.
-use Rattle.std.proofs.Common.{◌≡◌, ℕ, suc, ◌≤◌, ◌<◌, ◌++◌, nat_lt, Bool, true, false, List, [], ◌∷◌, Ok, Err, All, refl, sym, subst, arith}
+use Rattle.std.proofs.Common.{◌≡◌, ℕ, suc, ◌≤◌, ◌++◌, nat_lt, Bool, true, false, List, [], Ok, Err, All, refl, sym, subst, arith}
 use Rattle.std.specs.Prelude.{◌&&◌, if◌then◌else◌, Contains}
 use Rattle.std.proofs.lemmas.Bool.Decides.{nat_tests}
 use Rattle.std.proofs.lemmas.List.Elements.{All-contains_itself, All-weaker, Contains-append_left, Contains-append_right}
@@ -7,7 +7,7 @@ use Rattle.dns_records.specs.Record.{Record}
 use Rattle.dns_messages.specs.declared.query.Query.{Query}
 use Rattle.stub_lookup.specs.declared.error.DnsError.TheVariants as dns
 use Rattle.stub_lookup.specs.declared.error.NetError.TheVariants as errors
-use Rattle.stub_cache.specs.Cache.{CacheContent, Kept, same_key}
+use Rattle.stub_cache.specs.Cache.{CacheContent, Kept}
 use Rattle.stub_cache.specs.declared.cache.entry.Entry.{Entry}
 use Rattle.stub_client.specs.Handle.{Ask, Outcome}
 use Rattle.stub_client.specs.Looks.{Looks, Reply}

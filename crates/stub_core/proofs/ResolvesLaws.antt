@@ -1,5 +1,5 @@
 -- Lookups of a resolver come to what the outcomes of their questions come to; what is left of a cache too.
-use Rattle.std.proofs.Common.{ap, ◌≡◌, ◌++◌, ◌≢◌, true, false, ℕ, List, [], ◌∷◌, Ok, Err, All, refl, sym, subst, ◌∙◌}
+use Rattle.std.proofs.Common.{ap, ◌≡◌, ◌++◌, false, ℕ, List, [], ◌∷◌, Ok, Err, All, refl, sym, subst, ◌∙◌}
 use Rattle.std.specs.Prelude.{Bool, Contains, Option, Result, not}
 use Rattle.std.specs.declared.net.ip_addr.IpAddr.{IpAddr}
 use Rattle.std.proofs.lemmas.List.Elements.{All-filter, Contains-append_left, Contains-append_right, Contains-push}
@@ -9,20 +9,20 @@ use Rattle.dns_names.specs.declared.error.ParseError.{ParseError}
 use Rattle.dns_messages.specs.declared.query.Query.{Query}
 use Rattle.stub_config.specs.declared.request_options.DnsRequestOptions.{DnsRequestOptions}
 use Rattle.stub_lookup.specs.declared.error.NetError.{NetError}
-use Rattle.stub_cache.specs.Cache.{CacheContent, is_about}
+use Rattle.stub_cache.specs.Cache.{is_about}
 use Rattle.stub_hosts.specs.Hosts.{question}
 use Rattle.stub_cache.specs.declared.cache.entry.Entry.{Entry}
-use Rattle.stub_client.specs.Handle.{Ask, Behavior, Led, request_for}
+use Rattle.stub_client.specs.Handle.{Ask, Behavior, Led}
 use Rattle.stub_client.specs.Looks.{Answers, Looks, Reply, lookup_settings}
 use Rattle.stub_client.specs.Outcomes.{AreAmong, ChainsEnd, ComesTo, EndsInError}
-use Rattle.stub_client.specs.Conclusions.{CacheComesTo, Conclusion, KeptComesTo}
+use Rattle.stub_client.specs.Conclusions.{CacheComesTo}
 use Rattle.stub_client.specs.Step.{meaning}
 use Rattle.stub_client.specs.declared.caching_client.CachingClient.{CachingClient}
 use Rattle.stub_client.specs.declared.caching_client.step.LookupSettings.{LookupSettings}
 use Rattle.stub_client.proofs.ErrorsLaws.{error-ends}
 use Rattle.stub_client.proofs.OutcomesLaws.{leads-still, outcomes-come}
 use Rattle.stub_core.specs.Attempts.{Lookups}
-use Rattle.stub_core.specs.Outcomes.{ByOutcomes, ComesToOutcomes, ErrorIsOutcome, IsReplyBy, settings_of}
+use Rattle.stub_core.specs.Outcomes.{ByOutcomes, ComesToOutcomes, settings_of}
 use Rattle.stub_core.specs.Resolver.{LooksUp, LooksUpHost, asks_of, cleared_lookup, cleared_names, names_for, request_options}
 use Rattle.stub_core.specs.declared.resolver.Resolver.{Resolver}
 use Rattle.stub_core.specs.declared.resolver.settings.Settings.{Settings}

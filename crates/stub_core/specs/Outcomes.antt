@@ -1,5 +1,5 @@
 -- What lookups of a resolver come to where the outcomes are those of a list of asks.
-use Rattle.std.specs.Prelude.{◌≡◌, ◌≢◌, false, Contains, List, ℕ, Err}
+use Rattle.std.specs.Prelude.{◌≡◌, ◌≢◌, Contains, List, ℕ, Err}
 use Rattle.dns_messages.specs.declared.query.Query.{Query}
 use Rattle.stub_lookup.specs.declared.error.NetError.{NetError}
 use Rattle.stub_lookup.specs.declared.error.NetError.TheVariants.{Memory}

@@ -2,7 +2,7 @@
 use Rattle.std.specs.Prelude.{◌≡◌, ◌≤◌, ◌++◌, All, length, List, [], ◌∷◌, ℕ, None, Err}
 use Rattle.dns_messages.specs.declared.query.Query.{Query}
 use Rattle.stub_cache.specs.Cache.{CacheContent}
-use Rattle.stub_client.specs.Handle.{Ask, Outcome}
+use Rattle.stub_client.specs.Handle.{Ask}
 use Rattle.stub_client.specs.Looks.{Looks, Reply, lookup_settings, out_of_memory}
 use Rattle.stub_client.specs.declared.caching_client.CachingClient.{CachingClient}
 use Rattle.stub_client.specs.declared.caching_client.step.LookupSettings.{LookupSettings}

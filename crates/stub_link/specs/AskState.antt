@@ -1,5 +1,5 @@
 -- A handle over the scripted link, without bytes.
-use Rattle.std.specs.Prelude.{◌≡◌, ◌⊎◌, true, false, List, [], ℕ, Result}
+use Rattle.std.specs.Prelude.{◌≡◌, ◌⊎◌, true, List, [], ℕ, Result}
 use Rattle.dns_messages.specs.declared.message.Message.{Message}
 use Rattle.dns_messages.specs.declared.response_code.ResponseCode.{ResponseCode}
 use Rattle.dns_zone.specs.Rows.{ZoneContent}

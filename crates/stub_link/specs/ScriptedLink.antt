@@ -15,7 +15,7 @@ use Rattle.stub_link.specs.declared.link.scripted.ScriptedLink.{ScriptedLink}
 use Rattle.stub_link.specs.declared.link.script.LinkEvent.{LinkEvent}
 use Rattle.stub_link.specs.declared.link.script.LinkEvent.TheVariants.{Quiet, Fail}
 use Rattle.stub_link.specs.Link.{Rises}
-use Rattle.stub_link.specs.LinkState.{Course, Honest, Listed, LinkState, ServerReply, Received, begins_with_fail, end_event, is_delivery, message_of, receive_by, receive_listed, without_first, Receives as ReceivesMessage, Sends as SendsMessage, Streams as StreamsMessage}
+use Rattle.stub_link.specs.LinkState.{Course, Honest, Listed, LinkState, begins_with_fail, end_event, is_delivery, message_of, receive_by, receive_listed, without_first, Receives as ReceivesMessage, Sends as SendsMessage, Streams as StreamsMessage}
 
 -- ---- bytes and messages
 

@@ -55,7 +55,7 @@ use Rattle.stub_play.specs.Plays.{AreTold, Faults, HasFiles, HostsAre, IsAtFault
 use Rattle.stub_play.specs.PlayFault.{link_fault, script_fault}
 use Rattle.stub_report.specs.Report.{report_text, told_text}
 use Rattle.stub_report.specs.declared.report.PlayFormat.{PlayFormat}
-use Rattle.stub_script.specs.ScriptText.{IsScriptOf, contents_of, side_by_side}
+use Rattle.stub_script.specs.ScriptText.{IsScriptOf, side_by_side}
 use Rattle.stub_play.proofs.OrderLaws.{in_order_if_not_out}
 
 -- ---- lines and events

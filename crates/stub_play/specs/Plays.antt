@@ -1,6 +1,6 @@
 -- What a run of the program's files comes to, and in which order its faults are looked for: the zone, the script's lines, the hosts, the
 -- script's moments.
-use Rattle.std.specs.Prelude.{◌≡◌, ◌≢◌, ◌<◌, ◌≤◌, ◌+◌, ◌⊎◌, false, true, List, [], ℕ, map, length, take, slice_get, slice_index, EachIndex, Option, Some, None, Result, Ok, Err, OnOk, IfErr, ⊤, string_bytes}
+use Rattle.std.specs.Prelude.{◌≡◌, ◌≢◌, ◌<◌, ◌+◌, ◌⊎◌, false, true, List, [], ℕ, map, length, take, slice_get, slice_index, EachIndex, Option, Some, Result, Ok, Err, OnOk, IfErr, ⊤, string_bytes}
 use Rattle.std.specs.Io.KnownBytes.{Appends}
 use Rattle.dns_zone.specs.Rows.{ZoneContent}
 use Rattle.dns_zone.specs.Load.{ReadsZoneIn}

@@ -1,14 +1,10 @@
 -- The text and the object of an event, by the members of the object.
-use Rattle.std.proofs.Common.{◌≡◌, ◌∙◌, ◌++◌, ℕ, List, [], ◌∷◌, suc, length, map, flat_map, codes, Result, Ok, Err, refl, ap, sym, append-nil, append_assoc, string_bytes}
+use Rattle.std.proofs.Common.{◌≡◌, ◌∙◌, ◌++◌, ℕ, List, [], ◌∷◌, suc, length, map, flat_map, codes, Ok, Err, refl, ap, sym, append-nil, append_assoc}
 use Rattle.std.specs.Fmt.{decimal}
-use Rattle.dns_codes.specs.declared.record_type.RecordType.{RecordType}
-use Rattle.dns_names.specs.Name.{DomainName}
 use Rattle.dns_names.specs.Print.{text_of_name}
 use Rattle.dns_records.specs.Record.{Record}
 use Rattle.record_texts.specs.RecordText.{type_as_read}
 use Rattle.dns_zone_file.specs.declared.types.Types.{Types}
-use Rattle.stub_lookup.specs.Lookup.{LookupContent}
-use Rattle.stub_lookup.specs.declared.error.NetError.{NetError}
 use Rattle.stub_run.specs.declared.event.Action.{Action}
 use Rattle.stub_run.specs.declared.event.Action.TheVariants as actions
 use Rattle.stub_run.specs.declared.event.Event.{Event}
@@ -16,8 +12,8 @@ use Rattle.stub_run.specs.declared.report.EventReply.{EventReply}
 use Rattle.stub_run.specs.declared.report.EventReply.TheVariants as replies
 use Rattle.stub_run.specs.declared.report.EventReport.{EventReport}
 use Rattle.stub_report.specs.ReportJson.{event_host, event_name, event_type, event_word, json_counts, json_event, json_found, json_line, json_records, other_record, reply_code, reply_error, text_or_null}
-use Rattle.stub_report.specs.ReportMembers.{RecordMembers, after_blank, members_of, object_of, objects_or_null, outcome_members, record_line, record_members, record_object, record_objects, reply_members, result_text, text_of}
-use Rattle.stub_report.specs.ReportText.{action_text, outcome_text, plain_text, record_text, reply_text}
+use Rattle.stub_report.specs.ReportMembers.{RecordMembers, after_blank, members_of, object_of, objects_or_null, record_line, record_members, record_object, record_objects, reply_members, result_text, text_of}
+use Rattle.stub_report.specs.ReportText.{action_text, plain_text, record_text, reply_text}
 
 -- ---- the text
 

@@ -1,5 +1,5 @@
 -- The report of an event as a JSON object on a line (RFC 8259 section 4).
-use Rattle.std.specs.Prelude.{ℕ, List, [], ◌∷◌, ◌++◌, flat_map, codes, string_bytes, Option, Some, None, option_map, Result, Ok, Err}
+use Rattle.std.specs.Prelude.{ℕ, List, [], ◌∷◌, ◌++◌, flat_map, codes, string_bytes, Option, Some, None, Result, Ok, Err}
 use Rattle.std.specs.Fmt.{decimal}
 use Rattle.dns_log.specs.Json.{json_text}
 use Rattle.dns_names.specs.Print.{text_of_name}

@@ -1,10 +1,9 @@
 -- How hosts are spelled: addresses as their grammar derives them, and all hosts in ASCII.
-use Rattle.std.proofs.Common.{◌≡◌, ◌∙◌, ◌+◌, ◌*◌, ◌-◌, ◌<◌, ◌++◌, ◌||◌, ◌==◌, ℕ, zero, suc, Bool, true, false, cond, List, [], ◌∷◌, length, Option, Some, None, Result, Ok, Err, is_some, is_ok, nat_le, nat_lt, refl, sym, subst, ap, ne_eqb, inl, inr, arith, append-nil, lit≤, codes}
+use Rattle.std.proofs.Common.{◌≡◌, ◌∙◌, ◌+◌, ◌*◌, ◌-◌, ◌<◌, ◌++◌, ◌||◌, ◌==◌, ℕ, Bool, true, false, cond, List, [], ◌∷◌, length, Option, Some, None, Result, Ok, Err, is_some, is_ok, refl, sym, subst, ap, ne_eqb, inl, inr, arith, append-nil, lit≤, codes}
 use Rattle.std.specs.Prelude.{◌⊎◌, ◌↔◌, decimal}
-use Rattle.std.specs.Char.{digit_value}
 use Rattle.std.specs.Str.{IsAscii, IsUtf8}
 use Rattle.std.specs.Str.Parse.{AllDigits}
-use Rattle.std.specs.Net.Grammar.{IsColonHex, IsDotted, IsElided, IsGroups, IsGroupsAfter, IsIpText}
+use Rattle.std.specs.Net.Grammar.{IsColonHex, IsDotted, IsGroupsAfter, IsIpText}
 use Rattle.std.specs.Net.Reader.{Read, read_ipv4, read_ipv6, whole_value}
 use Rattle.std.specs.declared.net.ip_addr.IpAddr.{IpAddr}
 use Rattle.std.specs.declared.net.ip_addr.IpAddr.TheVariants as Ip
@@ -15,7 +14,6 @@ use Rattle.std.proofs.lemmas.Fmt.{IsAscii-decimal}
 use Rattle.std.proofs.lemmas.Str.{IsAscii-append, IsUtf8-from_ascii}
 use Rattle.std.proofs.lemmas.Str.Ascii.{IsAscii-nil, IsAscii-cons}
 use Rattle.dns_codes.specs.Decimal.{at_most, decimal_up_to, digits_from, is_digit}
-use Rattle.dns_codes.specs.Decimal as Decimal
 use Rattle.dns_names.specs.Name.{DomainName}
 use Rattle.dns_names.specs.Parse.{Spells, SpellsLabels, SpellsOctets, is_plain_octet, name_of_text}
 use Rattle.dns_names.specs.Parse.{no_octet, unescaped, by_digits, by_character, one_label, more_labels, root, no_label, relative, fully_qualified}

@@ -6,7 +6,7 @@ use Rattle.stub_link.specs.declared.link.script.Script.{Script}
 use Rattle.stub_run.specs.declared.event.Event.{Event}
 use Rattle.update_text.specs.Words.{AreLineWords}
 use Rattle.update_text.specs.declared.line.Line.{Line}
-use Rattle.stub_script.specs.EventContent.{EventContent, LinkScript, content_of, link_content}
+use Rattle.stub_script.specs.EventContent.{LinkScript, content_of, link_content}
 use Rattle.stub_script.specs.LinkWords.{link_of_words}
 use Rattle.stub_script.specs.ScriptText.{IsEvent, IsEventIf, IsEventOfLine, of_line}
 

@@ -1,5 +1,5 @@
 -- The events of a script, line by line.
-use Rattle.std.proofs.Common.{◌≡◌, ◌<◌, ◌≤◌, ◌+◌, ◌++◌, ℕ, zero, suc, Bool, true, false, if◌then◌else◌, List, [], ◌∷◌, length, map, drop, get_or, Option, Some, None, Result, Ok, Err, Bor, refl, ap, ◌∙◌, sym, subst, add-one, append_assoc, drop-cons, length-append, append-nil, arith}
+use Rattle.std.proofs.Common.{◌≡◌, ◌<◌, ◌≤◌, ◌+◌, ◌++◌, ℕ, zero, suc, Bool, true, false, if◌then◌else◌, List, [], ◌∷◌, length, map, drop, get_or, Result, Ok, Err, Bor, refl, ap, ◌∙◌, sym, subst, add-one, append_assoc, drop-cons, length-append, append-nil, arith}
 use Rattle.std.specs.Int.{from_bool}
 use Rattle.dns_names.specs.Name.{DomainName}
 use Rattle.dns_zone_file.specs.declared.types.Types.{Types}

@@ -25,8 +25,8 @@ use Rattle.stub_net.specs.Try.{AfterDatagram, AfterSend, AsksStream, AwaitsReply
 use Rattle.stub_net.specs.Wait.{Awaits, deadline_passes, no_memory_to_decode, no_memory_to_receive, none_left, other_arrives, receive_fails, reply_arrives}
 use Rattle.stub_net.specs.declared.pool.NameServerPool.{NameServerPool}
 use Rattle.stub_net.specs.declared.requester.Requester.{Requester}
-use Rattle.stub_signed.specs.Reply.{IsAccepted, IsSignedReply, IsSignedRequest, IsTime}
-use Rattle.stub_signed.specs.Signed.{AfterCame, AfterCheck, AfterSign, AfterSigned, AfterSignedStream, AfterStreamed, AsksSigned, ChecksDatagram, ChecksReply, ChecksStream, ReadsClock, ReadsTime, ReceivesSigned, SendsSigned, Signs, StreamsSigned, datagram_after, over, signed_calls, stream_after, time_at}
+use Rattle.stub_signed.specs.Reply.{IsSignedReply, IsSignedRequest, IsTime}
+use Rattle.stub_signed.specs.Signed.{AfterCame, AfterCheck, AfterSigned, AfterSignedStream, AfterStreamed, ChecksReply, ReadsClock, ReadsTime, ReceivesSigned, SendsSigned, Signs, StreamsSigned, datagram_after, over, signed_calls, stream_after, time_at}
 use Rattle.dns_signer.specs.declared.refusal.Refusal.{Refusal}
 use Rattle.stub_signed.specs.Update.{IsSignedCode, outcome_of}
 use Rattle.stub_signed.specs.declared.network.SignedNetwork.{SignedNetwork}

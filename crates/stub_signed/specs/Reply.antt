@@ -1,5 +1,5 @@
 -- Replies that a holder of a key signed for a request (RFC 8945 section 5.4).
-use Rattle.std.specs.Prelude.{◌≡◌, List, ℕ, Option, Some, Ok}
+use Rattle.std.specs.Prelude.{◌≡◌, List, ℕ, Some, Ok}
 use Rattle.dns_messages.specs.declared.message.Message.{Message}
 use Rattle.dns_messages.specs.declared.response.DnsResponse.{DnsResponse}
 use Rattle.dns_signer.specs.Signer.{AcceptedBytes, Checks, SignsRequest}

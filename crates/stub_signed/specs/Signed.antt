@@ -1,7 +1,7 @@
 -- A network that signs requests, and checks the signatures of replies (RFC 8945 sections 5.1 and 5.4).
 use Rattle.std.specs.Prelude.{◌≡◌, ◌≢◌, ◌+◌, ◌/◌, ◌-◌, ◌^◌, min, List, [], ℕ, Option, Some, None, Result, Ok, Err}
 use Rattle.std.specs.declared.net.socket_addr.SocketAddr.{SocketAddr}
-use Rattle.dns_signer.specs.Signer.{AcceptedBytes, Checks, SignsRequest}
+use Rattle.dns_signer.specs.Signer.{Checks, SignsRequest}
 use Rattle.dns_signer.specs.declared.refusal.Refusal.{Refusal}
 use Rattle.dns_signer.specs.declared.refusal.TsigError.{TsigError}
 use Rattle.dns_signer.specs.declared.signer.Signer.{Signer}

@@ -1,5 +1,5 @@
 -- What a handle over a link does, a handle over another link does, if the calls of the first are calls of the other.
-use Rattle.std.proofs.Common.{◌≡◌, ℕ, zero, suc, List, Bool, true, false, Option, Some, None, Result, Ok, Err, ap, inl, inr}
+use Rattle.std.proofs.Common.{ℕ, zero, suc, List, Bool, true, false, Option, Some, None, Result, Ok, Err, ap, inl, inr}
 use Rattle.dns_messages.specs.declared.message.Message.{Message}
 use Rattle.dns_messages.specs.declared.query.Query.{Query}
 use Rattle.dns_messages.specs.declared.response.DnsResponse.{DnsResponse}
@@ -7,9 +7,9 @@ use Rattle.dns_messages.specs.declared.response_code.ResponseCode.{ResponseCode}
 use Rattle.stub_lookup.specs.declared.error.NetError.{NetError}
 use Rattle.stub_client.specs.Handle.{Outcome}
 use Rattle.stub_client.specs.declared.request.DnsRequest.{DnsRequest}
-use Rattle.stub_link.specs.Ask.{AfterReply, AfterSending, AfterWaiting, Ask, AskUnder, Asker, IsAsked, IsAwaited, IsSent, IsStreamed, IsSupported, IsUnsupported}
+use Rattle.stub_link.specs.Ask.{AfterReply, AfterSending, AfterWaiting, Ask, AskUnder, Asker, IsAsked, IsAwaited, IsSent, IsStreamed}
 use Rattle.stub_link.specs.Link.{Calls, calls_of, wire}
-use Rattle.stub_link.specs.Update.{IsUpdateSent, SendUpdate}
+use Rattle.stub_link.specs.Update.{SendUpdate}
 use Rattle.stub_link.specs.Wait.{Wait, WaitAfter, one_more}
 use Rattle.stub_link.specs.WireHandle.{Asks, SendsUpdate}
 use Rattle.stub_link.specs.declared.link.LinkError.{LinkError}

@@ -1,10 +1,8 @@
 -- What a datagram is, by its header and by what follows it.
 use Rattle.std.proofs.Common.{◌≡◌, ◌&&◌, Bool, true, false, ℕ, List, Option, Some, None, Result, Ok, Err, IfOk, sym, ap, ◌∙◌}
 use Rattle.std.specs.declared.alloc.AllocError.{AllocError}
-use Rattle.dns_messages.specs.Grammar.{ReadsMessage}
 use Rattle.dns_messages.specs.Header.{peeked_metadata}
 use Rattle.dns_messages.specs.declared.header.Metadata.{Metadata}
-use Rattle.dns_messages.specs.declared.message.Message.{Message}
 use Rattle.dns_messages.specs.declared.query.Query.{Query}
 use Rattle.stub_link.specs.Link.{wire}
 use Rattle.stub_link.specs.Reply.{has_reply_header, is_reply_header, repeats}

@@ -1,5 +1,5 @@
 -- What a link that notes its calls has noted.
-use Rattle.std.specs.Prelude.{◌≡◌, ◌⊎◌, ◌++◌, ◌∷◌, [], true, List, ℕ, Option, Some, None, Result, Ok, Err, map}
+use Rattle.std.specs.Prelude.{◌≡◌, ◌⊎◌, ◌++◌, ◌∷◌, [], true, List, ℕ, Option, Result, map}
 use Rattle.stub_link.specs.Link.{datagram_of, stream_reply_of}
 use Rattle.stub_link.specs.declared.link.LinkError.{LinkError}
 use Rattle.stub_link.specs.declared.wire_handle.WireHandle.{WireHandle}

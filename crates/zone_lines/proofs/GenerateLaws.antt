@@ -1,5 +1,5 @@
 -- The lines of a `$GENERATE`, one after another.
-use Rattle.std.proofs.Common.{◌≡◌, ℕ, suc, ◌+◌, ◌-◌, ◌<◌, ◌≤◌, List, [], ◌∷◌, ◌++◌, map, None, Ok, refl, sym, ap, subst, ◌∙◌, append_assoc, append-nil, arith}
+use Rattle.std.proofs.Common.{◌≡◌, ℕ, suc, ◌+◌, ◌-◌, ◌<◌, ◌≤◌, List, [], ◌∷◌, ◌++◌, map, None, Ok, sym, ap, subst, ◌∙◌, append_assoc, append-nil, arith}
 use Rattle.std.specs.Str.{IsUtf8}
 use Rattle.zone_generate.specs.Range.{number_at}
 use Rattle.dns_text.specs.Lexer.{Lexeme, LexerState, NextToken}
@@ -13,7 +13,7 @@ use Rattle.dns_zone_file.specs.Parsing.{start_in}
 use Rattle.dns_zone_file.specs.declared.context.Context.{Context}
 use Rattle.dns_zone_file.specs.declared.error.EntryFault.{EntryFault}
 use Rattle.dns_zone_file.specs.declared.error.EntryFault.TheVariants.{InvalidDirective}
-use Rattle.zone_lines.specs.Reading.{AddsEntry, entry_refused, AddsNumber, of_text, AddsNumbers, no_number, last_number, one_number, AddsText, no_entry, one_entry, GeneratesLines, HasNoEntry, not_utf8, no_tokens, bad_tokens, IsFaultLine, fault_at}
+use Rattle.zone_lines.specs.Reading.{AddsEntry, entry_refused, AddsNumber, AddsNumbers, no_number, last_number, one_number, AddsText, no_entry, one_entry, GeneratesLines, HasNoEntry, not_utf8, no_tokens, bad_tokens, IsFaultLine, fault_at}
 use Rattle.zone_lines.specs.declared.record_line.EntryLine.{EntryLine}
 use Rattle.zone_lines.specs.declared.record_line.EntryLine.TheVariants as kind
 use Rattle.zone_lines.specs.declared.record_line.FaultLine.{FaultLine}

@@ -1,5 +1,5 @@
 -- Warnings, kind by kind and entry by entry.
-use Rattle.std.proofs.Common.{◌≡◌, ◌<◌, ◌≤◌, ◌+◌, ◌∙◌, ℕ, suc, Bool, true, false, cond, List, [], ◌∷◌, ◌++◌, length, map, take, drop, get_or, refl, sym, ap, append_assoc, append-nil, add-one, arith}
+use Rattle.std.proofs.Common.{◌≡◌, ◌<◌, ◌≤◌, ◌+◌, ◌∙◌, ℕ, suc, Bool, true, false, cond, List, [], ◌∷◌, ◌++◌, length, map, take, drop, get_or, refl, sym, ap, append_assoc, append-nil, add-one}
 use Rattle.std.specs.List.{filter}
 use Rattle.std.proofs.lemmas.List.{map-append, take_all}
 use Rattle.std.proofs.lemmas.List.Elements.{filter-append}
@@ -8,7 +8,6 @@ use Rattle.std.proofs.Math.Seq.{drop-cons}
 use Rattle.zone_warnings.specs.Survey.{Facts}
 use Rattle.zone_warnings.specs.Warning.{applies, kinds, warning_of, warnings_among, warnings_at, warnings_of_entry, warnings_from, warnings_of}
 use Rattle.zone_lines.specs.declared.record_line.EntryLine.{EntryLine}
-use Rattle.zone_lines.specs.declared.record_line.EntryLine.TheVariants as entry
 use Rattle.zone_lines.specs.declared.record_line.RecordLine.{RecordLine}
 use Rattle.zone_warnings.specs.declared.kind.Warning.{Warning}
 use Rattle.zone_warnings.specs.declared.kind.WarningKind.{WarningKind}

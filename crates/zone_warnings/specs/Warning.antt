@@ -1,5 +1,5 @@
 -- What a zone file says and nobody means (RFC 1034 section 3.6.2, RFC 2181 sections 5 and 10).
-use Rattle.std.specs.Prelude.{◌==◌, ◌&&◌, ◌||◌, ◌+◌, ◌-◌, nat_lt, not, Bool, true, false, ℕ, suc, length, List, [], ◌∷◌, ◌++◌, map, is_some, Option, Some, None}
+use Rattle.std.specs.Prelude.{◌==◌, ◌&&◌, ◌+◌, nat_lt, not, Bool, true, false, ℕ, suc, length, List, [], ◌∷◌, ◌++◌, map, is_some, Option, Some, None}
 use Rattle.std.specs.List.{filter}
 use Rattle.std.specs.Option.{option_map_or}
 use Rattle.dns_names.specs.Compare.{at_or_below}

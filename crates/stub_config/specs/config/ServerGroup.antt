@@ -1,5 +1,5 @@
 -- The servers of a group.
-use Rattle.std.specs.Prelude.{◌≡◌, ◌+◌, List, [], ◌∷◌, ℕ, Option, Some, None, Result, Ok, Err, drop, length}
+use Rattle.std.specs.Prelude.{◌≡◌, ◌+◌, List, [], ◌∷◌, Option, Some, None, Result, Ok, Err, drop, length}
 use Rattle.std.specs.declared.alloc.AllocError.{AllocError}
 use Rattle.stub_config.specs.config.{both_connections, tcp_connection, udp_connection}
 use Rattle.stub_config.specs.declared.config.connection.ConnectionConfig.{ConnectionConfig}

@@ -1,5 +1,5 @@
 -- The entries of a text, as the code reads them.
-use Rattle.std.specs.Prelude.{◌≡◌, ◌<◌, ◌≤◌, ◌+◌, ℕ, Bool, true, false, List, length, Option, Some, None, Ok}
+use Rattle.std.specs.Prelude.{◌≡◌, ◌<◌, ◌≤◌, ◌+◌, ℕ, Bool, true, false, List, length, Some, None, Ok}
 use Rattle.dns_text.specs.Lexer.{Lexeme, LexerState, NextToken}
 use Rattle.dns_zone_file.specs.Entry.{Inclusion, LexesEntry, RefusesTokens}
 use Rattle.dns_zone_file.specs.Parsing.{Includes, IncludesText, max_includes}

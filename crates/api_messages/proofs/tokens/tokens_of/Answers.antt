@@ -1,4 +1,4 @@
-use Rattle.std.proofs.Common.{◌≡◌, ◌∙◌, sym, subst, ap, map, List, Option, Result, Ok, Some, None}
+use Rattle.std.proofs.Common.{◌∙◌, sym, subst, ap, map, List, Option, Result, Ok, Some, None}
 use Rattle.dns_text.specs.Lexer.{LexerState, NextToken}
 use Rattle.dns_text.specs.Token.{lexeme, answer}
 use Rattle.dns_text.specs.Tokens.{LexesTo}

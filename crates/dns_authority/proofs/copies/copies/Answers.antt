@@ -1,4 +1,4 @@
-use Rattle.std.proofs.Common.{◌++◌, ◌∷◌, [], ◌∙◌, List, ap, arith}
+use Rattle.std.proofs.Common.{◌++◌, ◌∷◌, [], ◌∙◌, ap, arith}
 use Rattle.dns_records.specs.Record.{Record}
 use Rattle.dns_authority.proofs.CopyLaws.{all_copies, copies_are, copy_of, one_more_copy}
 use Rattle.dns_authority.proofs.copies.copies.Goals as goal

@@ -1,4 +1,4 @@
-use Rattle.std.proofs.Common.{◌++◌, ◌∷◌, [], ◌∙◌, ℕ, List, ap, arith, map}
+use Rattle.std.proofs.Common.{◌++◌, ◌∷◌, [], ◌∙◌, ℕ, ap, arith, map}
 use Rattle.dns_codes.specs.declared.record_type.RecordType.TheVariants as types
 use Rattle.dns_names.specs.Name.{DomainName}
 use Rattle.dns_records.specs.Record.{Record}

@@ -1,4 +1,4 @@
-use Rattle.std.proofs.Common.{◌≡◌, ◌∙◌, Option, ℕ, drop, length, ap, arith}
+use Rattle.std.proofs.Common.{◌≡◌, ◌∙◌, drop, length, ap, arith}
 use Rattle.dns_names.specs.Name.{DomainName}
 use Rattle.dns_server.specs.Zones.{place_at}
 use Rattle.dns_server.proofs.PlaceLaws.{found-place, search-above, search-end}

@@ -1,4 +1,4 @@
-use Rattle.std.proofs.Common.{◌≡◌, ◌⊎◌, true, false, Option, map, inl, inr, refl, subst, ◌∙◌}
+use Rattle.std.proofs.Common.{◌≡◌, ◌⊎◌, true, false, inr, refl, subst, ◌∙◌}
 use Rattle.std.specs.Prelude.{option_map}
 use Rattle.dns_durable.specs.Reply.{AnswersOne, zones_left}
 use Rattle.dns_durable.specs.declared.incoming.Arrived.{Arrived}

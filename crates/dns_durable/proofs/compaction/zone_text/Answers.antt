@@ -1,5 +1,4 @@
-use Rattle.std.proofs.Common.{◌≡◌, [], ◌∷◌, ℕ, List, Bool, true, None, Ok, refl, sym, subst}
-use Rattle.std.specs.Bool.{IsTrue}
+use Rattle.std.proofs.Common.{[], ℕ, List, true, None, Ok, subst}
 use Rattle.dns_zone.specs.Load.{ReadsZoneIn}
 use Rattle.dns_zone.specs.Printed.{IsZoneText}
 use Rattle.dns_zone_file.specs.declared.types.Types.TheVariants.{All}

@@ -1,4 +1,4 @@
-use Rattle.std.proofs.Common.{◌≡◌, ◌≢◌, [], ◌∙◌, Bool, true, false, Option, ℕ, List, Err, map, refl, sym, ap, subst}
+use Rattle.std.proofs.Common.{◌≡◌, [], ◌∙◌, Bool, true, false, ℕ, List, Err, map, sym, subst}
 use Rattle.std.specs.Prelude.{option_map}
 use Rattle.dns_frames.specs.Frame.{stream_of}
 use Rattle.dns_journal.specs.declared.journal.Journal.{Journal}

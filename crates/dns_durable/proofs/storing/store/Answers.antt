@@ -1,4 +1,4 @@
-use Rattle.std.proofs.Common.{◌≡◌, ◌≢◌, [], ℕ, List, length, refl, sym, subst, arith, rules}
+use Rattle.std.proofs.Common.{◌≡◌, [], length, refl, sym, subst, arith, rules}
 use Rattle.std.proofs.lemmas.Bool.Decides.{nat_tests}
 use Rattle.dns_journal.specs.declared.journal.State.TheVariants as states
 use Rattle.dns_durable.specs.Storing.{Asks}

@@ -1,4 +1,4 @@
-use Rattle.std.proofs.Common.{◌≡◌, ◌∙◌, ℕ, List, ap, sym, take}
+use Rattle.std.proofs.Common.{◌∙◌, ℕ, List, ap, sym, take}
 use Rattle.std.specs.Prelude.{slice_index}
 use Rattle.dns_fault_rules.proofs.EditLaws.{next-differs, wrong-id-is}
 use Rattle.dns_fault_rules.proofs.laws.wrong_ids_differ.Goals as goal

@@ -1,4 +1,4 @@
-use Rattle.std.proofs.Common.{◌≡◌, ◌∙◌, ap}
+use Rattle.std.proofs.Common.{◌∙◌, ap}
 use Rattle.dns_messages.specs.declared.message.Message.{Message}
 use Rattle.dns_faults.specs.Step.{ignores, answers}
 use Rattle.dns_faults.proofs.step.respond.Goals as goal

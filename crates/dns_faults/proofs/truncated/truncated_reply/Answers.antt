@@ -1,4 +1,4 @@
-use Rattle.std.proofs.Common.{◌≡◌, List, ℕ, Err, ap, subst}
+use Rattle.std.proofs.Common.{List, ℕ, Err, ap, subst}
 use Rattle.dns_wire.specs.Encoder.{max_message_len}
 use Rattle.dns_messages.specs.declared.message.Message.{Message}
 use Rattle.dns_messages.specs.Encoding.{Encodes, IsTooLong}

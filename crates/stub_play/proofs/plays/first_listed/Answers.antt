@@ -1,6 +1,5 @@
-use Rattle.std.proofs.Common.{◌≡◌, true, false, sym, subst, ap, ◌∙◌, rules}
+use Rattle.std.proofs.Common.{true, false, sym, subst, ap, ◌∙◌}
 use Rattle.std.proofs.lemmas.List.{take_all}
-use Rattle.stub_link.specs.declared.link.script.Script.TheVariants.{Honest}
 use Rattle.stub_run.specs.Event.{AreHonest}
 use Rattle.stub_run.specs.declared.event.Event.{Event}
 use Rattle.stub_play.proofs.HonestLaws.{honest-more, listed-at}

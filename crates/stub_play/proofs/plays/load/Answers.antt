@@ -1,6 +1,5 @@
-use Rattle.std.proofs.Common.{◌≡◌, Ok, Err, List, ℕ, string_bytes, ◌≢◌}
+use Rattle.std.proofs.Common.{Ok, Err, string_bytes, ◌≢◌}
 use Rattle.std.proofs.lemmas.Result.{err_from_is_err_and}
-use Rattle.stub_play.specs.PlayFault.{script_fault}
 use Rattle.stub_play.specs.Plays.{IsScript, ScriptIs, numbered}
 use Rattle.stub_script.specs.ScriptText.{IsScriptOf, contents_of}
 use Rattle.stub_script.specs.declared.script_text.ScriptFault.TheVariants.{Memory}

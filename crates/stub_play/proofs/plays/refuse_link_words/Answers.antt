@@ -1,4 +1,4 @@
-use Rattle.std.proofs.Common.{◌≡◌, ◌<◌, true, false, length, refl, subst}
+use Rattle.std.proofs.Common.{◌<◌, false, length, refl, subst}
 use Rattle.std.proofs.lemmas.Option.{slice_get_read}
 use Rattle.stub_run.specs.Event.{AreHonest}
 use Rattle.stub_play.specs.Plays.{IsFirstListed}

@@ -1,7 +1,7 @@
-use Rattle.std.proofs.Common.{◌≡◌, ◌≤◌, ◌+◌, ◌++◌, ℕ, Bool, true, false, [], ◌∷◌, ◌∙◌, sym, ap, arith, List, map}
+use Rattle.std.proofs.Common.{◌≡◌, ◌+◌, ◌++◌, true, false, [], ◌∷◌, ◌∙◌, ap, arith}
 use Rattle.stub_script.specs.EventContent.{content_of}
-use Rattle.stub_script.specs.ScriptText.{Meaning, NoEvent, OneEvent, Unreadable, is_update, meaning_of, updates_after}
-use Rattle.stub_script.proofs.ScriptLaws.{IsLine, LeadsOn, contents_at, counted, ends_at_end, ends_at_fault, few_more, line_of, more_beside, past_no_event, past_one_event}
+use Rattle.stub_script.specs.ScriptText.{NoEvent, OneEvent, Unreadable, is_update, meaning_of, updates_after}
+use Rattle.stub_script.proofs.ScriptLaws.{IsLine, contents_at, counted, ends_at_end, ends_at_fault, few_more, line_of, more_beside, past_no_event, past_one_event}
 use Rattle.stub_script.proofs.script_text.read_lines.Goals as goal
 use Rattle.stub_script.proofs.script_text.read_lines.Goals.{in-Nothing, in-Holds+in_ok-push-in-Holds+in_ok-push-in-Holds-2}
 

@@ -1,4 +1,4 @@
-use Rattle.std.proofs.Common.{◌≡◌, ◌&&◌, ◌∙◌, Bool, not, ap, sym}
+use Rattle.std.proofs.Common.{◌&&◌, ◌∙◌, Bool, not, ap, sym}
 use Rattle.zone_warnings.specs.Cuts.{is_glue}
 use Rattle.zone_warnings.specs.Survey.{facts_view}
 use Rattle.zone_warnings.specs.Warning.{applies}

@@ -1,4 +1,4 @@
-use Rattle.std.proofs.Common.{◌≡◌, ◌<◌, ◌≤◌, ◌∙◌, List, length, drop, true, false, ap, sym, subst, rules}
+use Rattle.std.proofs.Common.{◌<◌, ◌≤◌, ◌∙◌, length, true, false, ap, sym, subst, rules}
 use Rattle.dns_names.specs.Name.{DomainName}
 use Rattle.zone_warnings.specs.Cuts.{has_cut_from}
 use Rattle.zone_warnings.specs.Survey.{facts_view}

@@ -1,4 +1,4 @@
-use Rattle.std.proofs.Common.{arith, length}
+use Rattle.std.proofs.Common.{arith}
 use Rattle.zone_warnings.specs.Survey.{facts_view}
 use Rattle.zone_warnings.proofs.KindLaws.{all_kinds, kind_pushed}
 use Rattle.zone_warnings.proofs.warning.push_warnings.Goals as goal

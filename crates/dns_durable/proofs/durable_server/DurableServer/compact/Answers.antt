@@ -1,4 +1,4 @@
-use Rattle.std.proofs.Common.{◌≡◌, [], ℕ, List, true, false, inr, refl, sym, ap, subst, ◌∙◌}
+use Rattle.std.proofs.Common.{◌≡◌, [], ℕ, List, true, false, inr, refl, ap, subst, ◌∙◌}
 use Rattle.std.specs.String.{string_bytes}
 use Rattle.sha2.specs.Sha256.{sha256}
 use Rattle.dns_journal.specs.Appending.{IsPosition}

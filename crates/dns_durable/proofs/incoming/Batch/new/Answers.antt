@@ -1,4 +1,4 @@
-use Rattle.std.proofs.Common.{◌≡◌, refl, subst}
+use Rattle.std.proofs.Common.{subst}
 use Rattle.dns_durable.specs.Incoming.{IsAdmitted}
 use Rattle.dns_durable.specs.declared.incoming.Incoming.{Incoming}
 use Rattle.dns_durable.proofs.BatchLaws.{admitted_end, admitted_go_on, frames_added}

@@ -1,4 +1,4 @@
-use Rattle.std.proofs.Common.{◌≡◌, ◌++◌, List, Option, length}
+use Rattle.std.proofs.Common.{◌≡◌, ◌++◌, List, length}
 use Rattle.dns_frames.specs.Frame.{stream_of}
 use Rattle.dns_durable.specs.Incoming.{AreAdmitted, changes_in}
 use Rattle.dns_durable.specs.declared.incoming.Arrived.{Arrived}

@@ -1,4 +1,4 @@
-use Rattle.std.proofs.Common.{◌∙◌, sym}
+use Rattle.std.proofs.Common.{sym}
 use Rattle.zone_warnings.proofs.PlacesLaws.{none_found, one_found}
 use Rattle.zone_warnings.proofs.places.Places.of.Goals as goal
 
