@@ -89,7 +89,7 @@ staying capacity q entries =
     else if nat_lt (length entries) capacity then entries
     else evicted entries
 
--- the entries with a new one; a cache of capacity 0 has none
+-- the entries with a new one, which a cache of capacity 0 does not store
 abbrev pub inserted : ℕ → List Entry → Entry → List Entry
 inserted capacity entries e = if capacity == 0 then entries else staying capacity e.question entries ++ e ∷ []
 

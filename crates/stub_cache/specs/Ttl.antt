@@ -140,7 +140,7 @@ deciding_records kind m =
     if type_number kind == 2 then filter (has_type types.NS) (m.answers ++ m.authorities)
     else filter (λ r. has_type kind r || has_type types.CNAME r) m.answers
 
--- the least of some TTLs within a range, or the least of the range
+-- a TTL brought within a range, or the least of the range if there is none
 abbrev pub lifetime_within : TtlRange → Option ℕ → ℕ
 lifetime_within range ttl = unwrap_or (option_map (clamp range) ttl) range.least
 

@@ -53,7 +53,7 @@ impl ResponseCache {
     }
 
     /// Creates an empty cache as [`new`](ResponseCache::new) does, with a limit of the stamps by which it keeps its
-    /// entries in order. When it has given out this many, the next insertion numbers the entries anew. The limit has no
+    /// entries in order. When it has given out this many, the next insertion renumbers the entries. The limit has no
     /// effect on what the cache stores or returns; a low one is for tests.
     pub fn with_stamp_limit(
         alloc: Global,

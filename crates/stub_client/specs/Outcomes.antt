@@ -27,7 +27,7 @@ pub record StepsTo (settings : LookupSettings) (asks : List Ask) (q : Query) (st
   pub is_asked : Contains asks (record { question = q; outcome = outcome })
   pub is_step : step_of settings q [] 0 outcome ≡ step
 
--- What a question comes to if it is asked anew, without a cache, and the outcomes are those of these asks (RFC 1034 section
+-- What a question comes to if it is asked again, without a cache, and the outcomes are those of these asks (RFC 1034 section
 -- 5.3.3).
 pub data ComesTo (settings : LookupSettings) (asks : List Ask) : Query → Conclusion → Type 0 where
   -- the reply has records for the question

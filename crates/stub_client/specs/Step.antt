@@ -79,7 +79,7 @@ is_found q name r = has_class q r && (asks_for q r && is_at_either name q r)
 abbrev pub found : Query → Chain → Message → List Record
 found q chain m = filter (is_found q chain.name) (all_records m)
 
--- Whether what was found is returned. After an alias that leads on from kept ones it is not.
+-- Whether what was found is returned: something was found, and the aliases of the message do not lead on from kept ones.
 abbrev pub is_given : Query → Chain → List Record → Message → Bool
 is_given q chain kept m = not (is_empty (found q chain m)) && (not chain.is_alias || is_empty kept)
 
@@ -103,7 +103,7 @@ is_kept_alias settings q r = settings.preserve_intermediates && (has_class q r &
 abbrev pub lowered : ℕ → Record → Record
 lowered most r = record r { ttl = min r.ttl most }
 
--- the kept aliases, and behind them what was found, with the aliases that are kept
+-- the kept aliases, followed by the records that are found and the aliases to keep
 abbrev pub selected_answers : LookupSettings → Query → Chain → List Record → Message → List Record
 selected_answers settings q chain kept m =
     kept ++ map (lowered chain.ttl) (filter (λ r. is_found q chain.name r || is_kept_alias settings q r) (all_records m))
@@ -138,7 +138,7 @@ kept_aliases settings q chain kept m =
 abbrev pub next_question : Query → Chain → Query
 next_question q chain = record { name = chain.name; query_type = q.query_type; query_class = IN }
 
--- the number of aliases that are followed
+-- how many times a lookup goes on to the question for the end of aliases
 abbrev pub max_depth : ℕ
 max_depth = 7
 

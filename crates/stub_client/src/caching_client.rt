@@ -128,15 +128,15 @@ impl<C: DnsHandle> CachingClient<C> {
     ///
     /// A response that [`DnsError::from_response`] takes for an error is returned as this error; a negative answer is
     /// stored, and no other error is. In any other response, the aliases among the answers lead from the name of the
-    /// question to another name. The records of any section are found that have the type and the class of the question
-    /// and are at either name. If there are some, the lookup has the response, which is stored; its TTLs are within the
-    /// bounds of their types, and it is valid as long as it is stored. If the end of the aliases was found, the
-    /// answers are what was found, with TTLs of at most those of the aliases, unless intermediates are preserved. If
-    /// there are none, but the response has aliases and the SOA record of a negative answer, the question has this
-    /// negative answer, which is stored (RFC 2308 section 2.1). Otherwise, the end of the aliases is looked up in the
-    /// same way. What that returns is returned and stored for the question. At most seven aliases are followed. If there
-    /// is no record, the error is [`DnsError::NoRecordsFound`]. A special-use name that does not exist, or has no records of
-    /// the type, is answered without memory.
+    /// question to another name, and so do SRV records, to their targets; a question for aliases, or for all types, follows
+    /// none. The records of any section are found that have the type and the class of the question and are at either name.
+    /// If there are some, the lookup has the response, which is stored; its TTLs are within the bounds of their types, and
+    /// it is valid as long as it is stored. If the end of the aliases was found, the answers are what was found, with TTLs
+    /// of at most those of the aliases, unless intermediates are preserved. If there are none, but the response has aliases
+    /// and the SOA record of a negative answer, the question has this negative answer, which is stored (RFC 2308 section
+    /// 2.1). Otherwise, the end of the aliases is looked up in the same way. What that returns is returned and stored for
+    /// the question. At most eight questions are asked. If there is no record, the error is [`DnsError::NoRecordsFound`]. A
+    /// special-use name that does not exist, or has no records of the type, is answered without memory.
     pub fn lookup(
         &mut self,
         query: Query,

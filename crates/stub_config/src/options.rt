@@ -11,16 +11,18 @@ use std::collections::BTreeSet;
 
 /// The options of a resolver.
 ///
-/// `ndots`, `edns0`, `ip_strategy`, `cache_size`, `use_hosts_file`, the bounds of TTLs, `preserve_intermediates`,
-/// `recursion_desired` and `edns_payload_len` take effect. A resolver is refused that sets `case_randomization`,
-/// `trust_anchor` or `deny_answers`, or a minimum TTL above its maximum. The other options are kept without effect.
+/// In a resolver, `ndots`, `edns0`, `ip_strategy`, `cache_size`, `use_hosts_file`, the bounds of TTLs,
+/// `preserve_intermediates`, `recursion_desired` and `edns_payload_len` take effect. A resolver that sets
+/// `case_randomization`, `trust_anchor` or `deny_answers`, or a minimum TTL above its maximum, is refused. In a handle that
+/// asks name servers (`stub_net`), `timeout`, `attempts` and `server_ordering_strategy` take effect. The other options have
+/// no effect.
 #[derive(Drop)]
 pub struct ResolverOpts {
     /// A name with more labels than this is looked up as it is, before it is completed.
     pub ndots: usize,
     /// How long to wait for a reply, in seconds.
     pub timeout: u64,
-    /// How many times a question is asked.
+    /// How many rounds are made through the name servers, at least one.
     pub attempts: usize,
     /// Whether requests have an OPT record (RFC 6891).
     pub edns0: bool,

@@ -31,7 +31,7 @@ impl Default for LookupIpStrategy {
 /// The order in which name servers are asked.
 #[derive(Clone, Copy, Debug, PartialEq, Eq)]
 pub enum ServerOrderingStrategy {
-    /// The fastest first.
+    /// The fastest first. No response times are measured here, so this is the order of the configuration.
     QueryStatistics,
     /// The order of the configuration.
     UserProvidedOrder,

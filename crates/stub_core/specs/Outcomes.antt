@@ -33,7 +33,7 @@ ByOutcomes settings asks old q reply new = IsReplyBy settings asks q reply
 
 -- ---- lookups of a resolver
 
--- what a lookup of a resolver is told
+-- the settings of the lookups of a resolver
 abbrev pub settings_of : {H : Type 0} → Resolver H → LookupSettings
 settings_of resolver = lookup_settings resolver.client (request_options resolver.settings.options)
 

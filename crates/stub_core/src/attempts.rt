@@ -36,7 +36,7 @@ pub fn lookup_names<C: DnsHandle>(
     attempt(no_names(), names, record_type, options, client, now)
 }
 
-/// Looks up names, in order, as [`lookup_names`] does. The hosts are asked for the first name, before the client.
+/// Looks up names, in order, as [`lookup_names`] does. The hosts are asked for the first name alone, before the client.
 pub fn lookup_names_with_hosts<C: DnsHandle>(
     names: Vec<Name>,
     record_type: RecordType,

@@ -110,7 +110,7 @@ impl<H: DnsHandle> Resolver<H> {
 
     /// Looks up records of a type for a name, as it is or completed with the domain and the search list.
     ///
-    /// The hosts are asked for the first of the names. A type is taken by its number. If a text is not a name, the error
+    /// The hosts are asked for the first of the names alone. A type is taken by its number. If a text is not a name, the error
     /// is [`NetError::Proto`].
     pub fn lookup<N: IntoName>(
         &mut self,

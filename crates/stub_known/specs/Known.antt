@@ -23,7 +23,7 @@ abbrev pub known_outcome : Outcome → Option KnownOutcome
 known_outcome (Ok response) = Some (Response response.buffer.items)
 known_outcome (Err error) = known_error error
 
--- bytes decode to the message of a response, which keeps them
+-- bytes decode to the message of a response, which has QR set and keeps them (RFC 1035 section 4.1.1)
 pub record IsResponseOf (bytes : List ℕ) (response : DnsResponse) : Type 0 where
   pub reads : ReadsMessage bytes response.message
   pub is_response : response.message.metadata.message_type ≡ kinds.Response

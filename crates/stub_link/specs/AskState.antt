@@ -31,7 +31,7 @@ first_asks zone limit ids = record {
 abbrev pub begin : ℕ → Script → AskState → AskState
 begin moment script state = record state { link = begin_event moment script state.link; faults = 0; questions = 0 }
 
--- an event that sends an update begins, and what it counts is counted anew
+-- an event that sends an update begins: nothing is counted yet
 abbrev pub begin_with_update : ℕ → Script → AskState → AskState
 begin_with_update moment script state =
     record state { link = begin_update moment script state.link; faults = 0; questions = 0 }

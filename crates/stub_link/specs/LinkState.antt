@@ -122,7 +122,7 @@ abbrev pub course_of : Script → Course
 course_of script.Honest = Honest []
 course_of (script.Listed events) = Listed events.items
 
--- an event begins at a moment, with its script; an update has a place for its datagram
+-- an event that sends no update begins at a moment, with its script
 abbrev pub begin_event : ℕ → Script → LinkState → LinkState
 begin_event moment s state = record state { moment = moment; course = course_of s; is_update = false }
 
@@ -131,7 +131,7 @@ abbrev pub begin_update : ℕ → Script → LinkState → LinkState
 begin_update moment s state =
     record state { moment = moment; course = course_of s; is_update = true; updates = state.updates ++ None ∷ [] }
 
--- An event ends: what is left of the script is delivered in order, and the rest of it is dropped.
+-- What is left of a script is delivered, in order: the datagrams under way, or those that the events of a listed script name.
 abbrev pub deliver_rest : Course → LinkState → LinkState
 deliver_rest (Honest under_way) state = fold (λ now m. deliver m now) state under_way
 deliver_rest (Listed events) state = fold deliver_event state events
@@ -153,7 +153,7 @@ abbrev pub begins_with_fail : Course → Bool
 begins_with_fail (Listed (Fail ∷ events)) = true
 begins_with_fail course = false
 
--- what is left of a listed script behind its first event
+-- what is left of a listed script after its first event
 abbrev pub without_first : Course → Course
 without_first (Listed (event ∷ events)) = Listed events
 without_first course = course

@@ -146,8 +146,8 @@ impl<L: Link> WireHandle<L> {
     /// Sends an update under its own id, and returns the response code of its reply, which may be truncated (RFC 2136 section
     /// 2).
     ///
-    /// The error is a [`LinkFault`]: `NotSent` or `NotReceived` if the link failed; `Quiet` if nothing was received; `NoMatch`
-    /// if none of sixteen datagrams is the reply.
+    /// The error is a [`LinkFault`]: `NotSent` or `NotReceived` if the link failed; `Quiet` if no further datagram was
+    /// received; `NoMatch` if none of sixteen datagrams is the reply.
     pub fn send_update(&mut self, update: &UpdateEvent) -> Result<ResponseCode, NetError>
         ensures { SendsUpdate L.sends L.receives L.streams L.failure_count self.old update.now
             result self.new }
@@ -321,9 +321,9 @@ impl<L: Link> DnsHandle for WireHandle<L> {
     ///
     /// The error is [`NetError::Unsupported`] if the request is not a sound query with one question, or has more than
     /// 65,535 bytes without compression. Otherwise it is a [`LinkFault`]: `NoId` if no id is left; `NotSent` or
-    /// `NotReceived` if the link failed; `Quiet` if nothing was received; `NoMatch` if none of sixteen datagrams is the
-    /// reply. Of a stream it is `StreamFailed` if the stream failed, `StreamUnreadable` if its message cannot be decoded,
-    /// `StreamMismatch` if that is not the reply, and `Truncated` if it is truncated, too.
+    /// `NotReceived` if the link failed; `Quiet` if no further datagram was received; `NoMatch` if none of sixteen datagrams
+    /// is the reply. Of a stream it is `StreamFailed` if the stream failed, `StreamUnreadable` if its message cannot be
+    /// decoded, `StreamMismatch` if that is not the reply, and `Truncated` if it is truncated, too.
     fn send(&mut self, request: DnsRequest, _now: Moment) -> Result<DnsResponse, NetError> {
         let (mut message, _options) = request.into_parts();
         let outcome = self.ask(&mut message);

@@ -16,13 +16,13 @@ pub enum LinkFault {
     /// A datagram could not be received.
     #[error("datagram could not be received")]
     NotReceived,
-    /// No datagram was received.
+    /// No further datagram was received, or no reply arrived before the time-out.
     #[error("no datagram was received")]
     Quiet,
-    /// Sixteen datagrams were received, and none is the reply.
+    /// As many datagrams were received as are awaited, sixteen over a link, and none is the reply.
     #[error("none of sixteen datagrams is the reply")]
     NoMatch,
-    /// The reply was truncated, and asking again over a stream failed (RFC 7766 section 5).
+    /// Asking over a stream failed, as after a truncated reply (RFC 7766 section 5).
     #[error("asking over a stream failed")]
     StreamFailed,
     /// The reply over the stream is truncated, too, or the reply is truncated and there is no stream (RFC 1035 section
@@ -35,7 +35,7 @@ pub enum LinkFault {
     /// The message over the stream is not a reply to the question.
     #[error("message over the stream is not the reply")]
     StreamMismatch,
-    /// Every id has been used by an earlier question.
+    /// No id is left for the question, or none could be drawn.
     #[error("no id is left")]
     NoId,
 }
@@ -84,7 +84,7 @@ pub struct NoRecords {
     pub query: Query,
     /// The SOA record of the zone.
     pub soa: Option<Record<SOA>>,
-    /// The name servers that the server refers to.
+    /// The name servers that the server refers to. [`DnsError::from_response`] leaves them out.
     pub ns: Option<Sequence<ForwardNSData>>,
     /// How long the answer may be cached, in seconds (RFC 2308 section 5).
     pub negative_ttl: Option<u32>,

@@ -59,7 +59,7 @@ pub data Runs {N I : Type 0} (calls : NetworkCalls N) (m : Message) (bytes : Lis
       → TriesPlace calls m bytes place old (Continue tried) mid → Runs calls m bytes plan tried mid outcome new
       → Runs calls m bytes (place ∷ plan) last old outcome new
 
--- What a front of a plan comes to: it ends the exchange, whatever the rest of the plan is, or the rest goes on from there.
+-- What a prefix of a plan comes to: it ends the exchange, whatever the rest of the plan is, or the rest goes on from there.
 abbrev pub RunsRound : {N I : Type 0} → NetworkCalls N → Message → List ℕ → List ℕ → Outcome → NameServerPool N I
     → ControlFlow Outcome Outcome → NameServerPool N I → Type 0
 RunsRound calls m bytes front last old (Break outcome) new =

@@ -94,7 +94,8 @@ impl<N: Network, I: IdSource> NameServerPool<N, I> {
     /// Sends an update under its own id, and returns the response code of its reply, which may be truncated (RFC 2136
     /// section 2).
     ///
-    /// The servers are asked as for a question, and so are the errors.
+    /// The servers are asked as for a question. The errors are those of a question, without `NoId`, `Truncated` and
+    /// [`NetError::Unsupported`], which do not occur.
     pub fn send_update(&mut self, update: &UpdateEvent) -> Result<ResponseCode, NetError>
         ensures { Updates (network_calls N.sends N.receives N.streams N.reads_clock) self.old
             update.now result self.new }
@@ -239,7 +240,7 @@ impl<N: Network, I: IdSource> DnsHandle for NameServerPool<N, I> {
     /// `NotSent` if the network could not send, or there is no server; `NotReceived` if it could not receive; `Quiet`
     /// if the time-out passed; `NoMatch` if none of 2^64 - 1 datagrams is the reply; `Truncated` if the reply is
     /// truncated, and so is that over a stream, or the server has no address for streams; `StreamFailed` if the stream
-    /// failed; `StreamMismatch` if its message is not the reply.
+    /// failed; `StreamMismatch` if its message is not the reply, or cannot be decoded.
     fn send(&mut self, request: DnsRequest, _now: Moment) -> Result<DnsResponse, NetError> {
         let (mut message, _options) = request.into_parts();
         let outcome = self.ask(&mut message);

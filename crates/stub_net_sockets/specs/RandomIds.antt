@@ -13,14 +13,14 @@ pub record Takes {E : Type 0} (old : RandomIds E) (id : ℕ) (new : RandomIds E)
   pub used_is : new.used ≡ old.used + 2
   pub entropy_is : new.entropy ≡ old.entropy
 
--- Less than two bytes were left, so others are drawn, as `gives` says, and the first two of these are taken.
+-- Fewer than two bytes were left, so others are drawn, as `gives` says, and the first two of these are taken.
 pub record TakesNew {E : Type 0} (gives : E → List ℕ → E → Type 0) (old : RandomIds E) (id : ℕ) (new : RandomIds E) : Type 0 where
   pub none_left : 254 < old.used
   pub given : gives old.entropy new.bytes new.entropy
   pub id_is : id ≡ id_at 0 new.bytes
   pub used_is : new.used ≡ 2
 
--- An id is drawn, of bytes of which each is used once. None is drawn only where less than two bytes were left.
+-- An id is drawn, of bytes of which each is used once. None is drawn only where fewer than two bytes were left.
 abbrev pub Draws : {E : Type 0} → (E → List ℕ → E → Type 0) → RandomIds E → Option ℕ → RandomIds E → Type 0
 Draws gives old (Some id) new = Takes old id new ⊎ TakesNew gives old id new
 Draws gives old None new = 254 < old.used

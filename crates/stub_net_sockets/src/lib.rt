@@ -2,7 +2,7 @@
 //!
 //! Each datagram is sent from a socket of its own, which is connected to its server and whose port the system draws, so that no
 //! reply to an earlier request and no datagram of another address arrives at it (RFC 5452 section 9.2). No clause says what a
-//! socket carries; the clauses say that the clock does not go back, and which ids are drawn from which random bytes.
+//! socket carries; the clauses say that a stopwatch does not go back, and which ids are drawn from which random bytes.
 //!
 //! - `socket_network`: the network; `datagram`: the socket of a datagram; `stream`: an exchange over a stream
 //! - `stopwatch`: a clock that counts milliseconds and does not go back

@@ -8,7 +8,7 @@ use std::time::{Clock, Instant};
 use stub_link::LinkError;
 use stub_net::Network;
 
-/// A network that writes a line to standard error for each call of another one, or does not, and is else the same.
+/// A network that behaves as another one and, if it is on, writes lines to standard error about what that one does.
 ///
 /// A line begins with the milliseconds since a moment, and says what was sent or received, how long it is, and under which id, as
 /// `12 ms udp 127.0.0.1:53 sent 33 bytes, id 4711`. One that cannot be written is left out. `R` is the runtime, or a reference to

@@ -16,9 +16,9 @@
 //! | `nameserver` | an address | adds a name server; the first [`MAX_NAME_SERVERS`] are kept |
 //! | `search` | names | sets the search list |
 //! | `domain` | a name | sets the search list to this name alone |
-//! | `options` | `ndots:N` | sets how many dots a name has that is looked up as it is before it is completed: at most [`MAX_NDOTS`] |
+//! | `options` | `ndots:N` | sets the least number of dots of a name that is looked up as it is first: at most [`MAX_NDOTS`] |
 //! | | `timeout:N` | sets how long to wait for a reply: from 1 to [`MAX_TIMEOUT`] seconds |
-//! | | `attempts:N` | sets how many times a question is asked: from 1 to [`MAX_ATTEMPTS`] |
+//! | | `attempts:N` | sets how many rounds are made through the servers: from 1 to [`MAX_ATTEMPTS`] |
 //! | | `rotate` | asks the servers in turn |
 //! | | `edns0` | adds an OPT record to requests |
 //! | | `use-vc` | asks the servers over TCP alone |

@@ -15,11 +15,11 @@ pub const MAX_ATTEMPTS: usize = 5;
 /// The options of a configuration file.
 #[derive(Clone, Copy, Debug)]
 pub struct ConfOptions {
-    /// How many dots a name has that is looked up as it is, before it is completed.
+    /// A name with at least this many dots is looked up as it is, before it is completed.
     pub ndots: usize,
     /// How long to wait for a reply, in seconds.
     pub timeout: usize,
-    /// How many times a question is asked.
+    /// How many rounds are made through the name servers.
     pub attempts: usize,
     /// Whether servers are asked in turn.
     pub rotate: bool,

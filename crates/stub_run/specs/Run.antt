@@ -45,12 +45,12 @@ RunState = Resolver AskState
 abbrev pub asks_of : RunState → AskState
 asks_of state = state.client.handle
 
--- An event begins at its moment with its script: what it asks is counted anew, and an update has a place among the updates.
+-- An event begins at its moment with its script: what it asks is counted from 0, and an update has a place among the updates.
 abbrev pub begin_asks : Option Message → ℕ → Script → AskState → AskState
 begin_asks None at script asks = begin at script asks
 begin_asks (Some update) at script asks = begin_with_update at script asks
 
--- an event begins on the link, and what it counts is counted anew
+-- an event begins on the link, and what it counts is counted from 0
 abbrev pub begin_event : Event → RunState → RunState
 begin_event e state = with_handle state (begin_asks (update_of e.action) e.at e.script (asks_of state))
 

@@ -44,7 +44,7 @@ rules_of begins ends is_out sends receives streams failure_count = record {
 
 -- ---- one event
 
--- the handle as an event begins, with its link as it is then: what it asks is counted anew
+-- the handle as an event begins, with its link as it is then: what it asks is counted from 0
 abbrev pub begun_handle : {L : Type 0} → WireHandle L → L → WireHandle L
 begun_handle handle link = record handle { link = link; faults = 0; questions = 0 }
 

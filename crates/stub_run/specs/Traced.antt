@@ -17,7 +17,7 @@ abbrev pub traced_ends : {L : Type 0} → (L → Result (Unit {0}) AllocError �
     → TracedLink L → Type 0
 traced_ends ends old result new = ends old.link result new.link × (new ≡ with_inner old new.link)
 
--- it has nothing left to deliver if the other link has not
+-- it has run out of memory if the other link has
 abbrev pub traced_is_out : {L : Type 0} → (L → Bool) → TracedLink L → Bool
 traced_is_out is_out traced = is_out traced.link
 

@@ -65,8 +65,8 @@ AreWalkedEvents settings first past events reports occasions = ⊥
 
 -- ---- runs
 
--- Equality of transports: where nothing was updated and the link met no fault, the lookups of a run with these occasions return what
--- walks over the zone come to.
+-- Where the rows do not change and the link met no fault, the lookups of a run with these occasions return what walks over the
+-- zone come to.
 abbrev pub AreWalked : WorldContent → List Event → List EventReport → List Occasion → Type 0
 AreWalked content events reports occasions =
     AreWalkedEvents (settings_of content) (first_past content.zone) (first_past content.zone) events reports occasions

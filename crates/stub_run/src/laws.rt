@@ -101,8 +101,8 @@ pub fn handles_ask_few_questions<L: Link>()
         → (new.questions ≤ old.questions) × (new.dropped ≤ old.dropped + 16) }
 {}
 
-/// So does each event of a run over any link: its report says how many questions it asked, and that of the run how many datagrams
-/// were dropped.
+/// [`handles_ask_few_questions`] for each event of a run over any link: its report says how many questions it asked, and that
+/// of the run how many datagrams were dropped.
 pub fn runs_ask_few_questions<L: EventLink>()
     ensures { (resolver : Resolver (WireHandle L)) (events : List Event) (report : Report)
         → IsReportOver (rules_of L.begins L.ends L.is_out L.sends L.receives L.streams

@@ -20,7 +20,7 @@ pub enum EventReply {
 #[derive(Drop)]
 pub struct EventReport {
     pub reply: EventReply,
-    /// The number of questions that ended in a fault, `F1` to `F9`; at most `u64::MAX`.
+    /// The number of questions and updates that ended in a fault, `F1` to `F9`; at most `u64::MAX`.
     pub faults: u64,
     /// The number of datagrams with a question that were sent; at most `u64::MAX`.
     pub questions: u64,
@@ -33,7 +33,7 @@ pub struct Report {
     pub events: Vec<EventReport>,
     /// The ids that were drawn, in order, each with its question.
     pub sent: Vec<(u16, Query)>,
-    /// The number of datagrams that were received and are not the reply to the open question; at most `u64::MAX`.
+    /// The number of datagrams that were received and are not the reply to the open request; at most `u64::MAX`.
     pub dropped: u64,
 }
 
@@ -42,6 +42,6 @@ pub struct Report {
 pub enum Stopped {
     /// A moment is before an earlier one, or after 2^62. Nothing happened.
     Moments,
-    /// Out of memory: for the report, for the link or for its server. The report is that of the events before.
+    /// Out of memory: for the reports, the ids that are drawn, the link or its server. The report is that of the events before.
     Memory(Report),
 }

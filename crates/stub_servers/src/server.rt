@@ -18,7 +18,7 @@ pub struct Server {
 }
 
 impl Server {
-    /// A server without an address, which cannot be asked.
+    /// Returns a server without an address, which cannot be asked.
     pub fn none() -> Server
         ensures { result ≡ no_server }
     {

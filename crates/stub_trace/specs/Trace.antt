@@ -27,7 +27,7 @@ calls_of traced = map call_of traced.notes.items
 abbrev pub with_inner : {L : Type 0} → TracedLink L → L → TracedLink L
 with_inner traced link = record traced { link = link }
 
--- A call was noted behind the others, or there was no memory for it, which is known afterwards.
+-- A call was noted after the others, or there was no memory for it, which is known from then on.
 abbrev pub IsNoted : {L : Type 0} → Call → TracedLink L → TracedLink L → Type 0
 IsNoted call old new =
     ((calls_of new ≡ calls_of old ++ call ∷ []) × (new.is_incomplete ≡ old.is_incomplete))

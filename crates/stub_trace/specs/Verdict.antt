@@ -32,8 +32,8 @@ abbrev pub BeginsWithFault : ℕ → Option Query → List ℕ → Verdict → T
 BeginsWithFault id question bytes fault =
     (header : Metadata) × (peeked_metadata bytes ≡ Some header) × HasFault id question header fault
 
--- What a datagram is to a request: its reply; or without a header; or with the header of another message; or malformed behind the
--- header of a reply; or a response to another question.
+-- What a datagram is to a request: its reply; or without a header; or with the header of another message; or malformed after
+-- the header of a reply; or a response to another question.
 abbrev pub IsVerdict : ℕ → Option Query → List ℕ → Verdict → Type 0
 IsVerdict id question bytes Reply = (response : DnsResponse) × FindsReply id question bytes (Some response)
 IsVerdict id question bytes NoHeader = peeked_metadata bytes ≡ None

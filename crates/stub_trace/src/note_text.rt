@@ -11,7 +11,7 @@ use std::alloc::{AllocError, Global};
 use std::{fmt, io};
 use stub_link::LinkError;
 
-/// The request whose reply is awaited, and how many datagrams were received since it was sent.
+/// The request whose reply is awaited, and how many receives there were since it was sent.
 #[derive(Drop)]
 pub struct RequestNote {
     /// The id under which it was sent.
@@ -76,7 +76,8 @@ impl fmt::Display for RequestNote {
 
 /// Writes the notes of an event, each on a line of its own, which begins with `  ->` or `  <-`.
 ///
-/// The error is of kind [`io::ErrorKind::OutOfMemory`] if a message could not be decoded for want of memory.
+/// The error is of kind [`io::ErrorKind::OutOfMemory`] if there is no memory to decode a message. Any other error is the
+/// writer's.
 pub fn write_notes<W: io::Write>(alloc: Global, notes: &[Note], writer: &mut W) -> io::Result<()> {
     let mut request = None;
     for note in notes {

@@ -167,23 +167,23 @@ action_of word =
     else if bytes_eq word (codes "delete-name") then Some DeleteName
     else None
 
--- `create`: the set must not stand yet
+-- `create`: the zone must not have the set yet (RFC 2136 section 2.4.3)
 abbrev pub IsCreate : UpdateContext → DomainName → List (List ℕ) → Option Message → Type 0
 IsCreate context owner arguments found =
     (set : Option RecordSetValue) × IsSetWithTtl context owner arguments set
     × (found ≡ option_map (λ (s : RecordSetValue). create_message context.id s context.origin false) set)
 
--- `append`: the record is added to the set, or makes it
+-- `append`: the record is added to the set, which need not exist (RFC 2136 section 2.5.1)
 abbrev pub IsAppend : UpdateContext → DomainName → List (List ℕ) → Option Message → Type 0
 IsAppend context owner arguments found =
     (set : Option RecordSetValue) × IsSetWithTtl context owner arguments set
     × (found ≡ option_map (λ (s : RecordSetValue). append_message context.id s context.origin false false) set)
 
--- `swap`: current data, which must stand, and new data
+-- `swap`: current data, which must be exactly that of the set (RFC 2136 section 2.4.2), and new data
 abbrev pub IsSwap : UpdateContext → DomainName → List (List ℕ) → Option Message → Type 0
 IsSwap context owner arguments found = IsSwapIf context owner (text_with_ttl context.types arguments) found
 
--- `delete-record`: the record goes
+-- `delete-record`: the record is deleted (RFC 2136 section 2.5.4)
 abbrev pub IsDeleteRecord : UpdateContext → DomainName → List (List ℕ) → Option Message → Type 0
 IsDeleteRecord context owner arguments found =
     (set : Option RecordSetValue) × IsSetWithoutTtl context owner arguments set
@@ -194,13 +194,13 @@ abbrev pub only_type : Types → List (List ℕ) → Option RecordType
 only_type types (kind ∷ []) = type_named types kind
 only_type types arguments = None
 
--- `delete-set`: all records of the type go
+-- `delete-set`: all records of the type are deleted (RFC 2136 section 2.5.2)
 abbrev pub delete_set : UpdateContext → DomainName → List (List ℕ) → Option Message
 delete_set context owner arguments =
     option_map (λ (t : RecordType). delete_rrset_message context.id (record_of owner 0 (of.Update0 t)) context.origin false)
     (only_type context.types arguments)
 
--- `delete-name`: all records of the name go
+-- `delete-name`: all records of the name are deleted (RFC 2136 section 2.5.3)
 abbrev pub delete_name : UpdateContext → DomainName → List (List ℕ) → Option Message
 delete_name context owner [] = Some (delete_all_message context.id owner context.origin IN false)
 delete_name context owner arguments = None

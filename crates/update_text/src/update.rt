@@ -26,8 +26,8 @@ mod record_words;
 mod sets;
 mod swap;
 
-/// Reads the update that a text says: words, and no semicolon after them. The origin is that of the zone, the update has this id,
-/// and its data is of the types that zone files may have.
+/// Parses the text of an update: words without a semicolon. `origin` is that of the zone, `id` is that of the message, and
+/// `types` are those that data may have.
 ///
 /// The result is `None` if the text is no update of the zone, or if its message cannot be sent. An empty text takes no memory.
 pub fn parse_update(
@@ -53,7 +53,7 @@ pub fn parse_update(
 /// has this id, and its data is of the types that zone files may have.
 ///
 /// The result is `None` if the words are no update of the zone, or if its message cannot be sent: one that deletes a set of type
-/// `OPT` would be decoded as another, and one may be too long. Less than two words take no memory.
+/// `OPT` would be decoded as another, and one may be too long. Fewer than two words take no memory.
 pub fn read_update(
     alloc: Global,
     arguments: &[Vec<u8>],

@@ -27,13 +27,13 @@ pub struct EntryTable {
     timeline: BTreeSet<(Moment, u64, usize)>,
     /// The stamp of the next entry.
     next_stamp: u64,
-    /// The stamp at which the entries are numbered anew.
+    /// The stamp at which the entries are renumbered.
     stamp_limit: u64,
     alloc: Global,
 }
 
 impl EntryTable {
-    /// Creates an empty table, whose entries are numbered anew when the next stamp has reached a limit.
+    /// Creates an empty table, whose entries are renumbered when the next stamp has reached a limit.
     pub fn new(alloc: Global, stamp_limit: u64) -> EntryTable
         ensures entries { entries_of result ≡ [] }
         ensures indexed { IsIndexed None result }
@@ -191,7 +191,7 @@ impl EntryTable {
         remove_key(&mut self.index, key.as_slice(), slot);
     }
 
-    /// Numbers the entries anew if the next stamp has reached the limit.
+    /// Renumbers the entries if the next stamp has reached the limit.
     fn reserve_stamp(&mut self) -> Result<(), AllocError>
         requires { IsIndexed None self.old }
         ensures entries { entries_of self.new ≡ entries_of self.old }
@@ -204,7 +204,7 @@ impl EntryTable {
         self.renumber()
     }
 
-    /// Numbers the entries anew, from 0. The table is replaced by a copy.
+    /// Renumbers the entries from 0. The table is replaced by a copy.
     fn renumber(&mut self) -> Result<(), AllocError>
         requires { IsIndexed None self.old }
         ensures entries { entries_of self.new ≡ entries_of self.old }

@@ -16,10 +16,10 @@ use dns_messages::{DnsResponse, Message, Query, Record, Sequence};
 use std::alloc::{AllocError, Global};
 use stub_lookup::{DnsError, NetError, NoRecords, copy_soa};
 
-/// The number of aliases that are followed.
+/// How many times a lookup goes on to the question for the end of aliases.
 const MAX_DEPTH: u8 = 7;
 
-/// What a lookup is told.
+/// The settings of a lookup.
 #[derive(Clone, Copy)]
 pub struct LookupSettings {
     /// Whether the answers have the aliases that lead to them.

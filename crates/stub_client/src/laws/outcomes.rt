@@ -14,7 +14,7 @@ ghost use Rattle.stub_client.specs.Conclusions.{CacheComesTo, Conclusion, ReplyC
 ghost use Rattle.stub_client.specs.Step.{meaning};
 ghost use Rattle.stub_client.specs.declared.caching_client.step.LookupSettings.{LookupSettings};
 
-/// Where aliases are not preserved, a lookup keeps and returns what its question comes to by asking anew.
+/// Where aliases are not preserved, a lookup keeps and returns what its question comes to without a cache.
 ///
 /// The outcomes are those of any asks that include those of the lookup and explain what the cache has, such as those
 /// of the lookup and of all earlier ones. No chain of aliases in those of the lookup may be longer than is followed.

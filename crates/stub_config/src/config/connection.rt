@@ -63,7 +63,7 @@ pub struct ConnectionConfig {
     pub port: u16,
     /// The protocol.
     pub protocol: ProtocolConfig,
-    /// The local address to connect from, if it is not left to the system.
+    /// The local address to connect from, or `None` to leave it to the system. No function here uses it.
     pub bind_addr: Option<SocketAddr>,
 }
 

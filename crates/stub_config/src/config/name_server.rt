@@ -13,7 +13,7 @@ use std::net::IpAddr;
 pub struct NameServerConfig {
     /// The address of the server.
     pub ip: IpAddr,
-    /// Whether the resolver believes the server that a name does not exist.
+    /// Whether the resolver believes the server that a name does not exist, or has no records of a type.
     pub trust_negative_responses: bool,
     /// The connections, in the order in which they are tried.
     pub connections: Sequence<ConnectionConfig>,

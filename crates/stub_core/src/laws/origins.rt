@@ -38,7 +38,7 @@ pub fn every_answer_has_an_origin<H: DnsHandle>()
 }
 
 /// Every address that a lookup of a host returns has an origin among the questions asked, comes from the hosts, or is a
-/// literal address. Every response has only answers of the requested type and aliases.
+/// literal address, provided that every response has only answers of the requested type and aliases.
 ///
 /// If aliases are not preserved, its TTL is also bounded by those of the aliases in the response that brought it.
 pub fn every_address_has_an_origin<H: DnsHandle>()

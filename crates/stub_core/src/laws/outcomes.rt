@@ -18,7 +18,7 @@ ghost use Rattle.stub_core.specs.declared.resolver.settings.Settings.{Settings};
 
 use stub_client::DnsHandle;
 
-/// Where aliases are not preserved, a lookup comes to what its questions come to by asking anew.
+/// Where aliases are not preserved, a lookup comes to what its questions come to without a cache.
 pub fn every_lookup_comes_to_its_outcomes<H: DnsHandle>()
     ensures name { (now : ℕ) (name : Result DomainName ParseError) (kind : RecordType)
         (old new : Resolver H) (reply : Reply) → old.client.preserve_intermediates ≡ false

@@ -18,9 +18,9 @@ impl<H: DnsHandle> Resolver<H> {
 
     /// Looks up the addresses of a host, by the strategy of the options. The hosts are asked for each name and type.
     ///
-    /// A literal address is answered at once, with a TTL of [`MAX_TTL`](stub_lookup::MAX_TTL). But an IPv4 address is a name of
-    /// four labels, too: if `ndots` is above 4, it is looked up as one, and the address is returned where none is found. If a text is neither an address nor a name,
-    /// the error is [`NetError::Proto`].
+    /// A literal address is returned at once, with a TTL of [`MAX_TTL`](stub_lookup::MAX_TTL). But an IPv4 address is a name of
+    /// four labels, too: if `ndots` is above 4, it is looked up as one, and the address itself is returned if none is found.
+    /// If a text is neither an address nor a name, the error is [`NetError::Proto`].
     pub fn lookup_ip<N: IntoName>(&mut self, host: N, now: Moment) -> Result<LookupIp, NetError>
         requires { now ≤ 2 ^ 62 }
         ensures { ResolvesHost H.gives now (N.is_ip host) (N.name host) self.old

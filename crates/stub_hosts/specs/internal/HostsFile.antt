@@ -4,7 +4,7 @@ use Rattle.std.specs.declared.alloc.AllocError.{AllocError}
 use Rattle.stub_hosts.specs.HostsFile.{Host}
 use Rattle.stub_hosts.specs.Hosts.{HostsContent, with_hosts}
 
--- a front of the hosts of which `Are` holds is inserted, and all of them unless memory runs out
+-- a prefix of the hosts of which `Are` holds is inserted, and all of them unless memory runs out
 pub record InsertsHosts (Are : List Host → Type 0) (now : ℕ) (old new : HostsContent) (result : Result (Unit {0}) AllocError)
     : Type 0 where
   pub hosts : List Host

@@ -29,7 +29,8 @@ pub fn questions_end_in_replies_or_faults<L: Link>()
         → IsReplyOrFault outcome old.faults new.faults }
 {}
 
-/// So does a question to the zone's server, unless the link or the server runs out of memory.
+/// [`questions_end_in_replies_or_faults`] for a question to the zone's server, unless the link or the server runs out of
+/// memory.
 pub fn questions_to_the_zone_end_in_replies_or_faults()
     ensures { (old new : AskState) (request : DnsRequest) (q : Query) (now : ℕ) (outcome : Outcome)
         → IsQuestion request.message q → AskZone old request now outcome new

@@ -20,7 +20,7 @@ pub enum NetworkEvent {
     Silence,
     /// A receive or a stream fails.
     Failure,
-    /// A send fails.
+    /// A send fails. A receive or a stream that takes this event fails, too.
     SendFailure,
 }
 

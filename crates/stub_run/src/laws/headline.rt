@@ -149,9 +149,9 @@ pub fn runs_have_one_history()
     events_decide_the_history();
 }
 
-/// Two such lookups of the same name and type, which is plain or that of aliases, or of the same host, agree: they have the same records or the same failure, TTLs aside,
-/// unless memory runs out. So a lookup that is repeated returns the same; and so do two runs over the same zone that differ in the size
-/// of the cache, the limit of datagrams or the ids.
+/// Two walked lookups of the same host, or of the same name and the same type, a plain one or that of aliases, agree: they
+/// have the same records or the same failure, TTLs aside, unless memory runs out. So a lookup that is repeated returns the
+/// same; and so do two runs over the same zone that differ in the size of the cache, the limit of datagrams or the ids.
 pub fn walked_replies_agree()
     ensures name { (zone : ZoneContent) (settings : Settings) (size at later : ℕ)
         (name : DomainName) (kind : RecordType) (one two : Reply)
@@ -182,8 +182,8 @@ pub fn walked_runs_agree()
         → AreAgreed content.zone events reports others occasions }
 {}
 
-/// Distinct ids serve no two questions: if no id occurs twice in the list, no id that was drawn serves two equal questions. So do
-/// the ids that count from a number on.
+/// Distinct ids serve no two questions: if no id occurs twice in the list, no id that was drawn serves two equal questions. Ids
+/// that count up from a number are distinct.
 pub fn distinct_ids_are_not_reused()
     ensures drawn { (ids : List ℕ) (sent : List (ℕ × Query)) → AreDistinct ids
         → map (λ draw. draw.0) sent ≡ take (length sent) ids → HasNoReuse sent }

@@ -57,8 +57,8 @@ pub fn resolvers_ask_sound_questions<L: Link>()
     parsing_follows_the_grammar();
 }
 
-/// So is every request to the zone's server, until the link or the server runs out of memory. In a run, every lookup asks it sound
-/// questions alone.
+/// Every request of a resolver to the zone's server is a sound question, too, until the link or the server runs out of memory.
+/// In a run, every lookup asks it sound questions alone.
 pub fn resolvers_ask_the_zone_sound_questions()
     ensures name { (now : ℕ) (name : Result DomainName ParseError) (kind : RecordType)
         (old new : RunState) (reply : Reply) → IfOk name (λ found. IsShort found)

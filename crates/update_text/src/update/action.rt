@@ -10,7 +10,7 @@ pub(super) enum Action {
     Create,
     /// Adds a record.
     Append,
-    /// Replaces a record, if the zone has no other of its owner and type.
+    /// Replaces a record, if it is the only one of its owner and type.
     Swap,
     DeleteRecord,
     /// Deletes the records of an owner and a type.
