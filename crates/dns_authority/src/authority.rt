@@ -83,8 +83,8 @@ impl Authority {
 
     /// Returns the answer to a question, along at most seven aliases (RFC 1034 section 4.3.2).
     ///
-    /// The code is `NotImp` for types that no record has but ANY, before memory is taken, and else `Refused` for other classes than
-    /// `IN`.
+    /// The code is `NotImp` for a type other than ANY that no record has, before memory is taken; otherwise it is `Refused` for
+    /// a class other than `IN`.
     pub fn answer(&self, query: &Query) -> Result<AuthorityAnswer, AllocError>
         ensures answer { IfOk result (λ answer. answer
             ≡ authority_answer self.now.any self.now.server query.now) }

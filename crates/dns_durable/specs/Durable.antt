@@ -46,7 +46,7 @@ pub data Replays : List ZoneContent → List (List ℕ) → List ZoneContent →
   an_update : {zones mid after : List ZoneContent} {update : List ℕ} {more : List (List ℕ)}
       → Takes zones update mid → Replays mid more after → Replays zones (update ∷ more) after
 
--- The frames of updates are on the disk, as one entry behind the earlier ones.
+-- The frames of updates are on the disk, as one entry after the earlier ones.
 abbrev pub IsOnDisk : List ℕ → List (List ℕ) → List ℕ → Position → Disk → List Event → Type 0
 IsOnDisk text updates frames new d es = Ends (IsOpen text (updates ++ entries_of frames) new) d es
 

@@ -16,7 +16,8 @@ use dns_zone::bare_reply_bytes;
 use dns_zone_service::Answering;
 use std::alloc::{AllocError, Global};
 
-/// Answers what has arrived, in order. If the updates of the requests are not on the disk, each of these is answered with `ServFail`, and changes nothing.
+/// Answers what has arrived, in order. If the updates of the requests are not on the disk, each of these is answered with
+/// `ServFail`, and changes nothing.
 ///
 /// An error is want of memory. Some of the updates may have been served.
 pub(crate) fn answer_all(

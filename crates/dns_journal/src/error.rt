@@ -39,7 +39,7 @@ impl<T: Drop> From<AllocFailed<T>> for StorageError {
 /// Why a payload was not appended.
 #[derive(Clone, Copy, Debug, PartialEq, Eq, Drop, Error)]
 pub enum AppendError {
-    /// The journal takes no entries until it is repaired or opened again, since an earlier call failed.
+    /// An earlier call failed: the journal takes no entries until it is opened again.
     #[error("journal is not ready")]
     NotReady,
     /// The length of the journal would pass the greatest number of bytes.

@@ -17,7 +17,7 @@ use std::alloc::Global;
 pub enum State {
     /// It does: what was appended is on the disk.
     Ready,
-    /// An append failed. What it left is cut off by a repair.
+    /// An append failed. What it left is cut off when the journal is opened again.
     Torn,
     /// A call failed after which nothing is known of the disk. The journal has to be opened again.
     Lost,
@@ -58,7 +58,7 @@ impl<S: Storage> Journal<S> {
     ///
     /// # Errors
     ///
-    /// - [`AppendError::NotReady`] if an earlier call failed and the journal was not repaired;
+    /// - [`AppendError::NotReady`] if an earlier call failed and the journal was not opened again;
     /// - [`AppendError::Full`] if the length of the journal would pass the greatest number of bytes;
     /// - [`AppendError::Storage`] if the storage fails: then the journal is not ready, and the entry may be on the disk or not;
     /// - [`AppendError::Memory`] if memory is refused, before anything is asked of the storage.

@@ -1,4 +1,4 @@
--- The format of a journal: a header, which names the text that the journal belongs to, and entries, each tied to what precedes it.
+-- The format of a journal: a header with the digest of the text that it belongs to, and entries, each sealed for its place.
 use Rattle.std.specs.Prelude.{◌≡◌, ◌<◌, ◌+◌, ◌^◌, ℕ, List, [], ◌∷◌, ◌++◌, length, drop}
 use Rattle.std.specs.Int.{w32, w64, to_be_bytes}
 use Rattle.std.specs.Hash.DefaultHasher as sip

@@ -16,7 +16,8 @@ pub struct FoundEntry<'a> {
     pub rest: &'a [u8],
 }
 
-/// Returns the entry at the front of bytes, which are at a place of the journal of a text with this digest, if there is a whole one whose seal is right.
+/// Returns the entry at the front of bytes, which are at a place of the journal of a text with this digest, if there is a whole
+/// one whose seal is right.
 pub fn first_entry<'a>(digest: &[u8], place: usize, bytes: &'a [u8]) -> Option<FoundEntry<'a>>
     ensures found { IfSome result (λ found. BeginsWith digest.now place found.payload.now bytes.now
         found.rest.now) }

@@ -1,8 +1,8 @@
 //! The format of a journal: payloads, each of which is sealed, in the order in which they were appended.
 //!
 //! A journal begins with the bytes `dnsjrnl1` and the SHA-256 digest of the text that it belongs to. An entry is the length of its
-//! payload in four bytes, most significant first, the payload, and a seal: the first eight bytes of the SHA-256 digest of the eight
-//! bytes before the entry, the length and the payload. So an entry is tied to all that precedes it, and one that is changed, moved,
+//! payload in four bytes, most significant first, the payload, and a seal: the SipHash-1-3, in eight bytes, of the digest
+//! in the header, the place of the entry in eight bytes, the length and the payload. So an entry that is changed, moved,
 //! repeated or left out is noticed.
 //!
 //! - `sealing`: digests and seals; `write`: headers and entries; `find`: entries that are found in bytes; `read`: a whole journal;

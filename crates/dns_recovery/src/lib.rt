@@ -1,4 +1,4 @@
-//! A zone file and its journal: what they stand for after a crash, and how the journal is begun anew.
+//! A zone file and its journal: what they stand for after a crash, and how the journal is replaced.
 //!
 //! The payload of an entry is a zero and the bytes of updates, or the mark of a compaction: a one and the digest of a text. In a
 //! compaction a mark with the digest of the new text is appended, the new text takes the place of the old one, and a new journal

@@ -24,7 +24,7 @@ abbrev pub first_message : List ℕ → Option (List ℕ)
 first_message bytes =
     if nat_le (frame_len bytes) (length bytes) then Some (take (frame_len bytes - 2) (drop 2 bytes)) else None
 
--- the bytes behind the first frame
+-- the bytes after the first frame
 abbrev pub behind_frame : List ℕ → List ℕ
 behind_frame bytes = drop (frame_len bytes) bytes
 

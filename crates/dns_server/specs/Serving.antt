@@ -20,7 +20,7 @@ RepliesTo {S} replies s (message ∷ more) frames after =
 
 -- ---- the frames of a connection
 
--- bytes are the frames of messages, and what is behind them
+-- bytes are the frames of messages, and what follows them
 abbrev pub AreSplit : List ℕ → List (List ℕ) → List ℕ → Type 0
 AreSplit bytes [] rest = rest ≡ bytes
 AreSplit bytes (message ∷ more) rest = (first_message bytes ≡ Some message) × AreSplit (behind_frame bytes) more rest

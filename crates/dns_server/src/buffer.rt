@@ -10,7 +10,7 @@ use std::marker::Model;
 /// How many removed bytes are kept at most in front of those that wait, once more are added.
 const MAX_REMOVED_LEN: usize = 65_536;
 
-/// Bytes that wait. Removed bytes stay in front of them until there are none behind these, or more than 65,536 of them: so
+/// Bytes that wait. Removed bytes stay in front of them until there are none after these, or more than 65,536 of them: so
 /// each byte is moved at most once for one that is removed, however small the pieces.
 #[derive(Drop)]
 pub(crate) struct Buffer {

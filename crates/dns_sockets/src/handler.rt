@@ -36,7 +36,7 @@ impl Drop for Notice {
 
 /// Decides what is sent in reply to requests and without any, and when.
 pub trait Handler {
-    /// Returns `true` if the requests that wait behind this one may be handled together with it.
+    /// Returns `true` if the requests that wait after this one may be handled together with it.
     fn gathers(&self, bytes: &[u8]) -> bool;
 
     /// Handles requests that arrived together: at most 64, each of which but the last one gathers. Returns what is sent for each of

@@ -5,7 +5,8 @@
 //! datagrams are responses.
 //!
 //! - `service`: the sockets, and the loop over them; `handler`: what decides;
-//! - `datagrams`: datagram sockets; `notices`: datagrams without a request; `listener`: listeners; `stream`: a connection; `output`: what it writes; `stream_table`: at most 256 of them;
+//! - `datagrams`: datagram sockets; `notices`: datagrams without a request; `listener`: listeners; `stream`: a connection;
+//!   `output`: what it writes; `stream_table`: at most 256 of them;
 //! - `open`: the sockets at an address; `tokens`: their tokens; `input`: the end of standard input; `clock`: time.
 #![tactic(auto)]
 

@@ -159,7 +159,7 @@ impl StreamTable {
         count_transfers(self.slots.as_slice())
     }
 
-    /// Removes the places behind the last connection.
+    /// Removes the places after the last connection.
     fn trim(&mut self) {
         for _slot in 0..self.slots.len() {
             if !matches!(self.slots.as_slice().last(), Some(None)) {

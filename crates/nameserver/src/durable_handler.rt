@@ -44,7 +44,7 @@ pub(crate) struct DurableHandler<'a> {
 }
 
 impl Handler for DurableHandler<'_> {
-    /// Updates that wait behind one another are on the disk by one call.
+    /// Updates that wait one after another are written to the disk together.
     fn gathers(&self, bytes: &[u8]) -> bool {
         is_update(bytes)
     }

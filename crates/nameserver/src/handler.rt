@@ -27,7 +27,7 @@ pub(crate) struct LoggedServer<'a> {
 }
 
 impl Handler for LoggedServer<'_> {
-    /// A fault may close a connection, so that no request behind it is answered.
+    /// A fault may close a connection, so that no request after it is answered.
     fn gathers(&self, _bytes: &[u8]) -> bool {
         false
     }

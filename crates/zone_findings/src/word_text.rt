@@ -11,8 +11,8 @@ use dns_formats::FormatFault;
 use dns_wire::RecordType;
 use dns_zone_file::{EntryFault, Types};
 
-/// Returns what a word at fault says by itself, in a file of some types and an entry that states a type: that it is meant as a comment, as a directive,
-/// as a mail address or as another value.
+/// Returns what a word at fault says by itself, in a file of some types and an entry that states a type: that it is meant as a
+/// comment, as a directive, as a mail address or as another value.
 pub(crate) fn word_text(
     types: Types,
     fault: &EntryFault,

@@ -235,7 +235,7 @@ text_fault source base refusal =
 -- Reads includes depth source base text closed c p found shut last: the entries of the rest of a text, from a state of the lexer
 -- and a context on, and the context at its end. The text is one of the file, without its first `base` lines, and nested in `depth`
 -- others.
--- After a fault of the text it is read on behind the entry. Once a text would be nested too deep, further ones are not included.
+-- After a fault of the text, reading goes on after the entry. Once a text would be nested too deep, no others are included.
 pub data Reads (includes : Includes)
     : (depth source base : ℕ) → List ℕ → Bool → Context → LexerState → List EntryLine → Bool → Context → Type 0 where
   ended : {depth source base : ℕ} {text : List ℕ} {closed : Bool} {c : Context} {p end : LexerState} → NextToken p (Ok None) end

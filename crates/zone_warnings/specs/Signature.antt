@@ -27,7 +27,7 @@ abbrev pub has_expired : ℕ → RData → Bool
 has_expired now (of.Unknown code bytes) = type_number code == 46 && is_past now bytes
 has_expired now other = false
 
--- whether data signs the keys of a delegation: it is of the type DS, 43
+-- whether data is that of a DS record, of the type 43
 abbrev pub is_signer : RData → Bool
 is_signer (of.Unknown code bytes) = type_number code == 43
 is_signer other = false

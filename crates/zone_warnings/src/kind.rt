@@ -49,7 +49,7 @@ pub enum WarningKind {
     SecondSpf,
     /// A TXT record beginning `v=DMARC1` after another at `_dmarc`, with which neither counts (RFC 7489 section 6.6.3).
     SecondDmarc,
-    /// A TXT record with a `;` directly behind a word that is not quoted, which ends the record there (RFC 1035 section 5.1).
+    /// A TXT record with a `;` directly after a word that is not quoted, which ends the record there (RFC 1035 section 5.1).
     CutText,
     /// A record whose first line ends inside a quoted string, which goes on over the lines after it (RFC 1035 section 5.1): more
     /// often a quotation mark is missing.

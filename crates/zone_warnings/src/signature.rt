@@ -47,7 +47,7 @@ fn is_past(now: u32, bytes: &[u8]) -> bool
     }
 }
 
-/// Returns `true` if data signs the keys of a delegation.
+/// Returns `true` if data is that of a DS record, which refers to a key of a delegation.
 pub(crate) fn is_signer(rdata: &RData) -> bool
     ensures { result ≡ is_signer rdata.now }
 {
