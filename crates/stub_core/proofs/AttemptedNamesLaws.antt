@@ -10,7 +10,8 @@ use Rattle.std.specs.Cmp.{both_ways}
 use Rattle.std.proofs.lemmas.List.Folds.{list_any-append}
 use Rattle.dns_names.specs.Name.{DomainName}
 use Rattle.dns_names.specs.Compare.{same_name}
-use Rattle.stub_core.specs.AttemptedNames.{attempted_names, is_complete, is_onion_path, joined_before, qualified}
+use Rattle.stub_core.specs.AttemptedNames.{attempted_names, is_complete, is_onion_path, joined_before}
+use Rattle.stub_hosts.specs.Hosts.{qualified}
 
 chosen : {A : Type 0} (b : Bool) (x y : A) → b ≡ true → (if b then x else y) ≡ x
 chosen true x y is_true = refl

@@ -1,5 +1,5 @@
 -- The names that a lookup attempts (RFC 1123 section 6.1.4.3, RFC 7686 section 2).
-use Rattle.std.specs.Prelude.{◌==◌, ◌&&◌, ◌||◌, nat_lt, if◌then◌else◌, Bool, true, false, List, [], ◌∷◌, ℕ, length, reverse, codes, Option, Some, None, Result, Ok, Err}
+use Rattle.std.specs.Prelude.{◌==◌, ◌&&◌, ◌||◌, nat_lt, if◌then◌else◌, Bool, false, List, [], ◌∷◌, ℕ, length, reverse, codes, Option, Some, None, Result, Ok, Err}
 use Rattle.std.specs.List.{list_any}
 use Rattle.std.specs.Str.{str_eq_ignore_ascii_case}
 use Rattle.dns_names.specs.Name.{DomainName}
@@ -7,10 +7,7 @@ use Rattle.dns_names.specs.Build.{append_domain}
 use Rattle.dns_names.specs.Compare.{same_name}
 use Rattle.dns_names.specs.Labels.{num_labels, ends_in_localhost}
 use Rattle.dns_names.specs.declared.error.ParseError.{ParseError}
-
--- the name, fully qualified
-abbrev pub qualified : DomainName → DomainName
-qualified name = record name { is_fqdn = true }
+use Rattle.stub_hosts.specs.Hosts.{qualified}
 
 -- Whether labels, from right to left, begin with those of an onion service of version 3: `onion`, ignoring ASCII case, and
 -- a label of 56 bytes.

@@ -2,7 +2,8 @@
 
 ghost use Rattle.std.specs.Prelude.{◌≡◌, ◌∷◌, Ok, option_map, reverse, IfOk, OnOk};
 ghost use Rattle.dns_names.specs.Build.{append_domain};
-ghost use Rattle.stub_core.specs.AttemptedNames.{attempted_names, is_complete, is_first, is_onion_path, joined_before, joined_names, qualified, search_zones};
+ghost use Rattle.stub_core.specs.AttemptedNames.{attempted_names, is_complete, is_first, is_onion_path, joined_before, joined_names, search_zones};
+ghost use Rattle.stub_hosts.specs.Hosts.{qualified};
 
 use dns_names::{Name, ParseError};
 use std::alloc::{AllocError, Global};

@@ -11,6 +11,15 @@ use Rattle.dns_messages.specs.Question.{same_question}
 
 -- A request is known by its id, and by its question if it is a query; an update has none.
 
+-- the question of a request of an opcode; an update has none (RFC 2136 section 2)
+abbrev pub question_under : OpCode → List Query → Option Query
+question_under ops.Query (q ∷ []) = Some q
+question_under code queries = None
+
+-- the question of a request
+abbrev pub question_in : Message → Option Query
+question_in m = question_under m.metadata.op_code m.queries
+
 -- whether a message is a response, by its QR bit (RFC 1035 section 4.1.1)
 abbrev pub is_response : MessageType → Bool
 is_response kinds.Response = true

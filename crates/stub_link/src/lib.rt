@@ -18,4 +18,4 @@ mod wire_handle;
 
 pub use link::{Link, LinkError, LinkEvent, Script, ScriptedLink};
 pub use update_event::{UpdateError, UpdateEvent};
-pub use wire_handle::{AskCounts, WireHandle, question_of, reply_in, request_bytes};
+pub use wire_handle::{AskCounts, WireHandle, is_reply_code, question_of, reply_in, request_bytes};

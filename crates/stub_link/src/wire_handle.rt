@@ -18,7 +18,7 @@ mod stream;
 use crate::link::{Link, LinkError};
 use crate::update_event::UpdateEvent;
 use dns_messages::{DnsResponse, Message, Query, ResponseCode};
-pub use reply::reply_in;
+pub use reply::{is_reply_code, reply_in};
 use reply::wait;
 pub use request::{question_of, request_bytes};
 use std::alloc::{AllocError, Global};

@@ -20,7 +20,8 @@ use Rattle.stub_net.specs.Exchange.{Exchanges, Runs, TriesPlace, all_tried, memo
 use Rattle.stub_net.specs.Laws.{IsReplyToQuestion}
 use Rattle.stub_net.specs.Network.{NetworkCalls}
 use Rattle.stub_net.specs.Pool.{Asks, Gives, is_asked}
-use Rattle.stub_net.specs.Request.{is_cut, is_cut_reply, question_in, question_under}
+use Rattle.stub_link.specs.Reply.{question_in, question_under}
+use Rattle.stub_net.specs.Request.{is_cut, is_cut_reply}
 use Rattle.stub_net.specs.Try.{AfterDatagram, AfterSend, StreamEnds, TriesAddresses, no_memory_for_message, no_memory_for_stream, other_message, stream_fails, stream_replies}
 use Rattle.stub_net.specs.Wait.{Awaits, deadline_passes, no_memory_to_decode, no_memory_to_receive, none_left, other_arrives, receive_fails, reply_arrives}
 use Rattle.stub_net.specs.declared.pool.NameServerPool.{NameServerPool}

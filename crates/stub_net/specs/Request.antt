@@ -1,25 +1,13 @@
 -- Requests, and which datagrams are the reply to one (RFC 5452 section 9.1).
-use Rattle.std.specs.Prelude.{◌≡◌, ◌&&◌, Bool, true, false, if◌then◌else◌, List, [], ◌∷◌, ℕ, Option, Some, None, is_some, Ok, Err}
+use Rattle.std.specs.Prelude.{◌≡◌, ◌&&◌, Bool, true, false, if◌then◌else◌, List, [], ℕ, Option, is_some, Ok, Err}
 use Rattle.dns_messages.specs.Header.{peeked_metadata}
 use Rattle.dns_messages.specs.declared.message.Message.{Message}
-use Rattle.dns_messages.specs.declared.op_code.OpCode.{OpCode}
-use Rattle.dns_messages.specs.declared.op_code.OpCode.TheVariants as ops
-use Rattle.dns_messages.specs.declared.query.Query.{Query}
 use Rattle.dns_messages.specs.declared.response.DnsResponse.{DnsResponse}
 use Rattle.stub_client.specs.Handle.{Outcome}
-use Rattle.stub_link.specs.Reply.{has_reply_header}
+use Rattle.stub_link.specs.Reply.{has_reply_header, question_in}
 use Rattle.stub_link.specs.WireHandle.{FindsReply}
 use Rattle.stub_lookup.specs.declared.error.LinkFault.TheVariants as fault
 use Rattle.stub_lookup.specs.declared.error.NetError.TheVariants as net
-
--- the question of a request of an opcode; an update has none (RFC 2136 section 2)
-abbrev pub question_under : OpCode → List Query → Option Query
-question_under ops.Query (q ∷ []) = Some q
-question_under code queries = None
-
--- the question of a request
-abbrev pub question_in : Message → Option Query
-question_in m = question_under m.metadata.op_code m.queries
 
 -- the reply to a request in a datagram, or none
 abbrev pub Finds : Message → List ℕ → Option DnsResponse → Type 0

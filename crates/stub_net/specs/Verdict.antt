@@ -5,7 +5,7 @@ use Rattle.dns_messages.specs.declared.response_code.ResponseCode.{ResponseCode}
 use Rattle.dns_messages.specs.declared.response_code.ResponseCode.TheVariants.{NXDomain, NoError, NotImp, Refused, ServFail}
 use Rattle.stub_client.specs.Handle.{Outcome}
 use Rattle.stub_lookup.specs.declared.error.NetError.TheVariants as net
-use Rattle.stub_net.specs.Request.{question_in}
+use Rattle.stub_link.specs.Reply.{question_in}
 use Rattle.stub_net.specs.declared.pool.verdict.Verdict.{Verdict}
 use Rattle.stub_net.specs.declared.pool.verdict.Verdict.TheVariants.{Accepted, Declined, OutOfMemory}
 

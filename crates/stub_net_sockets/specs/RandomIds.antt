@@ -20,7 +20,8 @@ pub record TakesNew {E : Type 0} (gives : E → List ℕ → E → Type 0) (old 
   pub id_is : id ≡ id_at 0 new.bytes
   pub used_is : new.used ≡ 2
 
--- An id is drawn, of bytes of which each is used once. None is drawn only where fewer than two bytes were left.
+-- An id is drawn, of bytes of which each is used once (RFC 5452 section 9.2). None is drawn only where fewer than two bytes were left,
+-- and no more are left afterwards.
 abbrev pub Draws : {E : Type 0} → (E → List ℕ → E → Type 0) → RandomIds E → Option ℕ → RandomIds E → Type 0
 Draws gives old (Some id) new = Takes old id new ⊎ TakesNew gives old id new
-Draws gives old None new = 254 < old.used
+Draws gives old None new = (254 < old.used) × (new.used ≡ old.used)

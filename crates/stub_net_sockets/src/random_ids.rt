@@ -49,6 +49,7 @@ impl<E: Entropy> RandomIds<E> {
     fn refill(&mut self) -> Option<()>
         ensures given { IsSome result → E.gives self.old.entropy self.new.bytes self.new.entropy }
         ensures used { IsSome result → self.new.used ≡ 0 }
+        ensures kept { result ≡ None → self.new.used ≡ self.old.used }
     {
         self.entropy.fill(&mut self.bytes)?;
         self.used = 0;

@@ -19,12 +19,12 @@ use Rattle.dns_messages.specs.declared.query.Query.{Query}
 use Rattle.stub_config.specs.declared.strategy.LookupIpStrategy.{LookupIpStrategy}
 use Rattle.stub_config.specs.declared.strategy.LookupIpStrategy.TheVariants.{Ipv4Only, Ipv6Only, Ipv4AndIpv6, Ipv6AndIpv4, Ipv6thenIpv4, Ipv4thenIpv6}
 use Rattle.stub_lookup.specs.Lookup.{LookupContent}
-use Rattle.stub_hosts.specs.Hosts.{HostsContent, address_data, question, static_lookup}
+use Rattle.stub_hosts.specs.Hosts.{HostsContent, address_data, question, static_lookup, qualified}
 use Rattle.stub_client.specs.Handle.{Behavior, Outcome}
 use Rattle.stub_client.specs.Looks.{Reply}
 use Rattle.stub_client.specs.declared.caching_client.CachingClient.{CachingClient}
 use Rattle.stub_client.specs.declared.request.DnsRequest.{DnsRequest}
-use Rattle.stub_core.specs.AttemptedNames.{attempted_names, is_complete, is_first, joined_before, joined_names, qualified, search_zones}
+use Rattle.stub_core.specs.AttemptedNames.{attempted_names, is_complete, is_first, joined_before, joined_names, search_zones}
 use Rattle.stub_core.specs.Attempts.{Attempts, AttemptsAll, AttemptsWithHosts, Continues, Lookups, Unless, WithHosts, is_final}
 use Rattle.stub_core.specs.Resolver.{AnswersHost, AnswersName, LooksUp, LooksUpHost, LooksUpName, ResolvesName, UnlessMemory, asks_of, is_tried_as_name, known_type, names_for, request_options}
 use Rattle.stub_core.specs.Strategies.{Both, ByStrategy, Joins, LooksUpAddresses, LooksUpIp, Then, is_out_of_memory, no_addresses}

@@ -17,12 +17,14 @@ use Rattle.stub_signed.specs.declared.network.SignedNetwork.{SignedNetwork}
 
 -- ---- the network
 
--- before any request
+-- before any request: no reply has been refused, and no server has refused a request
 pub record IsFirst {N : Type 0} (network : N) (key : Key) (base : ℕ) (signed : SignedNetwork N) : Type 0 where
   pub network_is : signed.network ≡ network
   pub key_is : signed.signer.key ≡ key
   pub base_is : signed.base ≡ base
   pub nothing_refused : signed.refused ≡ 0
+  pub no_refusal : signed.refusal ≡ None
+  pub no_error : signed.error ≡ None
 
 -- over another state of the network below
 abbrev pub over : {N : Type 0} → N → SignedNetwork N → SignedNetwork N

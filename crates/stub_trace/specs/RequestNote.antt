@@ -1,24 +1,19 @@
 -- The requests in datagrams, as traces name them.
-use Rattle.std.specs.Prelude.{◌≡◌, ◌++◌, Bool, false, List, [], ◌∷◌, Option, Some, None, codes, ℕ}
+use Rattle.std.specs.Prelude.{◌≡◌, ◌++◌, Bool, false, List, [], Option, Some, None, codes, ℕ}
 use Rattle.std.specs.Fmt.{decimal}
 use Rattle.dns_wire.specs.declared.error.DecodeError.{DecodeError}
 use Rattle.dns_messages.specs.declared.message.Message.{Message}
-use Rattle.dns_messages.specs.declared.op_code.OpCode.{OpCode}
-use Rattle.dns_messages.specs.declared.op_code.OpCode.TheVariants as ops
 use Rattle.dns_messages.specs.declared.query.Query.{Query}
 use Rattle.dns_messages.specs.Grammar.{ReadsMessage, RefusesMessage}
 use Rattle.dns_messages.specs.Question.{question_text, same_question}
+use Rattle.stub_link.specs.Reply.{question_in}
 use Rattle.stub_trace.specs.declared.note_text.RequestNote.{RequestNote}
 
--- the question of a query that has one (RFC 1035 section 4.1.2)
-abbrev pub asked_in : OpCode → List Query → Option Query
-asked_in ops.Query (q ∷ []) = Some q
-asked_in op queries = None
-
--- the request of a message
+-- the request of a message, before any receive
 pub record IsNoteOf (m : Message) (note : RequestNote) : Type 0 where
   pub id : note.id ≡ m.metadata.id
-  pub question : note.question ≡ asked_in m.metadata.op_code m.queries
+  pub question : note.question ≡ question_in m
+  pub receives : note.receives ≡ 0
 
 -- the request in a datagram, or none if it does not decode
 abbrev pub ReadsRequest : List ℕ → Option RequestNote → Type 0

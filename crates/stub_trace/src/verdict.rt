@@ -4,16 +4,16 @@ ghost use Rattle.std.specs.Prelude.{◌≡◌, ◌≢◌, IfOk, IfSome, None, On
 ghost use Rattle.std.specs.Option.{option_copied};
 ghost use Rattle.dns_messages.specs.Header.{peeked_metadata};
 ghost use Rattle.stub_link.specs.Link.{wire};
-ghost use Rattle.stub_link.specs.Reply.{has_reply_header, is_reply_code, is_reply_header};
+ghost use Rattle.stub_link.specs.Reply.{has_reply_header, is_reply_header};
 ghost use Rattle.stub_link.specs.Wait.{IsOther};
 ghost use Rattle.stub_trace.specs.Verdict.{HasFault, IsFaultOfContent, IsVerdict, verdict_text};
 
 use dns_messages::laws::headers_are_peeked;
-use dns_messages::{Message, MessageType, Metadata, OpCode, Query};
+use dns_messages::{Message, MessageType, Metadata, Query};
 use dns_wire::DecodeError;
 use std::alloc::{AllocError, Global};
 use std::fmt;
-use stub_link::reply_in;
+use stub_link::{is_reply_code, reply_in};
 
 /// What a datagram is to a request: its reply, or else why it is dropped.
 #[derive(Clone, Copy, Debug, PartialEq, Eq)]
@@ -95,23 +95,13 @@ fn fault_of_header(id: u16, question: Option<&Query>, header: Metadata) -> Optio
     if header.message_type != MessageType::Response {
         return Some(Verdict::Request);
     }
-    if !has_reply_code(question, header.op_code) {
+    if !is_reply_code(question, header.op_code) {
         return Some(Verdict::OtherOpCode);
     }
     if header.id != id {
         return Some(Verdict::OtherId);
     }
     None
-}
-
-/// Returns `true` if an opcode is that of the replies to a request.
-fn has_reply_code(question: Option<&Query>, op_code: OpCode) -> bool
-    ensures { result ≡ is_reply_code (option_copied question.entry) op_code }
-{
-    match question {
-        Some(_) => matches!(op_code, OpCode::Query),
-        None => matches!(op_code, OpCode::Update),
-    }
 }
 
 /// Returns why a datagram with the header of a reply is not the reply.

@@ -107,8 +107,8 @@ fn is_reply_header(id: u16, question: Option<&Query>, header: Metadata) -> bool
         && header.id == id
 }
 
-/// Returns `true` if an opcode is that of the replies to a request.
-fn is_reply_code(question: Option<&Query>, op_code: OpCode) -> bool
+/// Returns `true` if an opcode is that of the replies to a request: of a query if it has a question, else of an update.
+pub fn is_reply_code(question: Option<&Query>, op_code: OpCode) -> bool
     ensures { result ≡ is_reply_code (option_copied question.entry) op_code }
 {
     match question {

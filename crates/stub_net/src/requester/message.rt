@@ -2,7 +2,8 @@
 
 ghost use Rattle.std.specs.Prelude.{◌≡◌, IfOk, OnErr};
 ghost use Rattle.std.specs.Option.{option_copied};
-ghost use Rattle.stub_net.specs.Request.{Finds, IsHeaded, is_cut, is_cut_reply, question_in};
+ghost use Rattle.stub_link.specs.Reply.{question_in};
+ghost use Rattle.stub_net.specs.Request.{Finds, IsHeaded, is_cut, is_cut_reply};
 
 use dns_messages::{DnsResponse, Message, OpCode, Query};
 use std::alloc::{AllocError, Global};

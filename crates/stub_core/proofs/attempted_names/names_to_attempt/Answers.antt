@@ -1,7 +1,7 @@
 use Rattle.std.proofs.Common.{◌≡◌, ◌∷◌, [], List, reverse, ap, sym, ◌∙◌}
 use Rattle.std.specs.Prelude.{option_map}
 use Rattle.dns_names.specs.Name.{DomainName}
-use Rattle.stub_core.specs.AttemptedNames.{qualified}
+use Rattle.stub_hosts.specs.Hosts.{qualified}
 use Rattle.stub_core.proofs.AttemptedNamesLaws.{only-attempt}
 use Rattle.stub_core.proofs.attempted_names.names_to_attempt.Goals as goal
 
