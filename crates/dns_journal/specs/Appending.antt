@@ -1,6 +1,8 @@
 -- What an append to a journal does, and what a crash leaves of it.
-use Rattle.std.specs.Prelude.{◌≡◌, ◌⊎◌, ℕ, Bool, true, false, List, [], ◌∷◌, ◌++◌, length, drop}
+use Rattle.std.specs.Prelude.{◌≡◌, ◌≢◌, ◌≤◌, ◌+◌, ◌^◌, ◌⊎◌, ℕ, Bool, true, false, List, [], ◌∷◌, ◌++◌, length, drop, Result, Ok, Err}
 use Rattle.dns_journal_format.specs.Format.{entry, HasEntry, IsJournal}
+use Rattle.dns_journal.specs.declared.error.AppendError.{AppendError}
+use Rattle.dns_journal.specs.declared.error.AppendError.TheVariants as errors
 use Rattle.dns_journal.specs.declared.journal.Position.{Position}
 use Rattle.dns_journal.specs.declared.journal.State.{State}
 use Rattle.dns_journal.specs.declared.journal.State.TheVariants as states
@@ -34,6 +36,19 @@ abbrev pub IsStored : List ℕ → State → List Event → Type 0
 IsStored bytes states.Ready es = es ≡ events.Append bytes true ∷ events.Sync true ∷ []
 IsStored bytes states.Torn es = es ≡ events.Append bytes false ∷ []
 IsStored bytes states.Lost es = es ≡ events.Append bytes true ∷ events.Sync false ∷ []
+
+-- why a payload is not appended, and the position that this leaves
+abbrev pub IsRefusal : Position → List ℕ → Position → AppendError → Type 0
+IsRefusal old payload new errors.NotReady = (old.state ≢ states.Ready) × (new ≡ old)
+IsRefusal old payload new errors.Full = (2 ^ 64 ≤ old.end + length (entry old.digest old.end payload)) × (new ≡ old)
+IsRefusal old payload new errors.Storage = (old.state ≡ states.Ready) × (new.state ≢ states.Ready)
+IsRefusal old payload new errors.Memory = new ≡ old
+
+-- The calls of an append, by its result and the state that it leaves. Nothing is asked of a storage but to append the entry.
+abbrev pub AreCalls : List ℕ → Result (Unit {0}) AppendError → State → List Event → Type 0
+AreCalls bytes (Ok done) state es = IsStored bytes states.Ready es
+AreCalls bytes (Err errors.Storage) state es = IsStored bytes state es
+AreCalls bytes (Err error) state es = es ≡ []
 
 -- What an append asks of a storage that is at rest. At any moment, a crash leaves the payloads from before it, with the new one or
 -- without. Once it is done, the new one is on the disk, and the journal is at its end. If it is refused, the journal is not ready,

@@ -1,9 +1,10 @@
 //! A journal to which payloads are appended.
 
-ghost use Rattle.std.specs.Prelude.{◌≡◌, ◌<◌, ◌+◌, ◌^◌, List, ℕ, length, is_ok, IfOk, IfErr, IsOk};
+ghost use Rattle.std.specs.Prelude.{◌≡◌, ◌≢◌, ◌<◌, ◌+◌, ◌^◌, List, ℕ, length, is_ok, IfOk, IfErr, IsOk};
 ghost use Rattle.dns_journal_format.specs.Format.{entry};
-ghost use Rattle.dns_journal.specs.Appending.{Appends, IsPosition, IsStored};
+ghost use Rattle.dns_journal.specs.Appending.{Appends, AreCalls, IsPosition, IsRefusal, IsStored};
 ghost use Rattle.dns_journal.specs.Storage.{Performs};
+ghost use Rattle.dns_journal.specs.declared.error.AppendError.TheVariants as errors;
 ghost use Rattle.dns_journal.specs.declared.journal.State.TheVariants as states;
 
 use crate::error::AppendError;
@@ -65,6 +66,11 @@ impl<S: Storage> Journal<S> {
     pub fn append(&mut self, alloc: Global, payload: &[u8]) -> Result<(), AppendError>
         requires { length payload.now < 2 ^ 32 }
         ensures ready { IsOk result → self.old.position.state ≡ states.Ready }
+        ensures refused { IfErr result
+            (IsRefusal self.old.position payload.now self.new.position) }
+        ensures calls { Performs S.performs self.old.storage self.new.storage
+            (AreCalls (entry self.old.position.digest self.old.position.end payload.now) result
+            self.new.position.state) }
         ensures performs { Performs S.performs self.old.storage self.new.storage
             (λ es. (text bytes digest : List ℕ) (payloads : List (List ℕ))
             → IsPosition self.old.position bytes digest payloads
@@ -103,6 +109,8 @@ fn next_entry(alloc: Global, position: Position, payload: &[u8]) -> Result<NextE
     ensures digest { IfOk result (λ next. next.position.digest ≡ position.digest) }
     ensures state { IfOk result (λ next. next.position.state ≡ states.Ready) }
     ensures ready { IfOk result (λ _. position.state ≡ states.Ready) }
+    ensures refused { IfErr result (λ error. IsRefusal position payload.now position error) }
+    ensures unasked { IfErr result (λ error. error ≢ errors.Storage) }
 {
     if position.state != State::Ready {
         return Err(AppendError::NotReady);

@@ -1,9 +1,9 @@
 //! A text and its journal are replaced.
 
-ghost use Rattle.std.specs.Prelude.{◌≡◌, List, ℕ, length, is_ok, IfOk};
+ghost use Rattle.std.specs.Prelude.{◌≡◌, List, ℕ, length, is_ok, IfErr, IfOk, IsOk};
 ghost use Rattle.sha2.specs.Sha256.{sha256};
 ghost use Rattle.dns_journal_format.specs.Format.{header};
-ghost use Rattle.dns_journal.specs.Appending.{IsPosition};
+ghost use Rattle.dns_journal.specs.Appending.{IsPosition, IsRefusal};
 ghost use Rattle.dns_journal.specs.Storage.{Performs};
 ghost use Rattle.dns_journal.specs.declared.journal.State.TheVariants as states;
 ghost use Rattle.dns_recovery.specs.Compacting.{mark, Compacts, IsReplaced};
@@ -31,13 +31,16 @@ struct Replacement {
 ///
 /// # Errors
 ///
-/// [`AppendError`] if the mark cannot be appended, or if the storage fails: then the journal is not ready and has to be opened again.
+/// [`AppendError`], as for [`Journal::append`] of the mark. If the storage fails, the journal is not ready and has to be opened again.
 pub fn compact<S: Storage>(
     journal: &mut Journal<S>,
     alloc: Global,
     text: &[u8],
 ) -> Result<(), AppendError>
-    ensures { Performs S.performs journal.old.storage journal.new.storage (λ es.
+    ensures ready { IsOk result → journal.old.position.state ≡ states.Ready }
+    ensures refused { IfErr result
+        (IsRefusal journal.old.position (mark text.now) journal.new.position) }
+    ensures performs { Performs S.performs journal.old.storage journal.new.storage (λ es.
         (old bytes digest : List ℕ) (payloads : List (List ℕ))
         → IsPosition journal.old.position bytes digest payloads → digest ≡ sha256 old
         → (sha256 text.now ≡ sha256 old → text.now ≡ old)

@@ -1,6 +1,7 @@
 //! Updates are appended to a journal that is open.
 
-ghost use Rattle.std.specs.Prelude.{◌≡◌, ◌<◌, ◌^◌, ◌+◌, List, ℕ, length, is_ok, IfOk, IsOk};
+ghost use Rattle.std.specs.Prelude.{◌≡◌, ◌<◌, ◌^◌, ◌+◌, List, ℕ, length, is_ok, IfErr, IfOk, IsOk};
+ghost use Rattle.dns_journal.specs.Appending.{IsRefusal};
 ghost use Rattle.dns_journal.specs.Storage.{Disk, Performs};
 ghost use Rattle.dns_journal.specs.declared.journal.State.TheVariants as states;
 ghost use Rattle.dns_recovery.specs.Updating.{AppendsUpdate, IsOpen, update_payload};
@@ -21,6 +22,8 @@ pub fn append_update<S: Storage>(
 ) -> Result<(), AppendError>
     requires { length update.now + 1 < 2 ^ 32 }
     ensures ready { IsOk result → journal.old.position.state ≡ states.Ready }
+    ensures refused { IfErr result
+        (IsRefusal journal.old.position (update_payload update.now) journal.new.position) }
     ensures performs { Performs S.performs journal.old.storage journal.new.storage (λ es.
         (text : List ℕ) (updates : List (List ℕ)) (d : Disk)
         → IsOpen text updates journal.old.position d

@@ -12,15 +12,15 @@ use Rattle.dns_recovery.proofs.compacting.compact.Goals as goal
 header-len : (text : List ℕ) → length (header (sha256 text)) ≡ 40
 header-len text = omega (arith, length-sha256 text)
 
-pub returns-in-Err : goal.returns-in-Err
-returns-in-Err g c = record {
+pub returns-in-Err-clause-performs : goal.returns-in-Err-clause-performs
+returns-in-Err-clause-performs g c = record {
   events = [];
   led = refl;
   holds = λ old bytes digest payloads at belongs one. nothing_done old c.args.text.now bytes digest payloads belongs one c.args.journal.now.position at.journal;
 }
 
-pub returns-in-Err-append : goal.returns-in-Err-append
-returns-in-Err-append g c =
+pub returns-in-Err-append-clause-performs : goal.returns-in-Err-append-clause-performs
+returns-in-Err-append-clause-performs g c =
     let mark_is : c.as_slice.result.now ≡ mark c.args.text.now = c.as_slice.ensures.value ∙ c.in-Ok.ensures.mark in
     let p = c.args.journal.now.position in
     let q = c.append.new.self.position in
@@ -32,8 +32,8 @@ returns-in-Err-append g c =
           (subst (λ (m : List ℕ). Appends p q m false old bytes digest payloads es) mark_is (c.in-Err-append.ensures.performs.holds old bytes digest payloads at));
     }
 
-pub returns-in-Ready : goal.returns-in-Ready
-returns-in-Ready g c =
+pub returns-in-Ready-clause-performs : goal.returns-in-Ready-clause-performs
+returns-in-Ready-clause-performs g c =
     let mark_is : c.as_slice.result.now ≡ mark c.args.text.now = c.as_slice.ensures.value ∙ c.in-Ok.ensures.mark in
     let p = c.args.journal.now.position in
     let q = c.append.new.self.position in
@@ -53,8 +53,8 @@ returns-in-Ready g c =
           c.in-Ready.ensures.events c.in-Ready.ensures.holds at_end c.in-Ok.ensures.state;
     }
 
-pub returns-in-Torn : goal.returns-in-Torn
-returns-in-Torn g c =
+pub returns-in-Torn-clause-performs : goal.returns-in-Torn-clause-performs
+returns-in-Torn-clause-performs g c =
     let mark_is : c.as_slice.result.now ≡ mark c.args.text.now = c.as_slice.ensures.value ∙ c.in-Ok.ensures.mark in
     let p = c.args.journal.now.position in
     let q = c.append.new.self.position in
@@ -68,8 +68,8 @@ returns-in-Torn g c =
           c.in-Torn.ensures.events c.in-Torn.ensures.holds refl;
     }
 
-pub returns : goal.returns
-returns g c =
+pub returns-clause-performs : goal.returns-clause-performs
+returns-clause-performs g c =
     let mark_is : c.as_slice.result.now ≡ mark c.args.text.now = c.as_slice.ensures.value ∙ c.in-Ok.ensures.mark in
     let p = c.args.journal.now.position in
     let q = c.append.new.self.position in

@@ -12,10 +12,10 @@ returns-in-Ok g c =
     let text = string_bytes c.in_ok-text.text in
     let p = c.args.self.now.journal.position in
     let q = c.compact.new.journal.position in
-    let es = c.in-Ok.ensures.events in
+    let es = c.in-Ok.ensures.performs.events in
     record {
       events = es;
-      led = c.in-Ok.ensures.led;
+      led = c.in-Ok.ensures.performs.led;
       holds = inr (record {
         text = text;
         again = c.in_ok-text.zone;
@@ -25,7 +25,7 @@ returns-in-Ok g c =
         served = λ _. cc (c.in_ok-server.ensures, c.in_ok-text.zone-is);
         unchanged = λ e. absurd cc;
         compacts = subst (λ (t : List ℕ). (former bytes digest : List ℕ) (payloads : List (List ℕ)) → IsPosition p bytes digest payloads → digest ≡ sha256 former
-            → (sha256 t ≡ sha256 former → t ≡ former) → Compacts p q true former t bytes digest payloads es) (c.as_bytes.ensures.value ∙ ap (λ (t : _). string_bytes t) c.in_ok-text.text-is) c.in-Ok.ensures.holds;
+            → (sha256 t ≡ sha256 former → t ≡ former) → Compacts p q true former t bytes digest payloads es) (c.as_bytes.ensures.value ∙ ap (λ (t : _). string_bytes t) c.in_ok-text.text-is) c.in-Ok.ensures.performs.holds;
       });
     }
 
@@ -34,10 +34,10 @@ returns g c =
     let text = string_bytes c.in_ok-text.text in
     let p = c.args.self.now.journal.position in
     let q = c.compact.new.journal.position in
-    let es = c.in-Err.ensures.events in
+    let es = c.in-Err.ensures.performs.events in
     record {
       events = es;
-      led = c.in-Err.ensures.led;
+      led = c.in-Err.ensures.performs.led;
       holds = inr (record {
         text = text;
         again = c.in_ok-text.zone;
@@ -47,6 +47,6 @@ returns g c =
         served = λ e. absurd cc;
         unchanged = λ _. refl;
         compacts = subst (λ (t : List ℕ). (former bytes digest : List ℕ) (payloads : List (List ℕ)) → IsPosition p bytes digest payloads → digest ≡ sha256 former
-            → (sha256 t ≡ sha256 former → t ≡ former) → Compacts p q false former t bytes digest payloads es) (c.as_bytes.ensures.value ∙ ap (λ (t : _). string_bytes t) c.in_ok-text.text-is) c.in-Err.ensures.holds;
+            → (sha256 t ≡ sha256 former → t ≡ former) → Compacts p q false former t bytes digest payloads es) (c.as_bytes.ensures.value ∙ ap (λ (t : _). string_bytes t) c.in_ok-text.text-is) c.in-Err.ensures.performs.holds;
       });
     }
