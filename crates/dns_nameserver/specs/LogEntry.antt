@@ -1,12 +1,20 @@
 -- What the log of a name server says of a request.
-use Rattle.std.specs.Prelude.{◌+◌, ◌*◌, if◌then◌else◌, nat_le, List, [], ℕ, Option, Some, None, option_map, length, slice_index}
+use Rattle.std.specs.Prelude.{◌≡◌, ◌≢◌, ◌⊎◌, ◌∷◌, ◌+◌, ◌*◌, if◌then◌else◌, nat_le, List, [], ℕ, Option, Some, None, option_map, length, slice_index, string_bytes}
+use Rattle.dns_codes.specs.CodeText.{class_text, type_text}
+use Rattle.dns_names.specs.Print.{text_of_name}
+use Rattle.dns_wire.specs.declared.error.DecodeError.{DecodeError}
 use Rattle.dns_messages.specs.declared.header.Metadata.{Metadata}
+use Rattle.dns_messages.specs.declared.message.Message.{Message}
+use Rattle.dns_messages.specs.declared.query.Query.{Query}
+use Rattle.dns_messages.specs.Grammar.{ReadsMessage, RefusesMessage}
 use Rattle.dns_messages.specs.OpCode.{op_number}
+use Rattle.dns_messages.specs.ResponseCode.{code_number}
 use Rattle.dns_fault_rules.specs.declared.fault.Transport.{Transport}
 use Rattle.dns_fault_rules.specs.declared.fault.Transport.TheVariants as transports
 use Rattle.dns_log.specs.declared.entry.LogTransport.{LogTransport}
 use Rattle.dns_log.specs.declared.entry.LogTransport.TheVariants as logged
 use Rattle.dns_log.specs.declared.entry.ReplyCounts.{ReplyCounts}
+use Rattle.dns_log.specs.declared.question.LogQuestion.{LogQuestion}
 use Rattle.dns_nameserver.specs.declared.name_server.Answered.{Answered}
 
 -- the transport, as the log names it
@@ -45,3 +53,26 @@ counts_of reply = record {
   authorities = number_or_zero (number_at reply 8);
   additionals = number_or_zero (number_at reply 10);
 }
+
+-- ---- messages that are decoded
+
+-- a question as text: its name, type and class (RFC 1035 section 4.1.2)
+pub record IsLogged (q : Query) (question : LogQuestion) : Type 0 where
+  pub name : string_bytes question.name ≡ text_of_name q.name
+  pub record_type : string_bytes question.record_type ≡ type_text q.query_type
+  pub class : string_bytes question.class ≡ class_text q.query_class
+
+-- the only one of some questions, or none
+abbrev pub IsOnly : List Query → Option LogQuestion → Type 0
+IsOnly queries (Some question) = (q : Query) × (queries ≡ q ∷ []) × IsLogged q question
+IsOnly queries None = length queries ≢ 1
+
+-- the question of a request, if it decodes and has exactly one
+abbrev pub HasQuestion : List ℕ → Option LogQuestion → Type 0
+HasQuestion request question = ((m : Message) × ReadsMessage request m × IsOnly m.queries question)
+    ⊎ ((error : DecodeError) × RefusesMessage request error × (question ≡ None))
+
+-- the number of the response code of a reply, if it decodes (RFC 1035 section 4.1.1, RFC 6891 section 6.1.3)
+abbrev pub HasCode : List ℕ → Option ℕ → Type 0
+HasCode reply code = ((m : Message) × ReadsMessage reply m × (code ≡ Some (code_number m.metadata.response_code)))
+    ⊎ ((error : DecodeError) × RefusesMessage reply error × (code ≡ None))

@@ -1,17 +1,20 @@
 //! What the log of a name server says of a request.
 
-ghost use Rattle.std.specs.Prelude.{◌≡◌, ◌<◌, IfOk, length};
+ghost use Rattle.std.specs.Prelude.{◌≡◌, ◌<◌, IfOk, length, string_bytes};
+ghost use Rattle.std.specs.Net.Text.{socket_text};
 ghost use Rattle.dns_messages.specs.Header.{peeked_metadata};
-ghost use Rattle.dns_nameserver.specs.LogEntry.{counts_of, log_transport, number_at, op_of_header, reply_bytes};
+ghost use Rattle.dns_nameserver.specs.LogEntry.{HasCode, HasQuestion, IsLogged, IsOnly, counts_of, log_transport, number_at, op_of_header, reply_bytes};
 
 use crate::name_server::Answered;
 use dns_fault_rules::Transport;
 use dns_log::{LogEntry, LogQuestion, LogTransport, ReplyCounts};
 use dns_messages::{Message, Metadata, Query};
+use dns_wire::DecodeError;
 use std::alloc::{AllocError, Global};
 use std::net::SocketAddr;
 
-/// Returns what the log says of a request that arrived at a moment, in milliseconds since the start, from a peer.
+/// Returns what the log says of a request that arrived at a moment, in milliseconds since the start, from a peer. A request or a reply
+/// that cannot be decoded has no question or no response code.
 pub fn request_entry(
     alloc: Global,
     moment: u64,
@@ -22,6 +25,9 @@ pub fn request_entry(
 ) -> Result<LogEntry, AllocError>
     ensures arrived { IfOk result (λ entry. (entry.moment ≡ moment)
         × (entry.transport ≡ log_transport transport) × (entry.request_len ≡ length request.now)) }
+    ensures peer { IfOk result (λ entry. string_bytes entry.peer ≡ socket_text peer) }
+    ensures question { IfOk result (λ entry. HasQuestion request.now entry.question) }
+    ensures code { IfOk result (λ entry. HasCode (reply_bytes answered.now) entry.code) }
     ensures asked { IfOk result (λ entry. (entry.id ≡ number_at request.now 0)
         × (entry.op_code ≡ op_of_header (peeked_metadata request.now))) }
     ensures sent { IfOk result (λ entry. let reply = reply_bytes answered.now in
@@ -37,7 +43,7 @@ pub fn request_entry(
         id: number_at(request, 0),
         op_code: op_code_of(request),
         question: question_of(alloc, request)?,
-        code: code_of(alloc, reply),
+        code: code_of(alloc, reply)?,
         counts: counts_of(reply),
         request_len: request.len(),
         reply_len: reply.len(),
@@ -97,11 +103,23 @@ fn counts_of(reply: &[u8]) -> ReplyCounts
         additionals: number_at(reply, 10).unwrap_or(0),
     }
 }
+
 /// Returns the question of a request, if it has exactly one and can be decoded.
-fn question_of(alloc: Global, request: &[u8]) -> Result<Option<LogQuestion>, AllocError> {
-    let Ok(message) = Message::from_vec(alloc, request) else {
-        return Ok(None);
-    };
+fn question_of(alloc: Global, request: &[u8]) -> Result<Option<LogQuestion>, AllocError>
+    ensures { IfOk result (HasQuestion request.now) }
+{
+    match Message::from_vec(alloc, request) {
+        Ok(message) => only_question(alloc, &message),
+        // There was no memory for the message.
+        Err(DecodeError::Memory) => Err(AllocError),
+        Err(_) => Ok(None),
+    }
+}
+
+/// Returns the question of a message that has exactly one.
+fn only_question(alloc: Global, message: &Message) -> Result<Option<LogQuestion>, AllocError>
+    ensures { IfOk result (IsOnly message.now.queries) }
+{
     match message.queries.as_slice() {
         [query] => Ok(Some(question_text(alloc, query)?)),
         _ => Ok(None),
@@ -109,7 +127,9 @@ fn question_of(alloc: Global, request: &[u8]) -> Result<Option<LogQuestion>, All
 }
 
 /// Returns a question as text.
-fn question_text(alloc: Global, query: &Query) -> Result<LogQuestion, AllocError> {
+fn question_text(alloc: Global, query: &Query) -> Result<LogQuestion, AllocError>
+    ensures { IfOk result (IsLogged query.now) }
+{
     let name = &query.name;
     let record_type = query.query_type;
     let class = query.query_class;
@@ -120,10 +140,14 @@ fn question_text(alloc: Global, query: &Query) -> Result<LogQuestion, AllocError
     })
 }
 
-/// Returns the number of the response code of a reply, if it can be decoded. Without memory for it there is none.
-fn code_of(alloc: Global, reply: &[u8]) -> Option<u16> {
+/// Returns the number of the response code of a reply, if it can be decoded.
+fn code_of(alloc: Global, reply: &[u8]) -> Result<Option<u16>, AllocError>
+    ensures { IfOk result (HasCode reply.now) }
+{
     match Message::from_vec(alloc, reply) {
-        Ok(message) => Some(u16::from(message.metadata.response_code)),
-        Err(_) => None,
+        Ok(message) => Ok(Some(u16::from(message.metadata.response_code))),
+        // There was no memory for the message.
+        Err(DecodeError::Memory) => Err(AllocError),
+        Err(_) => Ok(None),
     }
 }

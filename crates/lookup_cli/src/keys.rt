@@ -1,8 +1,8 @@
 //! The key that signs updates.
 
-ghost use Rattle.std.specs.Prelude.{◌≡◌, IfOk, option_map};
+ghost use Rattle.std.specs.Prelude.{◌≡◌, IfErr, IfOk, option_map};
 ghost use Rattle.std.specs.Option.{option_copied};
-ghost use Rattle.lookup_cli.specs.Keys.{IsKeyIn, is_exposed};
+ghost use Rattle.lookup_cli.specs.Keys.{IsKeyIn, IsRefusal, is_exposed};
 
 use crate::ending::Ending;
 use dns_keys::{KeyFileError, parse_keys};
@@ -27,7 +27,9 @@ pub fn is_exposed(mode: u32) -> bool
 /// - [`Ending::NoKey`] if it has no such key;
 /// - [`Ending::Memory`] if memory is refused.
 pub fn key_of(alloc: Global, path: &str, text: &[u8], name: Option<&Name>) -> Result<Key, Ending>
-    ensures { IfOk result (IsKeyIn text.now
+    ensures ok { IfOk result (IsKeyIn text.now
+        (option_map (λ wanted. wanted.labels) (option_copied name.entry))) }
+    ensures refused { IfErr result (IsRefusal path.now text.now
         (option_map (λ wanted. wanted.labels) (option_copied name.entry))) }
 {
     match parse_keys(alloc, text) {
