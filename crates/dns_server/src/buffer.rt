@@ -13,7 +13,7 @@ const MAX_REMOVED_LEN: usize = 65_536;
 /// Bytes that wait. Removed bytes stay in front of them until there are none after these, or more than 65,536 of them: so
 /// each byte is moved at most once for one that is removed, however small the pieces.
 #[derive(Drop)]
-pub(crate) struct Buffer {
+pub struct Buffer {
     bytes: Vec<u8>,
     /// The number of removed bytes.
     start: usize,
@@ -31,7 +31,7 @@ impl Model for Buffer {
 
 impl Buffer {
     /// Creates an empty buffer.
-    pub(crate) fn new(alloc: Global) -> Buffer
+    pub fn new(alloc: Global) -> Buffer
         ensures { result ≡ [] }
     {
         Buffer {
@@ -41,21 +41,21 @@ impl Buffer {
     }
 
     /// Returns the number of bytes.
-    pub(crate) fn len(&self) -> usize
+    pub fn len(&self) -> usize
         ensures { result ≡ length self.now }
     {
         self.bytes.len() - self.start
     }
 
     /// Returns the bytes.
-    pub(crate) fn as_slice(&self) -> &[u8]
+    pub fn as_slice(&self) -> &[u8]
         ensures { result.now ≡ self.now }
     {
         &self.bytes.as_slice()[self.start..]
     }
 
     /// Adds bytes. An error leaves the buffer unchanged.
-    pub(crate) fn push(&mut self, bytes: &[u8]) -> Result<(), AllocError>
+    pub fn push(&mut self, bytes: &[u8]) -> Result<(), AllocError>
         ensures ok { OnOk result (self.new ≡ self.old ++ bytes.now) }
         ensures err { OnErr result (self.new ≡ self.old) }
     {
@@ -64,7 +64,7 @@ impl Buffer {
     }
 
     /// Adds the frame of a message. An error leaves the buffer unchanged.
-    pub(crate) fn push_frame(&mut self, message: &[u8]) -> Result<(), AllocError>
+    pub fn push_frame(&mut self, message: &[u8]) -> Result<(), AllocError>
         requires { length message.now ≤ 65535 }
         ensures ok { OnOk result (self.new ≡ self.old ++ frame message.now) }
         ensures err { OnErr result (self.new ≡ self.old) }
@@ -74,7 +74,7 @@ impl Buffer {
     }
 
     /// Removes the first `count` bytes.
-    pub(crate) fn remove(&mut self, count: usize)
+    pub fn remove(&mut self, count: usize)
         requires { count ≤ length self.old }
         ensures { self.new ≡ drop count self.old }
     {

@@ -24,6 +24,7 @@ mod serving;
 mod updates;
 
 pub use address_list::{AddressList, PrefixError, parse_prefix};
+pub use buffer::Buffer;
 pub use connection::{Connection, MAX_INPUT_LEN, MAX_WAITING_LEN};
 pub use error::AddZoneError;
 pub use responder::{ListResponder, Responder};

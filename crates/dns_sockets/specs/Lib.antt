@@ -1,2 +1,3 @@
 pub mod StreamTable
 pub mod Notices
+pub mod Output

@@ -1,72 +1,89 @@
 //! The bytes that wait to be written on a connection.
 
+ghost use Rattle.std.specs.Prelude.{◌≡◌, ◌≤◌, ◌<◌, ◌++◌, ◌↔◌, [], drop, length, take, IsTrue, OnErr, OnOk};
+ghost use Rattle.dns_frames.specs.Frame.{frame};
+ghost use Rattle.dns_sockets.specs.Output.{added};
+
 use dns_frames::write_frame;
+use dns_server::{Buffer, MAX_WAITING_LEN};
 use std::alloc::{AllocError, Global};
+use std::marker::Model;
 
 /// The maximum length of a message, in bytes (RFC 1035 section 4.2.2).
 const MAX_MESSAGE_LEN: usize = 65_535;
 
-/// How many bytes may wait while a reply is added.
-const MAX_WAITING_LEN: usize = 65_537;
-
-/// The bytes that wait to be written on a connection. Written ones stay in front of them, but not for long.
+/// The bytes that wait to be written on a connection.
 #[derive(Drop)]
 pub(crate) struct Output {
-    bytes: Vec<u8>,
-    written: usize,
+    alloc: Global,
+    waiting: Buffer,
+}
+
+impl Model for Output {
+    ghost use Rattle.std.specs.Prelude.{List, ℕ};
+
+    ghost Value = { List ℕ };
+
+    ghost view = { λ output. output.waiting };
 }
 
 impl Output {
     /// Creates an output without bytes.
-    pub(crate) fn new(alloc: Global) -> Output {
+    pub(crate) fn new(alloc: Global) -> Output
+        ensures { result ≡ [] }
+    {
         Output {
-            bytes: Vec::new(alloc),
-            written: 0,
+            alloc,
+            waiting: Buffer::new(alloc),
         }
     }
 
     /// Returns the bytes that wait.
-    pub(crate) fn rest(&self) -> &[u8] {
-        let start = self.written.min(self.bytes.len());
-        &self.bytes.as_slice()[start..]
+    pub(crate) fn rest(&self) -> &[u8]
+        ensures { result.now ≡ self.now }
+    {
+        self.waiting.as_slice()
     }
 
     /// Returns `true` if no reply may be added.
-    pub(crate) fn is_full(&self) -> bool {
-        self.rest().len() > MAX_WAITING_LEN
+    pub(crate) fn is_full(&self) -> bool
+        ensures { IsTrue result ↔ (65537 < length self.now) }
+    {
+        self.waiting.len() > MAX_WAITING_LEN
     }
 
-    /// Takes note that bytes were written.
-    pub(crate) fn wrote(&mut self, count: usize) {
-        self.written = self.written.saturating_add(count);
-        if self.written >= self.bytes.len() {
-            self.bytes.clear();
-            self.written = 0;
-        }
+    /// Removes bytes that were written.
+    pub(crate) fn wrote(&mut self, count: usize)
+        ensures { self.new ≡ drop count self.old }
+    {
+        let count = count.min(self.waiting.len());
+        self.waiting.remove(count);
     }
 
-    /// Adds the frame of a reply, or the first bytes of it. A reply of more than 65,535 bytes has no frame, and is dropped.
-    pub(crate) fn push(&mut self, reply: &[u8], most: Option<usize>) -> Result<(), AllocError> {
+    /// Adds the frame of a reply, or the first `most` bytes of it. A reply of more than 65,535 bytes has no frame, and is dropped.
+    /// An error leaves the output unchanged.
+    pub(crate) fn push(&mut self, reply: &[u8], most: Option<usize>) -> Result<(), AllocError>
+        ensures ok { OnOk result (self.new ≡ self.old ++ added most reply.now) }
+        ensures err { OnErr result (self.new ≡ self.old) }
+    {
         if reply.len() > MAX_MESSAGE_LEN {
             return Ok(());
         }
-        self.drop_written();
-        let start = self.bytes.len();
-        write_frame(&mut self.bytes, reply)?;
-        if let Some(count) = most {
-            self.bytes.truncate(start.saturating_add(count));
+        match most {
+            None => self.waiting.push_frame(reply),
+            Some(count) => self.push_front(reply, count),
         }
-        Ok(())
     }
 
-    /// Drops the bytes that are written if they are many.
-    fn drop_written(&mut self) {
-        let start = self.written.min(self.bytes.len());
-        if start > MAX_WAITING_LEN {
-            let rest = self.bytes.len() - start;
-            self.bytes.as_mut_slice().copy_within(start.., 0);
-            self.bytes.truncate(rest);
-            self.written = 0;
-        }
+    /// Adds the first bytes of the frame of a reply.
+    fn push_front(&mut self, reply: &[u8], count: usize) -> Result<(), AllocError>
+        requires { length reply.now ≤ 65535 }
+        ensures ok { OnOk result (self.new ≡ self.old ++ take count (frame reply.now)) }
+        ensures err { OnErr result (self.new ≡ self.old) }
+    {
+        let mut bytes = Vec::new(self.alloc);
+        write_frame(&mut bytes, reply)?;
+        bytes.truncate(count);
+        self.waiting.push(bytes.as_slice())
     }
 }
