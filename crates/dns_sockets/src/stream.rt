@@ -1,6 +1,6 @@
 //! A connection of a listener.
 
-ghost use Rattle.std.specs.Prelude.{◌≡◌, ◌+◌, ◌≤◌, length};
+ghost use Rattle.std.specs.Prelude.{◌≡◌, ◌+◌, ◌≤◌, ◌++◌, IfSome, length, option_to_list};
 ghost use Rattle.dns_server.specs.Connection.{max_input_len};
 ghost use Rattle.dns_sockets.specs.StreamTable.{is_transferring};
 
@@ -334,7 +334,10 @@ impl Stream {
     }
 
     /// Takes the first held reply, if its moment has come and there is room for it.
-    fn next_due(&mut self, now: Milliseconds) -> Option<HeldReply> {
+    fn next_due(&mut self, now: Milliseconds) -> Option<HeldReply>
+        ensures due { IfSome result (λ held. held.moment ≤ now) }
+        ensures first { self.old.held.items ≡ option_to_list result ++ self.new.held.items }
+    {
         let is_due = match self.held.front() {
             Some(held) => held.moment <= now,
             None => false,
