@@ -13,7 +13,7 @@ use Rattle.dns_codes.specs.declared.record_type.RecordType.{RecordType}
 use Rattle.dns_wire.specs.Name.{max_name_len, name_len, IsLabel, AreLabels}
 use Rattle.dns_names.specs.Name.{DomainName}
 use Rattle.dns_names.specs.Build.{append_labels, complete}
-use Rattle.dns_names.specs.Parse.{name_of_text, Escaped, Broken, escape, decimal_octet, more_len, SpellsOctets, no_octet, SpellsLabels, one_label, more_labels, Spells, root, no_label, relative, fully_qualified}
+use Rattle.dns_names.specs.Parse.{name_of_text, Symbol, Escaped, Broken, escape, decimal_octet, more_len, SpellsOctets, no_octet, SpellsLabels, one_label, more_labels, Spells, root, no_label, relative, fully_qualified}
 use Rattle.dns_names.specs.Parse as spelled
 use Rattle.dns_names.specs.Print.{AreOctets}
 use Rattle.dns_names.specs.declared.error.ParseError.{ParseError}

@@ -5,7 +5,7 @@ use Rattle.std.proofs.Math.Seq.{drop-cons}
 use Rattle.std.proofs.lemmas.List.{drop-drop}
 use Rattle.std.proofs.lemmas.Bool.Decides.{nat_tests}
 use Rattle.dns_codes.specs.Decimal.{is_digit, decimal_up_to}
-use Rattle.dns_names.specs.Parse.{Escaped, escape, escape_len, more_len}
+use Rattle.dns_names.specs.Parse.{Symbol, Escaped, escape, escape_len, more_len}
 use Rattle.dns_names.specs.Print.{escape_sequence, AreOctets}
 use Rattle.dns_names.proofs.RoundTrip.{digit, three_digits}
 use Rattle.dns_text.specs.CharacterString.{octet_of, string_escape, first_octet, octet_before, unescaped_after, unescaped, octet_text, escaped_text}

@@ -17,7 +17,7 @@ use Rattle.std.proofs.NetLemmas.Alphabet.{IsDigitOrDot, IsHexOrColon, All-ipv4_t
 use Rattle.std.proofs.NetLemmas.Texts.{IsColonHex-hex_groups_text}
 use Rattle.dns_names.specs.Name.{DomainName}
 use Rattle.dns_names.specs.Parse.{is_plain_octet}
-use Rattle.dns_names.specs.Print.{escape_sequence, octets_text, dotted_labels, text_of_labels, text_of_name, AreOctets}
+use Rattle.dns_names.specs.Print.{escape_sequence, octets_text, label_text, dotted_labels, text_of_labels, text_of_name, AreOctets}
 use Rattle.dns_names.specs.Print as name
 use Rattle.dns_text.specs.Address.{ip_text}
 use Rattle.dns_text.specs.CharacterString.{octet_text, escaped_text}

@@ -24,8 +24,7 @@ pub enum Judgement {
     Verified,
 }
 
-/// Judges the TSIG record of a message, by the former code, which is empty for a request. The steps are in the order of the
-/// RFC: the code, the time, and the truncation.
+/// Judges the TSIG record of a message, by the former code, which is empty for a request. The steps are in the order of the RFC: the code, the time, and the truncation.
 pub fn judgement_of(
     key: &Key,
     prior: &[u8],

@@ -1,9 +1,10 @@
 -- The text of templates, piece by piece.
-use Rattle.std.proofs.Common.{◌≡◌, ℕ, zero, suc, ◌+◌, ◌<◌, List, [], ◌∷◌, ◌++◌, length, drop, Option, Some, Result, Ok, Err, refl, sym, ap, ◌∙◌, append_assoc, arith}
+use Rattle.std.proofs.Common.{◌≡◌, ℕ, zero, suc, ◌+◌, ◌<◌, List, [], ◌∷◌, ◌++◌, length, drop, Option, Some, None, Result, Ok, Err, refl, sym, ap, ◌∙◌, append_assoc, arith}
 use Rattle.std.proofs.lemmas.List.{append-nil, drop-drop}
 use Rattle.zone_generate.specs.Number.{Added}
 use Rattle.zone_generate.specs.Template.{piece_of, piece_more, piece_text, joined, expanded_after, expanded}
 use Rattle.zone_generate.specs.declared.fault.GenerateFault.{GenerateFault}
+use Rattle.zone_generate.specs.declared.fault.GenerateFault.TheVariants.{InvalidTemplate}
 use Rattle.zone_generate.specs.declared.template.Piece.{Piece}
 
 skips : (n past : ℕ) (text : List ℕ) → expanded_after n past text ≡ expanded n (drop past text)

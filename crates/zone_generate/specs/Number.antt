@@ -1,7 +1,7 @@
 -- The text of a number in a form, as BIND's `$GENERATE` has it.
 use Rattle.std.specs.Prelude.{◌≡◌, ℕ, zero, suc, ◌+◌, ◌-◌, ◌*◌, ◌/◌, ◌%◌, ◌^◌, nat_lt, nat_le, if◌then◌else◌, Bool, true, false, List, [], ◌∷◌, ◌++◌, Result, Ok, Err}
 use Rattle.zone_generate.specs.declared.form.Base.{Base}
-use Rattle.zone_generate.specs.declared.form.Base.TheVariants.{Decimal, Octal, UpperHex, LowerNibbles, UpperNibbles}
+use Rattle.zone_generate.specs.declared.form.Base.TheVariants.{Decimal, Octal, LowerHex, UpperHex, LowerNibbles, UpperNibbles}
 use Rattle.zone_generate.specs.declared.form.Offset.{Offset}
 use Rattle.zone_generate.specs.declared.form.Offset.TheVariants.{Plus, Minus}
 use Rattle.zone_generate.specs.declared.form.Form.{Form}

@@ -1,5 +1,5 @@
 -- The numbers of a `$GENERATE` (BIND's extension): `START-STOP` or `START-STOP/STEP`.
-use Rattle.std.specs.Prelude.{ℕ, ◌+◌, ◌-◌, ◌*◌, ◌/◌, ◌==◌, nat_lt, if◌then◌else◌, Bool, List, [], take, drop, Option, Some, None, Result, Ok, Err}
+use Rattle.std.specs.Prelude.{ℕ, zero, suc, ◌+◌, ◌-◌, ◌*◌, ◌/◌, ◌==◌, nat_le, nat_lt, if◌then◌else◌, Bool, List, [], ◌∷◌, take, drop, Option, Some, None, Result, Ok, Err}
 use Rattle.std.specs.List.{position}
 use Rattle.dns_codes.specs.Decimal.{decimal_up_to}
 use Rattle.zone_generate.specs.declared.range.Range.{Range}

@@ -1,5 +1,5 @@
 -- Templates of `$GENERATE` (BIND's extension), and the text that they make of a number.
-use Rattle.std.specs.Prelude.{ℕ, zero, suc, ◌+◌, ◌==◌, if◌then◌else◌, Bool, List, [], ◌∷◌, ◌++◌, take, drop, Option, Some, None, option_map, Result, Ok, Err}
+use Rattle.std.specs.Prelude.{ℕ, zero, suc, ◌+◌, ◌-◌, ◌==◌, ◌||◌, if◌then◌else◌, Bool, List, [], ◌∷◌, ◌++◌, take, drop, Option, Some, None, option_map, Result, Ok, Err}
 use Rattle.std.specs.List.{position, position_or_len}
 use Rattle.dns_codes.specs.Decimal.{decimal_up_to}
 use Rattle.zone_generate.specs.Number.{form_text}

@@ -4,7 +4,7 @@ use Rattle.std.proofs.Common.{refl, subst}
 use Rattle.std.specs.declared.cmp.Ordering.{Ordering}
 use Rattle.std.specs.declared.cmp.Ordering.TheVariants.{Less, Greater}
 use Rattle.std.specs.Ordering.{nat_cmp, is_eq, ordering_then, as_partial_cmp}
-use Rattle.std.specs.Cmp.{IsTotalOrder, IsPartialOrder, po, then_total, on_total, nat_cmp_total, unsigned_ties, both_tied}
+use Rattle.std.specs.Cmp.{IsTotalOrder, IsPartialOrder, po, then_total, on_total, nat_cmp_total, bool_cmp_total, unsigned_ties, both_tied}
 use Rattle.std.specs.Cmp.Derive.{by_total, of_values, Tied, tie, on_tied, then_tied}
 use Rattle.std.specs.Cmp.Lexicographic.{slice_cmp, lists_total, lists_ties, nat_list_cmp_total, texts_ties}
 use Rattle.std.specs.Net.Addr.{ipv4_octets, ipv6_segments}

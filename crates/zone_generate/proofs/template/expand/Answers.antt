@@ -1,4 +1,4 @@
-use Rattle.std.proofs.Common.{◌≡◌, ◌-◌, Some, take, drop, length, arith, length-drop}
+use Rattle.std.proofs.Common.{◌≡◌, ◌-◌, ◌<◌, Option, Some, take, drop, length, ap, ◌∙◌, arith, length-drop}
 use Rattle.std.proofs.lemmas.List.{take_all}
 use Rattle.zone_generate.proofs.TemplateLaws.{piece_further}
 use Rattle.zone_generate.proofs.template.expand.Goals as goal

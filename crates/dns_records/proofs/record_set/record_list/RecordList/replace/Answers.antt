@@ -1,3 +1,6 @@
+use Rattle.std.proofs.Common.{List, subst, sym, ap}
+use Rattle.std.specs.Prelude.{IfSome, slice_get}
+use Rattle.dns_records.specs.Record.{Record}
 use Rattle.dns_records.proofs.PutLaws.{replaced}
 use Rattle.dns_records.proofs.record_set.record_list.RecordList.replace.Goals as goal
 
