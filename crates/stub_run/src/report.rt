@@ -19,6 +19,7 @@ pub enum EventReply {
 /// The report of an event.
 #[derive(Drop)]
 pub struct EventReport {
+    /// The reply to the event.
     pub reply: EventReply,
     /// The number of questions and updates that ended in a fault, `F1` to `F9`; at most `u64::MAX`.
     pub faults: u64,

@@ -12,6 +12,7 @@ pub(super) enum Action {
     Append,
     /// Replaces a record, if it is the only one of its owner and type.
     Swap,
+    /// Deletes a record.
     DeleteRecord,
     /// Deletes the records of an owner and a type.
     DeleteSet,
