@@ -8,7 +8,8 @@
 //! come in any order. Words need no quotation marks.
 //!
 //! - `blanks`: blanks and comments; `word`: words and symbols; `statement`: the statement of a key; `file`: the keys of a text;
-//! - `algorithm`: the names of algorithms; `error`: why a text is not a key file; `laws`: theorems about the definitions.
+//! - `algorithm`: the names of algorithms; `permissions`: who may use the secrets of a file; `error`: why a text is not a key file;
+//!   `laws`: theorems about the definitions.
 #![tactic(auto)]
 
 mod algorithm;
@@ -16,9 +17,11 @@ mod blanks;
 mod error;
 mod file;
 pub mod laws;
+mod permissions;
 mod statement;
 mod word;
 
 pub use algorithm::{algorithm_text, parse_algorithm};
 pub use error::{KeyFault, KeyFileError};
 pub use file::parse_keys;
+pub use permissions::is_exposed;

@@ -1,7 +1,8 @@
 //! The files that the program reads.
 
+use dns_keys::is_exposed;
 use dns_tsig::Key;
-use lookup_cli::{Arguments, Ending, KeyArguments, default_conf_path, is_exposed, key_of};
+use lookup_cli::{Arguments, Ending, KeyArguments, default_conf_path, key_of};
 use std::fs::File;
 use std::io::Read;
 use std::os::unix::fs::PermissionsExt;

@@ -1,14 +1,10 @@
 -- The key that signs updates.
-use Rattle.std.specs.Prelude.{◌≡◌, ℕ, ◌%◌, nat_le, Bool, List, map, Option, Some, None, string_bytes}
+use Rattle.std.specs.Prelude.{◌≡◌, ℕ, List, map, Option, Some, None, string_bytes}
 use Rattle.dns_keys.specs.File.{IsKeyFile, IsRefused, key_value}
 use Rattle.dns_signer.specs.KeyChoice.{chosen}
 use Rattle.dns_tsig.specs.declared.key.Key.{Key}
 use Rattle.lookup_cli.specs.declared.ending.Ending.{Ending}
 use Rattle.lookup_cli.specs.declared.ending.Ending.TheVariants.{InvalidKeys, NoKey, Memory}
-
--- whether the last octal digit of a mode, that of other users, has the bit 4 to read or the bit 2 to write
-abbrev pub is_exposed : ℕ → Bool
-is_exposed mode = nat_le 2 (mode % 8)
 
 -- a key is the first one of a key file with the name of these labels, or the first of all
 pub record IsKeyIn (text : List ℕ) (labels : Option (List (List ℕ))) (key : Key) : Type 0 where

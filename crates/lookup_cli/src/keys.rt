@@ -1,8 +1,8 @@
 //! The key that signs updates.
 
-ghost use Rattle.std.specs.Prelude.{◌≡◌, IfErr, IfOk, option_map};
+ghost use Rattle.std.specs.Prelude.{IfErr, IfOk, option_map};
 ghost use Rattle.std.specs.Option.{option_copied};
-ghost use Rattle.lookup_cli.specs.Keys.{IsKeyIn, IsRefusal, is_exposed};
+ghost use Rattle.lookup_cli.specs.Keys.{IsKeyIn, IsRefusal};
 
 use crate::ending::Ending;
 use dns_keys::{KeyFileError, parse_keys};
@@ -10,14 +10,6 @@ use dns_names::Name;
 use dns_signer::choose_key;
 use dns_tsig::Key;
 use std::alloc::Global;
-
-/// Returns `true` if users other than the owner and the group of a file may read it, and so have the secrets in it, or may write it. The
-/// mode is that of stat(2).
-pub fn is_exposed(mode: u32) -> bool
-    ensures { result ≡ is_exposed mode }
-{
-    mode % 8 >= 2
-}
 
 /// Returns the key of a name in the text of a key file, or its first one. The path is for errors.
 ///

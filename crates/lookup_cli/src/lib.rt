@@ -17,7 +17,7 @@ mod values;
 
 pub use arguments::{Arguments, KeyArguments, UpdateArguments, read_arguments};
 pub use ending::Ending;
-pub use keys::{is_exposed, key_of};
+pub use keys::key_of;
 pub use session::{Session, moment_of};
 pub use settings::{default_conf_path, settings_of};
 pub use signed_session::SignedSession;

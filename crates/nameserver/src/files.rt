@@ -1,6 +1,7 @@
 //! Files that the program reads.
 
 use crate::ending::Ending;
+use dns_keys::is_exposed;
 use std::alloc::Global;
 use std::fs::File;
 use std::io::Read;
@@ -54,11 +55,6 @@ fn read_secrets(rt: &HostRuntime, path: &str) -> io::Result<Secrets> {
     let mut text = Vec::new(rt.alloc());
     file.read_to_end(&mut text)?;
     Ok(Secrets { text, mode })
-}
-
-/// Returns `true` if users other than the owner and the group of a file may read or write it, by its mode, that of stat(2).
-fn is_exposed(mode: u32) -> bool {
-    mode % 8 >= 2
 }
 
 /// Returns the text of a file, or where it is not UTF-8.
