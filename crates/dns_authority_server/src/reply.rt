@@ -1,11 +1,8 @@
 //! The reply to a request with an answer (RFC 1035 section 4.1.1, RFC 6891 section 7).
 
-ghost use Rattle.std.specs.Prelude.{◌≡◌, ◌≤◌, IfOk, length};
-ghost use Rattle.std.specs.List.{AllByRecursion};
-ghost use Rattle.dns_wire.specs.Name.{name_len};
+ghost use Rattle.std.specs.Prelude.{◌≡◌, ◌≤◌, IfOk};
 ghost use Rattle.dns_messages.specs.Emit.{lent};
 ghost use Rattle.dns_messages.specs.Encoding.{Encodes};
-ghost use Rattle.dns_zone.specs.Request.{only_query, repeated_queries};
 ghost use Rattle.dns_zone.specs.Serving.{reply_limit};
 ghost use Rattle.dns_authority_server.specs.Reply.{edns_with, malformed_metadata, malformed_reply, metadata_with, reply_with};
 ghost use Rattle.dns_authority_server.specs.Sending.{sent};
@@ -13,9 +10,8 @@ ghost use Rattle.dns_authority_server.specs.Sending.{sent};
 use crate::reply_ref::ReplyRef;
 use crate::sending::send;
 use dns_authority::AuthorityAnswer;
-use dns_messages::{Edns, Message, Metadata, OpCode, Query, ResponseCode};
-use dns_names::Name;
-use dns_zone::Transport;
+use dns_messages::{Edns, Message, Metadata, ResponseCode};
+use dns_zone::{Transport, repeated_queries, reply_limit};
 use std::alloc::{AllocError, Global};
 
 /// The number of bytes that every reply may have (RFC 1035 section 4.2.1).
@@ -37,7 +33,7 @@ pub(crate) fn reply_bytes(
         request,
         answer,
         edns.as_ref(),
-        limit_of(transport, request),
+        reply_limit(transport, request),
     )
 }
 
@@ -56,7 +52,7 @@ fn bytes_with<'a>(
 {
     let reply = ReplyRef {
         metadata: metadata_of_reply(&request.metadata, answer),
-        queries: repeated(request),
+        queries: repeated_queries(request),
         answers: answer.answers.as_slice(),
         authorities: answer.authorities.as_slice(),
         additionals: answer.additionals.as_slice(),
@@ -112,40 +108,4 @@ fn edns_of_reply(alloc: Global, request: &Option<Edns>, code: ResponseCode) -> O
     edns.set_dnssec_ok(request.flags().dnssec_ok);
     edns.set_rcode_high(code.high());
     Some(edns)
-}
-
-/// Returns the question of a query that has exactly one, or nothing.
-fn repeated(request: &Message) -> &[Query]
-    ensures value { result.now ≡ repeated_queries request.now }
-    ensures few { length result.now ≤ 1 }
-    ensures short { AllByRecursion (λ q. name_len q.name.labels ≤ 255) result.now }
-{
-    match request.metadata.op_code {
-        OpCode::Query => only(request.queries.as_slice()),
-        _ => &[],
-    }
-}
-
-/// Returns questions if there is exactly one, or nothing.
-fn only(queries: &[Query]) -> &[Query]
-    ensures value { result.now ≡ only_query queries.now }
-    ensures few { length result.now ≤ 1 }
-    ensures short { AllByRecursion (λ q. name_len q.name.labels ≤ 255) result.now }
-{
-    let [query] = queries else {
-        return &[];
-    };
-    prove!(query.name.encoded_len() <= Name::MAX_LENGTH);
-    queries
-}
-
-/// Returns how many bytes a reply to a request may have: at least 512.
-fn limit_of(transport: Transport, request: &Message) -> u16
-    ensures value { result ≡ reply_limit transport request.now }
-    ensures least { 512 ≤ result }
-{
-    match transport {
-        Transport::Datagram(limit) => limit.value().min(request.max_payload()),
-        Transport::Stream => 65_535,
-    }
 }

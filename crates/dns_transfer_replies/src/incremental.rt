@@ -4,7 +4,6 @@ ghost use Rattle.std.specs.Prelude.{◌≡◌, ◌≤◌, ◌<◌, length, map, 
 ghost use Rattle.dns_messages.specs.Header.{code_number, code_of};
 ghost use Rattle.dns_messages.specs.Sound.{IsSound};
 ghost use Rattle.dns_zone.specs.Rows.{rows_of};
-ghost use Rattle.dns_zone.specs.Serving.{reply_limit};
 ghost use Rattle.dns_zone_transfers.specs.Reply.{IsRefusal};
 ghost use Rattle.dns_transfer_replies.specs.Incremental.{fits_alone, DiffersOrFails, DiffersOrStarts, SendsFound, SendsFrom, SendsIf, SendsIncremental, SendsKnown, SendsLacking, SendsSince, SendsUnknown, StartsOrFails, TriesAlone};
 ghost use Rattle.dns_transfer_replies.specs.ZoneHistory.{known_differences};
@@ -16,7 +15,7 @@ use dns_difference_transfers::incremental_transfer;
 use dns_differences::Difference;
 use dns_messages::{Message, ResponseCode};
 use dns_transfers::TransferError;
-use dns_zone::{Transport, Zone, bare_reply_bytes};
+use dns_zone::{Transport, Zone, bare_reply_bytes, reply_limit};
 use dns_zone_serials::{first_serial, zone_serial};
 use dns_zone_transfers::reply_with_zone;
 use std::alloc::{AllocError, Global};
@@ -269,7 +268,8 @@ fn alone(
 {
     match incremental_transfer(alloc, zone, differences, request) {
         Ok(messages) => {
-            if fits_alone(messages.as_slice(), limit_of(transport, request)) {
+            let limit = usize::from(reply_limit(*transport, request));
+            if fits_alone(messages.as_slice(), limit) {
                 Ok(Some(messages))
             } else {
                 Ok(None)
@@ -288,16 +288,6 @@ fn fits_alone(messages: &[Vec<u8>], limit: usize) -> bool
     match messages {
         [bytes] => bytes.len() <= limit,
         _ => false,
-    }
-}
-
-/// Returns how many bytes a reply to a request may have.
-fn limit_of(transport: &Transport, request: &Message) -> usize
-    ensures { result ≡ reply_limit transport.now request.now }
-{
-    match transport {
-        Transport::Datagram(limit) => usize::from(limit.value().min(request.max_payload())),
-        Transport::Stream => 65_535,
     }
 }
 

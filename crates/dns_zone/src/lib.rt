@@ -19,4 +19,6 @@ mod zone;
 pub use sets::Sets;
 // `Road` is the former name of `Transport`.
 pub use transport::{DatagramLimit, LimitTooSmall, Transport, Transport as Road};
-pub use zone::{Answer, Zone, ZoneFault, bare_reply_bytes, decode_request};
+pub use zone::{
+    Answer, Zone, ZoneFault, bare_reply_bytes, decode_request, repeated_queries, reply_limit,
+};

@@ -18,7 +18,7 @@ use crate::sets::ZoneSets;
 pub use answer::Answer;
 use dns_names::Name;
 use dns_zone_file::ZoneFileError;
-pub use serve::{bare_reply_bytes, decode_request};
+pub use serve::{bare_reply_bytes, decode_request, repeated_queries, reply_limit};
 use std::alloc::{AllocError, AllocFailed, Global};
 use std::marker::Model;
 use thiserror::Error;

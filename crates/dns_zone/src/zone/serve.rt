@@ -1,6 +1,6 @@
 //! The server of a zone: requests and their replies (RFC 1035 sections 4.1 and 4.2).
 
-ghost use Rattle.std.specs.Prelude.{◌≡◌, ◌≤◌, ◌<◌, false, None, Ok, IfOk, OnOk, OnErr};
+ghost use Rattle.std.specs.Prelude.{◌≡◌, ◌≤◌, ◌<◌, false, length, None, Ok, IfOk, OnOk, OnErr};
 ghost use Rattle.dns_messages.specs.declared.op_code.OpCode.TheVariants as ops;
 ghost use Rattle.dns_zone.specs.Serving.{borrowed_reply, reply_limit, has_query_header as is_query_header};
 ghost use Rattle.dns_zone.specs.Request.{DecodesRequest, IsEncodedReply, reply_without_zone, only_query, repeated_queries};
@@ -78,7 +78,7 @@ impl Zone {
             → IsReplyTo self.now transport request.now out.items) }
     {
         let reply = self.reply_to(request);
-        match reply.to_vec_within(self.alloc, limit_of(transport, request)) {
+        match reply.to_vec_within(self.alloc, reply_limit(transport, request)) {
             Ok(out) => Ok(out),
             // The memory for the reply's bytes was refused.
             Err(EncodeError::Memory) => Err(AllocError),
@@ -178,7 +178,7 @@ pub fn bare_reply_bytes(
 {
     let owner = Name::root(alloc);
     let reply = without_zone(alloc, request, &owner, code);
-    match reply.to_vec_within(alloc, limit_of(transport, request)) {
+    match reply.to_vec_within(alloc, reply_limit(transport, request)) {
         Ok(out) => Ok(out),
         // The memory for the reply's bytes was refused.
         Err(EncodeError::Memory) => Err(AllocError),
@@ -199,15 +199,17 @@ fn without_zone<'a>(
     ReplyRef::new(
         alloc,
         request,
-        repeated(request),
+        repeated_queries(request),
         AnswerRef::bare(owner, code),
     )
 }
 
-/// Returns the question of a query that has exactly one, or nothing.
-fn repeated(request: &Message) -> &[Query]
+/// Returns the question that a reply repeats if no zone decides it: that of a query which has exactly one, or nothing.
+pub fn repeated_queries(request: &Message) -> &[Query]
     ensures value { result.now ≡ repeated_queries request.now }
-    ensures short { (code : ResponseCode)
+    ensures few { length result.now ≤ 1 }
+    ensures short { AllByRecursion (λ q. name_len q.name.labels ≤ 255) result.now }
+    ensures front { (code : ResponseCode)
         → front_reach (reply_without_zone request.now code) ≤ 512 }
 {
     match request.metadata.op_code {
@@ -219,6 +221,7 @@ fn repeated(request: &Message) -> &[Query]
 /// Returns questions if there is exactly one, or nothing.
 fn only(queries: &[Query]) -> &[Query]
     ensures value { result.now ≡ only_query queries.now }
+    ensures few { length result.now ≤ 1 }
     ensures short { AllByRecursion (λ q. name_len q.name.labels ≤ 255) result.now }
 {
     let [query] = queries else {
@@ -238,8 +241,8 @@ fn has_query_header(bytes: &[u8]) -> bool
     }
 }
 
-/// Returns how many bytes a reply to a request may have: at least 512.
-fn limit_of(transport: Transport, request: &Message) -> u16
+/// Returns how many bytes a reply to a request may have on a transport: at least 512.
+pub fn reply_limit(transport: Transport, request: &Message) -> u16
     ensures value { result ≡ reply_limit transport request.now }
     ensures least { 512 ≤ result }
 {

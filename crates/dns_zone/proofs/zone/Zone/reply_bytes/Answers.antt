@@ -5,6 +5,6 @@ use Rattle.dns_zone.proofs.zone.Zone.reply_bytes.Goals as goal
 pub returns-in-Ok : goal.returns-in-Ok
 returns-in-Ok c = record {
   encodes = λ sound.
-      replied c.args.self.now c.args.transport c.args.request.now (borrowed_reply c.reply_to-reply.result) c.limit_of.result c.in-Ok.out.items
-      c.reply_to-reply.ensures.reply c.limit_of.ensures.value (c.reply_to-reply.ensures.sound sound) c.in-Ok.ensures.encodes;
+      replied c.args.self.now c.args.transport c.args.request.now (borrowed_reply c.reply_to-reply.result) c.reply_limit.result c.in-Ok.out.items
+      c.reply_to-reply.ensures.reply c.reply_limit.ensures.value (c.reply_to-reply.ensures.sound sound) c.in-Ok.ensures.encodes;
 }

@@ -7,7 +7,7 @@ use Rattle.dns_zone.proofs.zone.serve.bare_reply_bytes.Goals as goal
 
 pub returns-in-Ok : goal.returns-in-Ok
 returns-in-Ok c = λ sound.
-    encoded c.args.transport c.args.request.now (borrowed_reply c.without_zone-reply.result) (reply_without_zone c.args.request.now c.args.code) c.limit_of.result c.in-Ok.out.items
-    c.without_zone-reply.ensures.reply c.limit_of.ensures.value
+    encoded c.args.transport c.args.request.now (borrowed_reply c.without_zone-reply.result) (reply_without_zone c.args.request.now c.args.code) c.reply_limit.result c.in-Ok.out.items
+    c.without_zone-reply.ensures.reply c.reply_limit.ensures.value
     (subst IsSound (sym c.without_zone-reply.ensures.reply) (without_sound c.args.request.now c.args.code c.requires.fits c.requires.named sound))
     c.in-Ok.ensures.encodes

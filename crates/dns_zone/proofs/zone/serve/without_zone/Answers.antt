@@ -8,11 +8,11 @@ use Rattle.dns_zone.proofs.zone.serve.without_zone.Goals as goal
 use Rattle.dns_zone.proofs.zone.serve.without_zone.Goals.{After-new}
 
 reply_is : (c : After-new) → ◌≡◌ {A = Message} (borrowed_reply c.new.result) (reply_without_zone c.args.request.now c.args.code)
-reply_is c = c.new.ensures ∙ is_without c.args.request.now c.args.code c.repeated.result.now c.bare.result c.repeated.ensures.value c.bare.ensures
+reply_is c = c.new.ensures ∙ is_without c.args.request.now c.args.code c.repeated_queries.result.now c.bare.result c.repeated_queries.ensures.value c.bare.ensures
 
 pub returns-clause-reply : goal.returns-clause-reply
 returns-clause-reply c = reply_is c
 
 pub returns-clause-short : goal.returns-clause-short
 returns-clause-short c =
-    subst (λ (x : Message). front_reach x ≤ 512) (sym (reply_is c)) (c.repeated.ensures.short c.args.code)
+    subst (λ (x : Message). front_reach x ≤ 512) (sym (reply_is c)) (c.repeated_queries.ensures.front c.args.code)
