@@ -1,3 +1,4 @@
+pub mod Stream
 pub mod StreamTable
 pub mod Notices
 pub mod Output

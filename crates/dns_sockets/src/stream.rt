@@ -1,7 +1,8 @@
 //! A connection of a listener.
 
-ghost use Rattle.std.specs.Prelude.{◌≡◌, ◌+◌, ◌≤◌, ◌++◌, IfSome, length, option_to_list};
+ghost use Rattle.std.specs.Prelude.{◌≡◌, ◌+◌, ◌≤◌, ◌++◌, true, IfSome, OnOk, length, map, option_to_list};
 ghost use Rattle.dns_server.specs.Connection.{max_input_len};
+ghost use Rattle.dns_sockets.specs.Stream.{deadline, held_message, held_reply};
 ghost use Rattle.dns_sockets.specs.StreamTable.{is_transferring};
 
 use crate::clock::Milliseconds;
@@ -52,7 +53,9 @@ struct HeldReply {
 
 impl HeldReply {
     /// Holds what is to be sent until its moment.
-    fn new(delivery: Delivery, now: Milliseconds) -> HeldReply {
+    fn new(delivery: Delivery, now: Milliseconds) -> HeldReply
+        ensures { result ≡ held_reply now delivery }
+    {
         HeldReply {
             moment: now.saturating_add(delivery.after_milliseconds),
             close_after: delivery.close_after,
@@ -61,7 +64,9 @@ impl HeldReply {
     }
 
     /// Holds a message of a reply that has several.
-    fn of_message(message: Vec<u8>, now: Milliseconds) -> HeldReply {
+    fn of_message(message: Vec<u8>, now: Milliseconds) -> HeldReply
+        ensures { result ≡ held_message now message }
+    {
         HeldReply {
             moment: now,
             reply: Some(message),
@@ -150,7 +155,9 @@ impl Stream {
 
     /// Returns when the connection has something to do without its peer: its held reply is due, or it has been idle for too
     /// long.
-    pub(crate) fn deadline(&self) -> Milliseconds {
+    pub(crate) fn deadline(&self) -> Milliseconds
+        ensures { result ≡ deadline self.now }
+    {
         if self.wants_turn {
             return 0;
         }
@@ -284,7 +291,11 @@ impl Stream {
     }
 
     /// Holds the messages of a reply that has several.
-    fn hold_all(&mut self, messages: Vec<Vec<u8>>, now: Milliseconds) -> Result<(), AllocError> {
+    fn hold_all(&mut self, messages: Vec<Vec<u8>>, now: Milliseconds) -> Result<(), AllocError>
+        ensures held { OnOk result (self.new.held.items
+            ≡ self.old.held.items ++ map (held_message now) messages.items) }
+        ensures transferring { self.new.is_transferring ≡ true }
+    {
         self.is_transferring = true;
         for message in messages {
             self.held.push_back(HeldReply::of_message(message, now))?;
@@ -311,7 +322,10 @@ impl Stream {
     }
 
     /// Holds replies until their moments.
-    fn hold(&mut self, deliveries: Vec<Delivery>, now: Milliseconds) -> Result<(), AllocError> {
+    fn hold(&mut self, deliveries: Vec<Delivery>, now: Milliseconds) -> Result<(), AllocError>
+        ensures { OnOk result (self.new.held.items
+            ≡ self.old.held.items ++ map (held_reply now) deliveries.items) }
+    {
         for delivery in deliveries {
             self.held.push_back(HeldReply::new(delivery, now))?;
         }
