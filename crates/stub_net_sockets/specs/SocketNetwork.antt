@@ -1,10 +1,17 @@
 -- What the calls of a network over sockets may do. What sockets carry is not known.
-use Rattle.std.specs.Prelude.{◌≡◌, ◌≤◌, ℕ}
+use Rattle.std.specs.Prelude.{◌≡◌, ◌≤◌, ℕ, List, Option, None, Result, Ok}
+use Rattle.stub_link.specs.declared.link.LinkError.{LinkError}
 use Rattle.stub_net_sockets.specs.declared.socket_network.SocketNetwork.{SocketNetwork}
 
--- A receive, or an exchange over a stream, may have any result.
-abbrev pub Anything : Type 0
-Anything = Unit {0}
+-- A receive may have any result, but ends without a datagram only once the clock has passed its deadline. The clock does not go back.
+pub record ReceivesUntil {R : Type 0} (old : SocketNetwork R) (deadline : ℕ) (found : Result (Option (List ℕ)) LinkError)
+    (new : SocketNetwork R) : Type 0 where
+  pub kept : old.clock.last ≤ new.clock.last
+  pub passed : found ≡ Ok None → deadline ≤ new.clock.last
+
+-- An exchange over a stream may have any result. The clock does not go back.
+abbrev pub ContinuesClock : {R : Type 0} → SocketNetwork R → SocketNetwork R → Type 0
+ContinuesClock old new = old.clock.last ≤ new.clock.last
 
 -- A datagram may be sent or not, and the clock is not read.
 abbrev pub KeepsClock : {R : Type 0} → SocketNetwork R → SocketNetwork R → Type 0

@@ -1,6 +1,6 @@
 //! The network.
 
-ghost use Rattle.std.specs.Prelude.{◌≡◌, IfOk};
+ghost use Rattle.std.specs.Prelude.{◌≡◌, ◌≤◌, IfOk, None, Ok};
 
 use crate::datagram::DatagramSocket;
 use crate::stopwatch::Stopwatch;
@@ -47,7 +47,10 @@ impl<R: Net<Listener = TcpListener, Stream = TcpStream> + Clock + Drop> SocketNe
     }
 
     /// Receives the next datagram of the open socket, or `None` once the deadline has passed.
-    fn receive(&mut self, deadline: u64) -> Result<Option<Vec<u8>>, SocketError> {
+    fn receive(&mut self, deadline: u64) -> Result<Option<Vec<u8>>, SocketError>
+        ensures kept { self.old.clock.last ≤ self.new.clock.last }
+        ensures passed { result ≡ Ok None → deadline ≤ self.new.clock.last }
+    {
         let Some(socket) = &self.socket else {
             return Err(SocketError::Failed);
         };
@@ -77,7 +80,9 @@ impl<R: Net<Listener = TcpListener, Stream = TcpStream> + Clock + Drop> SocketNe
 }
 
 /// Returns the result of calls of sockets as that of a call of a network.
-fn network_result<T>(outcome: Result<T, SocketError>) -> Result<T, LinkError> {
+fn network_result<T>(outcome: Result<T, SocketError>) -> Result<T, LinkError>
+    ensures { IfOk result (λ value. outcome ≡ Ok value) }
+{
     match outcome {
         Ok(value) => Ok(value),
         Err(SocketError::Failed) => Err(LinkError::Failed),
@@ -88,13 +93,13 @@ fn network_result<T>(outcome: Result<T, SocketError>) -> Result<T, LinkError> {
 
 impl<R: Net<Listener = TcpListener, Stream = TcpStream> + Clock + Drop> Network
     for SocketNetwork<R> {
-    ghost use Rattle.stub_net_sockets.specs.SocketNetwork.{Anything, KeepsClock, ReadsClock};
+    ghost use Rattle.stub_net_sockets.specs.SocketNetwork.{ContinuesClock, KeepsClock, ReadsClock, ReceivesUntil};
 
     ghost sends = { λ old _ _ _ new. KeepsClock old new };
 
-    ghost receives = { λ _ _ _ _. Anything };
+    ghost receives = { λ old deadline found new. ReceivesUntil old deadline found new };
 
-    ghost streams = { λ _ _ _ _ _ _. Anything };
+    ghost streams = { λ old _ _ _ _ new. ContinuesClock old new };
 
     ghost reads_clock = { λ old now new. ReadsClock old now new };
 

@@ -1,5 +1,7 @@
 //! An exchange over a stream (RFC 7766 section 8).
 
+ghost use Rattle.std.specs.Prelude.{◌≡◌, ◌≤◌};
+
 use crate::stopwatch::Stopwatch;
 use dns_blocking::{SocketError, or_failed, read, write};
 use dns_frames::write_frame;
@@ -27,7 +29,9 @@ pub(crate) fn exchange<R: Net<Listener = TcpListener, Stream = TcpStream>, C: Cl
     server: SocketAddr,
     bytes: &[u8],
     deadline: u64,
-) -> Result<Vec<u8>, SocketError> {
+) -> Result<Vec<u8>, SocketError>
+    ensures { clock.old.last ≤ clock.new.last }
+{
     if bytes.len() > MAX_MESSAGE_LEN {
         return Err(SocketError::Failed);
     }
@@ -45,7 +49,9 @@ pub(crate) fn exchange<R: Net<Listener = TcpListener, Stream = TcpStream>, C: Cl
 }
 
 /// Returns how long it is to a deadline. If it has passed, the error is [`SocketError::Failed`].
-fn time_left<C: Clock>(clock: &mut Stopwatch<C>, deadline: u64) -> Result<Duration, SocketError> {
+fn time_left<C: Clock>(clock: &mut Stopwatch<C>, deadline: u64) -> Result<Duration, SocketError>
+    ensures { clock.old.last ≤ clock.new.last }
+{
     match deadline.saturating_sub(clock.milliseconds()) {
         0 => Err(SocketError::Failed),
         left => Ok(Duration::from_millis(left)),
@@ -54,7 +60,10 @@ fn time_left<C: Clock>(clock: &mut Stopwatch<C>, deadline: u64) -> Result<Durati
 
 impl<C: Clock> TimedStream<'_, C> {
     /// Writes bytes.
-    fn write_all(&mut self, bytes: &[u8]) -> Result<(), SocketError> {
+    fn write_all(&mut self, bytes: &[u8]) -> Result<(), SocketError>
+        ensures reference { self.new.clock.ghost_name ≡ self.old.clock.ghost_name }
+        ensures kept { self.old.clock.now.last ≤ self.new.clock.now.last }
+    {
         let mut done = 0;
         while done < bytes.len() {
             let left = time_left(self.clock, self.deadline)?;
@@ -65,7 +74,10 @@ impl<C: Clock> TimedStream<'_, C> {
     }
 
     /// Reads the message of a frame: its length in two bytes, and so many bytes.
-    fn read_message(&mut self, alloc: Global) -> Result<Vec<u8>, SocketError> {
+    fn read_message(&mut self, alloc: Global) -> Result<Vec<u8>, SocketError>
+        ensures reference { self.new.clock.ghost_name ≡ self.old.clock.ghost_name }
+        ensures kept { self.old.clock.now.last ≤ self.new.clock.now.last }
+    {
         let mut length = [0u8; 2];
         self.fill(&mut length)?;
         let mut message = vec![in alloc; 0u8; usize::from(u16::from_be_bytes(length))]?;
@@ -74,7 +86,10 @@ impl<C: Clock> TimedStream<'_, C> {
     }
 
     /// Reads bytes until a buffer is full. It is an error if the stream ends before.
-    fn fill(&mut self, buffer: &mut [u8]) -> Result<(), SocketError> {
+    fn fill(&mut self, buffer: &mut [u8]) -> Result<(), SocketError>
+        ensures reference { self.new.clock.ghost_name ≡ self.old.clock.ghost_name }
+        ensures kept { self.old.clock.now.last ≤ self.new.clock.now.last }
+    {
         let mut filled = 0;
         while filled < buffer.len() {
             let left = time_left(self.clock, self.deadline)?;
