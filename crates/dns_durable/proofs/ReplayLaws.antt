@@ -1,5 +1,5 @@
 -- Updates that are served, one after another.
-use Rattle.std.proofs.Common.{◌≡◌, ◌≤◌, ◌<◌, ◌-◌, ℕ, suc, Bor, List, [], ◌∷◌, ◌++◌, length, take, drop, get_or, map, subst, arith, append-nil}
+use Rattle.std.proofs.Common.{◌≡◌, ◌≤◌, ◌<◌, ◌-◌, ◌∙◌, ℕ, suc, Bor, List, [], ◌∷◌, ◌++◌, length, take, drop, get_or, map, refl, sym, ap, subst, arith, append-nil, append_assoc}
 use Rattle.std.proofs.lemmas.List.{take_all}
 use Rattle.dns_frames.specs.Frame.{frame}
 use Rattle.dns_zone.specs.Rows.{ZoneContent}
@@ -21,21 +21,64 @@ takes-one zones after bytes short taken =
 
 -- ---- the loops
 
+-- the updates in front of those that are left were served
+pub record HasReplayed (start : List ZoneContent) (all rest : List (List ℕ)) (now : List ZoneContent) : Type 0 where
+  pub done : List (List ℕ)
+  pub all_is : all ≡ done ++ rest
+  pub replays : Replays start done now
+
+-- the requests in front of the frames that are left were served
+pub record HasTaken (start : List ZoneContent) (all rest : List ℕ) (now : List ZoneContent) : Type 0 where
+  pub front : List ℕ
+  pub all_is : all ≡ front ++ rest
+  pub takes : Takes start front now
+
+-- no update was served yet
+pub replayed_none : (start : List ZoneContent) (all : List (List ℕ)) → HasReplayed start all all start
+replayed_none start all = record { done = []; all_is = refl; replays = no_update }
+
 -- a further update of those that are left
-pub replays_go_on : (xs : List (Bor (List ℕ))) (d : Bor (List ℕ)) (start now mid end : List ZoneContent) (all : List (List ℕ)) → 1 ≤ length xs
-    → (Replays now (map (λ u. u.now) xs) end → Replays start all end) → Takes now (get_or xs 0 d).now mid
-    → Replays mid (map (λ u. u.now) (take (length xs - 1) (drop 1 xs))) end → Replays start all end
-replays_go_on [] d start now mid end all some completes takes rest = absurd (omega (arith, some))
-replays_go_on (x ∷ xs) d start now mid end all some completes takes rest =
+pub replayed_more : (xs : List (Bor (List ℕ))) (d : Bor (List ℕ)) (start now mid : List ZoneContent) (all : List (List ℕ)) → 1 ≤ length xs
+    → HasReplayed start all (map (λ u. u.now) xs) now → Takes now (get_or xs 0 d).now mid
+    → HasReplayed start all (map (λ u. u.now) (take (length xs - 1) (drop 1 xs))) mid
+replayed_more [] d start now mid all some has takes = absurd (omega (arith, some))
+replayed_more (x ∷ xs) d start now mid all some has takes =
     let same : take (suc (length xs) - 1) xs ≡ xs = take_all (suc (length xs) - 1) xs (omega arith) in
-    completes (an_update takes (subst (λ (l : List (Bor (List ℕ))). Replays mid (map (λ u. u.now) l) end) same rest))
+    subst (λ (l : List (Bor (List ℕ))). HasReplayed start all (map (λ u. u.now) l) mid) (sym same)
+    (record {
+      done = has.done ++ x.now ∷ [];
+      all_is = has.all_is ∙ sym (append_assoc has.done (x.now ∷ []) (map (λ u. u.now) xs));
+      replays = replays-append start now mid has.done x.now has.replays takes;
+    })
 
--- no update is left
-pub replays_end : (xs : List (Bor (List ℕ))) (zones : List ZoneContent) → length xs < 1 → Replays zones (map (λ u. u.now) xs) zones
-replays_end [] zones none = no_update
-replays_end (x ∷ xs) zones none = absurd (omega (arith, none))
+-- all updates were served
+pub replayed_all : (xs : List (Bor (List ℕ))) (start now : List ZoneContent) (all : List (List ℕ)) → length xs < 1
+    → HasReplayed start all (map (λ u. u.now) xs) now → Replays start all now
+replayed_all [] start now all none has = subst (λ (l : List (List ℕ)). Replays start l now) (sym (has.all_is ∙ append-nil has.done)) has.replays
+replayed_all (x ∷ xs) start now all none has = absurd (omega (arith, none))
 
--- no frame is left
-pub takes_end : (bytes : List ℕ) (zones : List ZoneContent) → length bytes ≡ 0 → Takes zones bytes zones
-takes_end [] zones none = no_frame
-takes_end (x ∷ xs) zones none = absurd (omega (arith, none))
+takes-append : (start now after : List ZoneContent) (front bytes : List ℕ) → Takes start front now → length bytes ≤ 65535 → IsTaken now bytes after
+    → Takes start (front ++ frame bytes) after
+takes-append start now after front bytes no_frame short taken = takes-one now after bytes short taken
+takes-append start now after front bytes (a_frame {mid = mid} {bytes = first} {rest = rest} short_first taken_first more) short taken =
+    subst (λ (l : List ℕ). Takes start l after) (sym (append_assoc (frame first) rest (frame bytes)))
+    (a_frame short_first taken_first (takes-append mid now after rest bytes more short taken))
+
+-- no request was served yet
+pub taken_none : (start : List ZoneContent) (all : List ℕ) → HasTaken start all all start
+taken_none start all = record { front = []; all_is = refl; takes = no_frame }
+
+-- a further request of those that are left
+pub taken_more : (start now after : List ZoneContent) (all left message rest : List ℕ) → HasTaken start all left now → left ≡ frame message ++ rest
+    → length message ≤ 65535 → IsTaken now message after → HasTaken start all rest after
+taken_more start now after all left message rest has left_is short taken =
+    record {
+      front = has.front ++ frame message;
+      all_is = has.all_is ∙ ap (λ (l : List ℕ). has.front ++ l) left_is ∙ sym (append_assoc has.front (frame message) rest);
+      takes = takes-append start now after has.front message has.takes short taken;
+    }
+
+-- all requests were served
+pub taken_all : (start now : List ZoneContent) (all left : List ℕ) → length left ≡ 0 → HasTaken start all left now → Takes start all now
+taken_all start now all [] none has = subst (λ (l : List ℕ). Takes start l now) (sym (has.all_is ∙ append-nil has.front)) has.takes
+taken_all start now all (x ∷ left) none has = absurd (omega (arith, none))

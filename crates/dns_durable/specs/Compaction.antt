@@ -1,14 +1,19 @@
 -- The text of a zone takes the place of its journal.
-use Rattle.std.specs.Prelude.{◌≡◌, ◌⊎◌, ℕ, Bool, true, false, List, [], ◌∷◌, None, Ok}
+use Rattle.std.specs.Prelude.{◌≡◌, ◌≢◌, ◌⊎◌, ℕ, Bool, true, false, List, [], ◌∷◌, length, None, Result, Ok, Err}
 use Rattle.sha2.specs.Sha256.{sha256}
+use Rattle.dns_journal.specs.declared.error.AppendError.{AppendError}
 use Rattle.dns_journal.specs.declared.journal.Position.{Position}
-use Rattle.dns_journal.specs.Appending.{IsPosition}
+use Rattle.dns_journal.specs.Appending.{IsPosition, IsRefusal}
 use Rattle.dns_journal.specs.Event.{Event}
-use Rattle.dns_recovery.specs.Compacting.{Compacts}
+use Rattle.dns_recovery.specs.Compacting.{Compacts, mark}
 use Rattle.dns_zone.specs.Load.{ReadsZoneIn}
 use Rattle.dns_zone.specs.Printed.{IsZoneText}
 use Rattle.dns_zone.specs.Rows.{ZoneContent}
+use Rattle.dns_zone.specs.declared.zone.ZoneFault.{ZoneFault}
+use Rattle.dns_zone.specs.declared.zone.ZoneFault.TheVariants as faults
 use Rattle.dns_zone_file.specs.declared.types.Types.TheVariants.{All}
+use Rattle.dns_durable.specs.declared.error.CompactError.{CompactError}
+use Rattle.dns_durable.specs.declared.error.CompactError.TheVariants as errors
 
 -- a text of the only zone, and the zone that is read from it: that is a text of this one, too
 pub record IsRewritten (zones : List ZoneContent) (text : List ℕ) (again : ZoneContent) : Type 0 where
@@ -31,12 +36,65 @@ pub record Replaces (done : Bool) (old new : Position) (zones after : List ZoneC
       → (sha256 text ≡ sha256 former → text ≡ former) → Compacts old new done former text bytes digest payloads es
 
 -- nothing is done
-pub record IsLeftAlone (done : Bool) (old new : Position) (zones after : List ZoneContent) (es : List Event) : Type 0 where
-  pub undone : done ≡ false
+pub record IsLeftAlone (old new : Position) (zones after : List ZoneContent) (es : List Event) : Type 0 where
   pub unasked : es ≡ []
   pub position : new ≡ old
   pub zones_are : after ≡ zones
 
--- what a compaction asks of a storage, and the zones after it
-abbrev pub Rewrites : Bool → Position → Position → List ZoneContent → List ZoneContent → List Event → Type 0
-Rewrites done old new zones after es = IsLeftAlone done old new zones after es ⊎ Replaces done old new zones after es
+-- What a compaction asks of a storage, and the zones after it, by its result: nothing, unless the text is ready to take the place of
+-- the old one.
+abbrev pub Rewrites : Result (Unit {0}) CompactError → Position → Position → List ZoneContent → List ZoneContent
+    → List Event → Type 0
+Rewrites (Ok done) old new zones after es = Replaces true old new zones after es
+Rewrites (Err (errors.Journal error)) old new zones after es = Replaces false old new zones after es
+Rewrites (Err other) old new zones after es = IsLeftAlone old new zones after es
+
+-- a zone has a text that is not this one
+pub record HasOtherText (zone : ZoneContent) (text : List ℕ) : Type 0 where
+  pub other : List ℕ
+  pub is_text : IsZoneText zone other
+  pub is_other : other ≢ text
+
+-- a text from which a zone with another text is read
+pub record IsReadOtherwise (text : List ℕ) : Type 0 where
+  pub again : ZoneContent
+  pub is_read : ReadsZoneIn All [] None text (Ok again)
+  pub has_other : HasOtherText again text
+
+-- whether memory was refused while a zone was read
+abbrev pub is_want_of_memory : ZoneFault → Bool
+is_want_of_memory faults.Memory = true
+is_want_of_memory other = false
+
+-- a text from which no zone is read
+pub record IsNotRead (text : List ℕ) : Type 0 where
+  pub fault : ZoneFault
+  pub is_fault : ReadsZoneIn All [] None text (Err fault)
+  pub has_memory : fault ≢ faults.Memory
+
+-- the only zone has a text that is not read as the zone
+pub record HasNoText (zones : List ZoneContent) : Type 0 where
+  pub zone : ZoneContent
+  pub zones_are : zones ≡ zone ∷ []
+  pub text : List ℕ
+  pub is_text : IsZoneText zone text
+  pub fails : IsNotRead text ⊎ IsReadOtherwise text
+
+-- the journal does not take the mark of the text
+pub record IsRefusedText (old new : Position) (zones : List ZoneContent) (error : AppendError) : Type 0 where
+  pub text : List ℕ
+  pub again : ZoneContent
+  pub rewritten : IsRewritten zones text again
+  pub refused : IsRefusal old (mark text) new error
+
+-- why zones have no text that takes the place of a journal
+abbrev pub IsTextRefusal : List ZoneContent → CompactError → Type 0
+IsTextRefusal zones errors.Zones = length zones ≢ 1
+IsTextRefusal zones errors.Text = HasNoText zones
+IsTextRefusal zones (errors.Journal error) = ⊥
+IsTextRefusal zones errors.Memory = Unit {0}
+
+-- why the text of a zone does not take the place of its journal, and the position that this leaves
+abbrev pub IsCompactRefusal : List ZoneContent → Position → Position → CompactError → Type 0
+IsCompactRefusal zones old new (errors.Journal error) = IsRefusedText old new zones error
+IsCompactRefusal zones old new other = IsTextRefusal zones other

@@ -4,5 +4,6 @@ pub mod GrantText
 pub mod History
 pub mod Incoming
 pub mod Policy
+pub mod Replay
 pub mod Reply
 pub mod Storing

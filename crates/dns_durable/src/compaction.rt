@@ -1,10 +1,10 @@
 //! The text of a zone takes the place of its journal.
 
-ghost use Rattle.std.specs.Prelude.{◌≡◌, ◌<◌, ◌↔◌, ◌∷◌, [], is_ok, string_bytes, IfOk, IsTrue};
+ghost use Rattle.std.specs.Prelude.{◌≡◌, ◌<◌, ◌↔◌, ◌∷◌, [], string_bytes, false, Ok, IfErr, IfOk, IsOk, IsTrue};
 ghost use Rattle.dns_journal.specs.Storage.{Performs};
 ghost use Rattle.dns_journal.specs.declared.journal.State.TheVariants as states;
 ghost use Rattle.dns_zone.specs.Printed.{IsZoneText};
-ghost use Rattle.dns_durable.specs.Compaction.{IsRewritten, Rewrites};
+ghost use Rattle.dns_durable.specs.Compaction.{HasOtherText, IsCompactRefusal, IsRewritten, IsTextRefusal, Rewrites, is_want_of_memory};
 
 use crate::durable_server::DurableServer;
 use crate::error::CompactError;
@@ -38,12 +38,18 @@ impl<S: Storage> DurableServer<S> {
     ///
     /// - [`CompactError::Zones`] if there is not exactly one zone;
     /// - [`CompactError::Text`] if no zone with the same text is read from the text of the zone;
-    /// - [`CompactError::Journal`] if the journal is not ready or the storage fails: then the journal has to be opened again;
-    /// - [`CompactError::Memory`] if memory is refused before anything is asked of the storage.
+    /// - [`CompactError::Journal`] if the journal does not take the mark of the text, as for [`Journal::append`](dns_journal::Journal::append),
+    ///   or the storage fails: then the journal has to be opened again;
+    /// - [`CompactError::Memory`] if memory is refused before the journal is asked.
+    ///
+    /// Unless the journal refuses, nothing is asked of the storage, and nothing is changed.
     pub fn compact(&mut self, alloc: Global) -> Result<(), CompactError>
-        ensures { Performs S.performs self.old.journal.storage self.new.journal.storage
-            (Rewrites (is_ok result) self.old.journal.position self.new.journal.position
-            self.old.server self.new.server) }
+        ensures ready { IsOk result → self.old.journal.position.state ≡ states.Ready }
+        ensures refused { IfErr result (IsCompactRefusal self.old.server
+            self.old.journal.position self.new.journal.position) }
+        ensures performs { Performs S.performs self.old.journal.storage self.new.journal.storage
+            (Rewrites result self.old.journal.position self.new.journal.position self.old.server
+            self.new.server) }
     {
         let Rewritten { text, zone } = zone_text(alloc, self.server.zones())?;
         let server = server_of(alloc, zone)?;
@@ -59,7 +65,8 @@ impl<S: Storage> DurableServer<S> {
 
 /// Returns the text of the only zone, and the zone that is read from it, if that has the same text.
 fn zone_text(alloc: Global, zones: &[Zone]) -> Result<Rewritten, CompactError>
-    ensures { IfOk result (λ r. IsRewritten zones.now (string_bytes r.text) r.zone) }
+    ensures rewritten { IfOk result (λ r. IsRewritten zones.now (string_bytes r.text) r.zone) }
+    ensures refused { IfErr result (IsTextRefusal zones.now) }
 {
     let [zone] = zones else {
         return Err(CompactError::Zones);
@@ -74,14 +81,23 @@ fn zone_text(alloc: Global, zones: &[Zone]) -> Result<Rewritten, CompactError>
             }
         }
         // Memory was refused while the zone was read.
-        Err(ZoneFault::Memory) => Err(CompactError::Memory),
+        Err(fault) if is_want_of_memory(&fault) => Err(CompactError::Memory),
         Err(_) => Err(CompactError::Text),
     }
 }
 
+/// Returns `true` if memory was refused while a zone was read.
+fn is_want_of_memory(fault: &ZoneFault) -> bool
+    ensures { result ≡ is_want_of_memory fault.now }
+{
+    matches!(fault, ZoneFault::Memory)
+}
+
 /// Returns `true` if a zone has this text.
 fn has_text(zone: &Zone, text: &str) -> Result<bool, CompactError>
-    ensures { IfOk result (λ has. IsTrue has → IsZoneText zone.now text.now) }
+    ensures has { IfOk result (λ has. IsTrue has → IsZoneText zone.now text.now) }
+    ensures lacks { result ≡ Ok false → HasOtherText zone.now text.now }
+    ensures refused { IfErr result (λ error. error ≡ CompactError.Memory) }
 {
     let other = zone.to_text()?;
     Ok(other.as_str() == text)
@@ -89,7 +105,8 @@ fn has_text(zone: &Zone, text: &str) -> Result<bool, CompactError>
 
 /// Returns a server of a zone.
 fn server_of(alloc: Global, zone: Zone) -> Result<Server, CompactError>
-    ensures { IfOk result (λ server. server ≡ zone ∷ []) }
+    ensures ok { IfOk result (λ server. server ≡ zone ∷ []) }
+    ensures refused { IfErr result (λ error. error ≡ CompactError.Memory) }
 {
     let mut server = Server::new(alloc);
     match server.add_zone(zone) {

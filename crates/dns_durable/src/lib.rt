@@ -27,4 +27,4 @@ pub use error::{CompactError, GrantError, ReplayError};
 pub use grant_text::parse_grant;
 pub use incoming::{Admitted, Arrived, Incoming, Terms, is_update};
 pub use policy::{Admission, Policy, admission_of};
-pub use replaying::replay;
+pub use replaying::{FirstFrame, first_frame, replay};

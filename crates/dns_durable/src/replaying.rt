@@ -1,50 +1,56 @@
 //! The updates of a journal are served again.
 
-ghost use Rattle.std.specs.Prelude.{◌≡◌, ◌≤◌, ◌++◌, length, map, IfSome, OnOk};
-ghost use Rattle.dns_frames.specs.Frame.{frame};
+ghost use Rattle.std.specs.Prelude.{◌≡◌, ◌≤◌, ◌<◌, ◌++◌, length, map, ℕ, None, Err, IfErr, IfSome, OnErr, OnOk};
+ghost use Rattle.dns_frames.specs.Frame.{frame, frame_len};
+ghost use Rattle.dns_zone.specs.Request.{DecodesRequest};
 ghost use Rattle.dns_durable.specs.Durable.{IsTaken, Replays, Takes};
+ghost use Rattle.dns_durable.specs.Replay.{IsEntryRefusal, IsReplayRefusal};
 
 use crate::error::ReplayError;
 use dns_server::{Server, Updates};
 use dns_zone::{Transport, decode_request};
 use std::alloc::Global;
 
-/// The message of the first frame of bytes, and what follows the frame.
-#[derive(Clone, Copy)]
-struct FirstFrame<'a> {
-    message: &'a [u8],
-    rest: &'a [u8],
+/// The first frame of bytes (RFC 1035 section 4.2.2).
+#[derive(Clone, Copy, Debug)]
+pub struct FirstFrame<'a> {
+    /// The message of the frame.
+    pub message: &'a [u8],
+    /// What follows the frame.
+    pub rest: &'a [u8],
 }
 
 /// Serves the updates of a journal, in order.
 ///
 /// # Errors
 ///
-/// - [`ReplayError::NotUpdates`] if an entry is not the frames of requests, with its number from 1;
-/// - [`ReplayError::Memory`] if memory is refused.
-///
-/// After an error, some of the updates may have been served.
+/// - [`ReplayError::NotUpdates`] if an entry is not the frames of requests, with its number from 1: then the entries in front of it
+///   were served, and the requests in front of what is no frame of one;
+/// - [`ReplayError::Memory`] if memory is refused: then some of the updates were served, from the first one on.
 pub fn replay(server: &mut Server, alloc: Global, updates: &[&[u8]]) -> Result<(), ReplayError>
-    ensures { OnOk result (Replays server.old (map (λ u. u.now) updates.now) server.new) }
+    ensures ok { OnOk result (Replays server.old (map (λ u. u.now) updates.now) server.new) }
+    ensures refused { IfErr result
+        (IsReplayRefusal server.old (map (λ u. u.now) updates.now) server.new) }
 {
-    let mut entry = 0_usize;
     let mut rest = updates;
     while let [update, more @ ..] = rest {
-        entry = entry.saturating_add(1);
+        // The number of the entry, from 1.
+        let entry = updates.len() - more.len();
         replay_update(server, alloc, entry, update)?;
         rest = more;
     }
     Ok(())
 }
 
-/// Serves the updates of an entry.
+/// Serves the requests of an entry, whose number is that of its error.
 fn replay_update(
     server: &mut Server,
     alloc: Global,
     entry: usize,
     update: &[u8],
 ) -> Result<(), ReplayError>
-    ensures { OnOk result (Takes server.old update.now server.new) }
+    ensures ok { OnOk result (Takes server.old update.now server.new) }
+    ensures refused { IfErr result (IsEntryRefusal entry server.old update.now server.new) }
 {
     let mut rest = update;
     while !rest.is_empty() {
@@ -64,7 +70,10 @@ fn replay_message(
     entry: usize,
     message: &[u8],
 ) -> Result<(), ReplayError>
-    ensures { OnOk result (IsTaken server.old message.now server.new) }
+    ensures ok { OnOk result (IsTaken server.old message.now server.new) }
+    ensures refused { OnErr result (server.new ≡ server.old) }
+    ensures number { (n : ℕ) → result ≡ Err (ReplayError.NotUpdates n)
+        → (n ≡ entry) × DecodesRequest message.now None }
 {
     let Some(request) = decode_request(alloc, message)? else {
         return Err(ReplayError::NotUpdates(entry));
@@ -73,11 +82,12 @@ fn replay_message(
     Ok(())
 }
 
-/// Returns the parts of bytes that begin with a whole frame.
-fn first_frame(bytes: &[u8]) -> Option<FirstFrame<'_>>
+/// Returns the first frame of bytes and what follows it, if the whole frame is there.
+pub fn first_frame(bytes: &[u8]) -> Option<FirstFrame<'_>>
     ensures parts { IfSome result (λ first. bytes.now
         ≡ frame first.message.now ++ first.rest.now) }
     ensures short { IfSome result (λ first. length first.message.now ≤ 65535) }
+    ensures none { result ≡ None → length bytes.now < frame_len bytes.now }
 {
     let [high, low, behind @ ..] = bytes else {
         return None;

@@ -6,7 +6,7 @@ use crate::files::text_of;
 use crate::includes::refuse_includes;
 use crate::raising::raise_with_journal;
 use crate::zones::{add_zone, milliseconds_since, read_zones, tell, zone_of};
-use dns_durable::{CompactError, DurableServer, ReplayError, replay};
+use dns_durable::{CompactError, DurableServer, ReplayError, first_frame, replay};
 use dns_journal::{Journal, Position, State, Storage, StorageError, StoredFiles};
 use dns_journal_files::FileStorage;
 use dns_recovery::{OpenError, Opened, open_journal};
@@ -181,25 +181,13 @@ fn watch_frames(server: &Server, watch: &mut Watch, entry: &[u8]) -> Result<(), 
     let mut rest = entry;
     // Each frame has a byte at least.
     for _ in 0..entry.len() {
-        let Some((request, more)) = first_frame(rest) else {
+        let Some(first) = first_frame(rest) else {
             return Ok(());
         };
-        watch.add(server, request)?;
-        rest = more;
+        watch.add(server, first.message)?;
+        rest = first.rest;
     }
     Ok(())
-}
-
-/// Returns the message of the first frame of bytes (RFC 1035 section 4.2.2) and what follows it, if the whole frame is there.
-fn first_frame(bytes: &[u8]) -> Option<(&[u8], &[u8])> {
-    let [high, low, behind @ ..] = bytes else {
-        return None;
-    };
-    let len = usize::from(u16::from_be_bytes([*high, *low]));
-    if behind.len() < len {
-        return None;
-    }
-    Some((&behind[..len], &behind[len..]))
 }
 
 /// Says why a journal is not opened.
