@@ -10,6 +10,7 @@ TOKEN = re.compile(
     re.S | re.X,
 )
 CLOSING = {"(": ")", "[": "]", "{": "}"}
+OWNER = re.compile(r"(?:pub(?:\([^)]*\))? )?(?:unsafe )?(?:impl|trait)\b")
 FUNCTION = re.compile(r'( *)(?:pub(?:\([^)]*\))? )?(?:(?:const|unsafe|final|extern(?: "C")?) )*fn (\w+)')
 
 
@@ -74,10 +75,10 @@ def brackets(words):
 
 
 class Function:
-    """A function of a source file by the layout of `rt fmt`: its name and its lines, from 1 on."""
+    """A function of a source file by the layout of `rt fmt`: its name, its lines, from 1 on, and the type of its impl."""
 
-    def __init__(self, file, name, first, body, last):
-        self.file, self.name, self.first, self.body, self.last = file, name, first, body, last
+    def __init__(self, file, name, first, body, last, owner):
+        self.file, self.name, self.first, self.body, self.last, self.owner = file, name, first, body, last, owner
 
     def has_proof(self, path):
         """Whether a file of proofs/ belongs to a function of this name: its folder has the name."""
@@ -92,9 +93,21 @@ def functions_of(file, text):
         last = head and end_of(lines, at, head[1])
         if last:
             opens = [it for it in range(at, last) if is_opening(lines[it], head[1], it == at)]
-            found += [Function(file, head[2], at + 1, opens[0] + 1, last + 1)] if opens else []
+            owner = owner_of(lines, at) if head[1] else None
+            found += [Function(file, head[2], at + 1, opens[0] + 1, last + 1, owner)] if opens else []
         at = (last or at) + 1
     return found
+
+
+def owner_of(lines, at):
+    """The name of the type, or of the trait, whose impl a line lies in, or None."""
+    while at > 0 and not OWNER.match(lines[at]):
+        at -= 1
+    head = re.split(r"\bwhere\b|\{", " ".join(lines[at : at + 4]))[0]
+    while "<" in head and head != (head := re.sub(r"<[^<>]*>", "", head)):
+        pass
+    words = re.findall(r"\w+", head)
+    return words[-1] if len(words) > 1 else None
 
 
 def end_of(lines, at, indent):
