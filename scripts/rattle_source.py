@@ -75,7 +75,7 @@ def brackets(words):
 
 
 class Function:
-    """A function of a source file by the layout of `rt fmt`: its name, its lines, from 1 on, and the type of its impl."""
+    """A function of a source file by the layout of `rt fmt`: its name, lines from 1 on, and the type of its impl."""
 
     def __init__(self, file, name, first, body, last, owner):
         self.file, self.name, self.first, self.body, self.last, self.owner = file, name, first, body, last, owner
