@@ -30,6 +30,7 @@ def unresolved(library, page):
         reasons = [(text, reason(library)) for text, reason in checked]
         reasons += [("the row", status_fault(library, page, row))]
         lines += [f"{page.name}:{number}: {text}: {reason}" for text, reason in reasons if reason]
+    lines += [f"{page.name}:{number}: the row: {it}" for number, it in misshapen(page)]
     if page.name in QUOTING:
         lines += [f"{page.name}:{number}: no source has this line: {it}" for number, it in misquoted(library.root, page)]
     return found, lines
@@ -149,6 +150,18 @@ def anchors(file):
 
 def table_rows(page):
     """The rows of the tables in a page: the number of the line, and the cell of each column."""
+    return ((number, dict(zip(columns, cells))) for number, columns, cells in table_cells(page))
+
+
+def misshapen(page):
+    """The rows of tables that have more or fewer cells than their tables have columns, each with its number."""
+    for number, columns, cells in table_cells(page):
+        if len(cells) != len(columns):
+            yield number, f"it has {len(cells) - 2} cells, and its table {len(columns) - 2} columns"
+
+
+def table_cells(page):
+    """The rows of the tables in a page: the number of the line, the titles of the columns, and the cells."""
     columns = []
     for number, line in prose_lines(page):
         cells = [it.strip() for it in re.split(r"(?<!\\)\|", line)]
@@ -157,7 +170,7 @@ def table_rows(page):
         elif not columns:
             columns = cells
         elif not line.startswith("|--"):
-            yield number, dict(zip(columns, cells))
+            yield number, columns, cells
 
 
 def placed_by_columns(row):
