@@ -1,7 +1,8 @@
 #!/usr/bin/env python3
-"""Makes a script of `stub` from what was asked: a capture of port 53, a list of questions, or a log.
+"""Makes a script of `stub` from what was asked: a capture of port 53, a list of questions, or a log; or one for
+`nameserver --replay` from a capture.
 
-usage: scripts/capture_to_script.py [--port N] [--losses] [FILE..]
+usage: scripts/capture_to_script.py [--port N] [--losses | --replay] [FILE..]
 
 Each FILE, or standard input, is one of these, and the script goes to standard output:
 
@@ -13,12 +14,15 @@ Each FILE, or standard input, is one of these, and the script goes to standard o
 
 Moments are whole seconds from the first message on; those of a list are its own, or else that of the line before, and those of
 `nameserver --log` begin with the server. N is the port of the servers, 53 unless given. With --losses, a question of a capture
-to which no reply came is lost in the script, too.
+to which no reply came is lost in the script, too. With --replay, the script is one for `nameserver --replay`: the requests of a
+capture as they were, at moments in milliseconds, and the replies that came as its expectations, as far as their data has a text
+here; without a reply, there is no expectation.
 What a script cannot say becomes a comment, such as a question of another class, or an update with several prerequisites.
 
 The status is 0, 1 if a file cannot be read or has no question, and 2 for wrong arguments.
 """
 import argparse
+import contextlib
 import ipaddress
 import json
 import re
@@ -33,6 +37,8 @@ QUERY, UPDATE = 0, 5
 UDP, TCP = 17, 6
 # How many bytes precede the packet, by the type of the link, and where their end says which protocol follows, if it does.
 LINKS = {0: 4, 1: 14, 12: 0, 101: 0, 108: 4, 113: 16, 276: 20}
+# How a capture begins.
+CAPTURES = (b"\xd4\xc3\xb2\xa1", b"\xa1\xb2\xc3\xd4", b"\x4d\x3c\xb2\xa1", b"\xa1\xb2\x3c\x4d")
 VLAN = (b"\x81\x00", b"\x88\xa8")
 # The codes of a header's second and third bytes.
 REPLY = 0x80
@@ -211,9 +217,8 @@ def transported(packet):
     return kind, source, target, rest[8:] if kind == UDP else rest[(rest[12] >> 4) * 4 :]
 
 
-def captured(content, port, has_losses):
-    """The events of a capture."""
-    events, replied = [], set()
+def exchanged(content, port):
+    """The messages of a capture from and to a port: the moment, the transport, the two ends, and the bytes of each."""
     for moment, packet in packets(content):
         found = transported(packet)
         if not found:
@@ -222,8 +227,14 @@ def captured(content, port, has_losses):
         if kind == TCP:
             # A message is preceded by its length (RFC 1035 section 4.2.2).
             message = message[2:] if len(message) > 2 and int.from_bytes(message[:2], "big") == len(message) - 2 else b""
-        if len(message) < 12 or port not in (source[1], target[1]):
-            continue
+        if len(message) >= 12 and port in (source[1], target[1]):
+            yield moment, kind, source, target, message
+
+
+def captured(content, port, has_losses):
+    """The events of a capture."""
+    events, replied = [], set()
+    for moment, kind, source, target, message in exchanged(content, port):
         is_reply = bool(message[2] & REPLY)
         try:
             words, key = message_words(message)
@@ -236,6 +247,80 @@ def captured(content, port, has_losses):
     if has_losses:
         events = [it if it.key is None or it.key in replied else it._replace(words=f"{it.words} ; quiet") for it in events]
     return events
+
+
+class Exchange(NamedTuple):
+    """A request of a capture, and the reply to it, if one came."""
+
+    moment: float
+    transport: int
+    peer: tuple
+    request: bytes
+    reply: Optional[bytes]
+
+
+def exchanges(content, port):
+    """The requests of a capture, with the first reply to each."""
+    found, places = [], {}
+    for moment, kind, source, target, message in exchanged(content, port):
+        is_reply = bool(message[2] & REPLY)
+        if not is_reply and target[1] == port:
+            places[source, message[:2]] = len(found)
+            found.append(Exchange(moment, kind, source, message, None))
+        elif is_reply and (target, message[:2]) in places:
+            at = places.pop((target, message[:2]))
+            found[at] = found[at]._replace(reply=message)
+    return found
+
+
+CODES = "NoError FormErr ServFail NXDomain NotImp Refused YXDomain YXRRSet NXRRSet NotAuth NotZone".split()
+FLAGS = {0x400: "aa", 0x200: "tc", 0x100: "rd", 0x80: "ra", 0x20: "ad", 0x10: "cd"}
+OPT, TSIG = 41, 250
+
+
+def reply_lines(message):
+    """What `nameserver --replay` prints of a reply after the line of its request, or nothing if some data has no text here."""
+    reader = Reader(message)
+    reader.take(2)
+    flags, counts = reader.number(2), [reader.number(2) for _ in range(4)]
+    code = flags & 15
+    names = [name for bit, name in FLAGS.items() if flags & bit]
+    lines = [" ".join([CODES[code] if code < len(CODES) else f"CODE{code}", *names])]
+    for _ in range(counts[0]):
+        name, rtype, _rclass = name_text(reader.name()), reader.number(2), reader.number(2)
+        lines.append(f"  question {name} {type_text(rtype)}")
+    last = []
+    for section, count in zip(("answer", "authority", "additional"), counts[1:]):
+        for _ in range(count):
+            owner, rtype, rclass, ttl, data = reader.record()
+            if rtype == OPT:
+                last.append(f"  edns size={rclass}{' do' if ttl & 0x8000 else ''}")
+            elif rtype == TSIG:
+                last.append("  signed")
+            elif data is None:
+                return None
+            else:
+                lines.append(f"  {section} {owner} {ttl} IN {type_text(rtype)} {data}")
+    return lines + last
+
+
+def replay_lines(found):
+    """The lines of a script for `nameserver --replay`."""
+    start = found[0].moment
+    yield f"# To answer them: server at {int(start)} ZONE.."
+    for it in found:
+        host = str(ipaddress.ip_address(it.peer[0]))
+        peer = f"[{host}]:{it.peer[1]}" if ":" in host else f"{host}:{it.peer[1]}"
+        with contextlib.suppress(Unreadable, ValueError):
+            yield from (f"# {words}" for words in message_words(it.request)[0])
+        line = f"{int((it.moment - start) * 1000)} {peer} {'udp' if it.transport == UDP else 'tcp'} message {it.request.hex()}"
+        yield line
+        lines = None
+        with contextlib.suppress(Unreadable, ValueError):
+            lines = reply_lines(it.reply) if it.reply else None
+        if lines:
+            yield f"#> {line}: {lines[0]}"
+            yield from (f"#> {rest}" for rest in lines[1:])
 
 
 def listed(line, former):
@@ -286,7 +371,7 @@ def full(name):
 
 def events_of(content, given):
     """The events of a file."""
-    if content[:4] in (b"\xd4\xc3\xb2\xa1", b"\xa1\xb2\xc3\xd4", b"\x4d\x3c\xb2\xa1", b"\xa1\xb2\x3c\x4d"):
+    if content[:4] in CAPTURES:
         return captured(content, given.port, given.losses)
     if content[:4] == b"\x0a\x0d\x0d\x0a":
         raise Unreadable("it is pcapng: convert it by tcpdump -r FILE -w FILE.pcap")
@@ -302,6 +387,13 @@ def events_of(content, given):
     return events
 
 
+def exchanges_of(content, given):
+    """The exchanges of a capture."""
+    if content[:4] not in CAPTURES:
+        raise Unreadable("it is no capture: --replay takes captures alone")
+    return exchanges(content, given.port)
+
+
 def script_lines(events):
     """The lines of a script, in the order of the moments."""
     events = sorted(events, key=lambda it: it.moment)
@@ -315,14 +407,16 @@ def script_lines(events):
 def main():
     parser = argparse.ArgumentParser(description=__doc__, formatter_class=argparse.RawDescriptionHelpFormatter)
     parser.add_argument("--port", type=int, default=53)
-    parser.add_argument("--losses", action="store_true")
+    kinds = parser.add_mutually_exclusive_group()
+    kinds.add_argument("--losses", action="store_true")
+    kinds.add_argument("--replay", action="store_true")
     parser.add_argument("files", nargs="*", metavar="FILE")
     given = parser.parse_args()
     events = []
     for file in given.files or ["-"]:
         try:
             content = sys.stdin.buffer.read() if file == "-" else open(file, "rb").read()
-            events += events_of(content, given)
+            events += exchanges_of(content, given) if given.replay else events_of(content, given)
         except (Unreadable, OSError) as error:
             print(f"capture_to_script: {file}: {getattr(error, 'strerror', None) or error}", file=sys.stderr)
             return 1
@@ -330,7 +424,8 @@ def main():
         files = ", ".join(given.files or ["-"])
         print(f"capture_to_script: {files}: there is no question to port {given.port}, see --port", file=sys.stderr)
         return 1
-    print("".join(f"{it}\n" for it in script_lines(events)), end="")
+    lines = replay_lines(events) if given.replay else script_lines(events)
+    print("".join(f"{it}\n" for it in lines), end="")
     return 0
 
 

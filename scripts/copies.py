@@ -5,7 +5,7 @@ import shutil
 import tempfile
 from pathlib import Path
 
-from crates import lines_of, parts_of
+from crates import folder_of, is_harness, lines_of, parts_of
 from processes import start_apart
 
 # What commands leave in a crate, and what they try on copies of it.
@@ -15,11 +15,14 @@ LEFT_OUT = ("out", "must-fail", "wrong-bodies")
 def copy_crates(root, names, to, parts=None):
     """Copies these parts of crates, or all that is no trial of a wrong body, to a repository of their own."""
     for name in names:
-        folder = Path(root, "crates", name)
+        folder = folder_of(root, name)
         for it in sorted(folder.iterdir()):
             if it.name in parts if parts else it.name not in LEFT_OUT:
                 (to / "crates" / name).mkdir(parents=True, exist_ok=True)
                 (shutil.copytree if it.is_dir() else shutil.copyfile)(it, to / "crates" / name / it.name)
+        if is_harness(root, name):
+            for it in (to / "crates" / name).rglob("*.rattle"):
+                it.rename(it.with_suffix(".rt"))
     lines = [it for it in lines_of(root) if parts_of(it)[0] in names]
     (to / "crates.txt").write_text("".join(f"{it}\n" for it in lines), encoding="utf-8")
     shutil.copyfile(Path(root, "HANDLES"), to / "HANDLES")

@@ -1,5 +1,12 @@
-"""The crates of crates.txt, and the libraries that each uses."""
+"""The crates of crates.txt, and the libraries that each uses.
+
+The folder check/harness has programs that measure and try the libraries, and are no part of what is proved: its file programs.txt has their
+lines, and their sources have the ending `.rattle`, so that the prover does not look for the crates that they belong to. A copy of such a
+program has the ending of the others.
+"""
 from pathlib import Path
+
+HARNESS = Path("check", "harness")
 
 
 def read_crates(root):
@@ -8,10 +15,21 @@ def read_crates(root):
 
 
 def lines_of(root):
-    """The lines that name a crate, without comments."""
-    text = Path(root, "crates.txt").read_text(encoding="utf-8")
-    lines = [it.partition("#")[0].strip() for it in text.splitlines()]
+    """The lines that name a crate, without comments: those of the repository, and those of check/harness."""
+    files = [Path(root, "crates.txt"), Path(root, HARNESS, "programs.txt")]
+    texts = [it.read_text(encoding="utf-8") for it in files if it.is_file()]
+    lines = [it.partition("#")[0].strip() for text in texts for it in text.splitlines()]
     return [it for it in lines if ":" in it]
+
+
+def is_harness(root, name):
+    """Whether a program is one of check/harness."""
+    return Path(root, HARNESS, name).is_dir()
+
+
+def folder_of(root, name):
+    """The folder of a crate."""
+    return Path(root, HARNESS, name) if is_harness(root, name) else Path(root, "crates", name)
 
 
 def parts_of(line):

@@ -3,7 +3,7 @@ import hashlib
 import os
 from pathlib import Path
 
-from crates import in_order, lines_of, parts_of, read_crates
+from crates import folder_of, in_order, is_harness, lines_of, parts_of, read_crates
 
 # The programs that have a front at the top of the repository, which are those that `./install` installs.
 PROGRAMS = ("lookup", "nameserver", "zonecheck", "stub")
@@ -22,7 +22,7 @@ def checksum(root, name, parts):
             found.update(f"{line}\n".encode())
     for crate in sorted(crates):
         for part in parts:
-            add_folder(found, os.path.join(root, "crates"), f"{crate}/{part}")
+            add_folder(found, os.fspath(folder_of(root, crate).parent), f"{crate}/{part}")
     return found.hexdigest()
 
 
@@ -33,8 +33,10 @@ def add_folder(found, top, below):
         path = os.path.join(folder, name)
         if os.path.isdir(path):
             add_folder(found, top, f"{below}/{name}")
-        elif name.endswith((".rt", ".antt")):
+        elif name.endswith((".rt", ".antt", ".rattle")):
             content = read_bytes(path)
+            # A copy of a program of check/harness has the ending of the others, and the same checksum.
+            name = name.replace(".rattle", ".rt")
             found.update(f"{below}/{name} {len(content)}\n".encode(errors="surrogateescape") + content)
 
 
@@ -46,7 +48,8 @@ def read_bytes(path):
 
 def is_program(root, name):
     """Whether crates.txt names this program."""
-    return name in read_crates(root) and Path(root, "crates", name, "src", "main.rt").is_file()
+    main = "main.rattle" if is_harness(root, name) else "main.rt"
+    return name in read_crates(root) and (folder_of(root, name) / "src" / main).is_file()
 
 
 def kept_build(root, name):
@@ -56,7 +59,7 @@ def kept_build(root, name):
 
 def proved_place(root, name):
     """Where `./prove` leaves a program."""
-    return Path(root, "crates", name, "out", name)
+    return folder_of(root, name) / "out" / name
 
 
 def proved_program(root, name):

@@ -1,6 +1,7 @@
 """The parts of check/durable."""
 from collections import namedtuple
 
+from damaged import compacted, damaged, together
 from keys import grants, keys, modes
 from kills import damage, disk, kills
 from mutations import mutations
@@ -16,6 +17,9 @@ PARTS = {
     "modes": modes,
     "mutations": mutations,
     "damage": damage,
+    "damaged": damaged,
+    "together": together,
+    "compacted": compacted,
     "disk": disk,
     "kills": kills,
     "torn": torn,

@@ -141,39 +141,40 @@ def kills(given):
 
 
 def damage(given):
-    """Flips a bit in each byte of a journal."""
+    """Flips a bit in each byte of a journal, with the record of its end and without."""
     chosen = random.Random()
-    refused = served = 0
+    refused = 0
     with tempfile.TemporaryDirectory() as name:
         folder = Path(name)
         (folder / "zone").write_text(ZONE)
-        server = Server(given.program, folder)
+        # Each update is one entry, and all have the same length.
+        server = Server(given.program, folder, "--keep-serials")
         for number in range(4):
             server.add(number, f"n{number}.example.")
         server.kill()
         whole = (folder / "journal").read_bytes()
-        entry = (len(whole) - 40) // 4
-        for place in range(len(whole)):
+        entry = (len(whole) - 64) // 4
+        # All of it is in the first block of a disk, so its bytes alone tell damage to the last entry, too.
+        record = (folder / "journal.end").read_bytes()
+        for place in range(2 * len(whole)):
+            place, has_record = place // 2, place % 2 == 0
             bytes_ = bytearray(whole)
             bytes_[place] ^= 1 << chosen.randrange(8)
             (folder / "journal").write_bytes(bytes_)
-            in_last = place >= len(whole) - entry
+            (folder / "journal.end").write_bytes(record if has_record else b"")
+            wanted = f"byte {64 + (place - 64) // entry * entry}" if place >= 64 else "not a journal, or its header is damaged"
             try:
                 server = Server(given.program, folder)
             except Refused as error:
                 refused += 1
-                if in_last:
-                    yield f"byte {place}: the end of the journal is refused: {error}"
-                elif place >= 40 and f"byte {40 + (place - 40) // entry * entry}" not in str(error):
+                if wanted not in str(error):
                     yield f"byte {place}: refused without its place: {error}"
+                if (folder / "journal").read_bytes() != bytes_:
+                    yield f"byte {place}: refused, and the journal is changed"
                 continue
-            served += 1
-            if not in_last:
-                yield f"byte {place}: served though the journal is damaged"
-            if not server.has("n2.example.") or server.has("n3.example."):
-                yield f"byte {place}: the updates before the end are not served"
+            yield f"byte {place}: served though the journal is damaged"
             server.kill()
-    print(f"  {refused} refused, {served} cut off at their end")
+    print(f"  {refused} refused")
 
 
 def disk(given):

@@ -1,9 +1,10 @@
 """A crash that tears and drops what was not synchronized yet.
 
 A server is run under strace, so that each of its calls on the zone file and its journal is known, and each reply that it sent. At a random
-call the crash is made: the files are what the calls before it made of them, but for what was not synchronized. Bytes that were appended
-since the last synchronization are there in part, as other bytes, or not at all; what was cut off since then may be back; a rename that the
-folder has not kept yet may be undone. A server that is started on these files has all updates that were acknowledged by then."""
+call the crash is made: the files are what the calls before it made of them, but for what was not synchronized. Of bytes that were appended
+since the last synchronization, each block is there or has zeros, and those after the first, and after the first 28 bytes, may have other
+bytes; the file may end anywhere in them. What was cut off since then may be back; a rename that the folder has not kept yet may be undone.
+A server that is started on these files has all updates that were acknowledged by then."""
 import os
 import random
 import re
@@ -16,6 +17,8 @@ from kills import Load, whole_zone_fault
 from servers import ZONE, Refused, Server
 
 CALLS = "openat,close,write,pwrite64,writev,fsync,fdatasync,ftruncate,rename,renameat,renameat2,sendto"
+# What a disk writes whole or not at all, and the front of an entry of a journal, in bytes.
+BLOCK, FRAME = 512, 28
 CALL = re.compile(r"^(?:\d+\s+)?(\w+)\((.*)\)\s+= (-?\d+)")
 
 
@@ -45,12 +48,14 @@ class File:
         if front == len(longest):
             return self.content
         tail = bytearray(longest[front : chosen.randint(front, len(longest))])
+        in_block = BLOCK - front % BLOCK
+        free = max(in_block, FRAME)
         way = chosen.randrange(4)
-        if way == 1 and tail:
+        if way == 1 and len(tail) > free:
             for _ in range(chosen.randint(1, 3)):
-                tail[chosen.randrange(len(tail))] = chosen.randrange(256)
+                tail[chosen.randrange(free, len(tail))] = chosen.randrange(256)
         elif way == 2 and tail:
-            cut = chosen.randrange(len(tail))
+            cut = chosen.choice([0, *range(in_block, len(tail), BLOCK)])
             tail[cut:] = bytes(len(tail) - cut)
         elif way == 3:
             tail = bytearray()
@@ -108,6 +113,9 @@ class Model:
         """Takes a call on a file."""
         if call == "write":
             file.content += bytes_of(words)[:value]
+        elif call == "pwrite64":
+            place, written = int(words.rsplit(",", 1)[1]), bytes_of(words)[:value]
+            file.content = file.content[:place] + written + file.content[place + len(written) :]
         elif call in ("fsync", "fdatasync"):
             file.safe = file.content
         elif call == "ftruncate":

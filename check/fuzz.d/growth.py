@@ -18,7 +18,7 @@ LABELS = "names have more labels, too, up to 108"
 @dataclass
 class Case:
     title: str
-    # the size n, and the files of the program `stub` or the input of a reader of the program `hostile` at a size
+    # the size n, and the files of the program `stub` or the input of a reader of the program `rows_layers` at a size
     size: int
     files: Callable[[int], dict[str, bytes]]
     reader: str = ""
@@ -226,7 +226,7 @@ def measured(stub: Path, hostile: Path | None, case: Case, factor: int, has_spac
     size = sum(map(len, files.values()))
     if case.reader:
         row = f"read {case.reader} hex {files['input'].hex()} > ?\n"
-        program, words, files = hostile, ["rows"], {"rows": (row * case.times).encode()}
+        program, words, files = hostile, ["hostile/rows"], {"hostile/rows": (row * case.times).encode()}
     else:
         program, words = stub, ["--zone", "zone", "--script", "script", "--hosts", "hosts"]
     best = min((run(program, words, files, LIMIT) for _ in range(2)), key=lambda it: it.seconds)

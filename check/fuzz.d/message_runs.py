@@ -1,4 +1,4 @@
-"""Random inputs for the program `hostile`, with the outcomes that the model of check/hostile.d has for them."""
+"""Random inputs for the program `rows_layers`, with the outcomes that the model of check/hostile.d has for them."""
 import random
 from collections import Counter
 from pathlib import Path
@@ -46,7 +46,7 @@ def fuzz(program: Path, rng: random.Random, inputs: dict[str, list[bytes]], coun
         answer = part_text("whole", counted(READERS[reader][0], iter([data])))
         rows.append(f"read {reader} hex {data.hex() or '-'} > {answer}")
         counts[reader] += 1
-    found = run(program, ["random.rows"], {"random.rows": "\n".join(rows).encode()}, SECONDS)
+    found = run(program, ["hostile/random.rows"], {"hostile/random.rows": "\n".join(rows).encode()}, SECONDS)
     if found.is_late:
         return f"it has not ended after {SECONDS} seconds", {"random.rows": "\n".join(rows).encode()}, []
     if found.status or found.err:

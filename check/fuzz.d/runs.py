@@ -32,6 +32,7 @@ def run(
     with tempfile.TemporaryDirectory() as name:
         folder = Path(name)
         for path, data in files.items():
+            (folder / path).parent.mkdir(exist_ok=True)
             (folder / path).write_bytes(data)
         with open(folder / ".out", "wb") as out, open(folder / ".err", "wb") as err:
             child = subprocess.Popen(

@@ -4,6 +4,7 @@ import resource
 from connections import try_idle, try_many_connections, try_streams, try_turns
 from datagrams import try_datagrams, try_responses, try_two_servers
 from dear import try_dear, try_full_disk
+from growth import try_growth
 from report import Report
 
 KINDS = {
@@ -16,6 +17,7 @@ KINDS = {
     "connections": try_many_connections,
     "dear": try_dear,
     "full-disk": try_full_disk,
+    "growth": try_growth,
 }
 # How many files this program may have open: a socket for each connection.
 FILES = 4096

@@ -100,6 +100,34 @@ def try_arguments(report: Report, program: str) -> None:
             report.check("an address that is taken", (1, "", True), (status, output, bool(errors)))
 
 
+def try_without_effect(report: Report, program: str) -> None:
+    """Rules for names that no zone has are told; grants for such names, key files without keys, and two keys of one name are refused."""
+    words = ["zone", "--faults", "faults", "--listen", "127.0.0.1:0", "--until-stdin-closes"]
+    rules = "www A drop\n*.u A drop\n. A drop\nWWW.T. A drop\n*.a.t A drop\n*.t A drop\n* A drop\n"
+    status, _, errors = run(program, {"zone": ZONE, "faults": rules}, words)
+    said = [
+        "faults:1: no zone here has www.: write the whole name, as www.t.",
+        "faults:2: no zone here has *.u.: write the whole name, as *.u.t.",
+        "faults:3: no zone here has .",
+    ]
+    report.check("rules for names that no zone has", (0, said), (status, errors.splitlines()[1:]))
+    status, _, errors = run(program, {"zone": ". 60 IN SOA ns. h. 1 3600 600 86400 30\n", "faults": "www A drop\n"}, words)
+    report.check("a rule for a name below the root", (0, 1), (status, len(errors.splitlines())))
+    key = 'key "k" { algorithm hmac-sha256; secret "AAAA"; };\n'
+    files = {"zone": ZONE, "k": key, "other": key.replace('"k"', "K."), "none": "// no key\n"}
+    tries = [
+        (["--key", "none"], 1, "none: there is no key in this file"),
+        (["--key", "k", "--key", "other"], 1, "other: another key has the same name"),
+        (["--key", "k", "--grant", "k. t.u."], 2, "nameserver: invalid value 'k. t.u.' for '--grant': no zone here has this name"),
+        (["--key", "k", "--grant", "k. a.t. A"], 0, None),
+        (["--key", "k", "--grant", "k. ."], 0, None),
+    ]
+    for more, wanted, line in tries:
+        status, _, errors = run(program, files, ["zone", *more, "--listen", "127.0.0.1:0", "--until-stdin-closes"])
+        lines = [it for it in errors.splitlines() if ": zone t., " not in it and "other users may read" not in it]
+        report.check(f"{more}", (wanted, [line] if line else []), (status, lines))
+
+
 def try_faulty_zones(report: Report, program: str) -> None:
     """A faulty zone file is refused with its name, its line and a reason, before anything is served."""
     for text, line, words in FAULTY:
@@ -314,7 +342,7 @@ def inside(program: str) -> list:
 
 def try_program(report: Report, program: str, _missing: List[str]) -> None:
     for title, work in (
-        ("arguments", try_arguments), ("faulty zone files", try_faulty_zones), ("loading", try_loading), ("endings", try_endings),
+        ("arguments", try_arguments), ("what has no effect", try_without_effect), ("faulty zone files", try_faulty_zones), ("loading", try_loading), ("endings", try_endings),
         ("the log", try_log), ("who may update", try_permissions),
     ):  # fmt: skip
         report.begin()

@@ -20,11 +20,13 @@ The program is the argument `program`, or else the environment variable `NAMESER
 checkout that this file is in, or else `nameserver` on the PATH. It listens on a free port of 127.0.0.1, and ends with the
 `with` block. It also ends with the process of the test, however that ends, since its standard input then does.
 """
+import functools
 import json
 import os
 import select
 import shutil
 import subprocess
+import sys
 import tempfile
 import time
 from pathlib import Path
@@ -100,15 +102,17 @@ class NameServer:
         if self.folder is None:
             self.folder = tempfile.mkdtemp(prefix="nameserver-")
         try:
-            self.process = subprocess.Popen(
-                self.words(),
-                stdin=subprocess.PIPE,
-                stdout=subprocess.PIPE,
-                stderr=open(self.path("stderr"), "wb"),
-                close_fds=True,
-            )
+            with open(self.path("stderr"), "wb") as errors:
+                self.process = subprocess.Popen(
+                    self.words(),
+                    stdin=subprocess.PIPE,
+                    stdout=subprocess.PIPE,
+                    stderr=errors,
+                    close_fds=True,
+                )
             end = time.monotonic() + self.seconds
-            self.addresses = [self.wait_for_address(end) for _ in range(1 + self.options.count("--listen"))]
+            listening = [it for it in self.options if it == "--listen" or it.startswith("--listen=")]
+            self.addresses = [self.wait_for_address(end) for _ in range(1 + len(listening))]
             self.address, self.port = self.addresses[0]
         except BaseException:
             self.stop()
@@ -210,7 +214,19 @@ def find_program(given=None):
     found = given or os.environ.get("NAMESERVER") or (front if os.access(front, os.X_OK) else shutil.which("nameserver"))
     if not found:
         raise NameServerError("no nameserver: pass `program`, or set NAMESERVER, or copy it to the PATH")
-    return os.fspath(found), COMPILE_LIMIT if is_front(found) else START_LIMIT
+    if is_front(found):
+        # A front compares the sources with its build at each start, so that it is asked for the build once.
+        built = build_of(os.fspath(found))
+        return (built, START_LIMIT) if built else (os.fspath(found), COMPILE_LIMIT)
+    return os.fspath(found), START_LIMIT
+
+
+@functools.lru_cache(maxsize=None)
+def build_of(front):
+    """The build that a front starts, which is compiled if it is not there, or None if the front does not say."""
+    script = Path(front).resolve().parent / "scripts" / "find_build.py"
+    done = subprocess.run([sys.executable, os.fspath(script), "nameserver"], stdin=subprocess.DEVNULL, stdout=subprocess.PIPE)
+    return None if done.returncode else os.fsdecode(done.stdout.rstrip(b"\n"))
 
 
 def is_front(program):

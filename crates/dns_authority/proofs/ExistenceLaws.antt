@@ -21,7 +21,6 @@ use Rattle.dns_authority.specs.declared.step.Step.TheVariants.{End, Links}
 use Rattle.dns_authority.specs.Asked.{asked_rows}
 use Rattle.dns_authority.specs.Step.{negative, positive, redirect, redirected, referral, refusal, step, step_at, step_below, step_by, step_in, step_to, step_with, zone_for}
 use Rattle.dns_authority.specs.Answer.{after_records, after_step, answer_at, authority_answer, is_unanswered, rest_at}
-use Rattle.dns_authority.specs.Additional.{with_additionals}
 use Rattle.dns_authority.specs.Existence.{DoesNotExist, Leads, LeadsNowhere}
 use Rattle.dns_authority.specs.Existence.Leads.{here, along}
 
@@ -143,7 +142,7 @@ fails_nowhere any zones q e = by (is_unanswered q.query_type) (not (class_number
     asked : Asked
     asked = record { record_type = q.query_type; any = any }
 
-    by : (a b : Bool) → (cond a (refusal NotImp) (cond b (refusal Refused) (with_additionals zones (answer_at max_aliases zones asked q.name)))).code ≡ NXDomain
+    by : (a b : Bool) → (cond a (refusal NotImp) (cond b (refusal Refused) (answer_at max_aliases zones asked q.name))).code ≡ NXDomain
         → LeadsNowhere max_aliases zones asked q.name
     by true b e = absurd (cc)
     by false true e = absurd (cc)
@@ -152,8 +151,8 @@ fails_nowhere any zones q e = by (is_unanswered q.query_type) (not (class_number
 pub nowhere_fails : (any : AnyAnswer) (zones : List ZoneContent) (q : Query) → is_unanswered q.query_type ≡ false → class_number q.query_class ≡ 1
     → LeadsNowhere max_aliases zones (record { record_type = q.query_type; any = any }) q.name → (authority_answer any zones q).code ≡ NXDomain
 nowhere_fails any zones q answered in_class n =
-    ap (λ (b : Bool). (cond b (refusal NotImp) (cond (not (class_number q.query_class == 1)) (refusal Refused) (with_additionals zones (answer_at max_aliases zones asked q.name)))).code) answered
-    ∙ ap (λ (k : ℕ). (cond (not (k == 1)) (refusal Refused) (with_additionals zones (answer_at max_aliases zones asked q.name))).code) in_class
+    ap (λ (b : Bool). (cond b (refusal NotImp) (cond (not (class_number q.query_class == 1)) (refusal Refused) (answer_at max_aliases zones asked q.name))).code) answered
+    ∙ ap (λ (k : ℕ). (cond (not (k == 1)) (refusal Refused) (answer_at max_aliases zones asked q.name)).code) in_class
     ∙ leads_to zones asked n.count max_aliases q.name n.end n.few n.leads n.fails
   where
     asked : Asked

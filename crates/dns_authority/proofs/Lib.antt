@@ -1,3 +1,5 @@
+mod FrontLaws
+mod AlikeLaws
 pub mod AdditionalLaws
 pub mod AskedLaws
 pub mod OrderLaws
@@ -9,3 +11,4 @@ pub mod OriginLaws
 pub mod PlainLaws
 pub mod SourceLaws
 pub mod StepLaws
+pub mod SetIndexLaws

@@ -1,5 +1,5 @@
 -- Where the records of an answer come from.
-use Rattle.std.proofs.Common.{◌≡◌, ◌+◌, ◌==◌, Bool, true, false, ◌||◌, not, cond, ℕ, zero, suc, List, [], ◌∷◌, ◌++◌, map, refl, sym, subst, arith, Option, Some, None}
+use Rattle.std.proofs.Common.{◌≡◌, ◌==◌, Bool, true, false, ◌||◌, not, cond, ℕ, zero, suc, List, [], ◌∷◌, ◌++◌, map, refl, sym, subst, arith, Option, Some, None}
 use Rattle.std.specs.List.{AllByRecursion, Contains, flat_map}
 use Rattle.std.proofs.lemmas.List.{map-append}
 use Rattle.dns_codes.specs.RecordType.{type_of}
@@ -243,7 +243,7 @@ records_come any zones q = by (is_unanswered q.query_type) (not (class_number q.
     asked : Asked
     asked = record { record_type = q.query_type; any = any }
 
-    by : (a b : Bool) → ComesFrom zones (cond a (refusal NotImp) (cond b (refusal Refused) (with_additionals zones (answer_at max_aliases zones asked q.name))))
+    by : (a b : Bool) → ComesFrom zones (with_additionals zones (cond a (refusal NotImp) (cond b (refusal Refused) (answer_at max_aliases zones asked q.name))))
     by true b = refusal_comes zones NotImp
     by false true = refusal_comes zones Refused
     by false false = whole_comes zones (answer_at max_aliases zones asked q.name) (along_comes zones asked max_aliases q.name)

@@ -1,17 +1,15 @@
 -- Answers from a plain zone are the zone's own.
 use Rattle.std.proofs.Common.{◌≡◌, ◌==◌, Bool, true, false, ◌&&◌, ◌||◌, not, cond, ℕ, zero, suc, List, [], ◌∷◌, length, map, refl, sym, ap, ◌∙◌, Option, Some, None}
-use Rattle.std.specs.Prelude.{is_some, unwrap_or, option_map, position}
+use Rattle.std.specs.Prelude.{is_some, option_map, position}
 use Rattle.std.specs.Option.{option_or}
 use Rattle.std.specs.List.{find}
-use Rattle.std.specs.FinMap as rows_map
-use Rattle.std.specs.Ordering.{eq_by_cmp}
 use Rattle.dns_codes.specs.RecordType.{type_number}
 use Rattle.dns_codes.specs.DNSClass.{class_number}
 use Rattle.dns_codes.specs.declared.record_type.RecordType.{RecordType}
 use Rattle.dns_codes.specs.declared.record_type.RecordType.TheVariants as types
 use Rattle.dns_names.specs.Name.{DomainName}
 use Rattle.dns_names.specs.Build.{base_name}
-use Rattle.dns_names.specs.Compare.{at_or_below, lower, same_labels}
+use Rattle.dns_names.specs.Compare.{at_or_below, same_labels}
 use Rattle.dns_text.specs.Usage.{is_loopback, is_nonexistent}
 use Rattle.dns_data.specs.declared.rdata.RData.{RData}
 use Rattle.dns_data.specs.declared.rdata.RData.TheVariants as of
@@ -19,15 +17,13 @@ use Rattle.dns_messages.specs.declared.query.Query.{Query}
 use Rattle.dns_messages.specs.declared.response_code.ResponseCode.TheVariants.{NoError, NXDomain, NotImp, Refused}
 use Rattle.dns_records.specs.Record.{Record}
 use Rattle.dns_records.specs.declared.row.Row.{Row}
-use Rattle.dns_updates.proofs.ChangeLaws.{same_itself}
-use Rattle.dns_updates.proofs.UpdateLaws.Kept.{any_weaker}
-use Rattle.dns_updates.proofs.UpdateLaws.Maps.{same_key}
 use Rattle.dns_zone.specs.declared.zone.answer.Answer.{Answer}
-use Rattle.dns_zone.specs.Rows.{Key, Rows, ZoneContent, key, key_cmp, rows_at, some_row_below}
+use Rattle.dns_zone.specs.Rows.{ZoneContent, rows_at, some_row_below}
 use Rattle.dns_zone.specs.Answer as own
 use Rattle.dns_zone.specs.Answer.{answer_at as own_answer_at, authority, is_no_row_type, max_aliases, record_of}
 use Rattle.dns_server.specs.Zones.{closest, is_at}
 use Rattle.dns_lookup_steps.specs.Barrier.{barrier, cut_at, has_rows, is_barrier, is_ds, names_above}
+use Rattle.dns_lookup_steps.proofs.ExistenceLaws.{absent_rows}
 use Rattle.dns_lookup_steps.specs.Wildcard.{answering_name, closest_encloser, if_exists, source_of_synthesis, wildcard_below}
 use Rattle.dns_authority.specs.declared.answer.AuthorityAnswer.{AuthorityAnswer}
 use Rattle.dns_authority.specs.declared.asked.AnyAnswer.{AnyAnswer}
@@ -37,28 +33,7 @@ use Rattle.dns_authority.specs.declared.step.Step.TheVariants.{End}
 use Rattle.dns_authority.specs.Asked.{any_rows, asked_rows, is_any}
 use Rattle.dns_authority.specs.Step.{alias_target, closest_zone, followed, negative, positive, refusal, step, step_at, step_by, step_in, step_with, zone_at, zone_for}
 use Rattle.dns_authority.specs.Answer.{after_records, after_step, answer_at, authority_answer, rest_at}
-use Rattle.dns_authority.specs.Additional.{with_additionals}
 use Rattle.dns_authority.specs.Plain.{IsPlain, zone_answer}
-
--- ---- names that do not exist
-
-below_itself : (labels : List (List ℕ)) → at_or_below labels (lower labels) ≡ true
-below_itself [] = refl
-below_itself (l ∷ ls) = ap (λ (b : Bool). b || at_or_below (l ∷ ls) (lower ls)) (same_itself (l ∷ ls) types.A)
-
-none_there : (o : Option (List Row)) → is_some o ≡ false → unwrap_or o [] ≡ []
-none_there None e = refl
-none_there (Some rows) e = absurd (cc)
-
--- a name that does not exist has no rows
-pub absent_rows : (rows : Rows) (labels : List (List ℕ)) (t : RecordType) → some_row_below rows labels ≡ false → rows_at rows labels t ≡ []
-absent_rows rows labels t none =
-    none_there (rows_map.get rows (key labels t))
-    (rows_map.contains_key-keys rows (key labels t)
-    ∙ any_weaker (λ (k : Key). at_or_below labels k.0) (eq_by_cmp key_cmp (key labels t)) here (rows_map.keys rows) none)
-  where
-    here : (x : Key) → eq_by_cmp key_cmp (key labels t) x ≡ true → at_or_below labels x.0 ≡ true
-    here x tie = ap (λ (q : Key). at_or_below labels q.0) (sym (same_key (key labels t) x tie)) ∙ below_itself labels
 
 find_none : {X : Type 0} (p : X → Bool) → ((x : X) → p x ≡ false) → (xs : List X) → find p xs ≡ None
 find_none p h [] = refl
@@ -281,10 +256,10 @@ plain_zones any zone q plain not_any =
     asked = record { record_type = q.query_type; any = any }
 
     in_class : AuthorityAnswer
-    in_class = cond (not (class_number q.query_class == 1)) (refusal Refused) (with_additionals (zone ∷ []) (answer_at max_aliases (zone ∷ []) asked q.name))
+    in_class = cond (not (class_number q.query_class == 1)) (refusal Refused) (answer_at max_aliases (zone ∷ []) asked q.name)
 
     by : (c1 c2 c3 : Bool) → at_or_below zone.origin.labels q.name.labels ≡ c3
-        → zone_answer (cond c1 (refusal NotImp) (cond (not c2) (refusal Refused) (with_additionals (zone ∷ []) (answer_at max_aliases (zone ∷ []) asked q.name))))
+        → zone_answer (cond c1 (refusal NotImp) (cond (not c2) (refusal Refused) (answer_at max_aliases (zone ∷ []) asked q.name)))
         ≡ cond c1 (own.bare NotImp) (cond (not c2 || not c3) (own.bare Refused) (own_answer_at max_aliases zone q.query_type q.name))
     by true c2 c3 e = refl
     by false false c3 e = refl

@@ -21,7 +21,7 @@ use Rattle.dns_authority.specs.declared.step.Step.{Step}
 use Rattle.dns_authority.specs.declared.step.Step.TheVariants.{End}
 use Rattle.dns_authority.specs.Asked.{any_numbers, any_rows, asked_rows, first_filled, is_any, rows_by_number}
 use Rattle.dns_authority.specs.Step.{negative, referral, step_at, step_below, step_by, step_from, step_over, step_with}
-use Rattle.dns_authority.proofs.PlainLaws.{absent_rows}
+use Rattle.dns_lookup_steps.proofs.ExistenceLaws.{absent_rows}
 
 -- ---- a name that does not exist has none of the rows that are asked for
 

@@ -26,10 +26,13 @@ host_of (of.MX mx) = Some mx.exchange
 host_of (of.SRV srv) = Some srv.target
 host_of other = None
 
+-- whether a record has this name, ignoring ASCII case, and type
+abbrev pub is_of_set : DomainName → RecordType → Record → Bool
+is_of_set name t r = same_labels name.labels r.name.labels && (type_number (data_type r.rdata) == type_number t)
+
 -- whether a section has records of a name and a type
 abbrev pub has_set : List Record → DomainName → RecordType → Bool
-has_set records name t =
-    list_any (λ r. same_labels name.labels r.name.labels && (type_number (data_type r.rdata) == type_number t)) records
+has_set records name t = list_any (is_of_set name t) records
 
 -- records and a further set, unless these or the answers have it
 abbrev pub with_set : List Record → List Record → DomainName → RecordType → List Row → List Record
@@ -82,10 +85,12 @@ abbrev pub rows_by : HostKind → List ZoneContent → DomainName → RecordType
 rows_by kinds.Glue zones host t = glue_rows zones host t
 rows_by kinds.Answer zones host t = host_rows zones host t
 
--- An answer with its additional section: glue, and then the addresses of the hosts that its answers name. Each set is there once,
--- and none that is among the answers.
+-- The additional section of an answer section and an authority section: glue, and then the addresses of the hosts that the answers
+-- name. Each set is there once, and none that is among the answers.
+abbrev pub additionals_of : List ZoneContent → List Record → List Record → List Record
+additionals_of zones answers authorities =
+    with_hosts (rows_by kinds.Answer zones) answers (with_hosts (rows_by kinds.Glue zones) answers [] authorities) answers
+
+-- an answer with its additional section
 abbrev pub with_additionals : List ZoneContent → AuthorityAnswer → AuthorityAnswer
-with_additionals zones a = record a {
-  additionals = with_hosts (rows_by kinds.Answer zones) a.answers
-      (with_hosts (rows_by kinds.Glue zones) a.answers [] a.authorities) a.answers;
-}
+with_additionals zones a = record a { additionals = additionals_of zones a.answers a.authorities }

@@ -42,10 +42,14 @@ answer_at (suc links) zones asked owner =
 abbrev pub is_unanswered : RecordType → Bool
 is_unanswered t = not (is_any t) && is_no_row_type (type_number t)
 
--- The answer to a question: the first case that applies. The owner of its first record is spelled like the name in the question,
--- and that of each other record like the target of the alias before it.
-abbrev pub authority_answer : AnyAnswer → List ZoneContent → Query → AuthorityAnswer
-authority_answer any zones q =
+-- the answer to a question without its additional section: the first case that applies
+abbrev pub bare_answer : AnyAnswer → List ZoneContent → Query → AuthorityAnswer
+bare_answer any zones q =
     if is_unanswered q.query_type then refusal NotImp
     else if not (class_number q.query_class == 1) then refusal Refused
-    else with_additionals zones (answer_at max_aliases zones (record { record_type = q.query_type; any = any }) q.name)
+    else answer_at max_aliases zones (record { record_type = q.query_type; any = any }) q.name
+
+-- The answer to a question. The owner of its first record is spelled like the name in the question, and that of each other record
+-- like the target of the alias before it.
+abbrev pub authority_answer : AnyAnswer → List ZoneContent → Query → AuthorityAnswer
+authority_answer any zones q = with_additionals zones (bare_answer any zones q)

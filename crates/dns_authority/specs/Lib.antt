@@ -1,7 +1,9 @@
 pub mod Asked
 pub mod Step
 pub mod Answer
+pub mod Front
 pub mod Additional
 pub mod Plain
 pub mod Origin
 pub mod Existence
+pub mod SetIndex

@@ -2,11 +2,12 @@
 
 ghost use Rattle.std.specs.Prelude.{◌≡◌, IfOk, option_copied};
 ghost use Rattle.dns_zone.specs.Rows.{rows_of};
-ghost use Rattle.dns_authority.specs.Additional.{has_set, host_of, rows_by, rows_without, with_additionals, with_host, with_host_of, with_hosts, with_set};
+ghost use Rattle.dns_authority.specs.Additional.{additionals_of, has_set, host_of, rows_by, rows_without, with_additionals, with_host, with_host_of, with_hosts, with_set};
 ghost use Rattle.dns_lookup_steps.specs.Barrier.{barrier};
 
 use crate::answer::AuthorityAnswer;
 use crate::copies::push_copies;
+use crate::section::Section;
 use crate::zones::closest_zone;
 use dns_data::RData;
 use dns_lookup_steps::barrier;
@@ -16,9 +17,12 @@ use dns_wire::RecordType;
 use dns_zone::Zone;
 use std::alloc::{AllocError, Global};
 
+/// The most records of a section whose sets are compared one by one.
+const FEW_RECORDS: usize = 16;
+
 /// Why the addresses of a host are added.
 #[derive(Clone, Copy, Debug, PartialEq, Eq)]
-enum HostKind {
+pub(crate) enum HostKind {
     /// The host is in a referral: its addresses may be below a zone cut.
     Glue,
     /// The host is in the answer section.
@@ -34,14 +38,48 @@ pub(crate) fn with_additionals(
     ensures { IfOk result (λ whole. whole ≡ with_additionals zones.now answer) }
 {
     let mut answer = answer;
-    answer.additionals = {
-        let answers = answer.answers.as_slice();
-        let authorities = answer.authorities.as_slice();
-        let none = Sequence::new(alloc);
-        let glue = with_hosts(alloc, zones, HostKind::Glue, answers, none, authorities)?;
-        with_hosts(alloc, zones, HostKind::Answer, answers, glue, answers)?
-    };
+    answer.additionals = additionals_of(
+        alloc,
+        zones,
+        answer.answers.as_slice(),
+        answer.authorities.as_slice(),
+    )?;
     Ok(answer)
+}
+
+/// Returns the additional section of an answer section and an authority section. The sets of a few records are compared one by one;
+/// those of more are found through an index, so that the time does not grow with the square of their number.
+fn additionals_of(
+    alloc: Global,
+    zones: &[Zone],
+    answers: &[Record],
+    authorities: &[Record],
+) -> Result<Sequence<Record>, AllocError>
+    ensures { IfOk result (λ records. records
+        ≡ additionals_of zones.now answers.now authorities.now) }
+{
+    if answers.len() > FEW_RECORDS || authorities.len() > FEW_RECORDS {
+        return indexed_additionals(alloc, zones, answers, authorities);
+    }
+    let none = Sequence::new(alloc);
+    let glue = with_hosts(alloc, zones, HostKind::Glue, answers, none, authorities)?;
+    with_hosts(alloc, zones, HostKind::Answer, answers, glue, answers)
+}
+
+/// Returns the same section, made with an index of its sets.
+fn indexed_additionals(
+    alloc: Global,
+    zones: &[Zone],
+    answers: &[Record],
+    authorities: &[Record],
+) -> Result<Sequence<Record>, AllocError>
+    ensures { IfOk result (λ records. records
+        ≡ additionals_of zones.now answers.now authorities.now) }
+{
+    let none = Section::new(alloc, answers)?;
+    let glue = none.with_hosts(alloc, zones, HostKind::Glue, authorities)?;
+    let all = glue.with_hosts(alloc, zones, HostKind::Answer, answers)?;
+    Ok(all.into_records())
 }
 
 /// Adds the addresses of the hosts that some records name.
@@ -82,7 +120,7 @@ fn with_host_of(
 }
 
 /// Returns the host that data names: that of an NS, an MX or an SRV record.
-fn host_of(rdata: &RData) -> Option<&Name>
+pub(crate) fn host_of(rdata: &RData) -> Option<&Name>
     ensures { option_copied result ≡ host_of rdata.now }
 {
     match rdata {
@@ -139,7 +177,7 @@ fn has_set(records: &[Record], name: &Name, record_type: RecordType) -> bool
 }
 
 /// Returns the records of a host and a type, in the closest zone: glue even below a zone cut.
-fn host_records<'a>(
+pub(crate) fn host_records<'a>(
     zones: &'a [Zone],
     kind: HostKind,
     host: &Name,

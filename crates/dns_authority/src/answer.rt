@@ -1,10 +1,11 @@
 //! Answers of an authoritative server.
 
-ghost use Rattle.std.specs.Prelude.{◌≡◌, IfOk};
+ghost use Rattle.std.specs.Prelude.{◌≡◌, take, IfOk};
 ghost use Rattle.dns_authority.specs.Answer.{after_records};
+ghost use Rattle.dns_authority.specs.Front.{answer_front, first_records};
 ghost use Rattle.dns_authority.specs.Step.{authoritative_answer, negative, referral, refusal};
 
-use crate::copies::{copies, joined, soa_copies};
+use crate::copies::{first_copies, joined, soa_copies};
 use dns_messages::ResponseCode;
 use dns_names::Name;
 use dns_records::{Record, Sequence};
@@ -70,15 +71,18 @@ impl AuthorityAnswer {
         Ok(AuthorityAnswer::authoritative(alloc, code, Sequence::new(alloc), authorities))
     }
 
-    /// Creates the referral at a zone cut (RFC 1034 section 4.2.1).
+    /// Creates the referral at a zone cut (RFC 1034 section 4.2.1), with the first `most` of its records.
     pub(crate) fn referral(
         alloc: Global,
+        most: usize,
         zone: &Zone,
         cut: &Name,
     ) -> Result<AuthorityAnswer, AllocError>
-        ensures { IfOk result (λ answer. answer ≡ referral zone.now cut.now) }
+        ensures { IfOk result (λ answer. answer_front most answer
+            ≡ answer_front most (referral zone.now cut.now)) }
     {
-        let authorities = copies(alloc, cut, zone.records_at(cut, RecordType::NS))?;
+        let stored = zone.records_at(cut, RecordType::NS);
+        let authorities = first_copies(alloc, most, cut, stored)?;
         let authoritative = false;
         Ok(AuthorityAnswer {
             code: ResponseCode::NoError,
@@ -111,4 +115,34 @@ impl AuthorityAnswer {
             additionals,
         })
     }
+
+    /// Drops all of the answers and the authority records after the first `most`.
+    pub(crate) fn into_first_records(self, most: usize) -> AuthorityAnswer
+        ensures { result ≡ first_records most self }
+    {
+        let AuthorityAnswer {
+            code,
+            authoritative,
+            answers,
+            authorities,
+            additionals,
+        } = self;
+        let left = most.saturating_sub(answers.len());
+        AuthorityAnswer {
+            code,
+            authoritative,
+            answers: first_of(answers, most),
+            authorities: first_of(authorities, left),
+            additionals,
+        }
+    }
+}
+
+/// Drops all records after the first `most`.
+fn first_of(records: Sequence<Record>, most: usize) -> Sequence<Record>
+    ensures { result ≡ take most records }
+{
+    let mut records = records.into_vec();
+    records.truncate(most);
+    Sequence::from_vec(records)
 }

@@ -1,12 +1,12 @@
 //! What a question asks for: the records of one type, or of any (RFC 1034 section 3.7.1).
 
-ghost use Rattle.std.specs.Prelude.{◌≡◌, map, IfOk};
+ghost use Rattle.std.specs.Prelude.{◌≡◌, map, take, IfOk};
 ghost use Rattle.std.specs.List.{flat_map};
 ghost use Rattle.dns_zone.specs.Rows.{rows_at, rows_of};
 ghost use Rattle.dns_zone.specs.Answer.{record_of};
 ghost use Rattle.dns_authority.specs.Asked.{any_numbers, asked_rows, filled, first_filled, is_any, rows_by_number};
 
-use crate::copies::{copies, push_copies};
+use crate::copies::{first_copies, joined};
 use dns_codes::laws::type_number_round_trips;
 use dns_names::Name;
 use dns_records::{Record, Sequence};
@@ -30,23 +30,36 @@ pub(crate) struct Asked {
     pub(crate) any: AnyAnswer,
 }
 
-/// Copies the records of a name that are asked for, with an owner.
+/// What a question asks for, and how many of the records are needed. More may be copied.
+#[derive(Clone, Copy)]
+pub(crate) struct Wanted {
+    pub(crate) asked: Asked,
+    pub(crate) most: usize,
+}
+
+/// Copies the first of the records of a name that are asked for, with an owner: as many as are needed.
 pub(crate) fn asked_records(
     alloc: Global,
     zone: &Zone,
-    asked: Asked,
+    wanted: Wanted,
     owner: &Name,
     source: &Name,
 ) -> Result<Sequence<Record>, AllocError>
-    ensures { IfOk result (λ records. records
-        ≡ map (record_of owner.now) (asked_rows asked zone.now.rows source.now.labels)) }
+    ensures { IfOk result (λ records. take wanted.most records ≡ take wanted.most
+        (map (record_of owner.now) (asked_rows wanted.asked zone.now.rows source.now.labels))) }
 {
+    let Wanted { asked, most } = wanted;
     if !is_any(asked.record_type) {
-        return copies(alloc, owner, zone.records_at(source, asked.record_type));
+        return first_copies(
+            alloc,
+            most,
+            owner,
+            zone.records_at(source, asked.record_type),
+        );
     }
     match asked.any {
-        AnyAnswer::AllSets => all_sets(alloc, zone, owner, source),
-        AnyAnswer::FirstSet => copies(alloc, owner, first_set(zone, source)?),
+        AnyAnswer::AllSets => all_sets(alloc, most, zone, owner, source),
+        AnyAnswer::FirstSet => first_copies(alloc, most, owner, first_set(zone, source)?),
     }
 }
 
@@ -57,35 +70,40 @@ pub(crate) fn is_any(record_type: RecordType) -> bool
     u16::from(record_type) == 255
 }
 
-/// Copies the records of all sets of a name, with an owner.
+/// Copies the first `most` of the records of all sets of a name, or more, with an owner.
 fn all_sets(
     alloc: Global,
+    most: usize,
     zone: &Zone,
     owner: &Name,
     source: &Name,
 ) -> Result<Sequence<Record>, AllocError>
-    ensures { IfOk result (λ records. records ≡ map (record_of owner.now)
-        (flat_map (rows_by_number zone.now.rows source.now.labels) any_numbers)) }
+    ensures { IfOk result (λ records. take most records ≡ take most (map (record_of owner.now)
+        (flat_map (rows_by_number zone.now.rows source.now.labels) any_numbers))) }
 {
     let types = types_of(zone, source)?;
-    sets_of_types(alloc, zone, owner, source, types.as_slice())
+    sets_of_types(alloc, most, zone, owner, source, types.as_slice())
 }
 
-/// Copies the records of these types of a name, with an owner.
+/// Copies the first `most` of the records of these types of a name, or more, with an owner.
 fn sets_of_types(
     alloc: Global,
+    most: usize,
     zone: &Zone,
     owner: &Name,
     source: &Name,
     types: &[RecordType],
 ) -> Result<Sequence<Record>, AllocError>
-    ensures { IfOk result (λ records. records ≡ map (record_of owner.now)
-        (flat_map (rows_at zone.now.rows source.now.labels) types.now)) }
+    ensures { IfOk result (λ records. take most records ≡ take most (map (record_of owner.now)
+        (flat_map (rows_at zone.now.rows source.now.labels) types.now))) }
 {
     let mut records = Sequence::new(alloc);
     for record_type in types {
+        if records.len() >= most {
+            return Ok(records);
+        }
         let stored = zone.records_at(source, *record_type);
-        records = push_copies(alloc, records, owner, stored)?;
+        records = joined(records, first_copies(alloc, most, owner, stored)?)?;
     }
     Ok(records)
 }

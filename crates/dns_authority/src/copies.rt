@@ -1,6 +1,6 @@
 //! Copies of a zone's records, with an owner.
 
-ghost use Rattle.std.specs.Prelude.{◌≡◌, ◌++◌, map, IfOk};
+ghost use Rattle.std.specs.Prelude.{◌≡◌, ◌++◌, map, take, IfOk};
 ghost use Rattle.dns_zone.specs.Rows.{row_of, rows_of};
 ghost use Rattle.dns_zone.specs.Answer.{authority, authority_row, negative_ttl, record_of};
 
@@ -58,6 +58,29 @@ pub(crate) fn push_copies(
         ≡ records ++ map (record_of owner.now) (rows_of stored.now)) }
 {
     joined(records, copies(alloc, owner, stored)?)
+}
+
+/// Copies the first `most` of some records with an owner.
+pub(crate) fn first_copies(
+    alloc: Global,
+    most: usize,
+    owner: &Name,
+    stored: &[Record],
+) -> Result<Sequence<Record>, AllocError>
+    ensures { IfOk result (λ copies. take most copies
+        ≡ take most (map (record_of owner.now) (rows_of stored.now))) }
+{
+    copies(alloc, owner, first_of(stored, most))
+}
+
+/// Returns the first `most` of some records, or all of them if there are fewer.
+fn first_of(records: &[Record], most: usize) -> &[Record]
+    ensures { result.now ≡ take most records.now }
+{
+    if records.len() <= most {
+        return records;
+    }
+    &records[..most]
 }
 
 /// Appends records to others.

@@ -7,7 +7,8 @@
 //! - `authority`: servers of zones; `view`: the answers of zones that are borrowed, as from any `dns_server::Server`; `answer`: what
 //!   an answer is; `chain`: the answer along aliases;
 //! - `step`: what a zone has at a name; `redirection`: what a DNAME record makes of it; `zones`: the zone of a name;
-//! - `asked`: the records of a type, or of ANY; `additional`: the additional section; `copies`: records of a zone, with an owner;
+//! - `asked`: the records of a type, or of ANY; `copies`: records of a zone, with an owner;
+//! - `additional`: the additional section; `section` and `set_index`: that of an answer with many records, found through an index;
 //! - `laws`: theorems about the definitions of this crate.
 #![tactic(auto)]
 
@@ -19,6 +20,8 @@ mod chain;
 mod copies;
 pub mod laws;
 mod redirection;
+mod section;
+mod set_index;
 mod step;
 mod view;
 mod zones;

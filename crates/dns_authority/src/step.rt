@@ -1,14 +1,15 @@
 //! What a zone has for a question at a name (RFC 1034 section 4.3.2 step 3).
 
-ghost use Rattle.std.specs.Prelude.{◌≡◌, ◌&&◌, [], false, not, IfOk, Option, Some, option_copied};
+ghost use Rattle.std.specs.Prelude.{◌≡◌, ◌≤◌, ◌&&◌, [], false, not, IfOk, Option, Some, option_copied};
 ghost use Rattle.dns_names.specs.Name.{DomainName};
 ghost use Rattle.dns_zone.specs.Rows.{row_of, rows_at, some_row_below};
 ghost use Rattle.dns_lookup_steps.specs.Barrier.{cut_at, is_cut, is_ds};
 ghost use Rattle.dns_lookup_steps.specs.Wildcard.{if_exists, source_of_synthesis};
+ghost use Rattle.dns_authority.specs.Front.{step_front};
 ghost use Rattle.dns_authority.specs.Step.{alias_step, alias_target, followed, is_followed, negative, step, step_at, step_by, step_from, step_over, step_with};
 
 use crate::answer::AuthorityAnswer;
-use crate::asked::{Asked, asked_records};
+use crate::asked::{Wanted, asked_records};
 use crate::copies::copy;
 use crate::redirection::step_below;
 use crate::zones::{closest_zone, zone_for};
@@ -31,22 +32,25 @@ pub(crate) enum Step {
     Links(Sequence<Record>, Option<Name>),
 }
 
-/// Returns the step at a name: in the zone of the question, or a refusal without one.
+/// Returns the step at a name: in the zone of the question, or a refusal without one. It has the first of the records: as many as
+/// are wanted.
 pub(crate) fn next_step(
     alloc: Global,
     zones: &[Zone],
-    asked: Asked,
+    wanted: Wanted,
     owner: &Name,
 ) -> Result<Step, AllocError>
-    ensures { IfOk result (λ made. made ≡ step zones.now asked owner.now) }
+    requires { 1 ≤ wanted.most }
+    ensures { IfOk result (λ made. step_front wanted.most made
+        ≡ step_front wanted.most (step zones.now wanted.asked owner.now)) }
 {
-    let Some(zone) = zone_for(zones, asked.record_type, owner)? else {
+    let Some(zone) = zone_for(zones, wanted.asked.record_type, owner)? else {
         let refusal = AuthorityAnswer::refusal(alloc, ResponseCode::Refused);
         return Ok(Step::End(refusal));
     };
     match barrier_above(zone, owner)? {
-        Some(at) => step_over(alloc, zones, zone, asked.record_type, owner, &at),
-        None => step_at_name(alloc, zones, zone, asked, owner),
+        Some(at) => step_over(alloc, zones, zone, wanted, owner, &at),
+        None => step_at_name(alloc, zones, zone, wanted, owner),
     }
 }
 
@@ -55,18 +59,19 @@ fn step_over(
     alloc: Global,
     zones: &[Zone],
     zone: &Zone,
-    record_type: RecordType,
+    wanted: Wanted,
     owner: &Name,
     at: &Name,
 ) -> Result<Step, AllocError>
-    ensures { IfOk result (λ made. made
-        ≡ step_over zones.now zone.now record_type owner.now at.now) }
+    ensures { IfOk result (λ made. step_front wanted.most made ≡ step_front wanted.most
+        (step_over zones.now zone.now wanted.asked.record_type owner.now at.now)) }
 {
     if is_cut(zone, at) {
-        return Ok(Step::End(AuthorityAnswer::referral(alloc, zone, at)?));
+        let referral = AuthorityAnswer::referral(alloc, wanted.most, zone, at)?;
+        return Ok(Step::End(referral));
     }
     let stored = zone.records_at(at, RecordType::DNAME);
-    step_below(alloc, zones, record_type, owner, at, stored)
+    step_below(alloc, zones, wanted.asked.record_type, owner, at, stored)
 }
 
 /// Returns the step at a name above which there is no barrier. It may be a zone cut itself.
@@ -74,19 +79,22 @@ fn step_at_name(
     alloc: Global,
     zones: &[Zone],
     zone: &Zone,
-    asked: Asked,
+    wanted: Wanted,
     owner: &Name,
 ) -> Result<Step, AllocError>
-    ensures { IfOk result (λ made. made ≡ step_with zones.now zone.now asked owner.now
-        (cut_at zone.now asked.record_type owner.now)) }
+    requires { 1 ≤ wanted.most }
+    ensures { IfOk result (λ made. step_front wanted.most made ≡ step_front wanted.most
+        (step_with zones.now zone.now wanted.asked owner.now
+        (cut_at zone.now wanted.asked.record_type owner.now))) }
 {
     if !zone.has_row_below(owner) {
-        return step_beside(alloc, zones, zone, asked, owner);
+        return step_beside(alloc, zones, zone, wanted, owner);
     }
-    if is_cut_for(zone, asked.record_type, owner) {
-        return Ok(Step::End(AuthorityAnswer::referral(alloc, zone, owner)?));
+    if is_cut_for(zone, wanted.asked.record_type, owner) {
+        let referral = AuthorityAnswer::referral(alloc, wanted.most, zone, owner)?;
+        return Ok(Step::End(referral));
     }
-    step_from(alloc, zones, zone, asked, owner, owner)
+    step_from(alloc, zones, zone, wanted, owner, owner)
 }
 
 /// Returns `true` if a name is a zone cut for a type: for all but DS, whose records are above it (RFC 4035 section 3.1.4.1).
@@ -102,14 +110,16 @@ fn step_beside(
     alloc: Global,
     zones: &[Zone],
     zone: &Zone,
-    asked: Asked,
+    wanted: Wanted,
     owner: &Name,
 ) -> Result<Step, AllocError>
-    ensures { IfOk result (λ made. made ≡ step_at zones.now zone.now asked owner.now
-        (if_exists zone.now.rows (source_of_synthesis zone.now.rows owner.now.labels))) }
+    requires { 1 ≤ wanted.most }
+    ensures { IfOk result (λ made. step_front wanted.most made ≡ step_front wanted.most
+        (step_at zones.now zone.now wanted.asked owner.now
+        (if_exists zone.now.rows (source_of_synthesis zone.now.rows owner.now.labels)))) }
 {
     match source_of_synthesis(zone, owner)? {
-        Some(source) => step_of_source(alloc, zones, zone, asked, owner, &source),
+        Some(source) => step_of_source(alloc, zones, zone, wanted, owner, &source),
         None => no_name(alloc, zone),
     }
 }
@@ -119,14 +129,16 @@ fn step_of_source(
     alloc: Global,
     zones: &[Zone],
     zone: &Zone,
-    asked: Asked,
+    wanted: Wanted,
     owner: &Name,
     source: &Name,
 ) -> Result<Step, AllocError>
-    ensures { IfOk result (λ made. made ≡ step_at zones.now zone.now asked owner.now
-        (if_exists zone.now.rows (Some source.now))) }
+    requires { 1 ≤ wanted.most }
+    ensures { IfOk result (λ made. step_front wanted.most made ≡ step_front wanted.most
+        (step_at zones.now zone.now wanted.asked owner.now
+        (if_exists zone.now.rows (Some source.now)))) }
 {
-    let synthesized = asked_records(alloc, zone, asked, owner, source)?;
+    let synthesized = asked_records(alloc, zone, wanted, owner, source)?;
     if !exists(zone, source, synthesized.as_slice()) {
         return no_name(alloc, zone);
     }
@@ -154,14 +166,15 @@ fn step_from(
     alloc: Global,
     zones: &[Zone],
     zone: &Zone,
-    asked: Asked,
+    wanted: Wanted,
     owner: &Name,
     source: &Name,
 ) -> Result<Step, AllocError>
-    ensures { IfOk result (λ made. made
-        ≡ step_from zones.now zone.now asked owner.now source.now) }
+    requires { 1 ≤ wanted.most }
+    ensures { IfOk result (λ made. step_front wanted.most made ≡ step_front wanted.most
+        (step_from zones.now zone.now wanted.asked owner.now source.now)) }
 {
-    let records = asked_records(alloc, zone, asked, owner, source)?;
+    let records = asked_records(alloc, zone, wanted, owner, source)?;
     step_by(alloc, zones, zone, owner, source, records)
 }
 

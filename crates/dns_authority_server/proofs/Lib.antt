@@ -1,3 +1,5 @@
 pub mod FrontLaws
 pub mod RespondingLaws
+pub mod SendingLaws
 pub mod WholeSetsLaws
+pub mod TooManyLaws

@@ -16,26 +16,31 @@ use Rattle.dns_zone.specs.Rows.{ZoneContent}
 use Rattle.dns_zone.specs.Serving.{reply_edns}
 use Rattle.dns_authority.specs.declared.answer.AuthorityAnswer.{AuthorityAnswer}
 use Rattle.dns_authority.specs.declared.asked.AnyAnswer.{AnyAnswer}
-use Rattle.dns_authority.specs.Answer.{authority_answer}
+use Rattle.dns_authority.specs.Additional.{with_additionals}
+use Rattle.dns_authority.specs.Answer.{bare_answer}
 use Rattle.dns_authority.specs.Step.{refusal}
 
 -- ---- answers
 
--- the answer to the question of a query, which is malformed unless it has exactly one
-abbrev pub answer_to_queries : AnyAnswer → List ZoneContent → List Query → AuthorityAnswer
-answer_to_queries any zones (q ∷ []) = authority_answer any zones q
-answer_to_queries any zones queries = refusal FormErr
+-- the answer to the question of a query without its additional section; a query is malformed unless it has exactly one question
+abbrev pub bare_answer_to_queries : AnyAnswer → List ZoneContent → List Query → AuthorityAnswer
+bare_answer_to_queries any zones (q ∷ []) = bare_answer any zones q
+bare_answer_to_queries any zones queries = refusal FormErr
 
--- the answer to a request with an opcode: to others than queries it is NotImp
-abbrev pub answer_by_code : AnyAnswer → List ZoneContent → List Query → OpCode → AuthorityAnswer
-answer_by_code any zones queries ops.Query = answer_to_queries any zones queries
-answer_by_code any zones queries other = refusal NotImp
+-- the answer to a request with an opcode without its additional section: to others than queries it is NotImp
+abbrev pub bare_answer_by_code : AnyAnswer → List ZoneContent → List Query → OpCode → AuthorityAnswer
+bare_answer_by_code any zones queries ops.Query = bare_answer_to_queries any zones queries
+bare_answer_by_code any zones queries other = refusal NotImp
 
--- the answer to a request: BADVERS if its version of EDNS is above 0 (RFC 6891 section 6.1.3)
-abbrev pub answer_to : AnyAnswer → List ZoneContent → Message → AuthorityAnswer
-answer_to any zones m =
+-- the answer to a request without its additional section: BADVERS if its version of EDNS is above 0 (RFC 6891 section 6.1.3)
+abbrev pub bare_answer_to : AnyAnswer → List ZoneContent → Message → AuthorityAnswer
+bare_answer_to any zones m =
     if nat_lt 0 (version_of m.edns) then refusal BADVERS
-    else answer_by_code any zones m.queries m.metadata.op_code
+    else bare_answer_by_code any zones m.queries m.metadata.op_code
+
+-- the answer to a request
+abbrev pub answer_to : AnyAnswer → List ZoneContent → Message → AuthorityAnswer
+answer_to any zones m = with_additionals zones (bare_answer_to any zones m)
 
 -- ---- replies
 

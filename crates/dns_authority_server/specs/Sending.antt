@@ -27,6 +27,10 @@ borrowed_message r = record {
 abbrev pub fits : ℕ → Message → Bool
 fits limit m = not (cut limit m).metadata.truncation
 
+-- whether the answers and the authority records of a message fit a limit
+abbrev pub sections_fit : ℕ → Message → Bool
+sections_fit limit m = fits limit (record m { additionals = []; edns = None })
+
 -- the message without its additional records; the OPT record stays
 abbrev pub without_additionals : Message → Message
 without_additionals m = record m { additionals = [] }
@@ -63,3 +67,7 @@ sent limit m = if fits limit m then m else rest_sent limit m
 abbrev pub IsWhole : ℕ → Message → Option (List ℕ) → Type 0
 IsWhole limit m None = fits limit m ≡ false
 IsWhole limit m (Some bytes) = (fits limit m ≡ true) × Encodes limit m bytes
+
+-- The answers and the authority records of a message do not fit a limit, and the bytes are those of the message with TC.
+abbrev pub IsTruncatedAt : ℕ → Message → List ℕ → Type 0
+IsTruncatedAt limit m bytes = (sections_fit limit m ≡ false) × Encodes limit (truncated m) bytes

@@ -6,7 +6,7 @@ ghost use Rattle.dns_messages.specs.Cut.{front_reach, IsFresh};
 ghost use Rattle.dns_messages.specs.Emit.{header_at};
 ghost use Rattle.dns_messages.specs.Encoding.{Encodes, IsTooLong};
 ghost use Rattle.dns_messages.specs.Message.{truncated};
-ghost use Rattle.dns_authority_server.specs.Sending.{borrowed_message, fitting_count, is_referral, with_fitting, without_additionals, IsWhole};
+ghost use Rattle.dns_authority_server.specs.Sending.{borrowed_message, fitting_count, is_referral, sections_fit, with_fitting, without_additionals, IsWhole};
 
 use crate::whole_sets::set_start;
 use dns_messages::{Edns, Header, Metadata, Query, emit_message_parts};
@@ -118,6 +118,20 @@ impl<'a> ReplyRef<'a> {
     {
         let encoded = self.encode(alloc, limit)?;
         Ok(encoded.into_bytes())
+    }
+
+    /// Returns `true` if the answers and the authority records of the message fit `limit` bytes.
+    pub(crate) fn sections_fit(&self, alloc: Global, limit: u16) -> Result<bool, AllocError>
+        requires { front_reach (borrowed_message self.now) ≤ limit }
+        ensures { IfOk result (λ fit. fit ≡ sections_fit limit (borrowed_message self.now)) }
+    {
+        let sections = ReplyRef {
+            additionals: &[],
+            edns: None,
+            ..*self
+        };
+        let encoded = sections.encode(alloc, limit)?;
+        Ok(!encoded.header.metadata.truncation)
     }
 
     /// Returns `true` if the message is a referral: there are NS records in its authority section.

@@ -1,18 +1,19 @@
 //! Requests, and what they are answered with (RFC 1035 section 4.1, RFC 6891 sections 6.1.1 and 6.1.3).
 
-ghost use Rattle.std.specs.Prelude.{◌≡◌, false, None, Some, Ok, IfOk, IfSome, option_map};
+ghost use Rattle.std.specs.Prelude.{◌≡◌, ◌≤◌, false, None, Some, Ok, IfOk, IfSome, option_map};
 ghost use Rattle.dns_messages.specs.Encoding.{Encodes};
 ghost use Rattle.dns_messages.specs.Header.{peeked_metadata};
 ghost use Rattle.dns_messages.specs.declared.message_type.MessageType.TheVariants as kinds;
 ghost use Rattle.dns_zone.specs.Serving.{has_query_header, reply_limit};
-ghost use Rattle.dns_authority_server.specs.Reply.{answer_to, answer_to_queries, reply};
+ghost use Rattle.dns_authority.specs.Front.{first_records};
+ghost use Rattle.dns_authority_server.specs.Reply.{bare_answer_to, bare_answer_to_queries, reply};
 ghost use Rattle.dns_authority_server.specs.Responding.{IsSentForOther, Responds};
 ghost use Rattle.dns_authority_server.specs.Sending.{sent};
 
-use crate::reply::{malformed_bytes, reply_bytes};
+use crate::reply::{malformed_bytes, reply_bytes, too_many_records};
 use dns_authority::{AuthorityAnswer, AuthorityView};
 use dns_messages::{Message, MessageType, Metadata, OpCode, Query, ResponseCode};
-use dns_zone::{Transport, decode_request};
+use dns_zone::{Transport, decode_request, reply_limit};
 use std::alloc::{AllocError, Global};
 
 /// Returns the reply to a request, or `None` for fewer bytes than a header has, and for a response.
@@ -39,6 +40,9 @@ pub fn respond(
 }
 
 /// Returns the reply to a request that is decoded.
+///
+/// No more records are copied than fit, if each has as few bytes as a record may have. With more than these, the reply has TC (RFC
+/// 2181 section 9), and the time does not grow with the rest of them.
 pub fn respond_to(
     alloc: Global,
     authority: &AuthorityView<'_>,
@@ -49,8 +53,9 @@ pub fn respond_to(
         (sent (reply_limit transport request.now)
         (reply authority.now.any authority.now.zones.now request.now)) out.items) }
 {
-    let answer = answer_to(alloc, authority, request)?;
-    reply_bytes(alloc, request, &answer, transport)
+    let limit = reply_limit(transport, request);
+    let answer = first_records_for(alloc, authority, request, too_many_records(limit))?;
+    reply_bytes(alloc, authority, request, answer, limit)
 }
 
 /// Returns the reply to bytes that are not a request: `FormErr` for those that begin with the header of a query (RFC 1035 section
@@ -66,37 +71,45 @@ pub fn respond_to_other(alloc: Global, bytes: &[u8]) -> Result<Option<Vec<u8>>, 
     }
 }
 
-/// Returns the answer to a request, or its fault: a version of EDNS above 0, or another opcode than that of a query.
-fn answer_to(
+/// Returns the first records of the answer to a request without its additional section, or its fault: a version of EDNS above 0, or
+/// another opcode than that of a query.
+fn first_records_for(
     alloc: Global,
     authority: &AuthorityView<'_>,
     request: &Message,
+    most: usize,
 ) -> Result<AuthorityAnswer, AllocError>
-    ensures { IfOk result (λ answer. answer
-        ≡ answer_to authority.now.any authority.now.zones.now request.now) }
+    requires { 1 ≤ most }
+    ensures { IfOk result (λ answer. answer ≡ first_records most
+        (bare_answer_to authority.now.any authority.now.zones.now request.now)) }
 {
     if request.version() > 0 {
         return Ok(AuthorityAnswer::refusal(alloc, ResponseCode::BADVERS));
     }
     match request.metadata.op_code {
-        OpCode::Query => answer_to_queries(alloc, authority, request.queries.as_slice()),
+        OpCode::Query => {
+            first_records_for_queries(alloc, authority, request.queries.as_slice(), most)
+        }
         _ => Ok(AuthorityAnswer::refusal(alloc, ResponseCode::NotImp)),
     }
 }
 
-/// Returns the answer to the question of a query, or the fault of a query without one or with several.
-fn answer_to_queries(
+/// Returns the first records of the answer to the question of a query without its additional section, or the fault of a query without
+/// one or with several.
+fn first_records_for_queries(
     alloc: Global,
     authority: &AuthorityView<'_>,
     queries: &[Query],
+    most: usize,
 ) -> Result<AuthorityAnswer, AllocError>
-    ensures { IfOk result (λ answer. answer
-        ≡ answer_to_queries authority.now.any authority.now.zones.now queries.now) }
+    requires { 1 ≤ most }
+    ensures { IfOk result (λ answer. answer ≡ first_records most
+        (bare_answer_to_queries authority.now.any authority.now.zones.now queries.now)) }
 {
     let [query] = queries else {
         return Ok(AuthorityAnswer::refusal(alloc, ResponseCode::FormErr));
     };
-    authority.answer(alloc, query)
+    authority.first_records(alloc, most, query)
 }
 
 /// Returns the header that bytes begin with, if it is that of a query.

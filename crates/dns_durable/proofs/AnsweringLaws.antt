@@ -8,16 +8,19 @@ use Rattle.dns_messages.specs.declared.op_code.OpCode.TheVariants as ops
 use Rattle.dns_messages.specs.declared.query.Query.{Query}
 use Rattle.dns_server.specs.declared.updates.Updates.{Updates}
 use Rattle.dns_server.specs.declared.updates.Updates.TheVariants as may
-use Rattle.dns_server.specs.Server.{route_by_code, route_by_name, route_to, zones_after, zones_by, zones_with}
+use Rattle.dns_server.specs.Server.{route_by_code, route_by_name, route_to, zones_by, zones_with}
 use Rattle.dns_server.specs.Zones.{closest}
 use Rattle.dns_zone.specs.Rows.{ZoneContent}
 use Rattle.dns_zone.specs.Serving.{zone_after, zone_by_op}
-use Rattle.dns_zone_service.specs.Answering.{IsServiceReply}
+use Rattle.dns_zone.specs.declared.zone.serials.Serials.{Serials}
+use Rattle.dns_zone_service.specs.Answering.{IsServiceReply, zones_by_op, zones_served}
 use Rattle.dns_zone_service.specs.declared.answering.Answering.{Answering}
+use Rattle.dns_zone_service.specs.declared.answering.Answering.TheVariants.{Plain, Whole}
 use Rattle.dns_durable.specs.Durable.{Takes, TakesFront}
 use Rattle.dns_durable.specs.Durable.Takes.{no_frame, a_frame}
 use Rattle.dns_durable.specs.Incoming.{AreJudged, IsJudged, IsJudgedIfAny, change_of, changes_in, is_change}
 use Rattle.dns_durable.specs.Reply.{AnswersAll, AnswersOne, IsPlainReply, IsReplyBut, IsReplyOf, is_unstored, makes_change, zones_left}
+use Rattle.dns_durable.specs.Rule.{step_of}
 use Rattle.dns_durable.specs.Reply.AnswersAll.{no_request, a_request}
 use Rattle.dns_durable.specs.declared.incoming.Admitted.{Admitted}
 use Rattle.dns_durable.specs.declared.incoming.Arrived.{Arrived}
@@ -57,9 +60,20 @@ unchanged ops.Update may.Allowed zones m is idle = absurd cc
 unchanged ops.Update may.Refused zones m is idle = refl
 unchanged (ops.Unknown number) updates zones m is idle = refl
 
+unchanged_whole : (serials : Serials) (op : OpCode) (updates : Updates) (zones : List ZoneContent) (m : Message) → is_change (Serve updates) op ≡ false
+    → zones_by_op serials updates op zones m ≡ zones
+unchanged_whole serials ops.Query updates zones m idle = refl
+unchanged_whole serials ops.Status updates zones m idle = refl
+unchanged_whole serials ops.Notify updates zones m idle = refl
+unchanged_whole serials ops.Update may.Allowed zones m idle = absurd cc
+unchanged_whole serials ops.Update may.Refused zones m idle = refl
+unchanged_whole serials (ops.Unknown number) updates zones m idle = refl
+
 -- a request that is no update that may be made leaves the zones unchanged
-pub no_change : (updates : Updates) (zones : List ZoneContent) (m : Message) → is_change (Serve updates) m.metadata.op_code ≡ false → zones_after updates zones m ≡ zones
-no_change updates zones m idle = unchanged m.metadata.op_code updates zones m refl idle
+pub no_change : (answering : Answering) (updates : Updates) (zones : List ZoneContent) (m : Message) → is_change (Serve updates) m.metadata.op_code ≡ false
+    → zones_served answering updates zones m ≡ zones
+no_change Plain updates zones m idle = unchanged m.metadata.op_code updates zones m refl idle
+no_change (Whole any serials) updates zones m idle = unchanged_whole serials m.metadata.op_code updates zones m idle
 
 -- ---- the zones after one request
 
@@ -68,35 +82,37 @@ allowed_by : (updates : Updates) (op : OpCode) → is_change (Serve updates) op 
 allowed_by may.Allowed op is = refl
 allowed_by may.Refused op is = absurd cc
 
-left_as : (b : Bool) (updates : Updates) (zones : List ZoneContent) (a : Admitted) → a.admission ≡ Serve updates → makes_change a ≡ b
-    → zones_after updates zones a.message ≡ (if b then zones_after may.Allowed zones a.message else zones)
-left_as true updates zones a by is =
-    ap (λ (u : Updates). zones_after u zones a.message)
+left_as : (b : Bool) (answering : Answering) (updates : Updates) (zones : List ZoneContent) (a : Admitted) → a.admission ≡ Serve updates → makes_change a ≡ b
+    → zones_served answering updates zones a.message ≡ (if b then step_of answering zones a.message else zones)
+left_as true answering updates zones a by is =
+    ap (λ (u : Updates). zones_served answering u zones a.message)
     (allowed_by updates a.message.metadata.op_code (subst (λ (x : Admission). is_change x a.message.metadata.op_code ≡ true) by is))
-left_as false updates zones a by is =
-    no_change updates zones a.message (subst (λ (x : Admission). is_change x a.message.metadata.op_code ≡ false) by is)
+left_as false answering updates zones a by is =
+    no_change answering updates zones a.message (subst (λ (x : Admission). is_change x a.message.metadata.op_code ≡ false) by is)
 
 -- a request that is served leaves what it may
-pub served_left : (stored : Bool) (updates : Updates) (zones : List ZoneContent) (a : Admitted) → a.admission ≡ Serve updates → is_unstored stored a ≡ false
-    → zones_after updates zones a.message ≡ zones_left stored zones (Request a)
-served_left true updates zones a by is = left_as (makes_change a) updates zones a by refl
-served_left false updates zones a by is = no_change updates zones a.message (subst (λ (x : Admission). is_change x a.message.metadata.op_code ≡ false) by is)
+pub served_left : (answering : Answering) (stored : Bool) (updates : Updates) (zones : List ZoneContent) (a : Admitted) → a.admission ≡ Serve updates
+    → is_unstored stored a ≡ false → zones_served answering updates zones a.message ≡ zones_left answering stored zones (Request a)
+served_left answering true updates zones a by is = left_as (makes_change a) answering updates zones a by refl
+served_left answering false updates zones a by is =
+    no_change answering updates zones a.message (subst (λ (x : Admission). is_change x a.message.metadata.op_code ≡ false) by is)
 
 idle_left : (b : Bool) (zones others : List ZoneContent) → b ≡ false → (if b then others else zones) ≡ zones
 idle_left true zones others is = absurd cc
 idle_left false zones others is = refl
 
 -- a request that is refused leaves the zones unchanged
-pub refused_left : (stored : Bool) (zones : List ZoneContent) (a : Admitted) → makes_change a ≡ false → zones_left stored zones (Request a) ≡ zones
-refused_left true zones a is = idle_left (makes_change a) zones (zones_after may.Allowed zones a.message) is
-refused_left false zones a is = refl
+pub refused_left : (answering : Answering) (stored : Bool) (zones : List ZoneContent) (a : Admitted) → makes_change a ≡ false
+    → zones_left answering stored zones (Request a) ≡ zones
+refused_left answering true zones a is = idle_left (makes_change a) zones (step_of answering zones a.message) is
+refused_left answering false zones a is = refl
 
 -- what is not on the disk changes nothing
-pub unstored_left : (zones : List ZoneContent) (a : Arrived) → zones_left false zones a ≡ zones
-unstored_left zones a = refl
+pub unstored_left : (answering : Answering) (zones : List ZoneContent) (a : Arrived) → zones_left answering false zones a ≡ zones
+unstored_left answering zones a = refl
 
 pub left_by_one : (policy : Policy) (stored : Bool) (zones mid : List ZoneContent) (a : Arrived) (reply : Option (List ℕ)) → AnswersOne policy stored zones mid a reply
-    → mid ≡ zones_left stored zones a
+    → mid ≡ zones_left policy.answering stored zones a
 left_by_one policy stored zones mid (Request a) (Some out) answers = answers.replied.after_is
 left_by_one policy stored zones mid (Request a) None answers = absurd answers
 left_by_one policy true zones mid (Other bytes) found answers = answers.0
@@ -105,20 +121,20 @@ left_by_one policy false zones mid (Other bytes) found answers = answers.0
 -- ---- the zones after several requests
 
 takes_change : (b : Bool) (policy : Policy) (zones mid after : List ZoneContent) (a : Admitted) (messages : List (List ℕ)) → IsJudged policy a
-    → mid ≡ (if b then zones_after may.Allowed zones a.message else zones) → Takes mid (stream_of messages) after
-    → Takes zones (stream_of ((if b then a.incoming.bytes.now ∷ [] else []) ++ messages)) after
+    → mid ≡ (if b then step_of policy.answering zones a.message else zones) → Takes (step_of policy.answering) mid (stream_of messages) after
+    → Takes (step_of policy.answering) zones (stream_of ((if b then a.incoming.bytes.now ∷ [] else []) ++ messages)) after
 takes_change true policy zones mid after a messages judged is takes =
     a_frame {mid = mid} {bytes = a.incoming.bytes.now} {rest = stream_of messages} judged.short (record { request = a.message; is_request = judged.is_request; after_is = is }) takes
-takes_change false policy zones mid after a messages judged is takes = subst (λ (z : List ZoneContent). Takes z (stream_of messages) after) is takes
+takes_change false policy zones mid after a messages judged is takes = subst (λ (z : List ZoneContent). Takes (step_of policy.answering) z (stream_of messages) after) is takes
 
 -- a request, and then others
 pub takes_one_more : (policy : Policy) (zones mid after : List ZoneContent) (a : Arrived) (messages : List (List ℕ)) → IsJudgedIfAny policy a
-    → mid ≡ zones_left true zones a → Takes mid (stream_of messages) after → Takes zones (stream_of (change_of a ++ messages)) after
+    → mid ≡ zones_left policy.answering true zones a → Takes (step_of policy.answering) mid (stream_of messages) after → Takes (step_of policy.answering) zones (stream_of (change_of a ++ messages)) after
 takes_one_more policy zones mid after (Request a) messages judged is takes = takes_change (makes_change a) policy zones mid after a messages judged is takes
-takes_one_more policy zones mid after (Other bytes) messages judged is takes = subst (λ (z : List ZoneContent). Takes z (stream_of messages) after) is takes
+takes_one_more policy zones mid after (Other bytes) messages judged is takes = subst (λ (z : List ZoneContent). Takes (step_of policy.answering) z (stream_of messages) after) is takes
 
 pub answers_take : (policy : Policy) (zones after : List ZoneContent) (admitted : List Arrived) (replies : List (Option (List ℕ))) → AreJudged policy admitted
-    → AnswersAll policy true zones admitted replies after → Takes zones (stream_of (changes_in admitted)) after
+    → AnswersAll policy true zones admitted replies after → Takes (step_of policy.answering) zones (stream_of (changes_in admitted)) after
 answers_take policy zones after admitted replies judged no_request = no_frame
 answers_take policy zones after admitted replies judged (a_request {mid = mid} {a = a} {more = more} {reply = reply} {replies = others} one answers) =
     takes_one_more policy zones mid after a (changes_in more) judged.0 (left_by_one policy true zones mid a reply one)
@@ -132,33 +148,33 @@ answers_unstored policy zones after admitted replies (a_request {mid = mid} {a =
 
 -- ---- a front of them
 
-pub no_front : (zones : List ZoneContent) (bytes : List ℕ) → TakesFront zones bytes zones
-no_front zones bytes = record { front = []; rest = bytes; bytes_are = refl; takes = no_frame }
+pub no_front : (step : List ZoneContent → Message → List ZoneContent) (zones : List ZoneContent) (bytes : List ℕ) → TakesFront step zones bytes zones
+no_front step zones bytes = record { front = []; rest = bytes; bytes_are = refl; takes = no_frame }
 
 front_change : (b : Bool) (policy : Policy) (zones mid after : List ZoneContent) (a : Admitted) (messages : List (List ℕ)) → IsJudged policy a
-    → mid ≡ (if b then zones_after may.Allowed zones a.message else zones) → TakesFront mid (stream_of messages) after
-    → TakesFront zones (stream_of ((if b then a.incoming.bytes.now ∷ [] else []) ++ messages)) after
+    → mid ≡ (if b then step_of policy.answering zones a.message else zones) → TakesFront (step_of policy.answering) mid (stream_of messages) after
+    → TakesFront (step_of policy.answering) zones (stream_of ((if b then a.incoming.bytes.now ∷ [] else []) ++ messages)) after
 front_change true policy zones mid after a messages judged is takes = record {
   front = frame a.incoming.bytes.now ++ takes.front;
   rest = takes.rest;
   bytes_are = ap (λ (l : List ℕ). frame a.incoming.bytes.now ++ l) takes.bytes_are ∙ sym (append_assoc (frame a.incoming.bytes.now) takes.front takes.rest);
   takes = a_frame {mid = mid} {bytes = a.incoming.bytes.now} {rest = takes.front} judged.short (record { request = a.message; is_request = judged.is_request; after_is = is }) takes.takes;
 }
-front_change false policy zones mid after a messages judged is takes = subst (λ (z : List ZoneContent). TakesFront z (stream_of messages) after) is takes
+front_change false policy zones mid after a messages judged is takes = subst (λ (z : List ZoneContent). TakesFront (step_of policy.answering) z (stream_of messages) after) is takes
 
 pub front_one_more : (policy : Policy) (zones mid after : List ZoneContent) (a : Arrived) (messages : List (List ℕ)) → IsJudgedIfAny policy a
-    → mid ≡ zones_left true zones a → TakesFront mid (stream_of messages) after → TakesFront zones (stream_of (change_of a ++ messages)) after
+    → mid ≡ zones_left policy.answering true zones a → TakesFront (step_of policy.answering) mid (stream_of messages) after → TakesFront (step_of policy.answering) zones (stream_of (change_of a ++ messages)) after
 front_one_more policy zones mid after (Request a) messages judged is takes = front_change (makes_change a) policy zones mid after a messages judged is takes
-front_one_more policy zones mid after (Other bytes) messages judged is takes = subst (λ (z : List ZoneContent). TakesFront z (stream_of messages) after) is takes
+front_one_more policy zones mid after (Other bytes) messages judged is takes = subst (λ (z : List ZoneContent). TakesFront (step_of policy.answering) z (stream_of messages) after) is takes
 
 -- ---- the reply to one request
 
 -- the reply to a request that is served
 pub plain_served : {T E : Type 0} (result : Result T E) (out_of : T → List ℕ) (answering : Answering) (stored : Bool) (updates : Updates) (zones after : List ZoneContent) (a : Admitted) → a.admission ≡ Serve updates
     → is_unstored stored a ≡ false → IfOk result (λ x. IsServiceReply answering updates zones a.incoming.terms.now.transport a.message (out_of x))
-    → OnOk result (after ≡ zones_after updates zones a.message) → IfOk result (λ x. IsPlainReply answering stored zones after a (out_of x))
+    → OnOk result (after ≡ zones_served answering updates zones a.message) → IfOk result (λ x. IsPlainReply answering stored zones after a (out_of x))
 plain_served (Ok x) out_of answering stored updates zones after a by un replied left = record {
-  after_is = left ∙ served_left stored updates zones a by un;
+  after_is = left ∙ served_left answering stored updates zones a by un;
   replied = subst (λ (b : Bool). IsReplyBut b answering a.admission zones a.incoming.terms.now.transport a.message (out_of x)) (sym un)
       (subst (λ (y : Admission). IsReplyOf answering y zones a.incoming.terms.now.transport a.message (out_of x)) (sym by) replied);
 }

@@ -9,13 +9,14 @@ use Rattle.dns_journal.specs.Storage.{Always, Disk, Ends, LeavesOnly}
 use Rattle.dns_recovery.specs.Compacting.{Recovers}
 use Rattle.dns_recovery.specs.Updating.{IsOpen}
 use Rattle.dns_recovery.proofs.EventLaws.{always_weaker, ends_then, ends_weaker}
+use Rattle.dns_recovery.proofs.UpdatingLaws.{open_stands}
 use Rattle.dns_zone.specs.Rows.{ZoneContent}
 use Rattle.dns_durable.specs.Durable.{EndsIn, IsUnchanged, Keeps, LeadsTo, is_acknowledged}
 use Rattle.dns_durable.specs.declared.durable_server.Replies.{Replies}
-use Rattle.dns_durable.specs.History.{AreGenuine, Call, Kept, Outlasts, Runs, events_of}
+use Rattle.dns_durable.specs.History.{AreGenuine, AreReady, Call, Kept, Outlasts, Runs, events_of, position_after}
 use Rattle.dns_durable.specs.History.Kept.{nothing, with_it, without_it}
 use Rattle.dns_durable.specs.History.Runs.{a_call}
-use Rattle.dns_durable.specs.Storing.{IsWithOrWithout, entries_of}
+use Rattle.dns_durable.specs.Storing.{IsGenuine, IsWithOrWithout, entries_of}
 use Rattle.dns_durable.proofs.StoringLaws.{entries_none}
 
 -- what always holds, holds at the end
@@ -60,8 +61,8 @@ stuck P p zones d (b ∷ done) c not (a_call keeps runs) holds =
 -- ---- what is left
 
 -- the call itself is interrupted
-interrupted : (text : List ℕ) (updates : List (List ℕ)) (p : Position) (c : Call) (files : Files) → IsWithOrWithout text updates c.frames p files → Outlasts text updates p [] c files
-interrupted text updates p c files at = record {
+interrupted : (text : List ℕ) (updates : List (List ℕ)) (p : Position) (c : Call) (files : Files) → p.state ≡ states.Ready → IsWithOrWithout text updates c.frames p files → Outlasts text updates p [] c files
+interrupted text updates p c files ready at = record {
   text_is = at.text_is;
   stands = λ genuine. ⊎_elim
       (λ a. record {
@@ -77,7 +78,7 @@ interrupted text updates p c files at = record {
         are_kept = nothing;
         is_last = inr refl;
         recovers = subst (λ (l : List (List ℕ)). Recovers files (l ++ entries_of c.frames)) (sym (append-nil updates)) b;
-      }) (at.stands genuine.0);
+      }) (at.stands (genuine.0 ready (inr refl)));
 }
 
 -- the first call is kept
@@ -113,9 +114,9 @@ after_unkept text updates p q b done c files not same at = record {
 }
 
 -- the first call is kept or not, and none after it
-after_stuck : (text : List ℕ) (updates : List (List ℕ)) (p : Position) (b : Call) (done : List Call) (c : Call) (files : Files) → is_acknowledged b.outcome ≡ false → Kept done []
+after_stuck : (text : List ℕ) (updates : List (List ℕ)) (p : Position) (b : Call) (done : List Call) (c : Call) (files : Files) → p.state ≡ states.Ready → b.new.state ≢ states.Ready → is_acknowledged b.outcome ≡ false → Kept done []
     → IsWithOrWithout text updates b.frames p files → Outlasts text updates p (b ∷ done) c files
-after_stuck text updates p b done c files not kept at = record {
+after_stuck text updates p b done c files ready stopped not kept at = record {
   text_is = at.text_is;
   stands = λ genuine. ⊎_elim
       (λ a. record {
@@ -132,8 +133,24 @@ after_stuck text updates p b done c files not kept at = record {
         is_last = inl refl;
         recovers = subst (λ (l : List (List ℕ)). Recovers files l)
             (sym (append-nil (updates ++ (entries_of b.frames ++ [])) ∙ ap (λ (l : List (List ℕ)). updates ++ l) (append-nil (entries_of b.frames)))) a;
-      }) (at.stands genuine.0);
+      }) (at.stands (genuine.0 ready (inl stopped)));
 }
+
+-- a disk at rest, whose journal takes no entries
+at_rest_left : (text : List ℕ) (updates : List (List ℕ)) (p : Position) (zones : List ZoneContent) (d : Disk) (done : List Call) (c : Call)
+    → IsOpen text updates p d → p.state ≢ states.Ready → Runs p zones (done ++ c ∷ []) → LeavesOnly (Outlasts text updates p done c) d
+at_rest_left text updates p zones d done c opened not runs files leaves =
+    let both = open_stands text updates p d opened files leaves in
+    record {
+      text_is = both.0;
+      stands = λ genuine. record {
+        kept = [];
+        last = [];
+        are_kept = stuck_kept p zones done c not runs;
+        is_last = inl refl;
+        recovers = subst (λ (l : List (List ℕ)). Recovers files l) (sym (append-nil (updates ++ []) ∙ append-nil updates)) both.1;
+      };
+    }
 
 -- ---- the law
 
@@ -147,7 +164,7 @@ then_law text updates later p q b done c weaker d law =
     (λ e always. always_weaker (LeavesOnly (Outlasts text later q done c)) (LeavesOnly (Outlasts text updates p (b ∷ done) c))
     (λ f holds files leaves. weaker files (holds files leaves)) e c.events always) d (events_of done) law
 
-module _ (text : List ℕ) (p : Position) (zones : List ZoneContent) (b : Call) (done : List Call) (c : Call) (runs : Runs b.new b.after (done ++ c ∷ []))
+module _ (text : List ℕ) (p : Position) (ready : p.state ≡ states.Ready) (zones : List ZoneContent) (b : Call) (done : List Call) (c : Call) (runs : Runs b.new b.after (done ++ c ∷ []))
     (law_after : (later : List (List ℕ)) (q : Position) (e : Disk) → IsOpen text later q e → Runs q b.after (done ++ c ∷ [])
     → Ends (λ f. Always (LeavesOnly (Outlasts text later q done c)) f c.events) e (events_of done)) where
   abbrev Law : List (List ℕ) → Disk → Type 0
@@ -164,15 +181,15 @@ module _ (text : List ℕ) (p : Position) (zones : List ZoneContent) (b : Call) 
   refused : (updates : List (List ℕ)) (d : Disk) → IsOpen text updates p d → is_acknowledged b.outcome ≡ false
       → Always (LeavesOnly (IsWithOrWithout text updates b.frames p)) d b.events → IsUnchanged p b.new zones b.after b.events → Ends (Law updates) d b.events
   refused updates d opened not always same =
-      ⊎_elim (λ ready.
-      let both = same.unasked ready in
+      ⊎_elim (λ goes_on.
+      let both = same.unasked goes_on in
       subst (λ (es : List Event). Ends (Law updates) d es) (sym both.0)
       (then_law text updates updates p p b done c (λ files at. after_unkept text updates p p b done c files not both.1 at) d
       (law_after updates p d opened (subst (λ (q : Position). Runs q b.after (done ++ c ∷ [])) both.1 runs))))
       (λ stopped.
       ends_weaker (LeavesOnly (IsWithOrWithout text updates b.frames p)) (Law updates)
       (λ e holds. stuck (LeavesOnly (Outlasts text updates p (b ∷ done) c)) b.new b.after e done c stopped runs
-      (λ files leaves. after_stuck text updates p b done c files not (stuck_kept b.new b.after done c stopped runs) (holds files leaves)))
+      (λ files leaves. after_stuck text updates p b done c files ready stopped not (stuck_kept b.new b.after done c stopped runs) (holds files leaves)))
       d b.events (always_ends (LeavesOnly (IsWithOrWithout text updates b.frames p)) d b.events always))
       (ready_or b.new.state)
 
@@ -198,7 +215,26 @@ module _ (text : List ℕ) (p : Position) (zones : List ZoneContent) (b : Call) 
 pub outlasts : (text : List ℕ) (updates : List (List ℕ)) (p : Position) (zones : List ZoneContent) (d : Disk) (done : List Call) (c : Call)
     → IsOpen text updates p d → Runs p zones (done ++ c ∷ []) → Ends (λ e. Always (LeavesOnly (Outlasts text updates p done c)) e c.events) d (events_of done)
 outlasts text updates p zones d [] c opened (a_call keeps runs) =
+    ⊎_elim (λ ready.
     always_weaker (LeavesOnly (IsWithOrWithout text updates c.frames p)) (LeavesOnly (Outlasts text updates p [] c))
-    (λ e holds files leaves. interrupted text updates p c files (holds files leaves)) d c.events (keeps.commits text updates d opened).any_moment
+    (λ e holds files leaves. interrupted text updates p c files ready (holds files leaves)) d c.events (keeps.commits text updates d opened).any_moment)
+    (λ not. stuck (LeavesOnly (Outlasts text updates p [] c)) p zones d [] c not (a_call keeps runs) (at_rest_left text updates p zones d [] c opened not (a_call keeps runs)))
+    (ready_or p.state)
 outlasts text updates p zones d (b ∷ done) c opened (a_call keeps runs) =
-    after_first text p zones b done c runs (λ later q e at more. outlasts text later q b.after e done c at more) updates d opened keeps
+    ⊎_elim (λ ready. after_first text p ready zones b done c runs (λ later q e at more. outlasts text later q b.after e done c at more) updates d opened keeps)
+    (λ not. stuck (LeavesOnly (Outlasts text updates p (b ∷ done) c)) p zones d (b ∷ done) c not (a_call keeps runs) (at_rest_left text updates p zones d (b ∷ done) c opened not (a_call keeps runs)))
+    (ready_or p.state)
+
+-- ---- the premise on seals
+
+-- a list with a last call is not empty
+some_last : (more : List Call) (c : Call) → (more ++ c ∷ []) ≢ []
+some_last [] c is = absurd cc
+some_last (b ∷ more) c is = absurd cc
+
+-- calls that leave the journal ready need no premise
+pub genuine_last : (p : Position) (done : List Call) (c : Call) (files : Files) → AreReady done → IsGenuine c.frames (position_after p done) files
+    → AreGenuine p (done ++ c ∷ []) files
+genuine_last p [] c files ready genuine = ((λ _ _. genuine), tt)
+genuine_last p (b ∷ done) c files ready genuine =
+    ((λ _ last. ⊎_elim (λ not. absurd (not ready.0)) (λ none. absurd (some_last done c none)) last), genuine_last b.new done c files ready.1 genuine)

@@ -1,7 +1,9 @@
 pub mod AnsweringLaws
 pub mod BatchLaws
+pub mod ChangesLaws
 pub mod CompactionLaws
 pub mod HistoryLaws
 pub mod KeepingLaws
 pub mod ReplayLaws
+pub mod RuleLaws
 pub mod StoringLaws

@@ -1,15 +1,13 @@
 -- What the storing of updates asks, and what a crash leaves of it.
 use Rattle.std.proofs.Common.{◌≡◌, ◌≢◌, ℕ, Bool, true, false, List, [], ◌∷◌, ◌++◌, length, refl, sym, ap, subst, ◌∙◌, inl, inr, ⊎_elim, append-nil}
-use Rattle.sha2.specs.Sha256.{sha256}
-use Rattle.dns_journal_format.specs.Format.{IsJournal}
 use Rattle.dns_journal.specs.declared.journal.Position.{Position}
 use Rattle.dns_journal.specs.declared.journal.State.TheVariants as states
 use Rattle.dns_journal.specs.Event.{Event}
-use Rattle.dns_journal.specs.Storage.{Disk, Ends, Leaves, LeavesOnly, at_rest}
+use Rattle.dns_journal.specs.Storage.{Disk, Ends, LeavesOnly}
 use Rattle.dns_recovery.specs.Compacting.{Recovers}
 use Rattle.dns_recovery.specs.Updating.{AppendsUpdate, IsBeforeOrAfterUpdate, IsOpen}
-use Rattle.dns_recovery.proofs.EventLaws.{always_weaker, rest_is}
-use Rattle.dns_recovery.proofs.UpdatingLaws.{recovers}
+use Rattle.dns_recovery.proofs.EventLaws.{always_weaker}
+use Rattle.dns_recovery.proofs.UpdatingLaws.{open_stands}
 use Rattle.dns_durable.specs.Storing.{Asks, IsWithOrWithout, entries_of}
 
 pub entries_some : (frames : List ℕ) → frames ≢ [] → entries_of frames ≡ frames ∷ []
@@ -24,13 +22,8 @@ entries_none (byte ∷ bytes) none = absurd cc
 pub open_leaves : (text : List ℕ) (updates : List (List ℕ)) (frames : List ℕ) (old : Position) (d : Disk) → IsOpen text updates old d
     → LeavesOnly (IsWithOrWithout text updates frames old) d
 open_leaves text updates frames old d opened files leaves =
-    let left : Leaves (at_rest text opened.bytes) files = subst (λ (e : Disk). Leaves e files) opened.disk_is leaves in
-    let is : IsJournal files.journal (sha256 text) opened.payloads [] =
-    subst (λ (l : List ℕ). IsJournal l (sha256 text) opened.payloads []) (sym (rest_is text opened.bytes files left)) opened.at.journal in
-    record {
-      text_is = left.text;
-      stands = λ genuine. inl (recovers text (sha256 text) files opened.payloads updates refl left.text opened.updates_are (record { end = []; is = is }));
-    }
+    let both = open_stands text updates old d opened files leaves in
+    record { text_is = both.0; stands = λ genuine. inl both.1 }
 
 -- there are no updates
 pub asks_nothing : (frames : List ℕ) (p : Position) → frames ≡ [] → Asks frames true p p []

@@ -1,7 +1,8 @@
 -- Calls of a server, one after another, and what a crash leaves of their updates.
-use Rattle.std.specs.Prelude.{◌≡◌, ◌⊎◌, ℕ, false, List, [], ◌∷◌, ◌++◌, Result}
+use Rattle.std.specs.Prelude.{◌≡◌, ◌≢◌, ◌⊎◌, ℕ, false, List, [], ◌∷◌, ◌++◌, Result}
 use Rattle.std.specs.declared.alloc.AllocError.{AllocError}
 use Rattle.dns_journal.specs.declared.journal.Position.{Position}
+use Rattle.dns_journal.specs.declared.journal.State.TheVariants as states
 use Rattle.dns_journal.specs.Event.{Event, Files}
 use Rattle.dns_recovery.specs.Compacting.{Recovers}
 use Rattle.dns_zone.specs.Rows.{ZoneContent}
@@ -40,10 +41,23 @@ pub data Kept : List Call → List (List ℕ) → Type 0 where
 abbrev pub IsWholeOrNone : Call → List (List ℕ) → Type 0
 IsWholeOrNone c entries = (entries ≡ []) ⊎ (entries ≡ entries_of c.frames)
 
--- no seal of an entry of calls is right by chance
+-- A crash left of the write that it may have torn what it may leave, and no seal is right by chance in that. It is the write of
+-- the last call whose journal took entries: the last of all calls, or the one after which the journal took no further entries.
 abbrev pub AreGenuine : Position → List Call → Files → Type 0
 AreGenuine p [] files = Unit {0}
-AreGenuine p (c ∷ more) files = IsGenuine c.frames p files × AreGenuine c.new more files
+AreGenuine p (c ∷ more) files =
+    (p.state ≡ states.Ready → (c.new.state ≢ states.Ready) ⊎ (more ≡ []) → IsGenuine c.frames p files)
+    × AreGenuine c.new more files
+
+-- where the journal ends after calls
+abbrev pub position_after : Position → List Call → Position
+position_after p [] = p
+position_after p (c ∷ more) = position_after c.new more
+
+-- calls after each of which the journal takes further entries
+abbrev pub AreReady : List Call → Type 0
+AreReady [] = Unit {0}
+AreReady (c ∷ more) = (c.new.state ≡ states.Ready) × AreReady more
 
 -- Files stand for earlier updates, then for those of calls that were done, and then perhaps for those of a call that was
 -- interrupted.
@@ -54,7 +68,7 @@ pub record StandAfter (updates : List (List ℕ)) (done : List Call) (c : Call) 
   pub is_last : IsWholeOrNone c last
   pub recovers : Recovers files ((updates ++ kept) ++ last)
 
--- what a crash leaves while a call is made after others, unless a seal is right by chance
+-- what a crash leaves while a call is made after others, if that is what it may leave of a write
 pub record Outlasts (text : List ℕ) (updates : List (List ℕ)) (p : Position) (done : List Call) (c : Call)
     (files : Files) : Type 0 where
   pub text_is : files.text ≡ text

@@ -1,3 +1,4 @@
+pub mod Changes
 pub mod Compaction
 pub mod Durable
 pub mod GrantText
@@ -6,4 +7,5 @@ pub mod Incoming
 pub mod Policy
 pub mod Replay
 pub mod Reply
+pub mod Rule
 pub mod Storing

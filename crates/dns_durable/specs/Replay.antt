@@ -3,7 +3,8 @@ use Rattle.std.specs.Prelude.{◌≡◌, ◌≤◌, ◌⊎◌, ℕ, suc, List, �
 use Rattle.dns_frames.specs.Frame.{frame, EndsWithinFrame}
 use Rattle.dns_zone.specs.Request.{DecodesRequest}
 use Rattle.dns_zone.specs.Rows.{ZoneContent}
-use Rattle.dns_durable.specs.Durable.{Replays, Takes, TakesFront}
+use Rattle.dns_durable.specs.Durable.{Replays, Takes, TakesEntryFront}
+use Rattle.dns_durable.specs.Rule.{rule_in, step_of, updates_in}
 use Rattle.dns_durable.specs.declared.error.ReplayError.{ReplayError}
 use Rattle.dns_durable.specs.declared.error.ReplayError.TheVariants as errors
 
@@ -23,14 +24,14 @@ BeginsNoRequest bytes = EndsWithinFrame bytes ⊎ BeginsOtherFrame bytes
 pub record StopsIn (zones : List ZoneContent) (entry : List ℕ) (after : List ZoneContent) : Type 0 where
   pub front : List ℕ
   pub rest : List ℕ
-  pub entry_is : entry ≡ front ++ rest
-  pub takes : Takes zones front after
+  pub updates_are : updates_in entry ≡ front ++ rest
+  pub takes : Takes (step_of (rule_in entry)) zones front after
   pub stops : BeginsNoRequest rest
 
 -- why the requests of an entry are not all served, by the number of the entry, and the zones after those that were
 abbrev pub IsEntryRefusal : ℕ → List ZoneContent → List ℕ → List ZoneContent → ReplayError → Type 0
 IsEntryRefusal number zones entry after (errors.NotUpdates n) = (n ≡ number) × StopsIn zones entry after
-IsEntryRefusal number zones entry after errors.Memory = TakesFront zones entry after
+IsEntryRefusal number zones entry after errors.Memory = TakesEntryFront zones entry after
 
 -- Why the updates of a journal are not all served: some entry, whose number counts from 1. Those in front of it were served.
 pub record IsReplayRefusal (zones : List ZoneContent) (updates : List (List ℕ)) (after : List ZoneContent)

@@ -3,8 +3,6 @@ use Rattle.std.specs.Prelude.{◌≡◌, ℕ, Bool, true, false, if◌then◌els
 use Rattle.dns_messages.specs.declared.message.Message.{Message}
 use Rattle.dns_messages.specs.declared.response_code.ResponseCode.{ResponseCode}
 use Rattle.dns_messages.specs.declared.response_code.ResponseCode.TheVariants as codes
-use Rattle.dns_server.specs.declared.updates.Updates.TheVariants as may
-use Rattle.dns_server.specs.Server.{zones_after}
 use Rattle.dns_tsig.specs.Reply.{IsReply}
 use Rattle.dns_zone.specs.declared.transport.Transport.{Transport}
 use Rattle.dns_zone.specs.Request.{IsEncodedReply, reply_without_zone}
@@ -12,6 +10,7 @@ use Rattle.dns_zone.specs.Rows.{ZoneContent}
 use Rattle.dns_zone_service.specs.Answering.{IsReplyToOther, IsServiceReply}
 use Rattle.dns_zone_service.specs.declared.answering.Answering.{Answering}
 use Rattle.dns_durable.specs.Incoming.{is_change}
+use Rattle.dns_durable.specs.Rule.{step_of}
 use Rattle.dns_durable.specs.declared.incoming.Admitted.{Admitted}
 use Rattle.dns_durable.specs.declared.incoming.Arrived.{Arrived}
 use Rattle.dns_durable.specs.declared.incoming.Arrived.TheVariants.{Request, Other}
@@ -24,10 +23,10 @@ abbrev pub makes_change : Admitted → Bool
 makes_change a = is_change a.admission a.message.metadata.op_code
 
 -- the zones after a request: only an update that may be made changes them, and only if it is on the disk
-abbrev pub zones_left : Bool → List ZoneContent → Arrived → List ZoneContent
-zones_left true zones (Request a) = if makes_change a then zones_after may.Allowed zones a.message else zones
-zones_left true zones (Other bytes) = zones
-zones_left false zones a = zones
+abbrev pub zones_left : Answering → Bool → List ZoneContent → Arrived → List ZoneContent
+zones_left answering true zones (Request a) = if makes_change a then step_of answering zones a.message else zones
+zones_left answering true zones (Other bytes) = zones
+zones_left answering false zones a = zones
 
 -- a reply with a response code and without a zone
 abbrev pub IsBareReply : ResponseCode → Transport → Message → List ℕ → Type 0
@@ -52,7 +51,7 @@ is_unstored false a = makes_change a
 -- the reply to a request, before it is signed, and the zones after it
 pub record IsPlainReply (answering : Answering) (stored : Bool) (zones after : List ZoneContent) (a : Admitted)
     (out : List ℕ) : Type 0 where
-  pub after_is : after ≡ zones_left stored zones (Request a)
+  pub after_is : after ≡ zones_left answering stored zones (Request a)
   pub replied : IsReplyBut (is_unstored stored a) answering a.admission zones a.incoming.terms.now.transport a.message out
 
 -- the reply to a request, which is signed if the request is

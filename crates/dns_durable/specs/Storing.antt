@@ -2,7 +2,7 @@
 use Rattle.std.specs.Prelude.{◌≡◌, ◌≢◌, ◌⊎◌, ℕ, Bool, true, false, List, [], ◌∷◌, ◌++◌, drop}
 use Rattle.dns_journal.specs.declared.journal.Position.{Position}
 use Rattle.dns_journal.specs.declared.journal.State.TheVariants as states
-use Rattle.dns_journal.specs.Appending.{HasNoForgery}
+use Rattle.dns_journal.specs.Appending.{IsRemainder}
 use Rattle.dns_journal.specs.Event.{Event, Files}
 use Rattle.dns_journal.specs.Storage.{Always, Disk, Ends, LeavesOnly}
 use Rattle.dns_recovery.specs.Compacting.{Recovers}
@@ -13,11 +13,11 @@ abbrev pub entries_of : List ℕ → List (List ℕ)
 entries_of [] = []
 entries_of (byte ∷ bytes) = (byte ∷ bytes) ∷ []
 
--- no seal of an entry for frames is right by chance
+-- A crash left of the entry for frames all of it, or what an interrupted write leaves, and no seal is right by chance in that.
 abbrev pub IsGenuine : List ℕ → Position → Files → Type 0
-IsGenuine frames old files = HasNoForgery old.digest old.end (update_payload frames) (drop old.end files.journal)
+IsGenuine frames old files = IsRemainder old (update_payload frames) (drop old.end files.journal)
 
--- Files stand for earlier updates, with the entry for frames or without, unless a seal is right by chance.
+-- Files stand for earlier updates, with the entry for frames or without, if a crash leaves of it what it may leave.
 pub record IsWithOrWithout (text : List ℕ) (updates : List (List ℕ)) (frames : List ℕ) (old : Position)
     (files : Files) : Type 0 where
   pub text_is : files.text ≡ text

@@ -1,20 +1,42 @@
 //! Requests are answered, once their updates are on the disk.
 
-ghost use Rattle.std.specs.Prelude.{◌≡◌, ◌⊎◌, true, false, map, option_map, IfOk, OnErr};
+ghost use Rattle.std.specs.Prelude.{◌≡◌, ◌<◌, ◌⊎◌, true, false, None, map, option_map, IfOk, OnErr, OnOk};
 ghost use Rattle.dns_frames.specs.Frame.{stream_of};
+ghost use Rattle.dns_messages.specs.Header.{code_number, code_of};
 ghost use Rattle.dns_messages.specs.Sound.{IsSound};
+ghost use Rattle.dns_server.specs.Maintaining.{IsRecordableOf};
+ghost use Rattle.dns_durable.specs.Changes.{AreChanges, with_change};
 ghost use Rattle.dns_durable.specs.Durable.{TakesFront};
 ghost use Rattle.dns_durable.specs.Incoming.{AreJudged, IsJudged, IsJudgedIfAny, changes_in};
-ghost use Rattle.dns_durable.specs.Reply.{AnswersAll, AnswersOne, IsPlainReply, IsSignedReply, zones_left};
+ghost use Rattle.dns_durable.specs.Reply.{AnswersAll, AnswersOne, IsBareReply, IsPlainReply, IsSignedReply, zones_left};
+ghost use Rattle.dns_durable.specs.Rule.{step_of};
 
 use crate::incoming::{Admitted, Arrived};
 use crate::policy::{Admission, Policy};
-use dns_messages::ResponseCode;
-use dns_server::Server;
+use dns_messages::{Message, ResponseCode};
+use dns_server::{Served, Server, ZoneChange};
 use dns_tsig::sign_reply;
-use dns_zone::bare_reply_bytes;
+use dns_zone::{Transport, bare_reply_bytes};
 use dns_zone_service::Answering;
 use std::alloc::{AllocError, Global};
+
+/// How requests were answered.
+#[derive(Drop)]
+pub(crate) struct Answered {
+    /// The replies, in the order of the requests.
+    pub(crate) replies: Vec<Option<Vec<u8>>>,
+    /// What the requests have changed, in order.
+    pub(crate) changes: Vec<ZoneChange>,
+}
+
+/// How a request, or what is not one, was answered.
+#[derive(Drop)]
+struct AnsweredOne {
+    /// The reply, if there is one.
+    reply: Option<Vec<u8>>,
+    /// What the request has changed.
+    change: Option<ZoneChange>,
+}
 
 /// Answers what has arrived, in order. If the updates of the requests are not on the disk, each of these is answered with
 /// `ServFail`, and changes nothing.
@@ -26,23 +48,37 @@ pub(crate) fn answer_all(
     policy: &Policy,
     is_stored: bool,
     admitted: &[Arrived<'_>],
-) -> Result<Vec<Option<Vec<u8>>>, AllocError>
+) -> Result<Answered, AllocError>
     requires { AreJudged policy.now admitted.now }
-    ensures answered { IfOk result (λ replies. AnswersAll policy.now is_stored server.old
-        admitted.now (map (λ reply. option_map (λ out. out.items) reply) replies.items)
+    ensures answered { IfOk result (λ answered. AnswersAll policy.now is_stored server.old
+        admitted.now (map (λ reply. option_map (λ out. out.items) reply) answered.replies.items)
         server.new) }
-    ensures failed { OnErr result (is_stored ≡ true
-        → TakesFront server.old (stream_of (changes_in admitted.now)) server.new) }
+    ensures changes { IfOk result (λ answered.
+        AreChanges server.old answered.changes.items server.new) }
+    ensures failed { OnErr result (is_stored ≡ true → TakesFront (step_of policy.now.answering)
+        server.old (stream_of (changes_in admitted.now)) server.new) }
     ensures unchanged { is_stored ≡ false → server.new ≡ server.old }
 {
     let mut replies = Vec::new(alloc);
+    let mut changes = Vec::new(alloc);
     let mut rest = admitted;
     while let [next, more @ ..] = rest {
-        let reply = answer(server, alloc, policy, is_stored, next)?;
+        let AnsweredOne { reply, change } = answer(server, alloc, policy, is_stored, next)?;
+        push_change(&mut changes, change)?;
         replies.push(reply)?;
         rest = more;
     }
-    Ok(replies)
+    Ok(Answered { replies, changes })
+}
+
+/// Adds a change, if there is one.
+fn push_change(changes: &mut Vec<ZoneChange>, change: Option<ZoneChange>) -> Result<(), AllocError>
+    ensures { OnOk result (changes.new.items ≡ with_change changes.old.items change) }
+{
+    if let Some(change) = change {
+        changes.push(change)?;
+    }
+    Ok(())
 }
 
 /// Answers a request, or bytes that are not one.
@@ -52,21 +88,30 @@ fn answer(
     policy: &Policy,
     is_stored: bool,
     arrived: &Arrived<'_>,
-) -> Result<Option<Vec<u8>>, AllocError>
+) -> Result<AnsweredOne, AllocError>
     requires { IsJudgedIfAny policy.now arrived.now }
-    ensures answered { IfOk result (λ reply. AnswersOne policy.now is_stored server.old server.new
-        arrived.now (option_map (λ out. out.items) reply)) }
-    ensures failed { OnErr result ((server.new ≡ server.old)
-        ⊎ (server.new ≡ zones_left is_stored server.old arrived.now)) }
+    ensures answered { IfOk result (λ answer. AnswersOne policy.now is_stored server.old server.new
+        arrived.now (option_map (λ out. out.items) answer.reply)) }
+    ensures change { IfOk result (λ answer. IsRecordableOf server.old answer.change server.new) }
+    ensures failed { OnErr result ((server.new ≡ server.old) ⊎ (server.new
+        ≡ zones_left policy.now.answering is_stored server.old arrived.now)) }
 {
     match arrived {
         Arrived::Request(admitted) => {
-            let reply = signed_reply(server, alloc, policy, is_stored, admitted)?;
-            Ok(Some(reply))
+            let Served { reply, change } = signed_reply(
+                server, alloc, policy, is_stored, admitted,
+            )?;
+            Ok(AnsweredOne {
+                reply: Some(reply),
+                change,
+            })
         }
         Arrived::Other(incoming) => {
             let reply = policy.answering.respond_to_other(alloc, incoming.bytes)?;
-            Ok(reply)
+            Ok(AnsweredOne {
+                reply,
+                change: None,
+            })
         }
     }
 }
@@ -78,14 +123,22 @@ fn signed_reply(
     policy: &Policy,
     is_stored: bool,
     admitted: &Admitted<'_>,
-) -> Result<Vec<u8>, AllocError>
+) -> Result<Served, AllocError>
     requires { IsJudged policy.now admitted.now }
-    ensures replied { IfOk result (λ out. IsSignedReply policy.now is_stored server.old server.new
-        admitted.now out.items) }
-    ensures failed { OnErr result ((server.new ≡ server.old)
-        ⊎ (server.new ≡ zones_left is_stored server.old (Arrived.Request admitted.now))) }
+    ensures replied { IfOk result (λ served. IsSignedReply policy.now is_stored server.old
+        server.new admitted.now served.reply.items) }
+    ensures change { IfOk result (λ served. IsRecordableOf server.old served.change server.new) }
+    ensures failed { OnErr result ((server.new ≡ server.old) ⊎ (server.new
+        ≡ zones_left policy.now.answering is_stored server.old (Arrived.Request admitted.now))) }
 {
-    let mut reply = plain_reply(server, alloc, policy.answering, is_stored, admitted)?;
+    let Served { reply, change } = plain_reply(
+        server,
+        alloc,
+        policy.answering,
+        is_stored,
+        admitted,
+    )?;
+    let mut reply = reply;
     match sign_reply(
         alloc,
         policy.keys.as_slice(),
@@ -93,7 +146,7 @@ fn signed_reply(
         &mut reply,
         admitted.incoming.terms.time,
     ) {
-        Ok(_code) => Ok(reply),
+        Ok(_code) => Ok(Served { reply, change }),
         // Memory for the signature was refused: the reply has a header and room for a record, and its key is there.
         Err(_) => Err(AllocError),
     }
@@ -106,27 +159,44 @@ fn plain_reply(
     answering: Answering,
     is_stored: bool,
     admitted: &Admitted<'_>,
-) -> Result<Vec<u8>, AllocError>
+) -> Result<Served, AllocError>
     requires { IsSound admitted.now.message }
-    ensures replied { IfOk result (λ out. IsPlainReply answering is_stored server.old server.new
-        admitted.now out.items) }
+    ensures replied { IfOk result (λ served. IsPlainReply answering is_stored server.old server.new
+        admitted.now served.reply.items) }
+    ensures change { IfOk result (λ served. IsRecordableOf server.old served.change server.new) }
     ensures failed { OnErr result (server.new ≡ server.old) }
 {
     let message = &admitted.message;
     let transport = admitted.incoming.terms.transport();
     if !is_stored && admitted.is_change() {
-        return bare_reply_bytes(alloc, message, ResponseCode::ServFail, transport);
+        return refusal(alloc, message, ResponseCode::ServFail, transport);
     }
     match admitted.admission {
         Admission::Serve(updates) => answering.respond_to(
             alloc, server, message, transport, updates,
         ),
-        Admission::Malformed => bare_reply_bytes(alloc, message, ResponseCode::FormErr, transport),
-        Admission::NotAuthentic => bare_reply_bytes(
-            alloc,
-            message,
-            ResponseCode::NotAuth,
-            transport,
-        ),
+        Admission::Malformed => refusal(alloc, message, ResponseCode::FormErr, transport),
+        Admission::NotAuthentic => refusal(alloc, message, ResponseCode::NotAuth, transport),
     }
+}
+
+/// Refuses a request, which changes nothing.
+fn refusal(
+    alloc: Global,
+    request: &Message,
+    code: ResponseCode,
+    transport: Transport,
+) -> Result<Served, AllocError>
+    requires sound { IsSound request.now }
+    requires fits { code_number code < 16 }
+    requires named { code_of (code_number code) ≡ code }
+    ensures reply { IfOk result (λ served.
+        IsBareReply code transport request.now served.reply.items) }
+    ensures change { IfOk result (λ served. served.change ≡ None) }
+{
+    let reply = bare_reply_bytes(alloc, request, code, transport)?;
+    Ok(Served {
+        reply,
+        change: None,
+    })
 }

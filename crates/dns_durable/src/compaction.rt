@@ -31,8 +31,8 @@ impl<S: Storage> DurableServer<S> {
         self.journal.position.state == State::Ready && self.journal.position.end > limit
     }
 
-    /// Replaces the text of the journal by that of the zone, and begins a new journal. From then on, the zone that is read from the text
-    /// is served; it has the same text.
+    /// Replaces the text of the journal by that of the zone, and begins a new journal with this key, which has to be drawn at random.
+    /// From then on, the zone that is read from the text is served; it has the same text.
     ///
     /// # Errors
     ///
@@ -43,17 +43,18 @@ impl<S: Storage> DurableServer<S> {
     /// - [`CompactError::Memory`] if memory is refused before the journal is asked.
     ///
     /// Unless the journal refuses, nothing is asked of the storage, and nothing is changed.
-    pub fn compact(&mut self, alloc: Global) -> Result<(), CompactError>
+    pub fn compact(&mut self, alloc: Global, key: [u8; 16]) -> Result<(), CompactError>
         ensures ready { IsOk result → self.old.journal.position.state ≡ states.Ready }
         ensures refused { IfErr result (IsCompactRefusal self.old.server
             self.old.journal.position self.new.journal.position) }
+        ensures key { IsOk result → self.new.journal.position.key ≡ key }
         ensures performs { Performs S.performs self.old.journal.storage self.new.journal.storage
             (Rewrites result self.old.journal.position self.new.journal.position self.old.server
             self.new.server) }
     {
         let Rewritten { text, zone } = zone_text(alloc, self.server.zones())?;
         let server = server_of(alloc, zone)?;
-        match compact(&mut self.journal, alloc, text.as_bytes()) {
+        match compact(&mut self.journal, alloc, text.as_bytes(), key) {
             Ok(()) => {
                 self.server = server;
                 Ok(())

@@ -1,18 +1,19 @@
 //! A server whose updates outlast a crash.
 
-ghost use Rattle.std.specs.Prelude.{◌≡◌, ◌≢◌, []};
-ghost use Rattle.dns_frames.specs.Frame.{stream_of};
+ghost use Rattle.std.specs.Prelude.{◌≡◌, ◌≢◌, [], IfOk};
 ghost use Rattle.dns_journal.specs.Storage.{Performs};
 ghost use Rattle.dns_journal.specs.declared.journal.State.TheVariants as states;
+ghost use Rattle.dns_durable.specs.Changes.{AreChanges};
 ghost use Rattle.dns_durable.specs.Durable.{Answers, Responds};
 ghost use Rattle.dns_durable.specs.Incoming.{AreJudged, changes_in};
+ghost use Rattle.dns_durable.specs.Rule.{entry_of};
 
-use crate::answering::answer_all;
+use crate::answering::{Answered, answer_all};
 use crate::incoming::{Batch, Incoming};
 use crate::policy::Policy;
 use crate::storing::store;
 use dns_journal::{Journal, State, Storage};
-use dns_server::Server;
+use dns_server::{Server, ZoneChange};
 use std::alloc::{AllocError, Global};
 
 /// The replies to requests that arrived together.
@@ -22,6 +23,8 @@ pub struct Replies {
     pub replies: Vec<Option<Vec<u8>>>,
     /// Whether the updates of the requests are on the disk, if there are any.
     pub is_stored: bool,
+    /// What the requests have changed, in order.
+    pub changes: Vec<ZoneChange>,
 }
 
 /// A server of zones. Updates are appended to its journal before they are served.
@@ -38,17 +41,19 @@ impl<S: Storage> DurableServer<S> {
     /// appended to the journal as one entry. Once that is on the disk, the requests are served one after another. If the journal does
     /// not take it, each of these updates is answered with `ServFail` and changes nothing. The reply to a signed request is signed.
     ///
-    /// An error is want of memory. Some of the updates may have been served; then all of them are on the disk, and the journal takes no
-    /// further ones until it is opened again.
+    /// An error is want of memory. Some of the updates may have been served, and their changes are not returned; then all of them are on
+    /// the disk, and the journal takes no further ones until it is opened again.
     pub fn respond_all(
         &mut self,
         alloc: Global,
         policy: &Policy,
         requests: &[Incoming<'_>],
     ) -> Result<Replies, AllocError>
-        ensures { Performs S.performs self.old.journal.storage self.new.journal.storage
+        ensures performs { Performs S.performs self.old.journal.storage self.new.journal.storage
             (Responds policy.now requests.now result self.old.journal.position
             self.new.journal.position self.old.server self.new.server) }
+        ensures changes { IfOk result (λ replies.
+            AreChanges self.old.server replies.changes.items self.new.server) }
     {
         let batch = Batch::new(alloc, policy, requests)?;
         let DurableServer { server, journal } = self;
@@ -64,18 +69,25 @@ fn respond_batch<S: Storage>(
     policy: &Policy,
     batch: &Batch<'_>,
 ) -> Result<Replies, AllocError>
-    requires frames { batch.now.frames.items ≡ stream_of (changes_in batch.now.admitted.items) }
+    requires entry { batch.now.entry.items
+        ≡ entry_of policy.now.answering (changes_in batch.now.admitted.items) }
     requires judged { AreJudged policy.now batch.now.admitted.items }
-    ensures { Performs S.performs journal.old.storage journal.new.storage
+    ensures performs { Performs S.performs journal.old.storage journal.new.storage
         (Answers policy.now batch.now.admitted.items result journal.old.position
         journal.new.position server.old server.new) }
+    ensures changes { IfOk result (λ replies.
+        AreChanges server.old replies.changes.items server.new) }
 {
-    let is_stored = store(journal, alloc, batch.frames.as_slice());
+    let is_stored = store(journal, alloc, batch.entry.as_slice());
     match answer_all(server, alloc, policy, is_stored, batch.admitted.as_slice()) {
-        Ok(replies) => Ok(Replies { replies, is_stored }),
+        Ok(Answered { replies, changes }) => Ok(Replies {
+            replies,
+            is_stored,
+            changes,
+        }),
         Err(error) => {
             if is_stored {
-                suspend(journal, batch.frames.as_slice());
+                suspend(journal, batch.entry.as_slice());
             }
             Err(error)
         }
@@ -83,14 +95,16 @@ fn respond_batch<S: Storage>(
 }
 
 /// Lets a journal take no further updates if the zones may lack some of those that were appended.
-fn suspend<S: Storage>(journal: &mut Journal<S>, frames: &[u8])
+fn suspend<S: Storage>(journal: &mut Journal<S>, entry: &[u8])
     ensures storage { journal.new.storage ≡ journal.old.storage }
-    ensures empty { frames.now ≡ [] → journal.new.position ≡ journal.old.position }
-    ensures lost { frames.now ≢ [] → journal.new.position.state ≡ states.Lost }
+    ensures empty { entry.now ≡ [] → journal.new.position ≡ journal.old.position }
+    ensures lost { entry.now ≢ [] → journal.new.position.state ≡ states.Lost }
     ensures end { journal.new.position.end ≡ journal.old.position.end }
     ensures digest { journal.new.position.digest ≡ journal.old.position.digest }
+    ensures key { journal.new.position.key ≡ journal.old.position.key }
+    ensures link { journal.new.position.link ≡ journal.old.position.link }
 {
-    if !frames.is_empty() {
+    if !entry.is_empty() {
         journal.position.state = State::Lost;
     }
 }

@@ -1,17 +1,19 @@
 //! Requests that have arrived, are decoded and verified.
 
-ghost use Rattle.std.specs.Prelude.{◌≡◌, ◌≤◌, ◌++◌, length, IfOk, OnOk};
-ghost use Rattle.dns_frames.specs.Frame.{stream_of};
+ghost use Rattle.std.specs.Prelude.{◌≡◌, ◌≤◌, length, IfOk, OnOk};
 ghost use Rattle.dns_messages.specs.Header.{peeked_metadata};
 ghost use Rattle.dns_zone.specs.Request.{IsRequest};
 ghost use Rattle.dns_durable.specs.Incoming.{AreAdmitted, IsAdmitted, IsJudged, IsShortIfAny, change_of, changes_in, is_change, is_update_header};
+ghost use Rattle.dns_durable.specs.Rule.{begun, entry_of, entry_with};
 
 use crate::policy::{Admission, Policy, admission_of};
+use crate::rule::mark_of;
 use dns_frames::write_frame;
 use dns_messages::{Message, Metadata, OpCode};
 use dns_server::Updates;
 use dns_tsig::{Checked, verify_request};
 use dns_zone::{Transport, decode_request};
+use dns_zone_service::Answering;
 use std::alloc::{AllocError, Global};
 
 /// The greatest length of a message in a frame.
@@ -96,13 +98,13 @@ pub fn is_update(bytes: &[u8]) -> bool
     }
 }
 
-/// Requests that are decoded and verified, and the frames of the updates that may be made.
+/// Requests that are decoded and verified, and the entry of a journal for the updates that may be made.
 #[derive(Drop)]
 pub(crate) struct Batch<'a> {
     /// What has arrived, in order.
     pub(crate) admitted: Vec<Arrived<'a>>,
-    /// The frames.
-    pub(crate) frames: Vec<u8>,
+    /// The entry: the mark of the rule by which the updates are made, and their frames, or nothing if there are none.
+    pub(crate) entry: Vec<u8>,
 }
 
 impl<'a> Batch<'a> {
@@ -114,34 +116,49 @@ impl<'a> Batch<'a> {
     ) -> Result<Batch<'a>, AllocError>
         ensures admitted { IfOk result (λ batch.
             AreAdmitted policy.now requests.now batch.admitted.items) }
-        ensures frames { IfOk result (λ batch.
-            batch.frames.items ≡ stream_of (changes_in batch.admitted.items)) }
+        ensures entry { IfOk result (λ batch.
+            batch.entry.items ≡ entry_of policy.now.answering (changes_in batch.admitted.items)) }
     {
         let mut admitted = Vec::new(alloc);
-        let mut frames = Vec::new(alloc);
+        let mut entry = Vec::new(alloc);
         let mut rest = requests;
         while let [incoming, more @ ..] = rest {
             let next = admit(alloc, policy, *incoming)?;
-            push_change(&mut frames, &next)?;
+            push_change(&mut entry, policy.answering, &next)?;
             admitted.push(next)?;
             rest = more;
         }
-        Ok(Batch { admitted, frames })
+        Ok(Batch { admitted, entry })
     }
 }
 
-/// Adds the frame of an update that may be made.
-fn push_change(frames: &mut Vec<u8>, arrived: &Arrived<'_>) -> Result<(), AllocError>
+/// Adds the frame of an update that may be made to an entry, which begins with the mark of its rule.
+fn push_change(
+    entry: &mut Vec<u8>,
+    answering: Answering,
+    arrived: &Arrived<'_>,
+) -> Result<(), AllocError>
     requires { IsShortIfAny arrived.now }
-    ensures { OnOk result (frames.new.items
-        ≡ frames.old.items ++ stream_of (change_of arrived.now)) }
+    ensures { OnOk result (entry.new.items
+        ≡ entry_with answering entry.old.items (change_of arrived.now)) }
 {
     match arrived {
-        Arrived::Request(admitted) if admitted.is_change() => write_frame(
-            frames,
-            admitted.incoming.bytes,
-        ),
+        Arrived::Request(admitted) if admitted.is_change() => {
+            begin_entry(entry, answering)?;
+            write_frame(entry, admitted.incoming.bytes)
+        }
         _ => Ok(()),
+    }
+}
+
+/// Adds the mark of a rule to an entry that has nothing yet.
+fn begin_entry(entry: &mut Vec<u8>, answering: Answering) -> Result<(), AllocError>
+    ensures { OnOk result (entry.new.items ≡ begun answering entry.old.items) }
+{
+    if entry.is_empty() {
+        entry.extend_from_slice(mark_of(answering))
+    } else {
+        Ok(())
     }
 }
 

@@ -3,12 +3,13 @@
 ghost use Rattle.std.specs.Prelude.{◌≡◌, ◌++◌, ◌∷◌, [], List, ℕ, Result};
 ghost use Rattle.std.specs.declared.alloc.AllocError.{AllocError};
 ghost use Rattle.dns_journal.specs.declared.journal.Position.{Position};
-ghost use Rattle.dns_journal.specs.Event.{Event};
+ghost use Rattle.dns_journal.specs.Event.{Event, Files};
 ghost use Rattle.dns_journal.specs.Storage.{Always, Disk, Ends, LeavesOnly};
 ghost use Rattle.dns_recovery.specs.Updating.{IsOpen};
 ghost use Rattle.dns_zone.specs.Rows.{ZoneContent};
 ghost use Rattle.dns_durable.specs.Durable.{Keeps, Responds};
-ghost use Rattle.dns_durable.specs.History.{Call, Outlasts, Runs, events_of};
+ghost use Rattle.dns_durable.specs.History.{AreGenuine, AreReady, Call, Outlasts, Runs, events_of, position_after};
+ghost use Rattle.dns_durable.specs.Storing.{IsGenuine};
 ghost use Rattle.dns_durable.specs.declared.durable_server.Replies.{Replies};
 ghost use Rattle.dns_durable.specs.declared.incoming.Incoming.{Incoming};
 ghost use Rattle.dns_durable.specs.declared.policy.Policy.{Policy};
@@ -29,4 +30,12 @@ pub fn acknowledged_updates_outlast_crashes()
         (d : Disk) (done : List Call) (c : Call)
         → IsOpen text updates p d → Runs p zones (done ++ c ∷ [])
         → Ends (λ e. Always (LeavesOnly (Outlasts text updates p done c)) e c.events) d (events_of done) }
+{}
+
+/// A crash tears one write at most. After calls that leave the journal ready, whatever entries they stored, what
+/// [`acknowledged_updates_outlast_crashes`] asks of a crash is met if what that leaves of the write of the further call is genuine.
+pub fn only_the_last_write_has_to_be_genuine()
+    ensures { (p : Position) (done : List Call) (c : Call) (files : Files) → AreReady done
+        → IsGenuine c.frames (position_after p done) files
+        → AreGenuine p (done ++ c ∷ []) files }
 {}

@@ -6,7 +6,7 @@
 //!
 //! - `policy`: keys, grants, and what they make of a request; `grant_text`: grants from words;
 //! - `incoming`: requests are decoded and verified; `storing`: their updates are appended; `answering`: they are served and answered;
-//!   `durable_server`: all of this; `replaying`: the updates of a journal are served again;
+//!   `durable_server`: all of this; `rule`: by which rule updates are made; `replaying`: those of a journal are served again;
 //!   `compaction`: the text of a zone takes the place of its journal;
 //! - `laws`: theorems; `error`: why updates are not served again, or words are not a grant.
 #![tactic(auto)]
@@ -20,6 +20,7 @@ mod incoming;
 pub mod laws;
 mod policy;
 mod replaying;
+mod rule;
 mod storing;
 
 pub use durable_server::{DurableServer, Replies};

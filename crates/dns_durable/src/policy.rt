@@ -16,7 +16,7 @@ pub struct Policy {
     pub keys: Vec<Key>,
     /// What the holders of these keys may change.
     pub grants: Vec<Grant>,
-    /// How requests are answered that are not updates.
+    /// How requests are answered, and by which rule updates are made.
     pub answering: Answering,
 }
 

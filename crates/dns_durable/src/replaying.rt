@@ -3,12 +3,15 @@
 ghost use Rattle.std.specs.Prelude.{◌≡◌, ◌≤◌, ◌<◌, ◌++◌, length, map, ℕ, None, Err, IfErr, IfSome, OnErr, OnOk};
 ghost use Rattle.dns_frames.specs.Frame.{frame, frame_len};
 ghost use Rattle.dns_zone.specs.Request.{DecodesRequest};
-ghost use Rattle.dns_durable.specs.Durable.{IsTaken, Replays, Takes};
+ghost use Rattle.dns_durable.specs.Durable.{IsTaken, Replays, TakesEntry};
 ghost use Rattle.dns_durable.specs.Replay.{IsEntryRefusal, IsReplayRefusal};
+ghost use Rattle.dns_durable.specs.Rule.{step_of};
 
 use crate::error::ReplayError;
+use crate::rule::{EntryRule, rule_of};
 use dns_server::{Server, Updates};
 use dns_zone::{Transport, decode_request};
+use dns_zone_service::Answering;
 use std::alloc::Global;
 
 /// The first frame of bytes (RFC 1035 section 4.2.2).
@@ -20,7 +23,8 @@ pub struct FirstFrame<'a> {
     pub rest: &'a [u8],
 }
 
-/// Serves the updates of a journal, in order.
+/// Serves the updates of a journal, in order: those of each entry by the rule by which they were made, which its mark says. Entries
+/// without a mark are of older versions, which made all updates by [`Answering::Plain`].
 ///
 /// # Errors
 ///
@@ -42,35 +46,37 @@ pub fn replay(server: &mut Server, alloc: Global, updates: &[&[u8]]) -> Result<(
     Ok(())
 }
 
-/// Serves the requests of an entry, whose number is that of its error.
+/// Serves the requests of an entry by its rule. The number of the entry is that of its error.
 fn replay_update(
     server: &mut Server,
     alloc: Global,
     entry: usize,
     update: &[u8],
 ) -> Result<(), ReplayError>
-    ensures ok { OnOk result (Takes server.old update.now server.new) }
+    ensures ok { OnOk result (TakesEntry server.old update.now server.new) }
     ensures refused { IfErr result (IsEntryRefusal entry server.old update.now server.new) }
 {
-    let mut rest = update;
+    let EntryRule { answering, updates } = rule_of(update);
+    let mut rest = updates;
     while !rest.is_empty() {
         let Some(first) = first_frame(rest) else {
             return Err(ReplayError::NotUpdates(entry));
         };
-        replay_message(server, alloc, entry, first.message)?;
+        replay_message(server, alloc, answering, entry, first.message)?;
         rest = first.rest;
     }
     Ok(())
 }
 
-/// Serves a request of an entry.
+/// Serves a request of an entry by a rule.
 fn replay_message(
     server: &mut Server,
     alloc: Global,
+    answering: Answering,
     entry: usize,
     message: &[u8],
 ) -> Result<(), ReplayError>
-    ensures ok { OnOk result (IsTaken server.old message.now server.new) }
+    ensures ok { OnOk result (IsTaken (step_of answering) server.old message.now server.new) }
     ensures refused { OnErr result (server.new ≡ server.old) }
     ensures number { (n : ℕ) → result ≡ Err (ReplayError.NotUpdates n)
         → (n ≡ entry) × DecodesRequest message.now None }
@@ -78,7 +84,13 @@ fn replay_message(
     let Some(request) = decode_request(alloc, message)? else {
         return Err(ReplayError::NotUpdates(entry));
     };
-    let _reply = server.respond_to(&request, Transport::Stream, Updates::Allowed)?;
+    let _served = answering.respond_to(
+        alloc,
+        server,
+        &request,
+        Transport::Stream,
+        Updates::Allowed,
+    )?;
     Ok(())
 }
 

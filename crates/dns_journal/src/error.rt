@@ -42,7 +42,7 @@ pub enum AppendError {
     /// An earlier call failed: the journal takes no entries until it is opened again.
     #[error("journal is not ready")]
     NotReady,
-    /// The length of the journal would pass the greatest number of bytes.
+    /// The payload is too long, or the length of the journal or the number of its entries would not fit in 64 bits.
     #[error("journal is full")]
     Full,
     /// The storage failed.

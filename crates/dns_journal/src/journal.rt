@@ -1,7 +1,7 @@
 //! A journal to which payloads are appended.
 
 ghost use Rattle.std.specs.Prelude.{◌≡◌, ◌≢◌, ◌<◌, ◌+◌, ◌^◌, List, ℕ, length, is_ok, IfOk, IfErr, IsOk};
-ghost use Rattle.dns_journal_format.specs.Format.{entry};
+ghost use Rattle.dns_journal_format.specs.Format.{entry, next, IsShort};
 ghost use Rattle.dns_journal.specs.Appending.{Appends, AreCalls, IsPosition, IsRefusal, IsStored};
 ghost use Rattle.dns_journal.specs.Storage.{Performs};
 ghost use Rattle.dns_journal.specs.declared.error.AppendError.TheVariants as errors;
@@ -9,8 +9,8 @@ ghost use Rattle.dns_journal.specs.declared.journal.State.TheVariants as states;
 
 use crate::error::AppendError;
 use crate::storage::Storage;
-use dns_journal_format::laws::{an_appended_entry_is_read, an_end_without_entry_is_cut_off};
-use dns_journal_format::write_entry;
+use dns_journal_format::laws::{a_torn_write_is_cut_off, an_appended_entry_is_read};
+use dns_journal_format::{Link, MAX_PAYLOAD_LEN, write_entry};
 use std::alloc::Global;
 
 /// Whether a journal takes entries.
@@ -31,6 +31,10 @@ pub struct Position {
     pub end: usize,
     /// The digest of the text that it belongs to.
     pub digest: [u8; 32],
+    /// The key that was drawn for it.
+    pub key: [u8; 16],
+    /// The link for the next entry.
+    pub link: Link,
     /// Whether it takes entries.
     pub state: State,
 }
@@ -60,16 +64,16 @@ impl<S: Storage> Journal<S> {
     /// # Errors
     ///
     /// - [`AppendError::NotReady`] if an earlier call failed and the journal was not opened again;
-    /// - [`AppendError::Full`] if the length of the journal would pass the greatest number of bytes;
+    /// - [`AppendError::Full`] if the payload is longer than [`MAX_PAYLOAD_LEN`], or if the length of the journal or the number of its
+    ///   entries would not fit in 64 bits;
     /// - [`AppendError::Storage`] if the storage fails: then the journal is not ready, and the entry may be on the disk or not;
     /// - [`AppendError::Memory`] if memory is refused, before anything is asked of the storage.
     pub fn append(&mut self, alloc: Global, payload: &[u8]) -> Result<(), AppendError>
-        requires { length payload.now < 2 ^ 32 }
         ensures ready { IsOk result → self.old.position.state ≡ states.Ready }
         ensures refused { IfErr result
             (IsRefusal self.old.position payload.now self.new.position) }
         ensures calls { Performs S.performs self.old.storage self.new.storage
-            (AreCalls (entry self.old.position.digest self.old.position.end payload.now) result
+            (AreCalls (entry self.old.position.key self.old.position.link payload.now) result
             self.new.position.state) }
         ensures performs { Performs S.performs self.old.storage self.new.storage
             (λ es. (text bytes digest : List ℕ) (payloads : List (List ℕ))
@@ -77,7 +81,7 @@ impl<S: Storage> Journal<S> {
             → Appends self.old.position self.new.position payload.now (is_ok result) text bytes digest payloads es) }
     {
         an_appended_entry_is_read();
-        an_end_without_entry_is_cut_off();
+        a_torn_write_is_cut_off();
         let next = match next_entry(alloc, self.position, payload) {
             Ok(next) => next,
             Err(error) => return Err(error),
@@ -101,13 +105,16 @@ impl<S: Storage> Journal<S> {
 
 /// Makes the entry with a payload at a position.
 fn next_entry(alloc: Global, position: Position, payload: &[u8]) -> Result<NextEntry, AppendError>
-    requires { length payload.now < 2 ^ 32 }
     ensures bytes { IfOk result (λ next. next.bytes.items
-        ≡ entry position.digest position.end payload.now) }
+        ≡ entry position.key position.link payload.now) }
     ensures end { IfOk result (λ next. next.position.end
-        ≡ position.end + length (entry position.digest position.end payload.now)) }
+        ≡ position.end + length (entry position.key position.link payload.now)) }
     ensures digest { IfOk result (λ next. next.position.digest ≡ position.digest) }
+    ensures key { IfOk result (λ next. next.position.key ≡ position.key) }
+    ensures link { IfOk result (λ after. after.position.link
+        ≡ next position.key position.link payload.now) }
     ensures state { IfOk result (λ next. next.position.state ≡ states.Ready) }
+    ensures short { IfOk result (λ _. IsShort payload.now) }
     ensures ready { IfOk result (λ _. position.state ≡ states.Ready) }
     ensures refused { IfErr result (λ error. IsRefusal position payload.now position error) }
     ensures unasked { IfErr result (λ error. error ≢ errors.Storage) }
@@ -115,17 +122,18 @@ fn next_entry(alloc: Global, position: Position, payload: &[u8]) -> Result<NextE
     if position.state != State::Ready {
         return Err(AppendError::NotReady);
     }
+    if payload.len() > MAX_PAYLOAD_LEN {
+        return Err(AppendError::Full);
+    }
+    if position.link.number >= u64::MAX {
+        return Err(AppendError::Full);
+    }
     let mut bytes = Vec::new(alloc);
-    match write_entry(
-        &mut bytes,
-        position.digest.as_slice(),
-        position.end,
-        payload,
-    ) {
-        Ok(()) => {}
+    let link = match write_entry(&mut bytes, position.key.as_slice(), position.link, payload) {
+        Ok(link) => link,
         // Memory for the entry was refused.
         Err(_) => return Err(AppendError::Memory),
-    }
+    };
     let Some(end) = position.end.checked_add(bytes.len()) else {
         return Err(AppendError::Full);
     };
@@ -134,6 +142,8 @@ fn next_entry(alloc: Global, position: Position, payload: &[u8]) -> Result<NextE
         position: Position {
             end,
             digest: position.digest,
+            key: position.key,
+            link,
             state: State::Ready,
         },
     })

@@ -2,8 +2,13 @@
 
 ghost use Rattle.std.specs.Prelude.{◌≡◌, None, IfOk, IsSomeAnd, is_some};
 
-use crate::replace::{replace_file, sync_folder};
+use crate::cut::{Cut, keep_cut};
+use crate::end::EndRecord;
+use crate::lock::take_lock;
+use crate::paths::{sync_folder, target_of};
+use crate::replace::replace_file;
 use dns_journal::{Storage, StorageError, StoredFiles};
+use dns_journal_format::digest_of;
 use std::alloc::{AllocError, Global};
 use std::fs::{File, OpenOptions};
 use std::io::Write;
@@ -18,14 +23,23 @@ struct Paths {
 
 /// A storage in two files: the text of a zone, and its journal.
 ///
-/// A journal that is missing is read as an empty one. While a storage is open, it has the lock of its journal, so that no two servers
-/// write to one.
+/// A journal that is missing is read as an empty one. Before anything is read, the lock of the journal is taken, and it is held as long
+/// as the storage is alive: so no two servers have one journal. What is cut off is kept in a file beside the journal, and another one has
+/// the number of bytes that were synchronized: a journal that has lost some of these is neither read nor cut.
 pub struct FileStorage<'a> {
     rt: &'a HostRuntime,
     /// The paths of the files, or `None` if nothing is kept.
     paths: Option<Paths>,
+    /// The lock file of the journal, once its lock is taken.
+    lock: Option<File>,
     /// The journal, opened for appends.
     file: Option<File>,
+    /// The record of how many bytes of the journal are on the disk, once it is read.
+    end: Option<EndRecord>,
+    /// The length of the journal.
+    len: usize,
+    /// What was cut off the journal.
+    cut: Option<Cut>,
     /// The error of the last call that failed.
     error: Option<io::Error>,
 }
@@ -35,11 +49,18 @@ impl Drop for FileStorage<'_> {
         let FileStorage {
             rt: _rt,
             paths,
+            lock,
             file,
+            end,
+            len: _len,
+            cut,
             error,
         } = self;
         drop(paths);
         drop(file);
+        drop(end);
+        drop(lock);
+        drop(cut);
         drop(error);
     }
 }
@@ -62,7 +83,11 @@ impl<'a> FileStorage<'a> {
         Ok(FileStorage {
             rt,
             paths: Some(Paths { text, journal }),
+            lock: None,
             file: None,
+            end: None,
+            len: 0,
+            cut: None,
             error: None,
         })
     }
@@ -75,7 +100,11 @@ impl<'a> FileStorage<'a> {
         FileStorage {
             rt,
             paths: None,
+            lock: None,
             file: None,
+            end: None,
+            len: 0,
+            cut: None,
             error: None,
         }
     }
@@ -95,6 +124,31 @@ impl<'a> FileStorage<'a> {
         self.error.take()
     }
 
+    /// Takes what was cut off the journal, if anything was since the last call.
+    pub fn take_cut(&mut self) -> Option<Cut>
+        ensures result { result ≡ self.old.cut }
+        ensures after { self.new ≡ record self.old { cut = None } }
+    {
+        self.cut.take()
+    }
+
+    /// Returns `true` if the text that is in its file has this digest: it was not edited since it was read.
+    pub fn is_unedited(&mut self, digest: &[u8]) -> Result<bool, StorageError> {
+        let outcome = self.text_has(digest);
+        self.noted(outcome)
+    }
+
+    /// Returns `true` if the text has this digest, or if there are no files.
+    fn text_has(&self, digest: &[u8]) -> io::Result<bool> {
+        match &self.paths {
+            Some(paths) => {
+                let text = fs::read(self.rt, paths.text.as_str())?;
+                Ok(digest_of(text.as_slice()).as_slice() == digest)
+            }
+            None => Ok(true),
+        }
+    }
+
     /// Returns the outcome of a call, and keeps its error.
     fn noted<T: Drop>(&mut self, outcome: io::Result<T>) -> Result<T, StorageError> {
         match outcome {
@@ -106,21 +160,43 @@ impl<'a> FileStorage<'a> {
         }
     }
 
-    /// Opens the journal for appends, and locks it, unless it is open.
+    /// Takes the lock of the journal, unless it is taken.
+    fn lock(&mut self) -> io::Result<()> {
+        if let (None, Some(paths)) = (&self.lock, &self.paths) {
+            let journal = target_of(self.rt, paths.journal.as_str())?;
+            self.lock = Some(take_lock(self.rt, journal.as_str())?);
+        }
+        Ok(())
+    }
+
+    /// Opens the journal for appends, unless it is open.
     fn open(&mut self) -> io::Result<()> {
+        self.lock()?;
         if let (None, Some(paths)) = (&self.file, &self.paths) {
             let file = OpenOptions::new()
                 .append(true)
                 .create(true)
                 .open(self.rt, paths.journal.as_str())?;
-            file.try_lock()?;
             self.file = Some(file);
+        }
+        Ok(())
+    }
+
+    /// Empties the record of the journal if that is missing.
+    fn forget_missing(&self) -> io::Result<()> {
+        if let Some(paths) = &self.paths {
+            let journal = target_of(self.rt, paths.journal.as_str())?;
+            if !fs::exists(self.rt, journal.as_str())? {
+                EndRecord::forget(self.rt, journal.as_str())?;
+            }
         }
         Ok(())
     }
 
     /// Reads both files. What is read is on the disk.
     fn read_files(&mut self) -> io::Result<StoredFiles> {
+        self.lock()?;
+        self.forget_missing()?;
         self.open()?;
         if let Some(file) = &self.file {
             file.sync_all()?;
@@ -131,39 +207,71 @@ impl<'a> FileStorage<'a> {
                 journal: Vec::new(self.rt.alloc()),
             });
         };
-        sync_folder(self.rt, paths.journal.as_str())?;
-        sync_folder(self.rt, paths.text.as_str())?;
-        Ok(StoredFiles {
-            text: fs::read(self.rt, paths.text.as_str())?,
-            journal: fs::read(self.rt, paths.journal.as_str())?,
-        })
+        sync_folder(
+            self.rt,
+            target_of(self.rt, paths.journal.as_str())?.as_str(),
+        )?;
+        sync_folder(self.rt, target_of(self.rt, paths.text.as_str())?.as_str())?;
+        let text = fs::read(self.rt, paths.text.as_str())?;
+        let journal = fs::read(self.rt, paths.journal.as_str())?;
+        let target = target_of(self.rt, paths.journal.as_str())?;
+        let end = EndRecord::open(self.rt, target.as_str(), journal.as_slice())?;
+        end.check(self.rt.alloc(), journal.len())?;
+        self.len = journal.len();
+        self.end = Some(end);
+        Ok(StoredFiles { text, journal })
     }
 
     /// Appends bytes to the journal.
     fn append_bytes(&mut self, bytes: &[u8]) -> io::Result<()> {
         self.open()?;
-        match &mut self.file {
-            Some(file) => file.write_all(bytes),
-            None => Ok(()),
-        }
+        let Some(file) = &mut self.file else {
+            return Ok(());
+        };
+        file.write_all(bytes)?;
+        self.len = self.len.saturating_add(bytes.len());
+        Ok(())
     }
 
     /// Returns once the data of the journal are on the disk.
     fn sync_journal(&mut self) -> io::Result<()> {
         self.open()?;
-        match &self.file {
-            Some(file) => file.sync_data(),
-            None => Ok(()),
+        let Some(file) = &self.file else {
+            return Ok(());
+        };
+        file.sync_data()?;
+        self.note_end(self.len);
+        Ok(())
+    }
+
+    /// Notes that so many bytes of the journal are on the disk.
+    pub fn note_end(&mut self, len: usize) {
+        if let Some(end) = &mut self.end {
+            end.note(self.rt.alloc(), len);
         }
     }
 
-    /// Cuts the journal to a length.
+    /// Cuts the journal to a length, once what is cut off is in a file beside it. Nothing that was synchronized is cut off.
     fn cut_journal(&mut self, len: usize) -> io::Result<()> {
         self.open()?;
-        match &self.file {
-            Some(file) => file.set_len(len as u64),
-            None => Ok(()),
+        if let Some(end) = &self.end {
+            end.check(self.rt.alloc(), len)?;
         }
+        if let Some(paths) = &self.paths {
+            let journal = target_of(self.rt, paths.journal.as_str())?;
+            let bytes = fs::read(self.rt, journal.as_str())?;
+            if len < bytes.len() {
+                let cut = keep_cut(self.rt, journal.as_str(), &bytes.as_slice()[len..])?;
+                sync_folder(self.rt, journal.as_str())?;
+                self.cut = Some(cut);
+            }
+        }
+        let Some(file) = &self.file else {
+            return Ok(());
+        };
+        file.set_len(len as u64)?;
+        self.len = len;
+        Ok(())
     }
 
     /// Replaces the text.
@@ -176,11 +284,16 @@ impl<'a> FileStorage<'a> {
 
     /// Replaces the journal, and opens the new one.
     fn write_journal(&mut self, bytes: &[u8]) -> io::Result<()> {
+        if let Some(end) = &mut self.end {
+            end.begin(self.rt.alloc(), bytes)?;
+        }
         // The file that is open loses its name.
         self.file = None;
         if let Some(paths) = &self.paths {
             replace_file(self.rt, paths.journal.as_str(), bytes)?;
         }
+        self.len = bytes.len();
+        self.note_end(self.len);
         self.open()
     }
 }

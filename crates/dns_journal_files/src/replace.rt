@@ -1,37 +1,54 @@
 //! A file is replaced.
 
-use std::alloc::{AllocError, Global};
-use std::fs::File;
+use crate::paths::{sync_folder, target_of};
+use std::fs::{File, OpenOptions, Permissions};
 use std::io::Write;
+use std::os::unix::fs::{MetadataExt, OpenOptionsExt, PermissionsExt, fchown};
 use std::{fs, io};
 
-/// Replaces a file: the bytes are written to another file in the same folder and synchronized, that file takes the name, and the
-/// folder is synchronized. A crash leaves the file as it was before or with all of the bytes.
+/// Replaces a file, or the file that a symbolic link leads to: the bytes are written to another file in the same folder and
+/// synchronized, that file takes the name, and the folder is synchronized. A crash leaves the file as it was before or with all of
+/// the bytes. The mode of the file is kept, and so are its owner and its group as far as this process may give files away. After a
+/// failure, the other file is removed.
 pub(crate) fn replace_file(rt: &HostRuntime, path: &str, bytes: &[u8]) -> io::Result<()> {
-    let other = format!(in rt.alloc(); "{path}.new")?;
-    write_file(rt, other.as_str(), bytes)?;
-    fs::rename(rt, other.as_str(), path)?;
-    sync_folder(rt, path)
-}
-
-/// Writes a file, and returns once it is on the disk.
-fn write_file(rt: &HostRuntime, path: &str, bytes: &[u8]) -> io::Result<()> {
-    let mut file = File::create(rt, path)?;
-    file.write_all(bytes)?;
-    file.sync_all()
-}
-
-/// Returns once the names in the folder of a path are on the disk.
-pub(crate) fn sync_folder(rt: &HostRuntime, path: &str) -> io::Result<()> {
-    let folder = folder_of(rt.alloc(), path)?;
-    File::open(rt, folder.as_str())?.sync_all()
-}
-
-/// Returns the folder of a path.
-fn folder_of(alloc: Global, path: &str) -> Result<String, AllocError> {
-    match path.rsplit_once('/') {
-        Some(("", _)) => String::from_str(alloc, "/"),
-        Some((folder, _)) => String::from_str(alloc, folder),
-        None => String::from_str(alloc, "."),
+    let target = target_of(rt, path)?;
+    let other = format!(in rt.alloc(); "{target}.new")?;
+    match rename_written(rt, other.as_str(), target.as_str(), bytes) {
+        Ok(()) => sync_folder(rt, target.as_str()),
+        Err(error) => {
+            // The failure that is reported is the first one.
+            let _removed = fs::remove_file(rt, other.as_str());
+            Err(error)
+        }
     }
+}
+
+/// Writes bytes to a file, which takes the name of another one.
+fn rename_written(rt: &HostRuntime, path: &str, target: &str, bytes: &[u8]) -> io::Result<()> {
+    let mut file = match fs::metadata(rt, target) {
+        Ok(metadata) => {
+            let file = create_private(rt, path)?;
+            let (user, group) = (metadata.uid(), metadata.gid());
+            // Only a privileged process may give a file to another user.
+            let _given = fchown(&file, None, Some(group));
+            let _given = fchown(&file, Some(user), None);
+            file.set_permissions(Permissions::from_mode(metadata.mode() & 0o7777))?;
+            file
+        }
+        Err(error) if error.kind() == io::ErrorKind::NotFound => File::create(rt, path)?,
+        Err(error) => return Err(error),
+    };
+    file.write_all(bytes)?;
+    file.sync_all()?;
+    fs::rename(rt, path, target)
+}
+
+/// Creates a file that no other user may read.
+fn create_private(rt: &HostRuntime, path: &str) -> io::Result<File> {
+    OpenOptions::new()
+        .write(true)
+        .create(true)
+        .truncate(true)
+        .mode(0o600)
+        .open(rt, path)
 }

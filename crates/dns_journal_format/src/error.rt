@@ -9,9 +9,12 @@ use thiserror::Error;
 #[derive(Clone, Copy, Debug, PartialEq, Eq, Drop, Error)]
 pub enum ReadError {
     /// The bytes do not begin with the header of a journal.
-    #[error("not a journal")]
+    #[error("not a journal, or its header is damaged")]
     Header,
-    /// What is at this place, in bytes from the start, is not an entry, and entries follow it.
+    /// The bytes are a journal of the former format.
+    #[error("a journal of the former format, dnsjrnl1")]
+    Former,
+    /// What is at this place, in bytes from the start, is not the next entry, and no interrupted write leaves it.
     #[error("damaged at byte {0}")]
     Damaged(usize),
     /// Memory could not be allocated.

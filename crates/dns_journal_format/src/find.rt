@@ -1,108 +1,141 @@
-//! Entries that are found in bytes.
+//! Entries and frames that are found in bytes.
 
-ghost use Rattle.std.specs.Prelude.{◌≡◌, ◌<◌, ◌≤◌, ◌+◌, ◌^◌, ◌↔◌, List, ℕ, length, take, IsTrue, IfSome, IfNone};
+ghost use Rattle.std.specs.Prelude.{◌≡◌, ◌<◌, ◌≤◌, ◌+◌, ◌^◌, ◌↔◌, ◌⊎◌, List, ℕ, length, take, drop, IsTrue, IfSome, IfNone};
 ghost use Rattle.std.specs.Int.{w32, from_be_bytes};
-ghost use Rattle.dns_journal_format.specs.Format.{seal, BeginsWith, HasEntry};
-ghost use Rattle.dns_journal_format.specs.Find.{HasEntryAt};
+ghost use Rattle.dns_journal_format.specs.Format.{frame, next, word, BeginsWith, HasLaterFrame, IsFrame};
 
-use crate::sealing::seal;
+use crate::link::Link;
+use crate::sealing::{check, seal, word};
+use crate::write::{FRAME_LEN, MAX_PAYLOAD_LEN, front};
 
 /// The parts of an entry at the front of bytes, and what follows it.
 #[derive(Clone, Copy)]
 pub struct FoundEntry<'a> {
     /// The payload.
     pub payload: &'a [u8],
+    /// The link for the next entry.
+    pub link: Link,
     /// What follows the entry.
     pub rest: &'a [u8],
 }
 
-/// Returns the entry at the front of bytes, which are at a place of the journal of a text with this digest, if there is a whole
-/// one whose seal is right.
-pub fn first_entry<'a>(digest: &[u8], place: usize, bytes: &'a [u8]) -> Option<FoundEntry<'a>>
-    ensures found { IfSome result (λ found. BeginsWith digest.now place found.payload.now bytes.now
+/// Returns the entry at the front of bytes that follows a link, if there is a whole one whose check and seal are right.
+pub fn first_entry<'a>(key: &[u8], link: Link, bytes: &'a [u8]) -> Option<FoundEntry<'a>>
+    requires { link.number + 1 < 2 ^ 64 }
+    ensures found { IfSome result (λ found. BeginsWith key.now link found.payload.now bytes.now
         found.rest.now) }
+    ensures link { IfSome result (λ found. found.link ≡ next key.now link found.payload.now) }
     ensures none { IfNone result ((payload rest : List ℕ)
-        → ¬ (BeginsWith digest.now place payload bytes.now rest)) }
+        → ¬ (BeginsWith key.now link payload bytes.now rest)) }
 {
     match payload_len(bytes) {
-        Some(len) => entry_of_len(digest, place, bytes, len),
+        Some(len) => entry_of_len(key, link, bytes, len),
         None => None,
     }
 }
 
-/// Returns the entry at the front of bytes, whose payload has a length, if its seal is right.
-fn entry_of_len<'a>(
-    digest: &[u8],
-    place: usize,
-    bytes: &'a [u8],
-    len: usize,
-) -> Option<FoundEntry<'a>>
-    requires within { 12 + len ≤ length bytes.now }
-    requires small { len < 2 ^ 32 }
-    requires number { len ≡ from_be_bytes w32 (take 4 bytes.now) }
-    ensures found { IfSome result (λ found. BeginsWith digest.now place found.payload.now bytes.now
+/// Returns the entry at the front of bytes that follows a link, whose payload has a length, if its check and its seal are right.
+fn entry_of_len<'a>(key: &[u8], link: Link, bytes: &'a [u8], len: usize) -> Option<FoundEntry<'a>>
+    requires number { link.number + 1 < 2 ^ 64 }
+    requires within { 36 + len ≤ length bytes.now }
+    requires small { len < 2 ^ 23 }
+    requires len { len ≡ from_be_bytes w32 (take 4 (drop 16 bytes.now)) }
+    ensures found { IfSome result (λ found. BeginsWith key.now link found.payload.now bytes.now
         found.rest.now) }
+    ensures link { IfSome result (λ found. found.link ≡ next key.now link found.payload.now) }
     ensures none { IfNone result ((payload rest : List ℕ)
-        → ¬ (BeginsWith digest.now place payload bytes.now rest)) }
+        → ¬ (BeginsWith key.now link payload bytes.now rest)) }
 {
-    let payload = &bytes[4..4 + len];
-    let stored = &bytes[4 + len..12 + len];
-    if !is_sealed(digest, place, payload, stored) {
+    let payload = &bytes[28..28 + len];
+    if !has_frame(key, link, bytes, len) {
+        return None;
+    }
+    let sealed = seal(key, front(link, len).as_slice(), payload);
+    if !is_word(&bytes[28 + len..36 + len], sealed) {
         return None;
     }
     Some(FoundEntry {
         payload,
-        rest: &bytes[12 + len..],
+        link: Link {
+            seal: sealed,
+            number: link.number + 1,
+        },
+        rest: &bytes[36 + len..],
     })
 }
 
-/// Returns `true` if the bytes are the seal of the entry with a payload.
-fn is_sealed(digest: &[u8], place: usize, payload: &[u8], stored: &[u8]) -> bool
-    requires { length payload.now < 2 ^ 32 }
-    ensures { IsTrue result ↔ (stored.now ≡ seal digest.now place payload.now) }
+/// Returns `true` if bytes begin with the frame of the entry that follows a link, with a payload of this length.
+pub(crate) fn has_frame(key: &[u8], link: Link, bytes: &[u8], len: usize) -> bool
+    requires number { link.number + 1 < 2 ^ 64 }
+    requires small { len < 2 ^ 23 }
+    requires whole { 28 ≤ length bytes.now }
+    ensures { IsTrue result ↔ (take 28 bytes.now ≡ frame key.now link len) }
 {
-    stored == seal(digest, place, payload).as_slice()
+    let front = front(link, len);
+    is_slice(&bytes[..20], front.as_slice())
+        && is_word(&bytes[20..28], check(key, front.as_slice()))
 }
 
-/// Returns the length of the payload that the first four bytes say, if the entry ends within the bytes.
-fn payload_len(bytes: &[u8]) -> Option<usize>
-    ensures within { IfSome result (λ len. 12 + len ≤ length bytes.now) }
-    ensures small { IfSome result (λ len. len < 2 ^ 32) }
-    ensures number { IfSome result (λ len. len ≡ from_be_bytes w32 (take 4 bytes.now)) }
-    ensures none { IfNone result (length bytes.now
-        < 12 + from_be_bytes w32 (take 4 bytes.now)) }
+/// Returns `true` if bytes are a number in eight bytes.
+pub(crate) fn is_word(bytes: &[u8], number: u64) -> bool
+    ensures { IsTrue result ↔ (bytes.now ≡ word number) }
 {
-    if bytes.len() < 12 {
+    is_slice(bytes, word(number).as_slice())
+}
+
+/// Returns `true` if bytes are equal.
+fn is_slice(bytes: &[u8], other: &[u8]) -> bool
+    ensures { IsTrue result ↔ (bytes.now ≡ other.now) }
+{
+    bytes == other
+}
+
+/// Returns the length of the payload that a frame at the front of bytes says, if the entry is short and ends within the bytes.
+fn payload_len(bytes: &[u8]) -> Option<usize>
+    ensures within { IfSome result (λ len. 36 + len ≤ length bytes.now) }
+    ensures small { IfSome result (λ len. len < 2 ^ 23) }
+    ensures number { IfSome result (λ len. len ≡ from_be_bytes w32 (take 4 (drop 16 bytes.now))) }
+    ensures none { IfNone result ((length bytes.now < 36)
+        ⊎ ((2 ^ 23 ≤ from_be_bytes w32 (take 4 (drop 16 bytes.now)))
+        ⊎ (length bytes.now < 36 + from_be_bytes w32 (take 4 (drop 16 bytes.now))))) }
+{
+    if bytes.len() < 36 {
         return None;
     }
-    let len = u32::from_be_bytes([bytes[0], bytes[1], bytes[2], bytes[3]]) as usize;
-    if bytes.len() < 12 + len {
+    let len = number_in(&bytes[16..20]);
+    if len > MAX_PAYLOAD_LEN || bytes.len() < 36 + len {
         return None;
     }
     Some(len)
 }
 
-/// Returns `true` if an entry is somewhere in bytes, which are at a place of the journal of a text with this digest.
-pub fn has_entry(digest: &[u8], place: usize, bytes: &[u8]) -> bool
-    requires { place + length bytes.now < 2 ^ 64 }
-    ensures { IsTrue result ↔ HasEntry digest.now place bytes.now }
+/// Returns the number in four bytes.
+pub(crate) fn number_in(bytes: &[u8]) -> usize
+    requires { length bytes.now ≡ 4 }
+    ensures number { result ≡ from_be_bytes w32 bytes.now }
+    ensures small { result < 2 ^ 32 }
 {
-    for at in 0..bytes.len() {
-        if entry_at(digest, place, bytes, at) {
+    u32::from_be_bytes([bytes[0], bytes[1], bytes[2], bytes[3]]) as usize
+}
+
+/// Returns `true` if the frame of an entry of the journal with a key begins somewhere in bytes, but not at their start.
+pub fn has_later_frame(key: &[u8], bytes: &[u8]) -> bool
+    ensures { IsTrue result ↔ HasLaterFrame key.now bytes.now }
+{
+    for at in 1..bytes.len() {
+        if is_frame(key, &bytes[at..]) {
             return true;
         }
     }
     false
 }
 
-/// Returns `true` if an entry is at a place in bytes, which are at another one.
-fn entry_at(digest: &[u8], place: usize, bytes: &[u8], at: usize) -> bool
-    requires within { at ≤ length bytes.now }
-    requires fits { place + at < 2 ^ 64 }
-    ensures { IsTrue result ↔ HasEntryAt digest.now place at bytes.now }
+/// Returns `true` if bytes begin with the frame of an entry of the journal with a key, whatever it follows.
+pub fn is_frame(key: &[u8], bytes: &[u8]) -> bool
+    ensures { IsTrue result ↔ IsFrame key.now bytes.now }
 {
-    match first_entry(digest, place + at, &bytes[at..]) {
-        Some(_) => true,
-        None => false,
+    if bytes.len() < FRAME_LEN {
+        return false;
     }
+    is_word(&bytes[20..28], check(key, &bytes[..20]))
 }

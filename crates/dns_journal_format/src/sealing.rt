@@ -1,8 +1,8 @@
-//! Digests and seals.
+//! Digests, checks and seals.
 
-ghost use Rattle.std.specs.Prelude.{◌≡◌, ◌<◌, ◌^◌, length};
+ghost use Rattle.std.specs.Prelude.{◌≡◌};
 ghost use Rattle.sha2.specs.Sha256.{sha256};
-ghost use Rattle.dns_journal_format.specs.Format.{seal};
+ghost use Rattle.dns_journal_format.specs.Format.{check, head_seal, seal, word};
 
 use sha2::{Digest, Sha256};
 use std::hash::{DefaultHasher, Hasher};
@@ -14,16 +14,43 @@ pub fn digest_of(text: &[u8]) -> [u8; 32]
     Sha256::digest(text)
 }
 
-/// Returns the seal of the entry with a payload at a place of the journal of a text.
-#[tactic(auto, unfolding(crate::specs::Format::seal))]
-pub fn seal(digest: &[u8], place: usize, payload: &[u8]) -> [u8; 8]
-    requires { length payload.now < 2 ^ 32 }
-    ensures { result ≡ seal digest.now place payload.now }
+/// Returns the seal of the header with an identity.
+#[tactic(auto, unfolding(crate::specs::Format::head_seal))]
+pub(crate) fn head_seal(head: &[u8]) -> u64
+    ensures { result ≡ head_seal head.now }
 {
     let mut hasher = DefaultHasher::new();
-    hasher.write(digest);
-    hasher.write((place as u64).to_be_bytes().as_slice());
-    hasher.write((payload.len() as u32).to_be_bytes().as_slice());
+    hasher.write(head);
+    hasher.finish()
+}
+
+/// Returns the check of the front of an entry.
+#[tactic(auto, unfolding(crate::specs::Format::check))]
+pub(crate) fn check(key: &[u8], front: &[u8]) -> u64
+    ensures { result ≡ check key.now front.now }
+{
+    let mut hasher = DefaultHasher::new();
+    hasher.write(key);
+    hasher.write(front);
+    hasher.finish()
+}
+
+/// Returns the seal of the entry with a front and a payload.
+#[tactic(auto, unfolding(crate::specs::Format::seal))]
+pub(crate) fn seal(key: &[u8], front: &[u8], payload: &[u8]) -> u64
+    ensures { result ≡ seal key.now front.now payload.now }
+{
+    let mut hasher = DefaultHasher::new();
+    hasher.write(key);
+    hasher.write(front);
     hasher.write(payload);
-    hasher.finish().to_be_bytes()
+    hasher.finish()
+}
+
+/// Returns a number in eight bytes, most significant first.
+#[tactic(auto, unfolding(crate::specs::Format::word))]
+pub(crate) fn word(number: u64) -> [u8; 8]
+    ensures { result ≡ word number }
+{
+    number.to_be_bytes()
 }

@@ -1,3 +1,5 @@
 pub mod BarrierLaws
+pub mod EncloserLaws
+pub mod ExistenceLaws
 pub mod RedirectionLaws
 pub mod WildcardLaws

@@ -1,5 +1,5 @@
 -- The name from whose rows a name is answered: itself, or the source of synthesis (RFC 4592 section 3.3).
-use Rattle.std.specs.Prelude.{if◌then◌else◌, true, List, [], ◌∷◌, ℕ, Option, Some, None, option_map}
+use Rattle.std.specs.Prelude.{◌-◌, if◌then◌else◌, true, drop, length, List, [], ◌∷◌, ℕ, Option, Some, None, option_map}
 use Rattle.dns_names.specs.Name.{DomainName}
 use Rattle.dns_names.specs.Build.{star}
 use Rattle.dns_zone.specs.Rows.{Rows, some_row_below}
@@ -9,6 +9,10 @@ abbrev pub closest_encloser : Rows → List (List ℕ) → Option (List (List �
 closest_encloser rows [] = None
 closest_encloser rows (label ∷ labels) =
     if some_row_below rows labels then Some labels else closest_encloser rows labels
+
+-- the last labels of a name, so many of them
+abbrev pub suffix : List (List ℕ) → ℕ → List (List ℕ)
+suffix labels kept = drop (length labels - kept) labels
 
 -- the label `*` below a name
 abbrev pub wildcard_below : List (List ℕ) → DomainName

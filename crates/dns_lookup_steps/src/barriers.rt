@@ -1,6 +1,7 @@
 //! What ends a lookup above its name: zone cuts (RFC 1034 section 4.2) and DNAME records (RFC 6672 section 3.2).
 
-ghost use Rattle.std.specs.Prelude.{◌≡◌, IfOk, length};
+ghost use Rattle.std.specs.Prelude.{◌≡◌, false, true, IfOk, length};
+ghost use Rattle.dns_zone.specs.Rows.{some_row_below};
 ghost use Rattle.dns_lookup_steps.specs.Barrier.{barrier, barrier_above, cut_at, has_rows, is_barrier, is_cut, is_ds};
 
 use dns_names::Name;
@@ -41,16 +42,30 @@ pub fn has_rows(zone: &Zone, name: &Name, record_type: RecordType) -> bool
 }
 
 /// Returns the first barrier above a name, from the origin of a zone down: a zone cut or the owner of a DNAME record.
+///
+/// The search ends at a name that is known to be missing, since no name below it is a barrier. So the time for a name with many
+/// labels does not grow with those that do not exist.
 pub fn barrier_above(zone: &Zone, name: &Name) -> Result<Option<Name>, AllocError>
     ensures { IfOk result (λ found. found ≡ barrier_above zone.now name.now) }
 {
     for kept in label_count(zone.origin())..label_count(name) {
         let above = name.trim_to(kept)?;
+        if is_known_missing(zone, &above, kept) {
+            return Ok(None);
+        }
         if is_barrier(zone, &above) {
             return Ok(Some(above));
         }
     }
     Ok(None)
+}
+
+/// Returns `true` if a name with so many labels is looked up and does not exist. That is looked up at every fourth label, which few
+/// names have.
+fn is_known_missing(zone: &Zone, name: &Name, count: usize) -> bool
+    ensures { result ≡ true → some_row_below zone.now.rows name.now.labels ≡ false }
+{
+    count % 4 == 0 && !zone.has_row_below(name)
 }
 
 /// Returns `true` if the rows below a name do not count: it is a zone cut, or has a DNAME record.

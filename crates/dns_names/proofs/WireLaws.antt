@@ -127,6 +127,19 @@ first_label bytes label rest e =
     let len : (length label + 1) - 1 ≡ length label = omega arith in
     ap (λ (xs : List ℕ). slice_range xs 1 (get_or xs 0 0 + 1)) e ∙ ap (λ (n : ℕ). take n (label ++ rest)) len ∙ take_at label rest (length label) refl
 
+-- the bytes from a label on begin with its length
+pub begins_with : (bytes : List ℕ) (labels : List (List ℕ)) (i : ℕ) → bytes ≡ labels_form (drop i labels) → i < length labels
+    → bytes ≡ length (get_or labels i []) ∷ (get_or labels i [] ++ labels_form (drop (i + 1) labels))
+begins_with bytes labels i form lt = form ∙ ap labels_form (drop-first labels i lt)
+
+pub taken_label : (bytes label rest : List ℕ) → bytes ≡ length label ∷ (label ++ rest) → take (get_or bytes 0 0) (drop 1 bytes) ≡ label
+taken_label bytes label rest e =
+    ap (λ (xs : List ℕ). take (get_or xs 0 0) (drop 1 xs)) e ∙ take_at label rest (length label) refl
+
+pub after_label : (bytes label rest : List ℕ) → bytes ≡ length label ∷ (label ++ rest) → drop (get_or bytes 0 0 + 1) bytes ≡ rest
+after_label bytes label rest e =
+    ap (λ (xs : List ℕ). drop (get_or xs 0 0 + 1) xs) e ∙ rw add-one (drop_at label rest (length label) refl)
+
 -- ---- each byte changed
 
 pub labels_form-map : (f : ℕ → ℕ) (labels : List (List ℕ)) → ((n : ℕ) → n < 64 → f n ≡ n) → AllByRecursion IsLabel labels → map f (labels_form labels) ≡ labels_form (map (map f) labels)

@@ -6,10 +6,10 @@ use Rattle.dns_messages.specs.Grammar.{ReadsMessage}
 use Rattle.dns_zone.specs.Rows.{ZoneContent}
 use Rattle.dns_zone.specs.declared.transport.Transport as reply
 use Rattle.dns_zone.specs.declared.transport.Transport.TheVariants as replies
-use Rattle.dns_server.specs.Server.{zones_after}
+use Rattle.dns_server.specs.Maintaining.{IsRecordableOf}
 use Rattle.dns_server.specs.declared.updates.Updates.{Updates}
 use Rattle.dns_server.specs.declared.updates.Updates.TheVariants as may
-use Rattle.dns_zone_service.specs.Answering.{IsReplyToOther, IsServiceReply}
+use Rattle.dns_zone_service.specs.Answering.{IsReplyToOther, IsServiceReply, zones_served}
 use Rattle.dns_zone_service.specs.declared.answering.Answering.{Answering}
 use Rattle.dns_fault_rules.specs.declared.fault.Transport.{Transport}
 use Rattle.dns_fault_rules.specs.declared.fault.Transport.TheVariants as transports
@@ -32,7 +32,8 @@ formers_after updated f m = option_map (λ f. former_after updated f m) f
 -- A request is served by the zone that it is for, and remembered as an update that was applied if it was one.
 pub record Serves (old : ZoneServer) (context : Context) (m : Message) (reply : List ℕ) (new : ZoneServer) : Type 0 where
   pub replied : IsServiceReply old.answering context.updates old.server context.transport m reply
-  pub zones : new.server ≡ zones_after context.updates old.server m
+  pub zones : new.server ≡ zones_served old.answering context.updates old.server m
+  pub changed : IsRecordableOf old.server new.change new.server
   pub updated : new.has_updated ≡ is_accepted reply
   pub formers : new.former ≡ formers_after (is_accepted reply) old.former m
   pub way : new.answering ≡ old.answering
@@ -41,8 +42,9 @@ pub record Serves (old : ZoneServer) (context : Context) (m : Message) (reply : 
 pub record ServesBy (f : Former) (old : ZoneServer) (context : Context) (m : Message) (reply : List ℕ) (new : ZoneServer) : Type 0 where
   pub replied : IsServiceReply old.answering may.Refused f.zones context.transport m reply
   pub zones : new.server ≡ old.server
+  pub changed : new.change ≡ None
   pub updated : new.has_updated ≡ false
-  pub formers : new.former ≡ Some (record f { zones = zones_after may.Refused f.zones m })
+  pub formers : new.former ≡ Some (record f { zones = zones_served old.answering may.Refused f.zones m })
   pub way : new.answering ≡ old.answering
 
 -- A request is served by the rows from before the last update. An update, and any request if these rows are not kept, is served
@@ -64,7 +66,7 @@ updates_of false = may.Refused
 
 -- a server that has not remembered an update yet
 abbrev pub forgetful : ZoneServer → ZoneServer
-forgetful zones = record zones { has_updated = false }
+forgetful zones = record zones { change = None; has_updated = false }
 
 -- Whether a list covers an address. An IPv4-mapped IPv6 address counts as its IPv4 address (RFC 4291 section 2.5.5.2).
 abbrev pub IsCoverageOf : List AddrPrefix → IpAddr → Bool → Type 0
@@ -88,11 +90,24 @@ abbrev pub IsSentIf : Option (List ℕ) → Answering → List ℕ → Option �
 IsSentIf (Some reply) answering bytes line served sent = sent ≡ served
 IsSentIf None answering bytes line served sent = IsSentForNone answering bytes line served sent
 
--- The zones after a request, whatever becomes of its reply: they are unchanged, or as the request leaves them that the bytes are.
-abbrev pub LeavesZones : List ZoneContent → List ℕ → List ZoneContent → Type 0
-LeavesZones zones bytes after =
-    (after ≡ zones)
-    ⊎ ((m : Message) × (ReadsMessage bytes m × ((updates : Updates) × (after ≡ zones_after updates zones m))))
+-- Zones are as a request leaves them that the bytes are, if its requestor may update or may not.
+pub record IsLeftByRequest (answering : Answering) (updates : Updates) (zones : List ZoneContent) (bytes : List ℕ)
+    (after : List ZoneContent) : Type 0 where
+  pub request : Message
+  pub reads : ReadsMessage bytes request
+  pub after_is : after ≡ zones_served answering updates zones request
+
+-- The zones after a request, whatever becomes of its reply: they are unchanged, or as the request leaves them, and this is
+-- remembered.
+pub record LeavesZones (old : ZoneServer) (updates : Updates) (bytes : List ℕ) (new : ZoneServer) : Type 0 where
+  pub left : (new.server ≡ old.server) ⊎ IsLeftByRequest old.answering updates old.server bytes new.server
+  pub changed : IsRecordableOf old.server new.change new.server
+
+-- The same of a request from an address, which may update if a list covers it.
+pub record LeavesZonesFrom (old : NameServer) (address : IpAddr) (bytes : List ℕ) (new : NameServer) : Type 0 where
+  pub covered : Bool
+  pub coverage : IsCoverageOf old.updaters address covered
+  pub leaves : LeavesZones old.zones (updates_of covered) bytes new.zones
 
 -- What a request leads to: a reply and how it is sent, the line of the rule that made a fault, whether an update was applied,
 -- and the zones and rules after it. Only requestors whose address is covered may update.

@@ -2,13 +2,13 @@
 
 ghost use Rattle.std.specs.Prelude.{◌≡◌, None, IfOk, OnOk, OnErr};
 ghost use Rattle.dns_messages.specs.Sound.{IsSound};
-ghost use Rattle.dns_server.specs.Server.{zones_after};
+ghost use Rattle.dns_server.specs.Maintaining.{IsRecordableOf};
 ghost use Rattle.dns_server.specs.declared.updates.Updates.TheVariants as may;
-ghost use Rattle.dns_zone_service.specs.Answering.{IsServiceReply};
+ghost use Rattle.dns_zone_service.specs.Answering.{IsServiceReply, zones_served};
 ghost use Rattle.dns_nameserver.specs.Former.{former_after, is_accepted};
 
 use dns_messages::{Message, Metadata, OpCode, ResponseCode};
-use dns_server::{Server, Updates};
+use dns_server::{Served, Server, Updates};
 use dns_zone::Transport;
 use dns_zone_service::Answering;
 use std::alloc::{AllocError, Global};
@@ -17,6 +17,8 @@ use std::marker::Model;
 /// The zones of a server from before the last update that it applied. They follow one update behind.
 #[derive(Drop)]
 pub struct FormerZones {
+    /// How updates are made.
+    answering: Answering,
     server: Server,
     /// An update that is part of the zones, and still to be applied to those of `server`.
     missing: Option<Message>,
@@ -35,17 +37,23 @@ impl Model for FormerZones {
 
     ghost coded = { Prim.hlevel (codes, rows_map.code) };
 
-    ghost view = { λ f. record { zones = updated f.server f.missing; last = f.last } };
+    ghost view = { λ f. record {
+      answering = f.answering;
+      zones = updated f.answering f.server f.missing;
+      last = f.last;
+    } };
 
     ghost invariant = { λ f. IfSome f.missing IsSound × IfSome f.last IsSound };
 }
 
 impl FormerZones {
-    /// Creates the zones from before the last update of a server to which none was applied, given the same zones.
-    pub fn new(server: Server) -> FormerZones
-        ensures { result ≡ record { zones = server; last = None } }
+    /// Creates the zones from before the last update of a server to which none was applied, given the same zones, and how updates are
+    /// made.
+    pub fn new(server: Server, answering: Answering) -> FormerZones
+        ensures { result ≡ record { answering = answering; zones = server; last = None } }
     {
         FormerZones {
+            answering,
             server,
             missing: None,
             last: None,
@@ -61,29 +69,36 @@ impl FormerZones {
         request: &Message,
         transport: Transport,
         updates: Updates,
-    ) -> Result<Vec<u8>, AllocError>
+    ) -> Result<Served, AllocError>
         requires { IsSound request.now }
-        ensures reply { IfOk result (λ out.
-            IsServiceReply answering updates current.old transport request.now out.items) }
-        ensures current { OnOk result (current.new ≡ zones_after updates current.old request.now) }
-        ensures former { IfOk result (λ out.
-            self.new ≡ former_after (is_accepted out.items) self.old request.now) }
+        ensures reply { IfOk result (λ served.
+            IsServiceReply answering updates current.old transport request.now served.reply.items) }
+        ensures current { OnOk result
+            (current.new ≡ zones_served answering updates current.old request.now) }
+        ensures change { IfOk result (λ served.
+            IsRecordableOf current.old served.change current.new) }
+        ensures former { IfOk result (λ served.
+            self.new ≡ former_after (is_accepted served.reply.items) self.old request.now) }
         ensures err { OnErr result (self.new ≡ self.old) }
         ensures current_err { OnErr result (current.new ≡ current.old) }
     {
         if let Some(update) = &self.missing {
-            let _reply = self
-                .server
-                .respond_to(update, Transport::Stream, Updates::Allowed)?;
+            let _served = self.answering.respond_to(
+                alloc,
+                &mut self.server,
+                update,
+                Transport::Stream,
+                Updates::Allowed,
+            )?;
         }
         self.missing = None;
         let update = request.clone()?;
-        let reply = answering.respond_to(alloc, current, request, transport, updates)?;
-        if is_accepted(reply.as_slice()) {
+        let served = answering.respond_to(alloc, current, request, transport, updates)?;
+        if is_accepted(served.reply.as_slice()) {
             self.missing = self.last.take();
             self.last = Some(update);
         }
-        Ok(reply)
+        Ok(served)
     }
 
     /// Serves a request by the zones from before the last update. No update is allowed. An error leaves them unchanged.
@@ -98,22 +113,27 @@ impl FormerZones {
         ensures reply { IfOk result (λ out.
             IsServiceReply answering may.Refused self.old.zones transport request.now out.items) }
         ensures ok { OnOk result (self.new
-            ≡ record self.old { zones = zones_after may.Refused self.old.zones request.now }) }
+            ≡ record self.old { zones = zones_served answering may.Refused self.old.zones request.now }) }
         ensures err { OnErr result (self.new ≡ self.old) }
     {
         if let Some(update) = &self.missing {
-            let _reply = self
-                .server
-                .respond_to(update, Transport::Stream, Updates::Allowed)?;
+            let _served = self.answering.respond_to(
+                alloc,
+                &mut self.server,
+                update,
+                Transport::Stream,
+                Updates::Allowed,
+            )?;
         }
         self.missing = None;
-        answering.respond_to(
+        let served = answering.respond_to(
             alloc,
             &mut self.server,
             request,
             transport,
             Updates::Refused,
-        )
+        )?;
+        Ok(served.reply)
     }
 }
 

@@ -2,7 +2,7 @@
 
 ghost use Rattle.std.specs.Prelude.{◌≡◌, None, IfOk, OnErr};
 ghost use Rattle.dns_faults.specs.Delivery.{sending};
-ghost use Rattle.dns_nameserver.specs.NameServer.{AnswersRequest, LeavesZones, IsSentIf, reply_transport, updates_of};
+ghost use Rattle.dns_nameserver.specs.NameServer.{AnswersRequest, LeavesZonesFrom, IsSentIf, reply_transport, updates_of};
 
 use crate::zone_server::{Context, ZoneServer};
 use dns_fault_rules::{FaultTable, Transport};
@@ -41,8 +41,8 @@ impl NameServer {
     /// Answers a request from an address by the zones, as a fault table allows. Updates are refused to addresses that are not
     /// listed.
     ///
-    /// An error is want of memory. It leaves the fault table unchanged; an update may have been applied, if memory was refused
-    /// for a fault of its reply.
+    /// What the request has changed is `self.zones.change` afterwards, also after an error: an error is want of memory, and leaves the
+    /// fault table unchanged; an update may have been applied, if memory was refused for a fault of its reply.
     #[tactic(auto, using(crate::proofs::UndecidedLaws::uncounted))]
     pub fn answer(
         &mut self,
@@ -54,13 +54,14 @@ impl NameServer {
         ensures ok { IfOk result (λ answered. AnswersRequest self.old request.now address transport
             (sending answered.delivery) answered.line answered.has_updated self.new) }
         ensures err { OnErr result (self.new.faults ≡ self.old.faults) }
-        ensures zones { LeavesZones self.old.zones.server request.now self.new.zones.server }
+        ensures zones { LeavesZonesFrom self.old address request.now self.new }
     {
         let context = Context {
             transport: reply_transport(transport, self.limit),
             updates: updates_of(self.updaters.contains(address)),
         };
         let answering = self.zones.answering;
+        self.zones.change = None;
         self.zones.has_updated = false;
         let Outcome { delivery, line } = respond(
             alloc,

@@ -3,7 +3,7 @@
 use crate::former::{FormerZones, is_accepted};
 use dns_faults::FaultServer;
 use dns_messages::{Message, OpCode};
-use dns_server::{Server, Updates};
+use dns_server::{Served, Server, Updates, ZoneChange};
 use dns_zone::Transport;
 use dns_zone_service::Answering;
 use std::alloc::{AllocError, Global};
@@ -28,7 +28,9 @@ pub struct ZoneServer {
     pub server: Server,
     /// The zones from before the last update, if they are kept.
     pub former: Option<FormerZones>,
-    /// Whether the last request that was served was an update, and changed a zone.
+    /// What the last request that was served has changed.
+    pub change: Option<ZoneChange>,
+    /// Whether the last request that was served was an update that was answered with `NoError`.
     pub has_updated: bool,
 }
 
@@ -50,10 +52,11 @@ impl FaultServer for ZoneServer {
         let Context { transport, updates } = context;
         let (alloc, answering) = (self.alloc, self.answering);
         let server = &mut self.server;
-        let reply = match &mut self.former {
+        let Served { reply, change } = match &mut self.former {
             Some(former) => former.follow(alloc, answering, server, request, transport, updates)?,
             None => answering.respond_to(alloc, server, request, transport, updates)?,
         };
+        self.change = change;
         self.has_updated = is_accepted(reply.as_slice());
         Ok(reply)
     }
@@ -70,6 +73,7 @@ impl FaultServer for ZoneServer {
         match &mut self.former {
             Some(former) => {
                 let reply = former.serve(self.alloc, self.answering, request, context.transport)?;
+                self.change = None;
                 self.has_updated = false;
                 Ok(reply)
             }

@@ -1,3 +1,4 @@
+pub mod BeginningLaws
 pub mod CompactingLaws
 pub mod EventLaws
 pub mod OpeningLaws

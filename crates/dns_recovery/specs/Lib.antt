@@ -1,3 +1,4 @@
+pub mod Beginning
 pub mod Compacting
 pub mod Opening
 pub mod Updating

@@ -3,7 +3,7 @@ use Rattle.std.specs.Prelude.{◌≡◌, ◌⊎◌, ℕ, Bool, true, false, List
 use Rattle.sha2.specs.Sha256.{sha256}
 use Rattle.dns_journal.specs.declared.journal.Position.{Position}
 use Rattle.dns_journal.specs.declared.journal.State.TheVariants as states
-use Rattle.dns_journal.specs.Appending.{HasNoForgery, IsPosition}
+use Rattle.dns_journal.specs.Appending.{IsPosition, IsRemainder}
 use Rattle.dns_journal.specs.Event.{Event, Files}
 use Rattle.dns_journal.specs.Storage.{Always, Disk, Ends, LeavesOnly, at_rest}
 use Rattle.dns_recovery.specs.Compacting.{Recovers, updates_in}
@@ -20,10 +20,11 @@ pub record IsOpen (text : List ℕ) (updates : List (List ℕ)) (position : Posi
   pub at : IsPosition position bytes (sha256 text) payloads
   pub updates_are : updates ≡ updates_in payloads
 
--- Files stand for the updates from before an append, with the new one or without, unless a seal is right by chance.
+-- Files stand for the updates from before an append, with the new one or without, if a crash leaves of its write
+-- what it may leave.
 pub record IsBeforeOrAfterUpdate (text : List ℕ) (updates : List (List ℕ)) (update : List ℕ) (old : Position) (files : Files) : Type 0 where
   pub text_is : files.text ≡ text
-  pub stands : HasNoForgery old.digest old.end (update_payload update) (drop old.end files.journal)
+  pub stands : IsRemainder old (update_payload update) (drop old.end files.journal)
       → Recovers files updates ⊎ Recovers files (updates ++ update ∷ [])
 
 -- What an append of updates asks of a storage whose journal is open. At any moment, a crash leaves the updates from before it, with

@@ -1,16 +1,18 @@
 //! A text and its journal are replaced.
 
-ghost use Rattle.std.specs.Prelude.{◌≡◌, List, ℕ, length, is_ok, IfErr, IfOk, IsOk};
+ghost use Rattle.std.specs.Prelude.{◌≡◌, ◌++◌, List, ℕ, length, is_ok, IfErr, IfOk, IsOk};
 ghost use Rattle.sha2.specs.Sha256.{sha256};
 ghost use Rattle.dns_journal_format.specs.Format.{header};
 ghost use Rattle.dns_journal.specs.Appending.{IsPosition, IsRefusal};
 ghost use Rattle.dns_journal.specs.Storage.{Performs};
 ghost use Rattle.dns_journal.specs.declared.journal.State.TheVariants as states;
+ghost use Rattle.dns_recovery.specs.Beginning.{IsFirst};
 ghost use Rattle.dns_recovery.specs.Compacting.{mark, Compacts, IsReplaced};
 
+use crate::beginning::{NewJournal, new_journal};
 use dns_journal::{AppendError, Journal, Position, State, Storage};
+use dns_journal_format::digest_of;
 use dns_journal_format::laws::a_header_is_a_journal;
-use dns_journal_format::{HEADER_LEN, digest_of, write_header};
 use std::alloc::{AllocError, Global};
 
 /// The first byte of a payload of updates.
@@ -27,7 +29,8 @@ struct Replacement {
     position: Position,
 }
 
-/// Replaces the text of a journal by one that has all of its updates, and begins a new journal.
+/// Replaces the text of a journal by one that has all of its updates, and begins a new journal with this key, which has to be drawn at
+/// random.
 ///
 /// # Errors
 ///
@@ -36,10 +39,12 @@ pub fn compact<S: Storage>(
     journal: &mut Journal<S>,
     alloc: Global,
     text: &[u8],
+    key: [u8; 16],
 ) -> Result<(), AppendError>
     ensures ready { IsOk result → journal.old.position.state ≡ states.Ready }
     ensures refused { IfErr result
         (IsRefusal journal.old.position (mark text.now) journal.new.position) }
+    ensures key { IsOk result → journal.new.position.key ≡ key }
     ensures performs { Performs S.performs journal.old.storage journal.new.storage (λ es.
         (old bytes digest : List ℕ) (payloads : List (List ℕ))
         → IsPosition journal.old.position bytes digest payloads → digest ≡ sha256 old
@@ -47,7 +52,7 @@ pub fn compact<S: Storage>(
         → Compacts journal.old.position journal.new.position (is_ok result) old text.now bytes digest payloads es) }
 {
     a_header_is_a_journal();
-    let replacement = match replacement_of(alloc, text) {
+    let replacement = match replacement_of(alloc, text, key) {
         Ok(replacement) => replacement,
         // Memory for what is written was refused.
         Err(_) => return Err(AppendError::Memory),
@@ -72,36 +77,29 @@ pub fn compact<S: Storage>(
     }
 }
 
-/// Returns what a compaction to a text writes.
-fn replacement_of(alloc: Global, text: &[u8]) -> Result<Replacement, AllocError>
+/// Returns what a compaction to a text writes, with the key of the new journal.
+fn replacement_of(alloc: Global, text: &[u8], key: [u8; 16]) -> Result<Replacement, AllocError>
     ensures mark { IfOk result (λ r. r.mark.items ≡ mark text.now) }
-    ensures len { IfOk result (λ r. length r.mark.items ≡ 33) }
-    ensures header { IfOk result (λ r. r.header.items ≡ header (sha256 text.now)) }
-    ensures end { IfOk result (λ r. r.position.end ≡ 40) }
-    ensures digest { IfOk result (λ r. r.position.digest ≡ sha256 text.now) }
-    ensures state { IfOk result (λ r. r.position.state ≡ states.Ready) }
+    ensures header { IfOk result (λ r. r.header.items ≡ header (sha256 text.now ++ key)) }
+    ensures position { IfOk result (λ r. IsFirst (sha256 text.now) key r.position) }
+    ensures len { length key ≡ 16 }
 {
     let digest = digest_of(text);
     let mut mark = Vec::new(alloc);
     mark.push(MARK_TAG)?;
     mark.extend_from_slice(digest.as_slice())?;
-    let mut header = Vec::new(alloc);
-    write_header(&mut header, &digest)?;
+    let NewJournal { header, position } = new_journal(alloc, digest, key)?;
     Ok(Replacement {
         mark,
         header,
-        position: Position {
-            end: HEADER_LEN,
-            digest,
-            state: State::Ready,
-        },
+        position,
     })
 }
 
 /// Replaces a text and its journal, and returns the state that this leaves.
 fn replace<S: Storage>(storage: &mut S, text: &[u8], journal: &[u8]) -> State
-    requires { journal.now ≡ header (sha256 text.now) }
-    ensures { Performs S.performs storage.old storage.new (IsReplaced text.now result) }
+    ensures { Performs S.performs storage.old storage.new
+        (IsReplaced text.now journal.now result) }
 {
     match storage.replace_text(text) {
         Ok(()) => match storage.replace_journal(journal) {

@@ -4,10 +4,11 @@
 //! compaction a mark with the digest of the new text is appended, the new text takes the place of the old one, and a new journal
 //! begins. A crash at any moment leaves the old text with its updates, or the new text, whose digest the mark tells.
 //!
-//! - `opening`: a journal that was read is opened; `updating`: updates are appended; `compacting`: the text is replaced;
+//! - `beginning`: a journal without entries; `opening`: a journal that was read is opened; `updating`: updates are appended; `compacting`: the text is replaced;
 //! - `error`: why a journal is not opened.
 #![tactic(auto)]
 
+mod beginning;
 mod compacting;
 mod error;
 mod opening;

@@ -1,19 +1,17 @@
 //! A journal that was read is opened.
 
-ghost use Rattle.std.specs.Prelude.{◌≡◌, ◌++◌, ◌∷◌, ◌↔◌, [], length, map, IfOk, IfErr, IsTrue};
+ghost use Rattle.std.specs.Prelude.{◌≡◌, ◌++◌, ◌∷◌, ◌↔◌, ◌⊎◌, [], length, map, IfOk, IfErr, IsTrue};
 ghost use Rattle.sha2.specs.Sha256.{sha256};
-ghost use Rattle.dns_journal_format.specs.Format.{header, IsJournal};
 ghost use Rattle.dns_journal.specs.Storage.{Performs};
 ghost use Rattle.dns_recovery.specs.Compacting.{last_payload, updates_in, updates_of};
-ghost use Rattle.dns_recovery.specs.Opening.{Begins, IsRefusal, Opens, ResumesUpdates, StandFor, files_read};
+ghost use Rattle.dns_recovery.specs.Opening.{Begins, IsOfText, IsRefusal, Opens, ResumesUpdates, StandFor, files_read};
 
+use crate::beginning::new_journal;
 use crate::compacting::{MARK_TAG, UPDATE_TAG};
 use crate::error::OpenError;
-use dns_journal::{Position, State, Storage, StoredFiles, resume};
+use dns_journal::{Position, Storage, StoredFiles, resume};
 use dns_journal_format::laws::{a_header_is_a_journal, journals_read_unambiguously};
-use dns_journal_format::{
-    HEADER_LEN, JournalContent, ReadError, digest_of, read_journal, write_header,
-};
+use dns_journal_format::{JournalContent, ReadError, digest_of, read_journal};
 use std::alloc::{AllocError, Global};
 
 /// A journal that is open.
@@ -26,7 +24,7 @@ pub struct Opened<'a> {
 }
 
 /// Opens the journal of files that were read: returns its updates and its position. A journal that is empty is begun, and so is one
-/// that ends with the mark of the text. What follows the entries of another one is cut off, if the journal belongs to the text.
+/// that ends with the mark of the text, both with this key, which has to be drawn at random. What follows the entries of another one is cut off, if the journal belongs to the text.
 ///
 /// # Errors
 ///
@@ -40,9 +38,12 @@ pub fn open_journal<'a, S: Storage>(
     storage: &mut S,
     alloc: Global,
     files: &'a StoredFiles,
+    key: [u8; 16],
 ) -> Result<Opened<'a>, OpenError>
     ensures ok { IfOk result (λ opened. StandFor (files_read files.now)
         (map (λ u. u.now) opened.updates.items)) }
+    ensures key { IfOk result (λ opened. (opened.position.key ≡ key)
+        ⊎ IsOfText (files_read files.now)) }
     ensures refused { IfErr result (IsRefusal (files_read files.now)) }
     ensures performs { Performs S.performs storage.old storage.new
         (Opens (files_read files.now) result) }
@@ -50,7 +51,7 @@ pub fn open_journal<'a, S: Storage>(
     journals_read_unambiguously();
     a_header_is_a_journal();
     if files.journal.is_empty() {
-        return begin(storage, alloc, files.text.as_slice());
+        return begin(storage, alloc, files.text.as_slice(), key);
     }
     let content = match read_journal(alloc, files.journal.as_slice()) {
         Ok(content) => content,
@@ -59,38 +60,36 @@ pub fn open_journal<'a, S: Storage>(
         Err(error) => return Err(OpenError::Journal(error)),
     };
     let digest = digest_of(files.text.as_slice());
-    if is_same(content.digest, digest.as_slice()) {
+    if is_same(&content.head[0..32], digest.as_slice()) {
         return resume_updates(storage, alloc, &content);
     }
     if !is_mark(last_payload(content.payloads.as_slice()), digest.as_slice()) {
         return Err(OpenError::OtherText);
     }
-    begin(storage, alloc, files.text.as_slice())
+    begin(storage, alloc, files.text.as_slice(), key)
 }
 
-/// Begins a journal for a text, without updates.
+/// Begins a journal for a text, without updates and with a key.
 fn begin<'a, S: Storage>(
     storage: &mut S,
     alloc: Global,
     text: &[u8],
+    key: [u8; 16],
 ) -> Result<Opened<'a>, OpenError>
     ensures none { IfOk result (λ opened. opened.updates.items ≡ []) }
-    ensures performs { Performs S.performs storage.old storage.new (Begins text.now result) }
+    ensures key { IfOk result (λ opened. opened.position.key ≡ key) }
+    ensures len { length key ≡ 16 }
+    ensures performs { Performs S.performs storage.old storage.new (Begins text.now key result) }
 {
-    let digest = digest_of(text);
-    let header = match header_for(alloc, &digest) {
-        Ok(header) => header,
+    let new = match new_journal(alloc, digest_of(text), key) {
+        Ok(new) => new,
         // Memory for the header was refused.
         Err(_) => return Err(OpenError::Memory),
     };
-    match storage.replace_journal(header.as_slice()) {
+    match storage.replace_journal(new.header.as_slice()) {
         Ok(()) => Ok(Opened {
             updates: Vec::new(alloc),
-            position: Position {
-                end: HEADER_LEN,
-                digest,
-                state: State::Ready,
-            },
+            position: new.position,
         }),
         Err(error) => Err(OpenError::Storage(error)),
     }
@@ -102,7 +101,7 @@ fn resume_updates<'a, S: Storage>(
     alloc: Global,
     content: &JournalContent<'a>,
 ) -> Result<Opened<'a>, OpenError>
-    requires { length content.now.digest.now ≡ 32 }
+    requires { length content.now.head.now ≡ 48 }
     ensures updates { IfOk result (λ opened. map (λ u. u.now) opened.updates.items
         ≡ updates_in (map (λ p. p.now) content.now.payloads.items)) }
     ensures performs { Performs S.performs storage.old storage.new
@@ -173,13 +172,4 @@ fn is_same(bytes: &[u8], other: &[u8]) -> bool
     ensures { IsTrue result ↔ (bytes.now ≡ other.now) }
 {
     bytes == other
-}
-
-/// Returns the header of a journal for a text with this digest.
-fn header_for(alloc: Global, digest: &[u8; 32]) -> Result<Vec<u8>, AllocError>
-    ensures { IfOk result (λ out. out.items ≡ header digest.now) }
-{
-    let mut out = Vec::new(alloc);
-    write_header(&mut out, digest)?;
-    Ok(out)
 }

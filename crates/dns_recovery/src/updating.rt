@@ -20,7 +20,6 @@ pub fn append_update<S: Storage>(
     alloc: Global,
     update: &[u8],
 ) -> Result<(), AppendError>
-    requires { length update.now + 1 < 2 ^ 32 }
     ensures ready { IsOk result → journal.old.position.state ≡ states.Ready }
     ensures refused { IfErr result
         (IsRefusal journal.old.position (update_payload update.now) journal.new.position) }
@@ -40,9 +39,7 @@ pub fn append_update<S: Storage>(
 
 /// Returns the payload of updates.
 fn payload_of(alloc: Global, update: &[u8]) -> Result<Vec<u8>, AllocError>
-    requires { length update.now + 1 < 2 ^ 32 }
     ensures payload { IfOk result (λ payload. payload.items ≡ update_payload update.now) }
-    ensures len { IfOk result (λ payload. length payload.items < 2 ^ 32) }
 {
     let mut payload = Vec::new(alloc);
     payload.push(UPDATE_TAG)?;

@@ -19,10 +19,11 @@ use Rattle.dns_messages.specs.Sound.{IsSound}
 use Rattle.dns_zone.specs.Rows.{ZoneContent}
 use Rattle.dns_authority.specs.declared.answer.AuthorityAnswer.{AuthorityAnswer}
 use Rattle.dns_authority.specs.declared.asked.AnyAnswer.{AnyAnswer}
+use Rattle.dns_authority.specs.Additional.{with_additionals}
 use Rattle.dns_authority.specs.Origin.{ComesFrom, IsAdditionalRecord, IsAnswerRecord, IsAuthorityRecord}
 use Rattle.dns_authority.specs.Step.{refusal}
 use Rattle.dns_authority.proofs.OriginLaws.{records_come}
-use Rattle.dns_authority_server.specs.Reply.{answer_by_code, answer_to, answer_to_queries, reply}
+use Rattle.dns_authority_server.specs.Reply.{answer_to, bare_answer_by_code, bare_answer_to_queries, reply}
 use Rattle.dns_authority_server.specs.Sending.{fits, fitting_count, fullest_sent, is_referral, rest_sent, sent, with_fitting, without_additionals}
 use Rattle.dns_authority_server.specs.WholeSets.{set_start}
 use Rattle.dns_sent_replies.specs.Sent.{IsReplyWith, RecordsComeFrom}
@@ -126,22 +127,22 @@ cut_whole limit m e =
 
 -- ---- the answer to a request
 
-refusal_comes : (zones : List ZoneContent) (code : ResponseCode) → ComesFrom zones (refusal code)
+refusal_comes : (zones : List ZoneContent) (code : ResponseCode) → ComesFrom zones (with_additionals zones (refusal code))
 refusal_comes zones code = record { answers = tt; authorities = tt; additionals = tt }
 
 pub answer_comes : (any : AnyAnswer) (zones : List ZoneContent) (m : Message) → ComesFrom zones (answer_to any zones m)
 answer_comes any zones m = by (nat_lt 0 (version_of m.edns))
   where
-    of_queries : (queries : List Query) → ComesFrom zones (answer_to_queries any zones queries)
+    of_queries : (queries : List Query) → ComesFrom zones (with_additionals zones (bare_answer_to_queries any zones queries))
     of_queries [] = refusal_comes zones FormErr
     of_queries (q ∷ []) = records_come any zones q
     of_queries (q ∷ r ∷ more) = refusal_comes zones FormErr
 
-    of_code : (op : OpCode) → ComesFrom zones (answer_by_code any zones m.queries op)
+    of_code : (op : OpCode) → ComesFrom zones (with_additionals zones (bare_answer_by_code any zones m.queries op))
     of_code ops.Query = of_queries m.queries
     of_code other = refusal_comes zones NotImp
 
-    by : (b : Bool) → ComesFrom zones (cond b (refusal BADVERS) (answer_by_code any zones m.queries m.metadata.op_code))
+    by : (b : Bool) → ComesFrom zones (with_additionals zones (cond b (refusal BADVERS) (bare_answer_by_code any zones m.queries m.metadata.op_code)))
     by true = refusal_comes zones BADVERS
     by false = of_code m.metadata.op_code
 

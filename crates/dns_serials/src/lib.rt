@@ -8,4 +8,4 @@ mod record;
 mod serial;
 
 pub use record::data_serial;
-pub use serial::serial_after;
+pub use serial::{next_serial, serial_after};

@@ -17,7 +17,7 @@ pub fn serial_after(before: u32, after: u32) -> u32
 }
 
 /// Returns the serial number after another (RFC 1982 section 3.1).
-fn next_serial(serial: u32) -> u32
+pub fn next_serial(serial: u32) -> u32
     ensures { result ≡ next_serial serial }
 {
     serial.wrapping_add(1)

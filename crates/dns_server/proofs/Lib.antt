@@ -2,3 +2,8 @@ pub mod StreamLaws
 pub mod PlaceLaws
 pub mod HistoryLaws
 pub mod AddressLaws
+pub mod MaintainingLaws
+pub mod SetTtlLaws
+pub mod SetTtlCodeLaws
+pub mod OneTtlLaws
+mod SetTtlRows

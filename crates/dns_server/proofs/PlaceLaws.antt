@@ -17,7 +17,9 @@ use Rattle.dns_zone.specs.Rows.{ZoneContent, IsZone}
 use Rattle.dns_zone.specs.Serving.{IsReplyTo, zone_after, zone_by_code, zone_by_op}
 use Rattle.dns_server.specs.declared.server.route.Route.TheVariants as by
 use Rattle.dns_server.specs.Zones.{AreServable, closest, has_origin, is_at, place_at}
-use Rattle.dns_server.specs.Server.{IsReplyBy, zones_by, zones_with}
+use Rattle.dns_differences.specs.declared.difference.Difference.{Difference}
+use Rattle.dns_zone.specs.Change.{IsChange}
+use Rattle.dns_server.specs.Server.{IsChangeOf, IsReplyBy, zones_by, zones_with}
 
 -- ---- labels
 
@@ -134,7 +136,7 @@ servable-set (y ∷ ys) (suc place) zone new e o good s =
 
 -- ---- a request to the zone at a place
 
-origin-code : (zone : ZoneContent) (m : Message) (code : ResponseCode) → (zone_by_code zone m code).origin ≡ zone.origin
+pub origin-code : (zone : ZoneContent) (m : Message) (code : ResponseCode) → (zone_by_code zone m code).origin ≡ zone.origin
 origin-code zone m NoError = refl
 origin-code zone m other = refl
 
@@ -168,3 +170,14 @@ reply-at zones place zone transport m out e r =
 pub after-at : (zones : List ZoneContent) (place : ℕ) (zone new : ZoneContent) (m : Message) → slice_get zones place ≡ Some zone
     → new ≡ zone_after zone m → slice_set zones place new ≡ zones_by zones m (by.Zone place)
 after-at zones place zone new m e n = ap (slice_set zones place) n ∙ sym (ap (zones_with zones place m) e)
+
+get-set : (zones : List ZoneContent) (place : ℕ) (zone new : ZoneContent) → slice_get zones place ≡ Some zone → slice_get (slice_set zones place new) place ≡ Some new
+get-set [] place zone new e = absurd (cc)
+get-set (y ∷ ys) zero zone new e = refl
+get-set (y ∷ ys) (suc place) zone new e = get-set ys place zone new e
+
+pub change-at : (zones : List ZoneContent) (place : ℕ) (zone new : ZoneContent) (d : Difference) → slice_get zones place ≡ Some zone → IsChange zone.rows new.rows d
+    → IsChangeOf zones (Some (record { place = place; difference = d })) (slice_set zones place new)
+change-at zones place zone new d e is =
+    subst (λ (o : Option ZoneContent). IsSomeAnd o (λ old. IsSomeAnd (slice_get (slice_set zones place new) place) (λ after. IsChange old.rows after.rows d))) (sym e)
+    (subst (λ (o : Option ZoneContent). IsSomeAnd o (λ after. IsChange zone.rows after.rows d)) (sym (get-set zones place zone new e)) is)

@@ -4,3 +4,6 @@ pub mod Connection
 pub mod Serving
 pub mod History
 pub mod AddressList
+pub mod SetTtls
+pub mod Maintaining
+pub mod internal

@@ -7,11 +7,13 @@ use Rattle.dns_messages.specs.declared.query.Query.{Query}
 use Rattle.dns_messages.specs.Header.{code_number, code_of}
 use Rattle.dns_messages.specs.declared.message.Message.{Message}
 use Rattle.dns_zone.specs.declared.transport.Transport.{Transport}
+use Rattle.dns_zone.specs.Change.{IsChange}
 use Rattle.dns_zone.specs.Rows.{ZoneContent}
 use Rattle.dns_zone.specs.Serving.{IsReplyTo, zone_after}
 use Rattle.dns_zone.specs.Request.{DecodesRequest, IsRequest, IsEncodedReply, reply_without_zone}
 use Rattle.dns_server.specs.declared.updates.Updates.{Updates}
 use Rattle.dns_server.specs.declared.updates.Updates.TheVariants as may
+use Rattle.dns_server.specs.declared.server.ZoneChange.{ZoneChange}
 use Rattle.dns_server.specs.declared.server.route.Route.{Route}
 use Rattle.dns_server.specs.declared.server.route.Route.TheVariants as by
 use Rattle.dns_server.specs.Zones.{closest}
@@ -70,6 +72,13 @@ zones_by zones m (by.Code code) = zones
 -- the zones after a request
 abbrev pub zones_after : Updates → List ZoneContent → Message → List ZoneContent
 zones_after updates zones m = zones_by zones m (route updates zones m)
+
+-- What a request has changed: the zone at a place has lost the records that are deleted, and gained those that are added. Without a
+-- place nothing is changed.
+abbrev pub IsChangeOf : List ZoneContent → Option ZoneChange → List ZoneContent → Type 0
+IsChangeOf zones None after = after ≡ zones
+IsChangeOf zones (Some c) after =
+    IsSomeAnd (slice_get zones c.place) (λ old. IsSomeAnd (slice_get after c.place) (λ new. IsChange old.rows new.rows c.difference))
 
 -- the bytes are a request, out is its reply, and after are the zones that it leaves
 pub record AreServed (zones : List ZoneContent) (transport : Transport) (updates : Updates) (bytes out : List ℕ) (after : List ZoneContent) : Type 0 where

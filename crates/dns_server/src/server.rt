@@ -1,17 +1,21 @@
 //! Servers of zones, and their replies to requests (RFC 1034 section 4.3.2, RFC 2136 section 3).
 
-ghost use Rattle.std.specs.Prelude.{◌≡◌, ◌<◌, [], ◌∷◌, ◌++◌, false, true, length, None, Ok, Err, IfOk, OnOk, OnErr, option_map};
+ghost use Rattle.std.specs.Prelude.{◌≡◌, ◌<◌, [], ◌∷◌, ◌++◌, false, true, length, None, Some, Ok, Err, IfOk, OnOk, OnErr, option_map};
 ghost use Rattle.dns_messages.specs.Sound.{IsSound};
 ghost use Rattle.dns_zone.specs.Serving.{has_query_header};
 ghost use Rattle.dns_server.specs.Zones.{has_origin, AreServable};
-ghost use Rattle.dns_server.specs.Server.{IsReplyBy, Responds, zones_after, zones_by, route};
+ghost use Rattle.dns_server.specs.Maintaining.{IsRecordableOf};
+ghost use Rattle.dns_server.specs.Server.{IsChangeOf, IsReplyBy, Responds, zones_after, zones_by, route};
 ghost use Rattle.dns_server.specs.declared.server.route.Route.TheVariants as by;
 
+mod maintaining;
 mod route;
+mod set_ttls;
 
 use crate::error::AddZoneError;
 use crate::server::route::{Route, route_of};
 use crate::updates::Updates;
+use dns_differences::Difference;
 use dns_messages::Message;
 use dns_names::Name;
 use dns_zone::{Transport, Zone, bare_reply_bytes, decode_request};
@@ -25,6 +29,24 @@ use std::marker::Model;
 pub struct Server {
     alloc: Global,
     zones: Vec<Zone>,
+}
+
+/// What a request has led to.
+#[derive(Drop)]
+pub struct Served {
+    /// The bytes of the reply.
+    pub reply: Vec<u8>,
+    /// The change of the zone that has served it, or `None` if no zone has.
+    pub change: Option<ZoneChange>,
+}
+
+/// The change of a zone.
+#[derive(Drop)]
+pub struct ZoneChange {
+    /// The place of the zone among those of the server.
+    pub place: usize,
+    /// The records that the zone has lost, and those that it has gained.
+    pub difference: Difference,
 }
 
 impl Model for Server {
@@ -125,10 +147,45 @@ impl Server {
         ensures err { OnErr result (self.new ≡ self.old) }
         ensures servable { AreServable self.new }
     {
+        let served = self.serve(request, transport, updates)?;
+        Ok(served.reply)
+    }
+
+    /// Serves a request that is decoded as [`respond_to`](Server::respond_to) does, and returns its reply and what it has changed.
+    pub fn serve(
+        &mut self,
+        request: &Message,
+        transport: Transport,
+        updates: Updates,
+    ) -> Result<Served, AllocError>
+        requires { IsSound request.now }
+        ensures reply { IfOk result (λ served. IsReplyBy self.old
+            (route updates self.old request.now) transport request.now served.reply.items) }
+        ensures ok { OnOk result (self.new ≡ zones_after updates self.old request.now) }
+        ensures change { IfOk result (λ served. IsChangeOf self.old served.change self.new) }
+        ensures recordable { IfOk result (λ served. IsRecordableOf self.old served.change self.new) }
+        ensures err { OnErr result (self.new ≡ self.old) }
+        ensures servable { AreServable self.new }
+    {
         self.servable();
         match route_of(self.zones.as_slice(), request, updates) {
-            Route::Zone(place) => self.serve_at(place, request, transport),
-            Route::Code(code) => bare_reply_bytes(self.alloc, request, code, transport),
+            Route::Zone(place) => {
+                let served = self.serve_at(place, request, transport)?;
+                Ok(Served {
+                    reply: served.reply,
+                    change: Some(ZoneChange {
+                        place,
+                        difference: served.change,
+                    }),
+                })
+            }
+            Route::Code(code) => {
+                let reply = bare_reply_bytes(self.alloc, request, code, transport)?;
+                Ok(Served {
+                    reply,
+                    change: None,
+                })
+            }
         }
     }
 
@@ -138,17 +195,21 @@ impl Server {
         place: usize,
         request: &Message,
         transport: Transport,
-    ) -> Result<Vec<u8>, AllocError>
+    ) -> Result<dns_zone::Served, AllocError>
         requires sound { IsSound request.now }
         requires within { place < length self.old }
-        ensures reply { IfOk result (λ out. IsReplyBy self.old (by.Zone place)
-            transport request.now out.items) }
+        ensures reply { IfOk result (λ served. IsReplyBy self.old (by.Zone place)
+            transport request.now served.reply.items) }
         ensures ok { OnOk result (self.new ≡ zones_by self.old request.now (by.Zone place)) }
+        ensures change { IfOk result (λ served. IsChangeOf self.old
+            (Some (record { place = place; difference = served.change })) self.new) }
+        ensures recordable { IfOk result (λ served. IsRecordableOf self.old
+            (Some (record { place = place; difference = served.change })) self.new) }
         ensures err { OnErr result (self.new ≡ self.old) }
         ensures servable { AreServable self.new }
     {
         let zone = &mut self.zones[place];
-        zone.serve_message(request, transport)
+        zone.serve_request(request, transport)
     }
 
     /// Proves that the zones can be served; nothing is computed.

@@ -1,6 +1,6 @@
 //! Records that are edited by their data.
 
-ghost use Rattle.std.specs.Prelude.{◌≡◌, ◌==◌, ◌≤◌, ◌<◌, ◌+◌, ◌++◌, [], not, None, Some, IfOk, OnOk, length, slice_get, slice_set, vec_len, vec_capacity};
+ghost use Rattle.std.specs.Prelude.{◌≡◌, ◌==◌, ◌≤◌, ◌<◌, ◌+◌, ◌++◌, [], not, None, Some, IfOk, OnOk, length, map, slice_get, slice_set, vec_len, vec_capacity};
 ghost use Rattle.std.specs.List.{filter};
 ghost use Rattle.std.specs.Option.{option_copied};
 ghost use Rattle.dns_data.specs.rdata.{same_data};
@@ -105,6 +105,13 @@ impl EditedRecords {
         first_of(self.places.as_slice())
     }
 
+    /// Lends the records, in their order.
+    pub fn lend<'a>(&'a self, alloc: Global) -> Result<Vec<&'a Record>, AllocError>
+        ensures { IfOk result (λ lent. map (λ r. r.now) lent.items ≡ self.now) }
+    {
+        lend_records(alloc, self.places.as_slice())
+    }
+
     /// Puts other records in place of these, which are returned. No memory is taken.
     pub fn replace_by(&mut self, records: EditedRecords) -> EditedRecords
         ensures result { result ≡ self.old }
@@ -207,6 +214,22 @@ fn move_records(places: &mut [Option<Record>], moved: &mut Vec<Record>)
             moved.push_reserved(present);
         }
     }
+}
+
+/// Lends the records in places, in their order.
+fn lend_records<'a>(
+    alloc: Global,
+    places: &'a [Option<Record>],
+) -> Result<Vec<&'a Record>, AllocError>
+    ensures { IfOk result (λ lent. map (λ r. r.now) lent.items ≡ records_in places.now) }
+{
+    let mut lent = Vec::new(alloc);
+    for place in places {
+        if let Some(present) = place {
+            lent.push(present)?;
+        }
+    }
+    Ok(lent)
 }
 
 /// Returns the first record in places.

@@ -303,7 +303,8 @@ impl Stream {
         Ok(())
     }
 
-    /// Takes the requests that have arrived and may be handled together, at most 64 of them.
+    /// Takes the requests that have arrived and may be handled together, at most 64 of them. One that does not gather is taken alone,
+    /// so that it is handled as if nothing had arrived with it.
     fn gather<H: Handler>(&mut self, handler: &H) -> Result<Vec<Vec<u8>>, AllocError> {
         let mut gathered = Vec::new(self.alloc);
         for _request in 0..MAX_BATCH {
@@ -311,6 +312,9 @@ impl Stream {
                 break;
             };
             let gathers = handler.gathers(message);
+            if !gathers && !gathered.is_empty() {
+                break;
+            }
             let bytes = Vec::from_slice(self.alloc, message)?;
             gathered.push(bytes)?;
             self.connection.complete(None)?;

@@ -1,1 +1,2 @@
+pub mod RecordedLaws
 pub mod SignedLaws

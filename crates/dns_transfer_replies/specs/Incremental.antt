@@ -11,7 +11,7 @@ use Rattle.dns_zone.specs.Rows.{ZoneContent}
 use Rattle.dns_zone.specs.Serving.{reply_limit}
 use Rattle.dns_zone.specs.declared.transport.Transport.{Transport}
 use Rattle.dns_zone.specs.declared.transport.Transport.TheVariants.{Datagram, Stream}
-use Rattle.dns_zone_serials.specs.ZoneSerial.{rows_serial, zone_serial}
+use Rattle.dns_zone.specs.ZoneSerial.{rows_serial, zone_serial}
 use Rattle.dns_zone_transfers.specs.Reply.{IsRefusal, TransfersOrFails}
 use Rattle.dns_zone_transfers.specs.Request.{zone_at}
 use Rattle.dns_transfer_replies.specs.Request.{incremental_question}

@@ -3,3 +3,4 @@ pub mod ZoneHistory
 pub mod Incremental
 pub mod Signing
 pub mod Reply
+pub mod Recording

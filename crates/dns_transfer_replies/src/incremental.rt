@@ -7,7 +7,7 @@ ghost use Rattle.dns_zone.specs.Rows.{rows_of};
 ghost use Rattle.dns_zone_transfers.specs.Reply.{IsRefusal};
 ghost use Rattle.dns_transfer_replies.specs.Incremental.{fits_alone, DiffersOrFails, DiffersOrStarts, SendsFound, SendsFrom, SendsIf, SendsIncremental, SendsKnown, SendsLacking, SendsSince, SendsUnknown, StartsOrFails, TriesAlone};
 ghost use Rattle.dns_transfer_replies.specs.ZoneHistory.{known_differences};
-ghost use Rattle.dns_zone_serials.specs.ZoneSerial.{rows_serial, zone_serial};
+ghost use Rattle.dns_zone.specs.ZoneSerial.{rows_serial, zone_serial};
 
 use crate::request::{incremental_question, zone_at};
 use crate::zone_history::{ZoneHistory, lacking};
@@ -15,8 +15,7 @@ use dns_difference_transfers::incremental_transfer;
 use dns_differences::Difference;
 use dns_messages::{Message, ResponseCode};
 use dns_transfers::TransferError;
-use dns_zone::{Transport, Zone, bare_reply_bytes, reply_limit};
-use dns_zone_serials::{first_serial, zone_serial};
+use dns_zone::{Transport, Zone, bare_reply_bytes, first_serial, reply_limit, zone_serial};
 use dns_zone_transfers::reply_with_zone;
 use std::alloc::{AllocError, Global};
 

@@ -1,14 +1,16 @@
 -- Changed sets in a map by their places: what a look-up, an insertion and other records make of the list of changed sets.
-use Rattle.std.proofs.Common.{◌≡◌, ℕ, Bool, true, false, cond, List, [], ◌∷◌, refl, sym, ap, ◌∙◌, Option, Some, None, Ordering, Less, Equal, Greater}
+use Rattle.std.proofs.Common.{◌≡◌, ℕ, Bool, true, false, cond, List, [], ◌∷◌, map, refl, sym, ap, ◌∙◌, Option, Some, None, Ordering, Less, Equal, Greater}
 use Rattle.std.specs.Cmp.{Equal-is, eq_by_cmp_equiv, tied_itself}
 use Rattle.std.specs.Cmp.Lexicographic.{slice_cmp}
-use Rattle.std.specs.Map.{values_of, lookup, set_value}
+use Rattle.std.specs.List.{AllByRecursion}
+use Rattle.std.specs.List.Sorted.{IsStrictlySortedBy}
+use Rattle.std.specs.Map.{keys_of, values_of, lookup, set_value}
 use Rattle.std.specs.BTreeMap.{insert_entry, is_at}
 use Rattle.std.specs.Ordering.{eq_by_cmp, is_eq, nat_cmp, ordering_then, match_ordering}
 use Rattle.dns_codes.specs.declared.record_type.RecordType.{RecordType}
 use Rattle.dns_records.specs.Record.{Record}
 use Rattle.dns_records.specs.Rows.{Key, key, key_cmp}
-use Rattle.dns_updates.specs.Changes.{changed_at, changed_key}
+use Rattle.dns_updates.specs.Changes.{changed_at, changed_key, AreInOrder}
 use Rattle.dns_updates.specs.Keys.{Place, place_cmp}
 use Rattle.dns_updates.specs.internal.Indexes.{changed_place, with_records, HaveTheirKeys}
 use Rattle.dns_updates.specs.declared.changes.changed_set.ChangedSet.{ChangedSet}
@@ -48,6 +50,18 @@ pub found_at : (es : Entries) (k : Stored) (a : List (List ℕ)) (t : RecordType
     → lookup (is_at (stored_cmp k)) es ≡ changed_at (values_of es) (key a t)
 found_at [] k a t all e = refl
 found_at (x ∷ es) k a t all e = λ i. cond (one_tie k x.0 a t x.1 e all.0 i) (Some x.1) (found_at es k a t all.1 e i)
+
+-- ---- order
+
+places_after : (p : Stored) (s : ChangedSet) (es : Entries) → place_of p ≡ changed_place s → HaveTheirKeys es → AllByRecursion (λ k. stored_cmp p k ≡ Less) (keys_of es)
+    → AllByRecursion (λ q. place_cmp (changed_place s) q ≡ Less) (map changed_place (values_of es))
+places_after p s [] e all after = tt
+places_after p s (x ∷ es) e all after = ((λ i. place_cmp (sym e i) (sym all.0 i)) ∙ after.0, places_after p s es e all.1 after.1)
+
+pub in_order : (es : Entries) → HaveTheirKeys es → IsStrictlySortedBy stored_cmp (keys_of es) → AreInOrder (values_of es)
+unfolding IsStrictlySortedBy
+in_order [] all sorted = tt
+in_order (x ∷ es) all sorted = (places_after x.0 x.1 es all.0 all.1 sorted.0, in_order es all.1 sorted.1)
 
 -- ---- insertions
 

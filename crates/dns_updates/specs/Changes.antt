@@ -1,16 +1,26 @@
 -- The changes of an update, as sets that stand in place of those of the zone.
-use Rattle.std.specs.Prelude.{◌==◌, ◌&&◌, not, find, Bool, List, [], ◌∷◌, Option}
+use Rattle.std.specs.Prelude.{◌==◌, ◌&&◌, not, find, map, Bool, List, [], ◌∷◌, Option}
+use Rattle.std.specs.List.Sorted.{IsStrictlySortedBy}
 use Rattle.std.specs.Ordering.{eq_by_cmp}
 use Rattle.dns_codes.specs.RecordType.{type_number}
 use Rattle.dns_codes.specs.declared.record_type.RecordType.{RecordType}
 use Rattle.dns_names.specs.Name.{DomainName}
 use Rattle.dns_records.specs.Rows.{Key, Rows, key, key_cmp, rows_of, with_set}
+use Rattle.dns_updates.specs.Keys.{Place, owner_code, place_cmp, type_code}
 use Rattle.dns_updates.specs.Records.{has_set}
 use Rattle.dns_updates.specs.declared.changes.changed_set.ChangedSet.{ChangedSet}
 
 -- the key of a changed set
 abbrev pub changed_key : ChangedSet → Key
 changed_key s = key s.name.labels s.record_type
+
+-- the place of a changed set in the order
+abbrev pub changed_place : ChangedSet → Place
+changed_place s = (owner_code s.name.labels, type_code s.record_type)
+
+-- the places of changed sets strictly ascend
+abbrev pub AreInOrder : List ChangedSet → Type 0
+AreInOrder sets = IsStrictlySortedBy place_cmp (map changed_place sets)
 
 -- the changed set at a key, if there is one
 abbrev pub changed_at : List ChangedSet → Key → Option ChangedSet

@@ -2,7 +2,7 @@
 
 ghost use Rattle.std.specs.Prelude.{◌≡◌, true, Ok, IsOk, IfOk, OnOk};
 ghost use Rattle.dns_updates.specs.Change.{are_void, change, is_void_in_class, update_change};
-ghost use Rattle.dns_updates.specs.Changes.{overlay};
+ghost use Rattle.dns_updates.specs.Changes.{overlay, AreInOrder};
 ghost use Rattle.dns_updates.specs.internal.Indexes.{AreListed};
 
 mod additions;
@@ -38,8 +38,8 @@ pub struct Changes {
     pub sets: Vec<ChangedSet>,
 }
 
-/// Returns what an update that is answered with `NoError` changes in the zone with an origin, which stays as it is. Updates
-/// that are without effect because a record, a CNAME or a set forbids the change take no memory.
+/// Returns what an update that is answered with `NoError` changes in the zone with an origin, which stays as it is: sets in
+/// the canonical order of their owners (RFC 4034 section 6.1), of which that of SOA records comes first. Updates that are without effect because a record, a CNAME or a set forbids the change take no memory.
 pub fn update_changes<Z: ZoneRows>(
     alloc: Global,
     zone: &Z,
@@ -48,6 +48,7 @@ pub fn update_changes<Z: ZoneRows>(
 ) -> Result<Changes, AllocError>
     ensures change { IfOk result (λ changes. overlay (Z.rows zone.now) changes.sets.items
         ≡ update_change origin.now (Z.rows zone.now) message.now) }
+    ensures ordered { IfOk result (λ changes. AreInOrder changes.sets.items) }
     ensures decided { are_void origin.now (Z.rows zone.now) message.now.authorities ≡ true
         → IsOk result }
 {

@@ -34,7 +34,7 @@ to_true true e = refl
 to_true false e = absurd (cc)
 
 -- the sets of a zone are plain
-plain_found : (p : RecordSetValue → Bool) (sets : List RecordSetValue) → AreSoundSets sets → list_any (λ s. not (is_internet s)) sets ≡ false → IfSome (list.find p sets) IsPlainSet
+pub plain_found : (p : RecordSetValue → Bool) (sets : List RecordSetValue) → AreSoundSets sets → list_any (λ s. not (is_internet s)) sets ≡ false → IfSome (list.find p sets) IsPlainSet
 plain_found p [] sound internet = tt
 plain_found p (s ∷ ss) sound internet = by (p s) (plain_found p ss sound.1 parts.1)
   where

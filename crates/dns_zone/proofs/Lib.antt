@@ -1,6 +1,9 @@
 pub mod AnswerLaws
+pub mod AppliedChangeLaws
 pub mod AppliedLaws
 pub mod ChainLaws
+pub mod ChangedLaws
+pub mod DifferenceLaws
 pub mod FaultLaws
 pub mod FirstLaws
 pub mod GatherLaws
@@ -12,11 +15,16 @@ pub mod LoadLaws
 pub mod OwnerLaws
 pub mod PrintableLaws
 pub mod PrintedLaws
+pub mod PutRowLaws
+pub mod RiseWitness
+pub mod RisingLaws
+pub mod RowIndexLaws
 pub mod RowLaws
 pub mod SectionLaws
 pub mod ServingLaws
 pub mod SetLaws
 pub mod SingleLaws
+pub mod StartLaws
 pub mod StoreLaws
 pub mod UpdatedLaws
 pub mod WholeLaws

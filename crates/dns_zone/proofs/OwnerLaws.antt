@@ -13,7 +13,7 @@ use Rattle.dns_names.specs.Compare.{same_labels}
 use Rattle.dns_names.specs.internal.Compare.{same-lower, same_labels-equivalence}
 use Rattle.dns_records.specs.RecordSet.{RecordSetValue}
 use Rattle.dns_updates.specs.Keys.{owner_code, Place}
-use Rattle.dns_zone.specs.Sets.{HaveTheirKeys, set_place}
+use Rattle.dns_zone.specs.Sets.{HaveTheirKeys}
 use Rattle.dns_updates.proofs.OwnerCodeLaws.{owner_apart, owner_of_lower}
 use Rattle.dns_updates.proofs.PlaceLaws.{tied_both}
 use Rattle.dns_zone.proofs.RowLaws.{same_lower}

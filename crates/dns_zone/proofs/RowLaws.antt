@@ -88,7 +88,7 @@ no_rows_at sets owner t is = ap (λ o. unwrap_or o []) (get-sets sets (key owner
 
 -- ---- names above rows
 
-label_twice : (l : List ℕ) → str_to_ascii_lowercase (str_to_ascii_lowercase l) ≡ str_to_ascii_lowercase l
+pub label_twice : (l : List ℕ) → str_to_ascii_lowercase (str_to_ascii_lowercase l) ≡ str_to_ascii_lowercase l
 label_twice [] = refl
 label_twice (c ∷ cs) = λ i. lowercase-lowercase c i ∷ label_twice cs i
 

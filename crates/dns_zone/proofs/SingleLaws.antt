@@ -23,17 +23,17 @@ use Rattle.dns_zone.specs.internal.Store.{changed_at, has_key, is_empty_set, or_
 use Rattle.dns_zone.proofs.RowLaws.{get-sets, is_some_rows, rows_found_at, no_rows_at}
 
 -- the records of a set, or none
-records_in : Option RecordSetValue → List Record
+pub records_in : Option RecordSetValue → List Record
 records_in None = []
 records_in (Some s) = s.records
 
 -- the set of a record, with the record, as a changed set
-pub single_set : List RecordSetValue → Record → ChangedSet
+unfoldable pub single_set : List RecordSetValue → Record → ChangedSet
 single_set sets r = record { name = r.name; record_type = data_type r.rdata; records = put record_data (records_in (set_at sets (key_of r))) r }
 
 -- ---- its rows
 
-rows_there : (sets : List RecordSetValue) (r : Record) (o : Option RecordSetValue) → o ≡ set_at sets (key_of r) → rows_of (records_in o) ≡ set_of (rows_of_sets sets) r
+pub rows_there : (sets : List RecordSetValue) (r : Record) (o : Option RecordSetValue) → o ≡ set_at sets (key_of r) → rows_of (records_in o) ≡ set_of (rows_of_sets sets) r
 unfolding records_in
 rows_there sets r None is = sym (no_rows_at sets r.name.labels (type_of_record r) is)
 rows_there sets r (Some s) is = sym (rows_found_at sets r.name.labels (type_of_record r) s is)

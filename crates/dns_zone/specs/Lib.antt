@@ -1,6 +1,11 @@
 pub mod Rows
 pub mod Sets
 pub mod Answer
+pub mod Change
+pub mod Changed
+pub mod Rising
+pub mod Maintained
+pub mod ZoneSerial
 pub mod Load
 pub mod Printed
 pub mod Lookup

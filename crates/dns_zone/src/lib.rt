@@ -5,7 +5,8 @@
 //!
 //! - `zone`: zones; `zone::load`: the zone of a zone file; `zone::display`: the zone file of a zone; `zone::answer`: its
 //!   answers; `zone::chain`: those along alias chains; `zone::lookup`: its records, by owner and type; `zone::serve`: its
-//!   replies;
+//!   replies; `zone::update`: its updates; `zone::rising`: those after which its serial number rises by itself; `zone::serial`: its
+//!   serial number;
 //! - `sets`: record sets; `rows`: their records; `transport`: the transports of a message;
 //! - `laws`: theorems about the definitions of this crate.
 #![tactic(auto)]
@@ -20,5 +21,6 @@ pub use sets::Sets;
 // `Road` is the former name of `Transport`.
 pub use transport::{DatagramLimit, LimitTooSmall, Transport, Transport as Road};
 pub use zone::{
-    Answer, Zone, ZoneFault, bare_reply_bytes, decode_request, repeated_queries, reply_limit,
+    Answer, Applied, Serials, Served, Zone, ZoneFault, bare_reply_bytes, decode_request,
+    first_serial, repeated_queries, reply_limit, zone_serial,
 };

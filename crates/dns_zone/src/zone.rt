@@ -5,12 +5,17 @@ ghost use Rattle.dns_zone.specs.Rows.{IsZone};
 
 mod answer;
 mod chain;
+mod difference;
 mod display;
 mod load;
 mod lookup;
 mod reply;
+mod rise;
+mod rising;
 mod row_refs;
 mod section;
+mod serial;
+mod serials;
 mod serve;
 mod update;
 
@@ -18,10 +23,13 @@ use crate::sets::ZoneSets;
 pub use answer::Answer;
 use dns_names::Name;
 use dns_zone_file::ZoneFileError;
-pub use serve::{bare_reply_bytes, decode_request, repeated_queries, reply_limit};
+pub use serial::{first_serial, zone_serial};
+pub use serials::Serials;
+pub use serve::{Served, bare_reply_bytes, decode_request, repeated_queries, reply_limit};
 use std::alloc::{AllocError, AllocFailed, Global};
 use std::marker::Model;
 use thiserror::Error;
+pub use update::Applied;
 
 /// The error for a text that is not the zone file of a zone.
 #[derive(Debug, Drop, Error)]

@@ -2,32 +2,35 @@
 
 ghost use Rattle.std.specs.Prelude.{◌≡◌, false, None, Ok, IfOk, OnOk, OnErr, option_map};
 ghost use Rattle.dns_messages.specs.Sound.{IsSound};
-ghost use Rattle.dns_server.specs.Server.{zones_after};
+ghost use Rattle.dns_messages.specs.declared.op_code.OpCode.TheVariants as ops;
+ghost use Rattle.dns_server.specs.Maintaining.{IsRecordableOf};
 ghost use Rattle.dns_server.specs.Zones.{AreServable};
 ghost use Rattle.dns_zone.specs.Serving.{has_query_header};
-ghost use Rattle.dns_zone_service.specs.Answering.{IsReplyToOther, IsServiceReply, IsWholeReply, answering_for};
+ghost use Rattle.dns_zone_service.specs.Answering.{IsReplyToOther, IsServiceReply, IsUpdateReply, IsWholeReply, zones_served, zones_updated};
 
 use dns_authority::{AnyAnswer, AuthorityView};
 use dns_authority_server::{respond_to, respond_to_other};
-use dns_messages::{Message, OpCode};
-use dns_server::{Server, Updates};
-use dns_zone::Transport;
+use dns_messages::{Message, OpCode, ResponseCode};
+use dns_server::{Served, Server, Updates};
+use dns_zone::{Serials, Transport, bare_reply_bytes};
 use std::alloc::{AllocError, Global};
 
-/// How requests are answered that are not updates.
+/// How requests are answered.
 #[derive(Clone, Copy, Debug, PartialEq, Eq)]
 pub enum Answering {
     /// Each by the zone of its question alone: there are no wildcards, referrals, DNAME records and additional records, and no
-    /// answers to ANY. Bytes that do not decode have no reply.
+    /// answers to ANY. Updates set serial numbers. Bytes that do not decode have no reply.
     Plain,
-    /// By the whole of RFC 1034 section 4.3.2, and of RFC 6891. Bytes with the header of a query that do not decode are answered
-    /// with `FormErr`.
-    Whole(AnyAnswer),
+    /// By the whole of RFC 1034 section 4.3.2, and of RFC 6891. The data that an update adds has the format of its type, and serial
+    /// numbers may rise by themselves (RFC 2136 section 3.6). Bytes with the header of a query that do not decode are answered with
+    /// `FormErr`.
+    Whole(AnyAnswer, Serials),
 }
 
 impl Answering {
-    /// Serves a request that is decoded, and returns the bytes of its reply. An update is served by its zone, and is the only
-    /// request that changes one. An error leaves the server unchanged.
+    /// Serves a request that is decoded, and returns its reply and what it has changed. Only an update changes a zone, and it changes
+    /// no other.
+    /// An error leaves the server unchanged.
     pub fn respond_to(
         self,
         alloc: Global,
@@ -35,19 +38,23 @@ impl Answering {
         request: &Message,
         transport: Transport,
         updates: Updates,
-    ) -> Result<Vec<u8>, AllocError>
+    ) -> Result<Served, AllocError>
         requires { IsSound request.now }
-        ensures reply { IfOk result (λ out.
-            IsServiceReply self updates server.old transport request.now out.items) }
-        ensures ok { OnOk result (server.new ≡ zones_after updates server.old request.now) }
+        ensures reply { IfOk result (λ served.
+            IsServiceReply self updates server.old transport request.now served.reply.items) }
+        ensures ok { OnOk result (server.new ≡ zones_served self updates server.old request.now) }
+        ensures change { IfOk result (λ served.
+            IsRecordableOf server.old served.change server.new) }
         ensures err { OnErr result (server.new ≡ server.old) }
         ensures servable { AreServable server.new }
     {
-        match self.for_code(request.metadata.op_code) {
-            Answering::Plain => server.respond_to(request, transport, updates),
-            Answering::Whole(any) => {
-                let reply = whole_reply(alloc, server, any, request, transport)?;
-                Ok(reply)
+        match (self, request.metadata.op_code) {
+            (Answering::Plain, _) => server.serve(request, transport, updates),
+            (Answering::Whole(_any, serials), OpCode::Update) => {
+                update(alloc, server, request, transport, updates, serials)
+            }
+            (Answering::Whole(any, _serials), _) => {
+                whole_reply(alloc, server, any, request, transport)
             }
         }
     }
@@ -65,36 +72,62 @@ impl Answering {
     {
         match self {
             Answering::Plain => Ok(None),
-            Answering::Whole(_any) => respond_to_other(alloc, bytes),
-        }
-    }
-
-    /// Returns how a request with an opcode is answered: an update by its zone alone.
-    fn for_code(self, op_code: OpCode) -> Answering
-        ensures { result ≡ answering_for self op_code }
-    {
-        match op_code {
-            OpCode::Update => Answering::Plain,
-            _ => self,
+            Answering::Whole(_any, _serials) => respond_to_other(alloc, bytes),
         }
     }
 }
 
-/// Returns the bytes of the reply to a request by the whole of RFC 1034 section 4.3.2.
+/// Serves an update, or refuses it.
+fn update(
+    alloc: Global,
+    server: &mut Server,
+    request: &Message,
+    transport: Transport,
+    updates: Updates,
+    serials: Serials,
+) -> Result<Served, AllocError>
+    requires sound { IsSound request.now }
+    requires update { request.now.metadata.op_code ≡ ops.Update }
+    ensures reply { IfOk result (λ served.
+        IsUpdateReply updates server.old transport request.now served.reply.items) }
+    ensures ok { OnOk result (server.new ≡ zones_updated serials updates server.old request.now) }
+    ensures change { IfOk result (λ served. IsRecordableOf server.old served.change server.new) }
+    ensures err { OnErr result (server.new ≡ server.old) }
+    ensures servable { AreServable server.new }
+{
+    match updates {
+        Updates::Allowed => server.update(request, transport, serials),
+        Updates::Refused => {
+            let _zones = server.zones();
+            let reply = bare_reply_bytes(alloc, request, ResponseCode::Refused, transport)?;
+            Ok(Served {
+                reply,
+                change: None,
+            })
+        }
+    }
+}
+
+/// Returns the reply to a request by the whole of RFC 1034 section 4.3.2, which changes nothing.
 fn whole_reply(
     alloc: Global,
     server: &Server,
     any: AnyAnswer,
     request: &Message,
     transport: Transport,
-) -> Result<Vec<u8>, AllocError>
-    ensures reply { IfOk result (λ out.
-        IsWholeReply any server.now transport request.now out.items) }
+) -> Result<Served, AllocError>
+    ensures reply { IfOk result (λ served.
+        IsWholeReply any server.now transport request.now served.reply.items) }
+    ensures change { IfOk result (λ served. served.change ≡ None) }
     ensures servable { AreServable server.now }
 {
     let authority = AuthorityView {
         zones: server.zones(),
         any,
     };
-    respond_to(alloc, &authority, request, transport)
+    let reply = respond_to(alloc, &authority, request, transport)?;
+    Ok(Served {
+        reply,
+        change: None,
+    })
 }

@@ -8,7 +8,7 @@ use dns_authority::AnyAnswer;
 use dns_names::{AddrPrefix, Name, ParseError};
 use dns_server::{AddressList, parse_prefix};
 use dns_sockets::Until;
-use dns_zone::DatagramLimit;
+use dns_zone::{DatagramLimit, Serials};
 use dns_zone_service::Answering;
 use std::alloc::{AllocError, Global};
 use std::net::{Ipv4Addr, SocketAddr, SocketAddrV4};
@@ -23,6 +23,17 @@ const DEFAULT_DIFFERENCES: usize = 10_000;
 /// The version of the program.
 const VERSION: &str = "0.1.0";
 
+/// What is done with what the events of a script led to.
+#[derive(Clone, Copy)]
+pub(crate) enum ReplayMode {
+    /// It is printed.
+    Print,
+    /// It is compared with the expectations in the script.
+    Check,
+    /// The script is printed with it as its expectations.
+    Bless,
+}
+
 /// The arguments of the program.
 pub(crate) struct Arguments {
     /// The paths of the zone files, as given: at least one.
@@ -35,8 +46,6 @@ pub(crate) struct Arguments {
     pub(crate) answering: Answering,
     /// The addresses to which zones are transferred.
     pub(crate) secondaries: AddressList,
-    /// Whether the serial number of a zone rises with each change of its rows.
-    pub(crate) raises_serials: bool,
     /// How many records of differences are kept of each zone, at most.
     pub(crate) differences: usize,
     /// The secondaries that are notified of changes.
@@ -55,6 +64,10 @@ pub(crate) struct Arguments {
     pub(crate) log: Option<String>,
     /// What is given of keys and of a journal.
     pub(crate) durable: DurableArguments,
+    /// The paths of the scripts that are replayed in the place of sockets, as given.
+    pub(crate) replay: Vec<String>,
+    /// What is done with what its events led to.
+    pub(crate) replay_mode: ReplayMode,
 }
 
 impl Drop for Arguments {
@@ -65,7 +78,6 @@ impl Drop for Arguments {
             updaters,
             answering: _answering,
             secondaries,
-            raises_serials: _raises_serials,
             differences: _differences,
             notify,
             limit: _limit,
@@ -75,6 +87,8 @@ impl Drop for Arguments {
             faults,
             log,
             durable,
+            replay,
+            replay_mode: _replay_mode,
         } = self;
         drop(files);
         drop(addresses);
@@ -85,6 +99,7 @@ impl Drop for Arguments {
         drop(faults);
         drop(log);
         drop(durable);
+        drop(replay);
     }
 }
 
@@ -93,7 +108,7 @@ impl Arguments {
     pub(crate) fn offers_transfers(&self) -> bool {
         match self.answering {
             Answering::Plain => false,
-            Answering::Whole(_) => true,
+            Answering::Whole(_, _) => true,
         }
     }
 
@@ -105,7 +120,6 @@ impl Arguments {
             updaters,
             answering: _answering,
             secondaries,
-            raises_serials: _raises_serials,
             differences: _differences,
             notify,
             limit: _limit,
@@ -115,6 +129,8 @@ impl Arguments {
             faults,
             log,
             durable,
+            replay,
+            replay_mode: _replay_mode,
         } = self;
         drop(files);
         drop(addresses);
@@ -123,13 +139,15 @@ impl Arguments {
         drop(faults);
         drop(log);
         drop(durable);
+        drop(replay);
         (updaters, secondaries)
     }
 }
 
 /// Reads the arguments, of which the first is the program's name.
 pub(crate) fn read_arguments(alloc: Global, words: &[&str]) -> Result<Arguments, Ending> {
-    let matches = match command(alloc)?.try_get_matches_from(words) {
+    let command = command(alloc, !names_script(words))?;
+    let matches = match command.try_get_matches_from(words) {
         Ok(matches) => matches,
         Err(error) if error.kind() == ErrorKind::OutOfMemory => {
             // Reading the arguments was refused memory.
@@ -138,6 +156,11 @@ pub(crate) fn read_arguments(alloc: Global, words: &[&str]) -> Result<Arguments,
         Err(error) => return Err(Ending::Arguments(error)),
     };
     arguments_of(alloc, &matches)
+}
+
+/// Returns `true` if the words name a script, which may state the zone files.
+fn names_script(words: &[&str]) -> bool {
+    words.iter().any(|word| *word == "--replay" || word.starts_with("--replay="))
 }
 
 /// Returns what the words stand for.
@@ -156,7 +179,6 @@ fn arguments_of(alloc: Global, matches: &ArgMatches<'_>) -> Result<Arguments, En
         updaters,
         answering: answering_in(matches),
         secondaries,
-        raises_serials: raises_serials_in(matches),
         differences: differences_in(alloc, matches)?,
         notify,
         limit,
@@ -166,17 +188,19 @@ fn arguments_of(alloc: Global, matches: &ArgMatches<'_>) -> Result<Arguments, En
         faults: text_in(alloc, matches, "faults")?,
         log: text_in(alloc, matches, "log")?,
         durable,
+        replay: texts_in(alloc, matches, "replay")?,
+        replay_mode: replay_mode_in(matches),
     })
 }
 
 /// Returns the program's command, for clap.
-fn command<'a>(alloc: Global) -> Result<Command<'a>, AllocError> {
+fn command<'a>(alloc: Global, needs_files: bool) -> Result<Command<'a>, AllocError> {
     let files = Arg::new(alloc, "FILE")
         .value_name("FILE")
         .help("The zone files")
         .action(ArgAction::Append)
         .num_args(1..)
-        .required(true);
+        .required(needs_files);
     let command = Command::new(alloc, "nameserver")
         .version(VERSION)
         .about("Serves zones over UDP and TCP, takes dynamic updates, and makes faults on demand")
@@ -228,7 +252,34 @@ fn command<'a>(alloc: Global) -> Result<Command<'a>, AllocError> {
             "Let no serial number rise but by an update that raises it",
         ))?
         .arg(flag(alloc, "until-stdin-closes", "End when standard input ends"))?;
-    with_durable_options(alloc, command)
+    with_durable_options(alloc, with_replay_options(alloc, command)?)
+}
+
+/// Adds the options about a script to a command.
+fn with_replay_options<'a>(alloc: Global, command: Command<'a>) -> Result<Command<'a>, AllocError> {
+    command
+        .arg(option(
+            alloc,
+            "replay",
+            "FILE",
+            "A script of requests, which are answered in the place of requests at sockets",
+        )
+        .action(ArgAction::Append))?
+        .arg(flag(
+            alloc,
+            "check",
+            "Compare what each request of the script leads to with the lines '#> ' after it",
+        )
+        .requires_arg("replay")?)?
+        .arg(
+            flag(
+                alloc,
+                "bless",
+                "Print the script with these lines as its requests lead to them",
+            )
+            .requires_arg("replay")?
+            .conflicts_with("check")?,
+        )
 }
 
 /// Returns an option that takes one value.
@@ -369,11 +420,13 @@ fn reach_in(matches: &ArgMatches<'_>) -> Reach {
     }
 }
 
-/// Returns whether the serial number of a zone rises with each change of its rows.
-fn raises_serials_in(matches: &ArgMatches<'_>) -> bool {
-    let is_plain = matches.get_str("plain") == Some("true");
-    let keeps = matches.get_str("keep-serials") == Some("true");
-    !is_plain && !keeps
+/// Returns whether the serial number of a zone rises by itself with each change of its records.
+fn serials_in(matches: &ArgMatches<'_>) -> Serials {
+    if matches.get_str("keep-serials") == Some("true") {
+        Serials::Kept
+    } else {
+        Serials::Rising
+    }
 }
 
 /// Returns how many records of differences are kept of each zone.
@@ -387,14 +440,25 @@ fn differences_in(alloc: Global, matches: &ArgMatches<'_>) -> Result<usize, Endi
     }
 }
 
-/// Returns how requests are answered that are not updates. Clap has found that at most one of the two options is given.
+/// Returns how requests are answered. Clap has found that at most one of the two options is given.
 fn answering_in(matches: &ArgMatches<'_>) -> Answering {
     if matches.get_str("plain") == Some("true") {
         Answering::Plain
     } else if matches.get_str("minimal-any") == Some("true") {
-        Answering::Whole(AnyAnswer::FirstSet)
+        Answering::Whole(AnyAnswer::FirstSet, serials_in(matches))
     } else {
-        Answering::Whole(AnyAnswer::AllSets)
+        Answering::Whole(AnyAnswer::AllSets, serials_in(matches))
+    }
+}
+
+/// Returns what is done with what the events of a script led to. Clap has found that at most one of the two options is given.
+fn replay_mode_in(matches: &ArgMatches<'_>) -> ReplayMode {
+    if matches.get_str("check") == Some("true") {
+        ReplayMode::Check
+    } else if matches.get_str("bless") == Some("true") {
+        ReplayMode::Bless
+    } else {
+        ReplayMode::Print
     }
 }
 

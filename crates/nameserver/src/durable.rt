@@ -4,25 +4,45 @@ use crate::arguments::Arguments;
 use crate::ending::Ending;
 use crate::files::text_of;
 use crate::includes::refuse_includes;
-use crate::raising::raise_with_journal;
 use crate::zones::{add_zone, milliseconds_since, read_zones, tell, zone_of};
-use dns_durable::{CompactError, DurableServer, ReplayError, first_frame, replay};
+use dns_durable::{CompactError, DurableServer, ReplayError, replay};
 use dns_journal::{Journal, Position, State, Storage, StorageError, StoredFiles};
 use dns_journal_files::FileStorage;
+use dns_journal_format::{Link, ReadError};
 use dns_recovery::{OpenError, Opened, open_journal};
 use dns_server::Server;
 use dns_zone::Zone;
-use dns_zone_histories::{Wanted, Watch};
-use std::alloc::AllocError;
 use std::io;
+use std::random::RandomSource;
 use std::time::Instant;
 
 /// The position of a journal that keeps nothing.
 const START: Position = Position {
     end: 0,
     digest: [0; 32],
+    key: [0; 16],
+    link: Link { seal: 0, number: 0 },
     state: State::Ready,
 };
+
+/// What to do with a journal that belongs to another zone file.
+const OTHER_TEXT_HELP: &str =
+    "The zone file was edited after the journal was begun. To keep the updates, put the former zone file back,
+replace it by the zone with its updates (--compact), and then edit it. To give the updates up, remove the journal.
+";
+
+/// What to do with a journal of the former format.
+const FORMER_HELP: &str =
+    "An earlier version of this program wrote the journal. To keep its updates, let that version replace the zone file by the zone
+with its updates (--compact), and then remove the journal. To give the updates up, remove the journal. Nothing was changed.
+";
+
+/// Draws the key of a journal at random.
+pub(crate) fn draw_key(rt: &HostRuntime) -> io::Result<[u8; 16]> {
+    let mut key = [0u8; 16];
+    rt.fill_bytes(&mut key)?;
+    Ok(key)
+}
 
 /// Reads the zones, and the updates of their journal, if there is one.
 pub(crate) fn open_durable<'a>(
@@ -72,12 +92,11 @@ impl<'a> Stored<'a> {
         self,
         rt: &HostRuntime,
         server: &mut Server,
-        watch: &mut Watch,
         path: &str,
     ) -> Result<Journal<FileStorage<'a>>, Ending> {
         let Stored { storage, files } = self;
         let mut storage = storage;
-        let position = replay_journal(rt, &mut storage, &files, server, watch, path)?;
+        let position = replay_journal(rt, &mut storage, &files, server, path)?;
         drop(files);
         Ok(Journal { storage, position })
     }
@@ -92,18 +111,8 @@ fn open_with_journal<'a>(
 ) -> Result<DurableServer<FileStorage<'a>>, Ending> {
     let stored = Stored::read(rt, file, path)?;
     let mut server = server_of(rt, arguments, file, &stored.files)?;
-    let wanted = Wanted {
-        rows: true,
-        records: false,
-    };
-    let mut watch = Watch::new(rt.alloc(), wanted);
-    let journal = stored.into_journal(rt, &mut server, &mut watch, path)?;
-    let mut durable = DurableServer { server, journal };
-    if arguments.raises_serials {
-        // A crash may have come between the last updates and the rise of the serial number.
-        raise_with_journal(rt.alloc(), &mut durable, &watch)?;
-    }
-    Ok(durable)
+    let journal = stored.into_journal(rt, &mut server, path)?;
+    Ok(DurableServer { server, journal })
 }
 
 /// Returns a server of the zone of files that were read. Standard error has a line for it.
@@ -133,21 +142,22 @@ fn stored_zone(
     zone_of(rt, file, text.as_str(), &[], arguments.origin.as_ref())
 }
 
-/// Opens the journal of files that were read, and serves its updates again, of which the last ones are watched. Standard error has a
-/// line for it.
+/// Opens the journal of files that were read, and serves its updates again. Standard error has a line for it.
 fn replay_journal(
     rt: &HostRuntime,
     storage: &mut FileStorage<'_>,
     files: &StoredFiles,
     server: &mut Server,
-    watch: &mut Watch,
     path: &str,
 ) -> Result<Position, Ending> {
-    let Opened { updates, position } = match open_journal(storage, rt.alloc(), files) {
+    let key = drawn_key(rt, path)?;
+    let Opened { updates, position } = match open_journal(storage, rt.alloc(), files, key) {
         Ok(opened) => opened,
         Err(error) => return Err(open_ending(rt, storage, path, error)),
     };
-    match replay_watched(rt, server, watch, updates.as_slice()) {
+    storage.note_end(position.end);
+    tell_cut(rt, storage, path);
+    match replay(server, rt.alloc(), updates.as_slice()) {
         Ok(()) => {}
         // Memory for an update was refused.
         Err(ReplayError::Memory) => return Err(Ending::Memory),
@@ -158,36 +168,23 @@ fn replay_journal(
     Ok(position)
 }
 
-/// Serves the updates of a journal again, of which the last entry's are watched.
-fn replay_watched(
-    rt: &HostRuntime,
-    server: &mut Server,
-    watch: &mut Watch,
-    updates: &[&[u8]],
-) -> Result<(), ReplayError> {
-    let Some((last, others)) = updates.split_last() else {
-        return Ok(());
-    };
-    replay(server, rt.alloc(), others)?;
-    watch_frames(server, watch, last)?;
-    match replay(server, rt.alloc(), &[*last]) {
-        Err(ReplayError::NotUpdates(_)) => Err(ReplayError::NotUpdates(updates.len())),
-        replayed => replayed,
+/// Draws the key of the journal at a path, or says why there is none.
+fn drawn_key(rt: &HostRuntime, path: &str) -> Result<[u8; 16], Ending> {
+    match draw_key(rt) {
+        Ok(key) => Ok(key),
+        Err(error) => Err(Ending::Journal(String::from_str(rt.alloc(), path)?, error)),
     }
 }
 
-/// Copies what the updates of an entry of a journal name.
-fn watch_frames(server: &Server, watch: &mut Watch, entry: &[u8]) -> Result<(), AllocError> {
-    let mut rest = entry;
-    // Each frame has a byte at least.
-    for _ in 0..entry.len() {
-        let Some(first) = first_frame(rest) else {
-            return Ok(());
-        };
-        watch.add(server, first.message)?;
-        rest = first.rest;
+/// Says on standard error what was cut off a journal, and where it is now.
+fn tell_cut(rt: &HostRuntime, storage: &mut FileStorage<'_>, path: &str) {
+    if let Some(cut) = storage.take_cut() {
+        // A failure to write to standard error can't be reported.
+        let _written = eprintln!(rt;
+            "{path}: {} bytes of an interrupted write were moved to {}",
+            cut.len, cut.path
+        );
     }
-    Ok(())
 }
 
 /// Says why a journal is not opened.
@@ -201,6 +198,18 @@ fn open_ending(
         // Memory for the journal was refused.
         OpenError::Memory => Ending::Memory,
         OpenError::Storage(error) => storage_ending(rt, storage, path, error),
+        OpenError::OtherText => match format!(in rt.alloc(); "{path}: {error}\n{OTHER_TEXT_HELP}") {
+            Ok(report) => Ending::Refused(report),
+            // Memory for the report was refused.
+            Err(_) => Ending::Memory,
+        },
+        OpenError::Journal(ReadError::Former) => {
+            match format!(in rt.alloc(); "{path}: {error}\n{FORMER_HELP}") {
+                Ok(report) => Ending::Refused(report),
+                // Memory for the report was refused.
+                Err(_) => Ending::Memory,
+            }
+        }
         error => match format!(in rt.alloc(); "{path}: {error}\n") {
             Ok(report) => Ending::Refused(report),
             // Memory for the report was refused.
@@ -237,18 +246,31 @@ pub(crate) fn compact_and_end(
     arguments: &Arguments,
     server: &mut DurableServer<FileStorage<'_>>,
 ) -> Result<(), Ending> {
-    let error = match server.compact(rt.alloc()) {
+    let path = match &arguments.durable.journal {
+        Some(path) => path.as_str(),
+        None => "",
+    };
+    if let Err(reason) = unedited_text(&mut server.journal) {
+        return Err(Ending::Refused(format!(in rt.alloc(); "{path}: {reason}\n")?));
+    }
+    let error = match server.compact(rt.alloc(), drawn_key(rt, path)?) {
         Ok(()) => return Ok(()),
         // Memory for the text or for the zone was refused.
         Err(CompactError::Memory) => return Err(Ending::Memory),
         Err(error) => error,
     };
-    let path = match &arguments.durable.journal {
-        Some(path) => path.as_str(),
-        None => "",
-    };
     match server.journal.storage.take_error() {
         Some(error) => Err(Ending::Journal(String::from_str(rt.alloc(), path)?, error)),
         None => Err(Ending::Refused(format!(in rt.alloc(); "{path}: {error}\n")?)),
+    }
+}
+
+/// Returns why the zone file is not to be replaced, if it was edited since it was read, or can't be read.
+pub(crate) fn unedited_text(journal: &mut Journal<FileStorage<'_>>) -> Result<(), &'static str> {
+    let Journal { storage, position } = journal;
+    match storage.is_unedited(position.digest.as_slice()) {
+        Ok(true) => Ok(()),
+        Ok(false) => Err("the zone file was edited since it was read"),
+        Err(_) => Err("the zone file can't be read"),
     }
 }

@@ -1,20 +1,19 @@
 //! What the program does with requests, if there are keys or a journal.
 
+use crate::durable::{draw_key, unedited_text};
 use crate::log_file::LogFile;
 use crate::notices::Notices;
-use crate::raising::raise_with_journal;
 use crate::transfers::{Sources, Transfers};
-use dns_durable::{CompactError, DurableServer, Incoming, Policy, Terms, is_update};
+use dns_durable::{CompactError, DurableServer, Incoming, Policy, Replies, Terms, is_update};
 use dns_faults::Delivery;
 use dns_journal::State;
 use dns_journal_files::FileStorage;
 use dns_nameserver::{Answered, is_accepted, reply_transport, updates_of};
 use dns_server::AddressList;
 use dns_sockets::{Handler, Milliseconds, Notice, Request};
+use dns_transfer_replies::Recorder;
 use dns_zone::DatagramLimit;
-use dns_zone_histories::{Recorder, Watch};
 use std::alloc::AllocError;
-use std::time::Clock;
 
 /// Answers requests by a server whose updates outlast a crash, and logs them.
 #[derive(Drop)]
@@ -29,7 +28,7 @@ pub(crate) struct DurableHandler<'a> {
     pub(crate) limit: DatagramLimit,
     /// The addresses from which updates are taken without a key.
     pub(crate) updaters: AddressList,
-    /// What raises serial numbers, and keeps the last differences of each zone.
+    /// What keeps the last differences of each zone.
     pub(crate) recorder: Recorder,
     /// To whom zones are transferred.
     pub(crate) transfers: Transfers,
@@ -50,10 +49,11 @@ impl Handler for DurableHandler<'_> {
     }
 
     fn handle(&mut self, requests: &[Request<'_>]) -> Result<Vec<Delivery>, AllocError> {
-        let watch = self.watch(requests)?;
-        let replies = self.respond(requests);
-        // Updates may have been made even if there was no memory for their replies.
-        self.settle(&watch);
+        let mut terms = Vec::new(self.rt.alloc());
+        for request in requests {
+            terms.push(self.terms(request))?;
+        }
+        let replies = self.respond(requests, terms.as_slice());
         self.tend_journal();
         self.deliver(requests, replies?)
     }
@@ -86,42 +86,42 @@ impl Handler for DurableHandler<'_> {
 }
 
 impl DurableHandler<'_> {
-    /// Returns the replies to requests that arrived together.
-    fn respond(&mut self, requests: &[Request<'_>]) -> Result<Vec<Option<Vec<u8>>>, AllocError> {
-        let mut terms = Vec::new(self.rt.alloc());
-        for request in requests {
-            terms.push(self.terms(request))?;
-        }
+    /// Returns the replies to requests that arrived together, and records what these have changed.
+    fn respond(
+        &mut self,
+        requests: &[Request<'_>],
+        terms: &[Terms],
+    ) -> Result<Vec<Option<Vec<u8>>>, AllocError> {
         let mut incoming = Vec::new(self.rt.alloc());
-        for (request, terms) in requests.iter().zip(terms.as_slice()) {
+        for (request, terms) in requests.iter().zip(terms) {
             incoming.push(Incoming {
                 bytes: request.bytes,
                 terms,
             })?;
         }
-        let replies = self
+        let responded = self
             .server
-            .respond_all(self.rt.alloc(), &self.policy, incoming.as_slice())?;
-        Ok(replies.replies)
-    }
-
-    /// Copies what requests name.
-    fn watch(&self, requests: &[Request<'_>]) -> Result<Watch, AllocError> {
-        let mut watch = self.recorder.watch();
-        for request in requests {
-            watch.add(&self.server.server, request.bytes)?;
+            .respond_all(self.rt.alloc(), &self.policy, incoming.as_slice());
+        match responded {
+            Ok(
+                Replies {
+                    replies,
+                    is_stored: _is_stored,
+                    changes,
+                },
+            ) => {
+                for change in changes {
+                    // Without memory for the difference, the history of the zone begins again.
+                    let _recorded = self.recorder.record(change);
+                }
+                Ok(replies)
+            }
+            Err(AllocError) => {
+                // Updates may have been made whose changes are not known.
+                self.recorder.forget();
+                Err(AllocError) // Memory was refused for the replies.
+            }
         }
-        Ok(watch)
-    }
-
-    /// Raises the serial numbers of the zones that are watched, if they rise by themselves, and records their differences.
-    fn settle(&mut self, watch: &Watch) {
-        if self.recorder.wanted().rows {
-            // Without memory, the next change raises the serial number.
-            let _raised = raise_with_journal(self.rt.alloc(), &mut self.server, watch);
-        }
-        // Without memory for a difference, the zone's history begins again.
-        let _recorded = self.recorder.record(&self.server.server, watch);
     }
 
     /// Returns what decides on the reply to a request, beside its bytes.
@@ -129,8 +129,7 @@ impl DurableHandler<'_> {
         Terms {
             transport: reply_transport(request.transport, self.limit),
             local: updates_of(self.updaters.contains(request.peer.ip())),
-            // Without a clock, no signature is in time.
-            time: self.rt.since_1970().map_or(0, |time| time.as_secs()),
+            time: self.transfers.clock.seconds(self.rt, request.moment),
         }
     }
 
@@ -192,12 +191,33 @@ impl DurableHandler<'_> {
 
     /// Lets the zone file take the place of a journal that is long, and tells the first failure on standard error.
     fn tend_journal(&mut self) {
-        if self.server.journal.storage.has_files() && self.server.is_due(self.journal_limit) {
-            if let Err(error) = self.server.compact(self.rt.alloc()) {
-                self.note_refusal(&error);
-            }
+        let is_due = self.server.journal.storage.has_files()
+            && self.server.is_due(self.journal_limit);
+        if is_due && self.may_replace_text() {
+            self.replace_text();
         }
         self.tell_failure();
+    }
+
+    /// Lets the zone file take the place of the journal. Without random bytes for the key of a new one, the journal goes on.
+    fn replace_text(&mut self) {
+        let Ok(key) = draw_key(self.rt) else {
+            return;
+        };
+        if let Err(error) = self.server.compact(self.rt.alloc(), key) {
+            self.note_refusal(&error);
+        }
+    }
+
+    /// Returns `true` if the zone file was not edited since it was read. If it was, the journal goes on, and standard error says so.
+    fn may_replace_text(&mut self) -> bool {
+        let Err(reason) = unedited_text(&mut self.server.journal) else {
+            return true;
+        };
+        self.journal_limit = usize::MAX;
+        // A failure to write to standard error can't be reported.
+        let _written = eprintln!(self.rt; "nameserver: the journal goes on: {reason}");
+        false
     }
 
     /// Keeps the journal of a zone whose text is not read as it is, and says so on standard error.

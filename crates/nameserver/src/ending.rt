@@ -23,6 +23,8 @@ pub(crate) enum Ending {
     Refused(String),
     /// The sockets at an address could not be opened.
     CannotListen(SocketAddr, io::Error),
+    /// A script expects something else than its events led to.
+    Differs,
     /// A line could not be written to standard output.
     CannotPrint,
     /// The wait for requests failed.
@@ -91,6 +93,8 @@ impl fmt::Display for Ending {
             Ending::CannotListen(address, error) => {
                 writeln!(f, "nameserver: cannot listen on {address}: {error}")
             }
+            // Standard output has the differences.
+            Ending::Differs => Ok(()),
             Ending::CannotPrint => f.write_str("nameserver: cannot write to standard output\n"),
             Ending::Failed(error) => writeln!(f, "nameserver: cannot wait for requests: {error}"),
             Ending::Memory => f.write_str("nameserver: out of memory\n"),

@@ -6,7 +6,7 @@ use crate::transfers::{Sources, Transfers};
 use dns_faults::Delivery;
 use dns_nameserver::{Answered, NameServer, reply_transport};
 use dns_sockets::{Handler, Milliseconds, Notice, Request};
-use dns_zone_histories::Recorder;
+use dns_transfer_replies::Recorder;
 use std::alloc::AllocError;
 
 /// Answers requests by a name server, and logs them.
@@ -16,7 +16,7 @@ pub(crate) struct LoggedServer<'a> {
     pub(crate) rt: &'a HostRuntime,
     /// The name server.
     pub(crate) server: NameServer,
-    /// What raises serial numbers, and keeps the last differences of each zone.
+    /// What keeps the last differences of each zone.
     pub(crate) recorder: Recorder,
     /// To whom zones are transferred.
     pub(crate) transfers: Transfers,
@@ -102,19 +102,19 @@ impl LoggedServer<'_> {
         self.recorded(request)
     }
 
-    /// Answers a request by the name server. Serial numbers rise, and the differences are recorded.
+    /// Answers a request by the name server, and records what it has changed.
     fn recorded(&mut self, request: &Request<'_>) -> Result<Answered, AllocError> {
-        let mut watch = self.recorder.watch();
-        watch.add(&self.server.zones.server, request.bytes)?;
         let answered = self.server.answer(
             self.rt.alloc(),
             request.bytes,
             request.peer.ip(),
             request.transport,
         );
-        // An update may have been made even if there was no memory for its reply. Without memory for a difference, the zone's history
-        // begins again.
-        let _settled = self.recorder.settle(&mut self.server.zones.server, &watch);
+        // An update may have been made even if there was no memory for its reply.
+        if let Some(change) = self.server.zones.change.take() {
+            // Without memory for the difference, the history of the zone begins again.
+            let _recorded = self.recorder.record(change);
+        }
         answered
     }
 }

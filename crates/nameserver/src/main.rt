@@ -4,8 +4,9 @@
 //! - `arguments`: the arguments; `files`, `zones`, `includes`: the files; `handler`: what is done with a request; `log_file`: the log;
 //! - `durable_arguments`, `policy`: keys and grants; `durable`: zones with a journal; `durable_handler`: what is done with a request, if
 //!   there are keys or a journal;
-//! - `recording`: the differences that are kept; `raising`: the rise of serial numbers with a journal; `transfers`: transfers of zones;
-//!   `notices`: notifications of secondaries;
+//! - `recording`: the differences that are kept; `transfers`: transfers of zones; `notices`: notifications of secondaries;
+//! - `source`: where requests come from; `replay`: requests that a script makes, in the place of sockets;
+//! - `unmatched`: rules and grants for names that no zone has;
 //! - `ending`: how the program ends.
 #![tactic(auto)]
 
@@ -20,9 +21,11 @@ mod includes;
 mod log_file;
 mod notices;
 mod policy;
-mod raising;
 mod recording;
+mod replay;
+mod source;
 mod transfers;
+mod unmatched;
 mod zones;
 
 use crate::arguments::{Arguments, read_arguments};
@@ -35,7 +38,10 @@ use crate::log_file::LogFile;
 use crate::notices::Notices;
 use crate::policy::read_policy;
 use crate::recording::recorder_of;
+use crate::replay::{Part, Replay};
+use crate::source::{Source, WallClock};
 use crate::transfers::Transfers;
+use crate::unmatched::tell_unmatched;
 use crate::zones::{read_former, read_zones};
 use dns_durable::DurableServer;
 use dns_fault_rules::{FaultTable, Service as FaultService};
@@ -43,10 +49,12 @@ use dns_fault_text::{FaultTableError, parse_faults};
 use dns_journal_files::FileStorage;
 use dns_nameserver::{NameServer, ZoneServer};
 use dns_server::AddressList;
-use dns_sockets::Service;
 use dns_zone_service::Answering;
 use std::process::ExitCode;
 use std::{env, io};
+
+/// What the rules of a part of a script are named by.
+const RULES_NAME: &str = "with";
 
 fn main(rt: HostRuntime) -> ExitCode {
     match run_program(&rt) {
@@ -68,32 +76,96 @@ fn end(rt: &HostRuntime, ending: &Ending) -> ExitCode {
     ExitCode::from(ending.status())
 }
 
-/// Serves the zones that the arguments name.
+/// Serves the zones that the arguments name, at sockets or for scripts.
 fn run_program(rt: &HostRuntime) -> Result<(), Ending> {
     let arguments = given_arguments(rt)?;
-    if arguments.durable.is_given() {
-        return run_durable(rt, arguments);
+    if arguments.replay.is_empty() {
+        serve(rt, arguments, None)?;
+        return Ok(());
     }
-    run_with_faults(rt, arguments)
+    run_replays(rt, &arguments)
+}
+
+/// Makes the requests of scripts, one script after another.
+fn run_replays(rt: &HostRuntime, arguments: &Arguments) -> Result<(), Ending> {
+    let mut is_met = true;
+    for path in arguments.replay.as_slice() {
+        let replay = Replay::read(rt, path.as_str(), arguments.replay_mode)?;
+        let printed = run_replay(rt, &replay)?;
+        is_met = replay.conclude(rt, printed.as_str())? && is_met;
+    }
+    if is_met { Ok(()) } else { Err(Ending::Differs) }
+}
+
+/// Makes the requests of a script, each part of which is for a server of its own, and returns what is printed of them.
+fn run_replay(rt: &HostRuntime, replay: &Replay) -> Result<String, Ending> {
+    let mut printed = String::new(rt.alloc());
+    for part in replay.parts() {
+        if part.line.is_some() || !part.events.is_empty() {
+            printed.push_str(run_part(rt, part)?.as_str())?;
+        }
+    }
+    Ok(printed)
+}
+
+/// Makes the requests of a part of a script, and returns what is printed of its server and of them.
+fn run_part(rt: &HostRuntime, part: &Part) -> Result<String, Ending> {
+    let arguments = arguments_of(rt, part)?;
+    let count = arguments.files.len();
+    let text = serve(rt, arguments, Some(part))?;
+    match &part.line {
+        Some(line) => {
+            let (line, text) = (line.as_str(), text.as_str());
+            Ok(format!(in rt.alloc(); "{line}: {count} zones\n{text}")?)
+        }
+        None => Ok(text),
+    }
+}
+
+/// Returns the arguments of a part of a script: its own, or else those of the program.
+fn arguments_of(rt: &HostRuntime, part: &Part) -> Result<Arguments, Ending> {
+    if part.line.is_none() {
+        return given_arguments(rt);
+    }
+    let mut words = Vec::new(rt.alloc());
+    words.push("nameserver")?;
+    for word in part.words.as_slice() {
+        words.push(word.as_str())?;
+    }
+    read_arguments(rt.alloc(), words.as_slice())
+}
+
+/// Serves the zones that arguments name, and returns what is printed of the requests of a script.
+fn serve(rt: &HostRuntime, arguments: Arguments, part: Option<&Part>) -> Result<String, Ending> {
+    if arguments.files.is_empty() {
+        let report = "nameserver: no zone file: write `server FILE..` before the first request\n";
+        return Err(Ending::Refused(String::from_str(rt.alloc(), report)?));
+    }
+    if arguments.durable.is_given() {
+        return run_durable(rt, arguments, part);
+    }
+    run_with_faults(rt, arguments, part)
 }
 
 /// Serves zones, some requests by faults on demand.
-fn run_with_faults(rt: &HostRuntime, arguments: Arguments) -> Result<(), Ending> {
-    let until = arguments.until;
+fn run_with_faults(
+    rt: &HostRuntime,
+    arguments: Arguments,
+    part: Option<&Part>,
+) -> Result<String, Ending> {
     let are_offered = arguments.offers_transfers();
     let log = open_log(rt, &arguments)?;
-    let mut server = name_server(rt, &arguments)?;
-    let mut service = open_service(rt, &arguments)?;
+    let mut server = name_server(rt, &arguments, part)?;
+    let source = Source::open(rt, &arguments, part)?;
     let zones = server.zones.server.zones();
     let notices = Notices::new(rt, zones, arguments.notify.as_slice())?;
-    // The zones from before the last update would be those from before the rise.
-    let raises_serials = arguments.raises_serials && server.zones.former.is_none();
-    let recorder = recorder_of(rt.alloc(), zones, &arguments, raises_serials)?;
+    let recorder = recorder_of(rt.alloc(), zones, &arguments)?;
     let (updaters, secondaries) = arguments.into_lists();
     server.updaters = updaters;
     let transfers = Transfers {
         are_offered,
         secondaries,
+        clock: source.clock(),
     };
     let mut handler = LoggedServer {
         rt,
@@ -103,16 +175,23 @@ fn run_with_faults(rt: &HostRuntime, arguments: Arguments) -> Result<(), Ending>
         notices,
         log,
     };
-    match service.run(rt, &mut handler, until) {
-        Ok(()) => Ok(()),
-        Err(error) => Err(Ending::Failed(error)),
-    }
+    source.run(rt, &mut handler)
 }
 
 /// Returns a name server that takes no updates yet.
-fn name_server(rt: &HostRuntime, arguments: &Arguments) -> Result<NameServer, Ending> {
-    let faults = read_faults(rt, arguments)?;
+fn name_server(
+    rt: &HostRuntime,
+    arguments: &Arguments,
+    part: Option<&Part>,
+) -> Result<NameServer, Ending> {
+    let faults = fault_table(rt, arguments, part)?;
     let zones = zone_server(rt, arguments, &faults)?;
+    tell_unmatched(
+        rt,
+        fault_path(arguments, part),
+        &faults,
+        zones.server.zones(),
+    );
     Ok(NameServer {
         zones,
         faults,
@@ -122,25 +201,27 @@ fn name_server(rt: &HostRuntime, arguments: &Arguments) -> Result<NameServer, En
 }
 
 /// Serves zones, with keys or a journal; or replaces the zone file, if that is asked for.
-fn run_durable(rt: &HostRuntime, arguments: Arguments) -> Result<(), Ending> {
+fn run_durable(
+    rt: &HostRuntime,
+    arguments: Arguments,
+    part: Option<&Part>,
+) -> Result<String, Ending> {
     let mut server = open_durable(rt, &arguments)?;
     if arguments.durable.compact {
-        return compact_and_end(rt, &arguments, &mut server);
+        compact_and_end(rt, &arguments, &mut server)?;
+        return Ok(String::new(rt.alloc()));
     }
     let mut handler = handler_of(rt, &arguments, server)?;
-    let until = arguments.until;
     let are_offered = arguments.offers_transfers();
-    let mut service = open_service(rt, &arguments)?;
+    let source = Source::open(rt, &arguments, part)?;
     let (updaters, secondaries) = arguments.into_lists();
     handler.updaters = updaters;
     handler.transfers = Transfers {
         are_offered,
         secondaries,
+        clock: source.clock(),
     };
-    match service.run(rt, &mut handler, until) {
-        Ok(()) => Ok(()),
-        Err(error) => Err(Ending::Failed(error)),
-    }
+    source.run(rt, &mut handler)
 }
 
 /// Returns what handles the requests to a server. It takes no updates without a key yet.
@@ -149,11 +230,11 @@ fn handler_of<'a>(
     arguments: &Arguments,
     server: DurableServer<FileStorage<'a>>,
 ) -> Result<DurableHandler<'a>, Ending> {
-    let policy = read_policy(rt, arguments)?;
-    let log = open_log(rt, arguments)?;
     let zones = server.server.zones();
+    let policy = read_policy(rt, arguments, zones)?;
+    let log = open_log(rt, arguments)?;
     let notices = Notices::new(rt, zones, arguments.notify.as_slice())?;
-    let recorder = recorder_of(rt.alloc(), zones, arguments, arguments.raises_serials)?;
+    let recorder = recorder_of(rt.alloc(), zones, arguments)?;
     Ok(DurableHandler {
         rt,
         server,
@@ -164,6 +245,7 @@ fn handler_of<'a>(
         transfers: Transfers {
             are_offered: arguments.offers_transfers(),
             secondaries: AddressList::new(rt.alloc()),
+            clock: WallClock::System,
         },
         notices,
         journal_limit: arguments.durable.journal_limit,
@@ -189,6 +271,7 @@ fn zone_server(
         answering: arguments.answering,
         server,
         former,
+        change: None,
         has_updated: false,
     })
 }
@@ -216,6 +299,29 @@ fn given_arguments(rt: &HostRuntime) -> Result<Arguments, Ending> {
     read_arguments(rt.alloc(), words.as_slice())
 }
 
+/// Returns the fault table whose rules a part of a script states, or else that of the arguments.
+fn fault_table(
+    rt: &HostRuntime,
+    arguments: &Arguments,
+    part: Option<&Part>,
+) -> Result<FaultTable, Ending> {
+    if let Some(part) = part {
+        if let Some(rules) = &part.rules {
+            return faults_of(rt, RULES_NAME, rules.as_str());
+        }
+    }
+    read_faults(rt, arguments)
+}
+
+/// Returns what the fault table of a part of a script, or else of the arguments, is named by.
+fn fault_path<'a>(arguments: &'a Arguments, part: Option<&Part>) -> &'a str {
+    let has_rules = part.is_some_and(|part| part.rules.is_some());
+    match &arguments.faults {
+        Some(path) if !has_rules => path.as_str(),
+        _ => RULES_NAME,
+    }
+}
+
 /// Reads the fault table, if one is given.
 fn read_faults(rt: &HostRuntime, arguments: &Arguments) -> Result<FaultTable, Ending> {
     let Some(path) = &arguments.faults else {
@@ -223,7 +329,12 @@ fn read_faults(rt: &HostRuntime, arguments: &Arguments) -> Result<FaultTable, En
     };
     let path = path.as_str();
     let text = text_of(rt.alloc(), path, read_file(rt, path)?)?;
-    match parse_faults(rt.alloc(), text.as_str()) {
+    faults_of(rt, path, text.as_str())
+}
+
+/// Returns the fault table of a text.
+fn faults_of(rt: &HostRuntime, path: &str, text: &str) -> Result<FaultTable, Ending> {
+    match parse_faults(rt.alloc(), text) {
         Ok(table) => Ok(table),
         // Memory was refused while the table was read.
         Err(FaultTableError::Memory) => Err(Ending::Memory),
@@ -236,26 +347,5 @@ fn open_log(rt: &HostRuntime, arguments: &Arguments) -> Result<Option<LogFile>, 
     match &arguments.log {
         Some(path) => Ok(Some(LogFile::open(rt, path.as_str())?)),
         None => Ok(None),
-    }
-}
-
-/// Opens the sockets, and prints a line for each address.
-fn open_service(rt: &HostRuntime, arguments: &Arguments) -> Result<Service, Ending> {
-    let mut service = match Service::new(rt, rt.alloc()) {
-        Ok(service) => service,
-        Err(error) => return Err(Ending::Failed(error)),
-    };
-    let mut lines = String::new(rt.alloc());
-    for address in arguments.addresses.as_slice() {
-        match service.listen(rt, *address) {
-            Ok(address) => {
-                lines.push_str(format!(in rt.alloc(); "listening on {address}\n")?.as_str())?;
-            }
-            Err(error) => return Err(Ending::CannotListen(*address, error)),
-        }
-    }
-    match rt.print(lines.as_str()) {
-        Ok(()) => Ok(service),
-        Err(_) => Err(Ending::CannotPrint),
     }
 }

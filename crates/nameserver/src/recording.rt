@@ -2,8 +2,8 @@
 
 use crate::arguments::Arguments;
 use dns_differences::Limits;
+use dns_transfer_replies::Recorder;
 use dns_zone::Zone;
-use dns_zone_histories::Recorder;
 use std::alloc::{AllocError, Global};
 
 /// How many differences are kept of a zone at most.
@@ -12,12 +12,11 @@ const MAX_DIFFERENCES: usize = 1_000;
 /// How many octets the records of a zone's differences have at most without compression: 64 MiB.
 const MAX_OCTETS: usize = 67_108_864;
 
-/// Returns what keeps differences of zones, if any are sent, and lets serial numbers rise or not.
+/// Returns what keeps differences of zones, if any are sent.
 pub(crate) fn recorder_of(
     alloc: Global,
     zones: &[Zone],
     arguments: &Arguments,
-    raises_serials: bool,
 ) -> Result<Recorder, AllocError> {
     let limits = if arguments.offers_transfers() && arguments.differences > 0 {
         Some(Limits {
@@ -28,5 +27,5 @@ pub(crate) fn recorder_of(
     } else {
         None
     };
-    Recorder::new(alloc, zones, limits, raises_serials)
+    Recorder::new(alloc, zones, limits)
 }

@@ -1,6 +1,7 @@
 //! Transfers of zones.
 
 use crate::log_file::LogFile;
+use crate::source::WallClock;
 use dns_faults::Delivery;
 use dns_nameserver::Answered;
 use dns_server::AddressList;
@@ -9,7 +10,6 @@ use dns_transfer_replies::{Terms, ZoneHistory, may_ask_by_datagram, transfer_rep
 use dns_tsig::Key;
 use dns_zone::{Transport, Zone};
 use std::alloc::AllocError;
-use std::time::Clock;
 
 /// What is transferred.
 #[derive(Clone, Copy)]
@@ -29,6 +29,8 @@ pub(crate) struct Transfers {
     pub(crate) are_offered: bool,
     /// The addresses to which zones are transferred.
     pub(crate) secondaries: AddressList,
+    /// The clock by which signatures are in time.
+    pub(crate) clock: WallClock,
 }
 
 impl Transfers {
@@ -46,7 +48,11 @@ impl Transfers {
             return Ok(None);
         }
         let is_permitted = !is_busy && self.secondaries.contains(request.peer.ip());
-        let terms = terms(rt, Transport::Stream, is_permitted);
+        let terms = Terms {
+            transport: Transport::Stream,
+            is_permitted,
+            time: self.clock.seconds(rt, request.moment),
+        };
         let found = reply_to(rt, sources, request, &terms)?;
         if let (Some(messages), Some(log)) = (&found, log) {
             log_first(rt, log, request, messages.as_slice())?;
@@ -67,7 +73,11 @@ impl Transfers {
         if !self.are_offered || !may_ask {
             return Ok(None);
         }
-        let terms = terms(rt, transport, self.secondaries.contains(request.peer.ip()));
+        let terms = Terms {
+            transport,
+            is_permitted: self.secondaries.contains(request.peer.ip()),
+            time: self.clock.seconds(rt, request.moment),
+        };
         match reply_to(rt, sources, request, &terms)? {
             Some(mut messages) => Ok(messages.pop()),
             None => Ok(None),
@@ -88,16 +98,6 @@ fn reply_to(
         keys,
     } = sources;
     transfer_reply(rt.alloc(), zones, histories, keys, request.bytes, terms)
-}
-
-/// Returns what decides on the reply to a request for a transfer.
-fn terms(rt: &HostRuntime, transport: Transport, is_permitted: bool) -> Terms {
-    Terms {
-        transport,
-        is_permitted,
-        // Without a clock, no signature is in time.
-        time: rt.since_1970().map_or(0, |time| time.as_secs()),
-    }
 }
 
 /// Logs a request with the first message of its reply.

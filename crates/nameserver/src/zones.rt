@@ -35,7 +35,7 @@ pub(crate) fn read_former(rt: &HostRuntime, arguments: &Arguments) -> Result<For
         let zone = read_zone(rt, path.as_str(), arguments)?;
         add_zone(rt, &mut server, path.as_str(), zone)?;
     }
-    Ok(FormerZones::new(server))
+    Ok(FormerZones::new(server, arguments.answering))
 }
 
 /// Returns how many milliseconds have passed, or 0 if the clock fails.

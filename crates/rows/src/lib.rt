@@ -2,8 +2,8 @@
 //! answer, as `type A > A 1`. Empty lines, and lines that begin with `#`, are not rows.
 //!
 //! A program implements [`Operations`] and hands it to [`run`], which tries each row of the files that the program's
-//! arguments name, prints each row that fails, and counts. Its status is 0 if each row holds, 1 if one fails, and 2 if a
-//! file can't be read or none is given.
+//! arguments name, prints each row that fails, and counts. The folder of a file is the subject of its rows. Its status is 0
+//! if each row holds, 1 if one fails, and 2 if a file can't be read or none is given.
 //!
 //! - `program`: the program's run; `row`: a row, its verdict and the operations; `tally`: the counts;
 //! - `notation`: how a row writes long texts, and texts of several lines; `hex`: bytes in text;

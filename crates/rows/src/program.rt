@@ -54,9 +54,10 @@ fn try_rows<R: Print + AllocGlobal, O: Operations>(
     text: &str,
 ) -> io::Result<Tally> {
     let mut tally = Tally::default();
+    let subject = subject_of(path);
     for (index, line) in text.lines().enumerate() {
         if is_row(line) {
-            let failure = failure_of(rt.alloc(), operations, line)?;
+            let failure = failure_of(rt.alloc(), operations, subject, line)?;
             tally.count(failure.is_none());
             if let Some(failure) = failure {
                 let number = index.saturating_add(1);
@@ -66,4 +67,15 @@ fn try_rows<R: Print + AllocGlobal, O: Operations>(
     }
     println!(rt; "{path}: {tally}")?;
     Ok(tally)
+}
+
+/// The subject of the rows of a file: the name of its folder, or nothing if the path names none.
+fn subject_of(path: &str) -> &str {
+    let Some((folder, _file)) = path.rsplit_once('/') else {
+        return "";
+    };
+    match folder.rsplit_once('/') {
+        Some((_above, name)) => name,
+        None => folder,
+    }
 }

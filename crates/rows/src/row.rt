@@ -11,11 +11,11 @@ use std::alloc::{AllocError, Global};
 
 /// The operations that a program's rows ask for.
 pub trait Operations {
-    /// How the rows write texts.
-    fn notation(&self) -> Notation;
+    /// How the rows of a subject write texts. The subject is the folder of their file, or empty if its path names none.
+    fn notation(&self, subject: &str) -> Notation;
 
-    /// The answer of the operation with this word.
-    fn answer(&self, alloc: Global, word: &str, input: &str) -> Answer;
+    /// The answer of the operation with this word, in rows of a subject.
+    fn answer(&self, alloc: Global, subject: &str, word: &str, input: &str) -> Answer;
 }
 
 /// What became of a row that has an answer.
@@ -54,39 +54,44 @@ pub(crate) fn compare(found: String, wanted: &str) -> Verdict
 }
 
 /// Tries a row: compares the answer of its operation with the wanted one.
-fn try_row<O: Operations>(alloc: Global, operations: &O, row: &str) -> Result<Verdict, RowFault> {
+fn try_row<O: Operations>(
+    alloc: Global,
+    operations: &O,
+    subject: &str,
+    row: &str,
+) -> Result<Verdict, RowFault> {
     let Some((asked, wanted)) = row.split_once(" > ") else {
         return Err(RowFault::NotARow);
     };
     let (word, input) = word_and_rest(asked);
-    let notation = operations.notation();
-    let found = found_by(alloc, operations, word, notation, input)?;
-    let wanted = notation.text_of(alloc, wanted)?;
+    let found = found_by(alloc, operations, subject, word, input)?;
+    let wanted = operations.notation(subject).text_of(alloc, wanted)?;
     Ok(compare(found, wanted.as_str()))
 }
 
-/// The answer of an operation to an input that is written in a notation.
+/// The answer of an operation to an input as a row writes it.
 fn found_by<O: Operations>(
     alloc: Global,
     operations: &O,
+    subject: &str,
     word: &str,
-    notation: Notation,
     input: &str,
 ) -> Answer {
-    let input = notation.text_of(alloc, input)?;
-    operations.answer(alloc, word, input.as_str())
+    let input = operations.notation(subject).text_of(alloc, input)?;
+    operations.answer(alloc, subject, word, input.as_str())
 }
 
 /// What came of a row in place of the wanted answer, or `None` if it holds.
 pub(crate) fn failure_of<O: Operations>(
     alloc: Global,
     operations: &O,
+    subject: &str,
     row: &str,
 ) -> Result<Option<String>, AllocError> {
-    match try_row(alloc, operations, row) {
+    match try_row(alloc, operations, subject, row) {
         Ok(Verdict::Holds) => Ok(None),
         Ok(Verdict::Differs(found)) => {
-            let found = operations.notation().written(alloc, found)?;
+            let found = operations.notation(subject).written(alloc, found)?;
             Ok(Some(format!(in alloc; "but came: {found}")?))
         }
         Err(fault) => Ok(Some(format!(in alloc; "but: {fault}")?)),

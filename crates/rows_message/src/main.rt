@@ -30,11 +30,11 @@ use std::process::ExitCode;
 struct MessageOperations;
 
 impl Operations for MessageOperations {
-    fn notation(&self) -> Notation {
+    fn notation(&self, _subject: &str) -> Notation {
         Notation::Escaped
     }
 
-    fn answer(&self, alloc: Global, word: &str, input: &str) -> Answer {
+    fn answer(&self, alloc: Global, _subject: &str, word: &str, input: &str) -> Answer {
         operation::answer(alloc, word, input)
     }
 }

@@ -1,9 +1,8 @@
 -- What was written so far, and what is left.
-use Rattle.std.proofs.Common.{◌≡◌, ℕ, ◌+◌, ◌<◌, List, [], ◌∷◌, ◌++◌, Option, Some, None, sym, ap, ◌∙◌, subst, refl, length, drop, flat_map, map, ◌⊎◌, inl, inr}
+use Rattle.std.proofs.Common.{◌≡◌, ℕ, ◌+◌, ◌<◌, List, [], ◌++◌, Option, Some, None, sym, ap, ◌∙◌, subst, refl, length, drop, flat_map, map}
 use Rattle.std.proofs.lemmas.List.{append_assoc, append-nil}
 use Rattle.std.specs.Borrow.{Bor}
 use Rattle.std.specs.Io.KnownBytes.{Appends}
-use Rattle.script_expectations.specs.Differences.{pair_text, pairs_text}
 use Rattle.script_expectations.specs.Line.{texts}
 use Rattle.script_expectations.proofs.LineLaws.{text_at, lines_from}
 
@@ -51,15 +50,3 @@ flat_from f lines i lt = ap (λ (ls : List (Bor (List ℕ))). flat_map f (texts 
 pub flat_map_from : (f g : List ℕ → List ℕ) (lines : List (Bor (List ℕ))) (i : ℕ) → i < length lines
     → flat_map f (map g (texts (drop i lines))) ≡ f (g (text_at lines i)) ++ flat_map f (map g (texts (drop (i + 1) lines)))
 flat_map_from f g lines i lt = ap (λ (ls : List (Bor (List ℕ))). flat_map f (map g (texts ls))) (lines_from lines i lt)
-
--- pairs of lines that are left
-pub pairs_from : (es later : List (Bor (List ℕ))) (ps last : List (Bor (List ℕ))) (e p : Bor (List ℕ)) → es ≡ e ∷ later → ps ≡ p ∷ last
-    → pairs_text (texts es) (texts ps) ≡ pair_text e.now p.now ++ pairs_text (texts later) (texts last)
-pairs_from es later ps last e p h k = rw (h, k) refl
-
--- no pairs are left where either list ends
-pub pairs_end : (es ps : List (Bor (List ℕ))) → (length es ≡ 0) ⊎ (length ps ≡ 0) → pairs_text (texts es) (texts ps) ≡ []
-pairs_end [] ps h = refl
-pairs_end (e ∷ es) [] h = refl
-pairs_end (e ∷ es) (p ∷ ps) (inl none) = absurd (cc none)
-pairs_end (e ∷ es) (p ∷ ps) (inr none) = absurd (cc none)

@@ -1,5 +1,5 @@
 -- The lines of a script: events, expectations, and lines that are neither.
-use Rattle.std.specs.Prelude.{◌==◌, ◌||◌, if◌then◌else◌, not, Bool, false, List, [], ◌∷◌, ℕ, codes, drop, find, map, take, Option}
+use Rattle.std.specs.Prelude.{◌==◌, ◌+◌, ◌&&◌, ◌||◌, if◌then◌else◌, not, Bool, false, List, [], ◌∷◌, ℕ, codes, drop, find, map, take, Option, None, Some}
 use Rattle.std.specs.Option.{option_map_or}
 use Rattle.std.specs.Borrow.{Bor}
 use Rattle.std.specs.Str.{bytes_eq}
@@ -23,6 +23,20 @@ is_event line = option_map_or (λ c. not (c == 35)) (first_mark line) false
 -- whether a line is an expectation
 abbrev pub is_expectation : List ℕ → Bool
 is_expectation line = bytes_eq (take 3 line) (codes "#> ")
+
+-- a line without the blanks at its start
+abbrev pub unindented : List ℕ → List ℕ
+unindented [] = []
+unindented (c ∷ cs) = if is_blank c then unindented cs else c ∷ cs
+
+-- whether a line has blanks before the mark of an expectation
+abbrev pub is_indented : List ℕ → Bool
+is_indented line = not (is_expectation line) && is_expectation (unindented line)
+
+-- the first line that has blanks before the mark, by its number
+abbrev pub first_indented : ℕ → List (List ℕ) → Option ℕ
+first_indented number [] = None
+first_indented number (line ∷ lines) = if is_indented line then Some number else first_indented (number + 1) lines
 
 -- The lines that are expected of an event, from the script's lines after it: those of the expectations before the next event.
 abbrev pub expected_lines : List (List ℕ) → List (List ℕ)

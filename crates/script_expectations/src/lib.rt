@@ -4,16 +4,23 @@
 //! its events printed.
 //!
 //! - `line`: events and expectations among the lines of a script; `printed`: the lines that each event printed;
-//! - `differences`: the comparison; `diff`: its text; `bless`: scripts with new expectations;
-//! - `laws`: theorems about blessed scripts.
+//! - `differences`: the comparison; `shortest`: the difference of the lines of an event, over `common_lengths`, those of longest
+//!   common subsequences; `change`: a line of a difference; `diff`: its text;
+//! - `bless`: scripts with new expectations; `indented`: expectations that are not at the start of their line;
+//! - `laws`: theorems about blessed scripts and differences.
 #![tactic(auto)]
 
 mod bless;
+mod change;
+mod common_lengths;
 mod diff;
 mod differences;
+mod indented;
 pub mod laws;
 mod line;
 mod printed;
+mod shortest;
 
 pub use bless::write_blessed;
 pub use differences::write_differences;
+pub use indented::indented_expectation;

@@ -50,7 +50,7 @@ fn first_mark(line: &[u8]) -> Option<&u8>
 }
 
 /// Returns `true` for a space and a tab.
-fn is_blank(c: u8) -> bool
+pub(crate) fn is_blank(c: u8) -> bool
     ensures { result ≡ is_blank c }
 {
     c == b' ' || c == b'\t'

@@ -3,10 +3,20 @@
 ghost use Rattle.std.specs.Prelude.{◌≡◌, ◌≤◌, true};
 
 use crate::playing::play_script;
-use script_expectations::{write_blessed, write_differences};
+use crate::stop::Stop;
+use script_expectations::{indented_expectation, write_blessed, write_differences};
+use std::alloc::Global;
 use std::io::{self, BufWriter, ErrorKind, Write};
 use std::process::ExitCode;
 use stub_play::{Ending, PlayFault, PlayInput};
+
+/// Refuses a script with blanks before the `#> ` of a line, which would be no expectation.
+pub(crate) fn refuse_indented(alloc: Global, script: &str) -> Result<(), Stop> {
+    match indented_expectation(alloc, script)? {
+        Some(line) => Err(Stop::Indented(line)),
+        None => Ok(()),
+    }
+}
 
 /// Plays a script, and compares what each event led to with its expectations in the script. Each difference is printed, and
 /// the status is 1 if there is any.

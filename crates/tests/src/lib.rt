@@ -1,4 +1,4 @@
-//! Tests of what neither a contract nor a row of data can say. The rows of `rows_wire`, `rows_zone` and `rows_stub` have
+//! Tests of what neither a contract nor a row of data can say. The rows of `rows_values` and `rows_layers` have
 //! the rest.
 //!
 //! - `guards`: the encoding of names that a dropped guard restores;

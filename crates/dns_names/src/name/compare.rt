@@ -1,7 +1,7 @@
 //! Equality, order and hash of names, and zones, ignoring ASCII case (RFC 1035 section 2.3.3, RFC 4034 section 6.1,
 //! RFC 4343).
 
-ghost use Rattle.std.specs.Prelude.{◌≡◌, ◌+◌, drop, length, map, ◌↔◌, ◌++◌, List, ℕ};
+ghost use Rattle.std.specs.Prelude.{◌≡◌, ◌+◌, ◌<◌, drop, length, map, take, slice_index, ◌↔◌, ◌++◌, List, ℕ};
 ghost use Rattle.dns_names.specs.Compare.{same_labels, at_or_below};
 ghost use Rattle.std.specs.Ordering.{nat_cmp, as_partial_cmp};
 ghost use Rattle.std.specs.Bool.{IsTrue};
@@ -133,23 +133,23 @@ impl Name {
             .then(self.cmp_labels::<F>(other))
     }
 
-    /// Compares the labels from right to left.
+    /// Compares the labels from right to left, in one pass over both names: of the labels that differ, the last decide.
     fn cmp_labels<F: LabelCmp>(&self, other: &Name) -> Ordering
         ensures { result ≡ labels_order F.byte_order self.now.labels other.now.labels }
     {
         let (own, others) = (self.label_count(), other.label_count());
-        let mut past = 0;
-        while past < own && past < others {
-            let (label, others_label) = (
-                self.label(own - 1 - past),
-                other.label(others - 1 - past),
-            );
-            match cmp_bytes::<F>(label, others_label) {
-                Ordering::Equal => past += 1,
-                decided => return decided,
-            }
+        let shared = own.min(others);
+        let mut own_rest = self.wire_after(own - shared);
+        let mut other_rest = other.wire_after(others - shared);
+        let mut order = own.cmp(&others);
+        for _passed in 0..shared {
+            let (label, after) = split_label(own_rest);
+            let (others_label, others_after) = split_label(other_rest);
+            order = cmp_bytes::<F>(label, others_label).then(order);
+            own_rest = after;
+            other_rest = others_after;
         }
-        own.cmp(&others)
+        order
     }
 
     /// Returns `true` if the labels after the first `skipped` are another name's, ignoring ASCII case.
@@ -181,4 +181,15 @@ impl Name {
     {
         self.wire_after(skipped) == other.wire()
     }
+}
+
+/// Returns the first label of labels that each come after their length, and the bytes after it.
+fn split_label(labels: &[u8]) -> (&[u8], &[u8])
+    requires any { 0 < length labels.now }
+    requires within { slice_index labels.now 0 < length labels.now }
+    ensures label { result.0.now ≡ take (slice_index labels.now 0) (drop 1 labels.now) }
+    ensures rest { result.1.now ≡ drop (slice_index labels.now 0 + 1) labels.now }
+{
+    let end = labels[0] as usize + 1;
+    (&labels[1..end], &labels[end..])
 }

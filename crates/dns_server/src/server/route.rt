@@ -49,7 +49,7 @@ fn route_by_name(zones: &[Zone], queries: &[Query]) -> Route
 }
 
 /// Returns the place of the zone with the closest origin at or above a name: at the name, or else above it.
-fn closest(zones: &[Zone], name: &Name) -> Option<usize>
+pub(crate) fn closest(zones: &[Zone], name: &Name) -> Option<usize>
     ensures place { result ≡ closest zones.now name.now.labels }
     ensures within { IfSome result (λ place. place < length zones.now) }
 {

@@ -9,14 +9,11 @@ use Rattle.dns_codes.specs.declared.record_type.RecordType.{RecordType}
 use Rattle.dns_records.specs.Record.{Record}
 use Rattle.dns_records.specs.Rows.{Key, Rows}
 use Rattle.dns_updates.specs.Sets.{is_key_among}
-use Rattle.dns_updates.specs.Keys.{Place, owner_code, type_code}
+pub use Rattle.dns_updates.specs.Changes.{changed_place}
+use Rattle.dns_updates.specs.Keys.{Place, owner_code}
 use Rattle.dns_updates.specs.declared.changes.changed_set.ChangedSet.{ChangedSet}
 use Rattle.dns_updates.specs.declared.changes.owner_types.Listing.{Listing}
 use Rattle.dns_updates.specs.declared.changes.owner_types.OwnerTypes.{OwnerTypes}
-
--- the place of a changed set in the order
-abbrev pub changed_place : ChangedSet → Place
-changed_place s = (owner_code s.name.labels, type_code s.record_type)
 
 -- each changed set is kept at the key of its place
 abbrev pub HaveTheirKeys : List (Place × ChangedSet) → Type 0

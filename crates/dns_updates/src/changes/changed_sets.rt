@@ -3,7 +3,7 @@
 ghost use Rattle.std.specs.Prelude.{◌≡◌, [], None, Some, IfNone, IfOk, IfSome, IsOk, OnOk, is_some, option_copied, option_map, if◌then◌else◌};
 ghost use Rattle.std.specs.Ordering.{eq_by_cmp};
 ghost use Rattle.dns_records.specs.Rows.{Key, key, key_cmp};
-ghost use Rattle.dns_updates.specs.Changes.{changed_at, changed_key};
+ghost use Rattle.dns_updates.specs.Changes.{changed_at, changed_key, AreInOrder};
 ghost use Rattle.dns_updates.specs.internal.Indexes.{with_records};
 
 use crate::changes::changed_set::ChangedSet;
@@ -98,7 +98,14 @@ impl ChangedSets {
         None
     }
 
-    /// Returns the changed sets, in the order of their keys. For none, no memory is taken.
+    /// Proves that the changed sets are in order; nothing is computed.
+    pub fn order(&self)
+        ensures { AreInOrder self.now }
+    {
+        self.map.len();
+    }
+
+    /// Returns the changed sets, in the order of their owners and types. For none, no memory is taken.
     pub fn into_vec(self, alloc: Global) -> Result<Vec<ChangedSet>, AllocError>
         ensures sets { IfOk result (λ sets. sets.items ≡ self) }
         ensures decided { self ≡ [] → IsOk result }

@@ -1,6 +1,7 @@
 //! The changes of an update so far.
 
 ghost use Rattle.std.specs.Prelude.{◌≡◌, [], IfOk, IsOk};
+ghost use Rattle.dns_updates.specs.Changes.{AreInOrder};
 
 use crate::changes::changed_set::ChangedSet;
 use crate::changes::changed_sets::ChangedSets;
@@ -27,10 +28,12 @@ impl Pending {
     /// Returns the changed sets. For none, no memory is taken.
     pub fn into_sets(self, alloc: Global) -> Result<Vec<ChangedSet>, AllocError>
         ensures sets { IfOk result (λ sets. sets.items ≡ self.sets) }
+        ensures ordered { AreInOrder self.sets }
         ensures decided { self.sets ≡ [] → IsOk result }
     {
         let Pending { sets, types } = self;
         drop(types);
+        sets.order();
         sets.into_vec(alloc)
     }
 }

@@ -15,13 +15,24 @@ use crate::transport::Transport;
 use crate::zone::Zone;
 use crate::zone::answer::AnswerRef;
 use crate::zone::reply::ReplyRef;
+use dns_differences::Difference;
 use dns_messages::laws::messages_decode_unambiguously;
 use dns_messages::{Message, MessageType, Metadata, OpCode, Query, ResponseCode};
 use dns_names::Name;
 use dns_wire::{DecodeError, EncodeError};
 use std::alloc::{AllocError, Global};
 
+/// A request that was served.
+#[derive(Drop)]
+pub struct Served {
+    /// The bytes of the reply.
+    pub reply: Vec<u8>,
+    /// The records that the zone has lost, and those that it has gained.
+    pub change: Difference,
+}
+
 impl Zone {
+    ghost use Rattle.dns_zone.specs.Change.{IsChange};
     ghost use Rattle.dns_zone.specs.Serving.{Serves, IsReplyTo, bare_reply, reply, zone_after};
     ghost use Rattle.dns_zone.specs.Rows.{IsZone};
     ghost use Rattle.dns_messages.specs.Cut.{front_reach};
@@ -122,24 +133,48 @@ impl Zone {
         ensures err { OnErr result (self.new ≡ self.old) }
         ensures well_formed { IsZone self.new }
     {
-        self.well_formed();
-        let reply = self.reply_bytes(request, transport)?;
-        self.take(request)?;
-        Ok(reply)
+        let served = self.serve_request(request, transport)?;
+        Ok(served.reply)
     }
 
-    /// Applies a request that is an update.
-    fn take(&mut self, request: &Message) -> Result<(), AllocError>
+    /// Serves a request that is decoded as [`serve_message`](Zone::serve_message) does, and returns its reply and what it has
+    /// changed.
+    pub fn serve_request(
+        &mut self,
+        request: &Message,
+        transport: Transport,
+    ) -> Result<Served, AllocError>
         requires { IsSound request.now }
+        ensures reply { IfOk result (λ served.
+            IsReplyTo self.old transport request.now served.reply.items) }
         ensures ok { OnOk result (self.new ≡ zone_after self.old request.now) }
+        ensures change { IfOk result (λ served.
+            IsChange self.old.rows self.new.rows served.change) }
         ensures err { OnErr result (self.new ≡ self.old) }
         ensures well_formed { IsZone self.new }
     {
         self.well_formed();
-        if let OpCode::Update = request.metadata.op_code {
-            self.apply(request)?;
+        let reply = self.reply_bytes(request, transport)?;
+        let change = self.take(request)?;
+        Ok(Served { reply, change })
+    }
+
+    /// Applies a request that is an update, and returns what it changes.
+    fn take(&mut self, request: &Message) -> Result<Difference, AllocError>
+        requires { IsSound request.now }
+        ensures ok { OnOk result (self.new ≡ zone_after self.old request.now) }
+        ensures change { IfOk result (IsChange self.old.rows self.new.rows) }
+        ensures err { OnErr result (self.new ≡ self.old) }
+        ensures well_formed { IsZone self.new }
+    {
+        self.well_formed();
+        match request.metadata.op_code {
+            OpCode::Update => {
+                let applied = self.update(request)?;
+                Ok(applied.change)
+            }
+            _ => Ok(self.no_change()),
         }
-        Ok(())
     }
 }
 

@@ -6,4 +6,5 @@ use Rattle.dns_authority.proofs.asked.sets_of_types.Given as goal
 
 abbrev pub invariant-loop-record_type : goal.invariant-loop-record_type
 invariant-loop-record_type l =
-    l.records ≡ map (record_of l.owner) (flat_map (rows_at l.zone.rows l.source.labels) (take l.record_type-index l.types))
+    take l.most l.records
+    ≡ take l.most (map (record_of l.owner) (flat_map (rows_at l.zone.rows l.source.labels) (take l.record_type-index l.types)))

@@ -13,6 +13,6 @@ returns-in-Serve-clause-replied c =
       | else-not-is_stored-via-then-not-is_stored+else-is_change w ↦ makes_none c.args.is_stored c.args.admitted.now (sym w.is_change.ensures ∙ w.if-is_change.false)
       | else-not-is_stored-via-else-not-is_stored w ↦ is_on_disk c.args.is_stored c.args.admitted.now (grind (arith, w.if-not-is_stored.false))
     ] in
-    plain_served c.respond_to.result (λ out. out.items) c.args.answering c.args.is_stored c.in-Serve.updates c.args.server.now c.respond_to.new.server c.args.admitted.now c.in-Serve.is un
-    (subst (λ (r : Transport). IfOk c.respond_to.result (λ out. IsServiceReply c.args.answering c.in-Serve.updates c.args.server.now r c.args.admitted.now.message out.items))
+    plain_served c.respond_to.result (λ served. served.reply.items) c.args.answering c.args.is_stored c.in-Serve.updates c.args.server.now c.respond_to.new.server c.args.admitted.now c.in-Serve.is un
+    (subst (λ (r : Transport). IfOk c.respond_to.result (λ served. IsServiceReply c.args.answering c.in-Serve.updates c.args.server.now r c.args.admitted.now.message served.reply.items))
     c.transport-transport.ensures c.respond_to.ensures.reply) c.respond_to.ensures.ok

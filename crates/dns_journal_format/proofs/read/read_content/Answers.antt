@@ -1,14 +1,13 @@
-use Rattle.std.proofs.Common.{List, ℕ, ◌++◌, ap, subst, ◌∙◌, sym}
-use Rattle.dns_journal_format.specs.Format.{header, BeginsWith}
+use Rattle.std.proofs.Common.{List, ℕ, map, ap, refl}
+use Rattle.dns_journal_format.proofs.JournalLaws.{entries_read, link_read}
 use Rattle.dns_journal_format.proofs.read.read_content.Goals as goal
 
 pub content_of-requires-clause-front : goal.content_of-requires-clause-front
 content_of-requires-clause-front c =
-    let e = c.in-Ok.entries in
-    record {
-      digest_len = c.requires.len;
-      short = c.in-Ok.ensures.short;
-      parts = c.requires.parts ∙ ap (λ (l : List ℕ). header c.args.digest.now ++ l) c.in-Ok.ensures.parts;
-      no_entry = λ payload rest begins. c.in-Ok.ensures.none payload rest
-          (subst (λ (k : ℕ). BeginsWith c.args.digest.now k payload e.end.now rest) (sym c.in-Ok.ensures.place) begins);
-    }
+    entries_read _ _ _ _ _ _ _ _ c.requires.len refl (ap (λ (s : ℕ). record { seal = s; number = 0 }) c.head_seal.ensures) c.requires.parts
+    c.in-Ok.ensures.parts c.in-Ok.ensures.short c.in-Ok.ensures.link c.in-Ok.ensures.none
+
+pub content_of-requires-clause-link : goal.content_of-requires-clause-link
+content_of-requires-clause-link c =
+    let ps : List (List ℕ) = map (λ p. p.now) c.in-Ok.entries.payloads.items in
+    link_read c.args.head.now ps _ _ _ c.requires.len refl (ap (λ (s : ℕ). record { seal = s; number = 0 }) c.head_seal.ensures) c.in-Ok.ensures.link

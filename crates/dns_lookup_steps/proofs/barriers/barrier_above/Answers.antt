@@ -1,9 +1,19 @@
-use Rattle.std.proofs.Common.{◌∙◌, length, Some, ap, arith, sym}
+use Rattle.std.proofs.Common.{◌∙◌, ◌-◌, length, Some, ap, arith, sym}
 use Rattle.dns_names.specs.Name.{DomainName}
 use Rattle.dns_names.specs.Build.{trim_to}
 use Rattle.dns_lookup_steps.specs.Barrier.{is_barrier}
 use Rattle.dns_lookup_steps.proofs.BarrierLaws.{found_first, found_none, passed_first}
+use Rattle.dns_lookup_steps.proofs.ExistenceLaws.{none_below}
+use Rattle.dns_zone.specs.Rows.{some_row_below}
 use Rattle.dns_lookup_steps.proofs.barriers.barrier_above.Goals as goal
+
+pub returns-then-is_known_missing : goal.returns-then-is_known_missing
+returns-then-is_known_missing c =
+    let zone = c.args.zone.now in
+    let name = c.args.name.now in
+    sym (none_below zone name c.loop-kept.kept (length name.labels - c.loop-kept.kept) (omega arith)
+    (ap (λ (n : DomainName). some_row_below zone.rows n.labels) (sym c.in_ok-above.ensures.ok) ∙ c.is_known_missing.ensures c.if-is_known_missing.true))
+    ∙ c.loop-kept.invariant
 
 pub returns-then-is_barrier : goal.returns-then-is_barrier
 returns-then-is_barrier c =

@@ -4,13 +4,13 @@ pub returns-in-Ok-resume-clause-performs : goal.returns-in-Ok-resume-clause-perf
 returns-in-Ok-resume-clause-performs g c = record {
   events = c.in-Ok-resume.ensures.resumes.events;
   led = c.in-Ok-resume.ensures.resumes.led;
-  holds = λ text bytes digest payloads of.
-      (c.in-Ok-resume.ensures.resumes.holds text bytes digest payloads of.journal of.len, c.in-Ok-resume.ensures.position bytes digest payloads of.journal of.len of.digest_is);
+  holds = λ text bytes head payloads of.
+      (c.in-Ok-resume.ensures.resumes.holds text bytes head payloads of.journal of.len, c.in-Ok-resume.ensures.position bytes head payloads of.journal of.len of.head_is of.link_is);
 }
 
 pub returns-clause-performs : goal.returns-clause-performs
 returns-clause-performs g c = record {
   events = c.in-Err-resume.ensures.resumes.events;
   led = c.in-Err-resume.ensures.resumes.led;
-  holds = λ text bytes digest payloads of. c.in-Err-resume.ensures.resumes.holds text bytes digest payloads of.journal of.len;
+  holds = λ text bytes head payloads of. c.in-Err-resume.ensures.resumes.holds text bytes head payloads of.journal of.len;
 }

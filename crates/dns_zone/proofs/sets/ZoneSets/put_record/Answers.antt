@@ -1,12 +1,11 @@
 use Rattle.std.proofs.Common.{◌≡◌, ◌∙◌, cond, List, ap, sym, subst, Some, None}
-use Rattle.std.specs.Prelude.{OnErr, OnOk}
 use Rattle.std.proofs.lemmas.Result.{on_ok_weaker}
 use Rattle.std.specs.BTreeMap.{is_at, values}
 use Rattle.std.specs.Map.{values_of}
 use Rattle.std.specs.Ordering.{eq_by_cmp}
 use Rattle.dns_records.specs.RecordSet.{RecordSetValue, put, record_data}
 use Rattle.dns_zone.specs.Rows.{Key, key, key_cmp}
-use Rattle.dns_zone.specs.Sets.{set_at, set_place, with_put, with_records, AreInOrder, HaveTheirKeys}
+use Rattle.dns_zone.specs.Sets.{set_at, set_place, with_put, AreInOrder, HaveTheirKeys}
 use Rattle.dns_zone.specs.declared.sets.ZoneSets.TheInside.{Inside}
 use Rattle.dns_wire.proofs.StoredLaws.{on_err}
 use Rattle.dns_zone.proofs.SetLaws.{Entries, stored_cmp, found_at, in_order}

@@ -1,11 +1,11 @@
-use Rattle.std.proofs.Common.{◌≡◌, ◌∙◌, true, [], ◌∷◌, List, cond, ap, sym, subst}
+use Rattle.std.proofs.Common.{◌≡◌, ◌∙◌, true, [], ◌∷◌, cond, ap, sym, subst}
 use Rattle.std.specs.Ordering.{eq_by_cmp}
 use Rattle.dns_wire.proofs.StoredLaws.{on_err}
 use Rattle.dns_records.specs.Rows.{type_of_record}
 use Rattle.dns_updates.specs.Change.{is_put, update_change}
 use Rattle.dns_updates.specs.Code.{update_code}
 use Rattle.dns_updates.specs.Records.{has_set}
-use Rattle.dns_zone.specs.Rows.{Key, ZoneContent, IsZone, key, key_cmp, rows_of_sets}
+use Rattle.dns_zone.specs.Rows.{ZoneContent, IsZone, key, key_cmp, rows_of_sets}
 use Rattle.dns_zone.specs.Sets.{set_at, with_put}
 use Rattle.dns_zone.proofs.AppliedLaws.{IsApplied, applied, unchanged}
 use Rattle.dns_zone.proofs.KeptLaws.{AreKept}

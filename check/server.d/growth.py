@@ -1,0 +1,106 @@
+"""How the processor time of one question grows with the records of a set, and with the labels of a name.
+
+The server answers by the whole of RFC 1034, as it does by default. Of each pair of sizes the greater is four times the less, and may
+take six times as long.
+"""
+import time
+from pathlib import Path
+from typing import Callable, NamedTuple, Tuple
+
+from messages import query
+from nameserver import NameServer
+from report import Report
+from transport import ask_datagram, connect, frame, read_frame
+
+MOST_GROWTH = 6.0
+# How often each size is measured, by turns, for how long each time, and how long a reply may take, in seconds.
+ROUNDS, TURN, WAIT = 3, 0.2, 60.0
+HEAD = "t. 60 IN SOA ns.t. h.t. 1 3600 600 86400 30\nt. 60 IN NS ns.t.\nns.t. 60 IN A 10.0.0.53\n"
+
+
+class Series(NamedTuple):
+    """A zone and a question for each size."""
+
+    title: str
+    sizes: Tuple[int, int]
+    zone: Callable[[int], str]
+    question: Callable[[int], bytes]
+    over_stream: bool = False
+
+
+def of_hosts(line: str) -> Callable[[int], str]:
+    """A zone with a set whose records name so many hosts, each with an address."""
+
+    def zone(count: int) -> str:
+        hosts = "".join(f"h{it}.t. 60 IN A 10.1.{it >> 8 & 255}.{it & 255}\n" for it in range(count))
+        return HEAD + "".join(line.format(at=it) for it in range(count)) + hosts
+
+    return zone
+
+
+def of_addresses(count: int) -> str:
+    """A zone with a set of so many addresses."""
+    return HEAD + "".join(f"s.t. 60 IN A 10.{it >> 16}.{it >> 8 & 255}.{it & 255}\n" for it in range(count))
+
+
+def absent(count: int) -> bytes:
+    """A question for a name of so many labels that does not exist."""
+    return query(".".join(["x"] * count) + ".t.")
+
+
+SERIES = [
+    Series("SRV records", (4_000, 16_000), of_hosts("s.t. 60 IN SRV 1 {at} 80 h{at}.t.\n"), lambda _: query("s.t.", "SRV")),
+    Series("MX records", (4_000, 16_000), of_hosts("s.t. 60 IN MX {at} h{at}.t.\n"), lambda _: query("s.t.", "MX")),
+    Series("NS records", (4_000, 16_000), of_hosts("s.t. 60 IN NS h{at}.t.\n"), lambda _: query("x.s.t.")),
+    Series("SRV records, TCP", (250, 1_000), of_hosts("s.t. 60 IN SRV 1 {at} 80 h{at}.t.\n"), lambda _: query("s.t.", "SRV"), True),
+    Series("MX records, TCP", (250, 1_000), of_hosts("s.t. 60 IN MX {at} h{at}.t.\n"), lambda _: query("s.t.", "MX"), True),
+    Series("addresses", (10_000, 40_000), of_addresses, lambda _: query("s.t.")),
+    Series("labels that do not exist", (29, 116), lambda _: HEAD, absent),
+    Series("labels at a wildcard", (29, 116), lambda _: HEAD + "*.t. 60 IN A 10.0.0.1\n", absent),
+]
+
+
+def try_growth(report: Report, _program: str, given) -> None:
+    """Measures each series by the program itself, without `--plain`."""
+    for series in SERIES:
+        report.begin()
+        small, large = (Measured(given.program, series, size) for size in series.sizes)
+        with small.server, large.server:
+            for _ in range(ROUNDS):
+                small.ask()
+                large.ask()
+        growth = large.least / small.least
+        title = f"{series.title}, {series.sizes[0]:,} and {series.sizes[1]:,}"
+        times = f"{small.least * 1e6:,.0f} and {large.least * 1e6:,.0f} microseconds"
+        report.check(f"{title}: {times}", True, growth <= MOST_GROWTH)
+        report.end(title, f", {times}")
+
+
+class Measured:
+    """A server that is asked one question of a series, and the least processor time that it took for one."""
+
+    def __init__(self, program: str, series: Series, size: int):
+        self.server = NameServer(series.zone(size), program=program, seconds=120, log=False)
+        self.request, self.over_stream = series.question(size), series.over_stream
+        self.least = float("inf")
+
+    def ask(self) -> None:
+        """Asks as long as a turn lasts, and once at least."""
+        address, count = (self.server.address, self.server.port), 0
+        start, before = time.monotonic(), self.processor_time()
+        while count == 0 or time.monotonic() - start < TURN:
+            reply = ask_over_stream(address, self.request) if self.over_stream else ask_datagram(address, self.request, WAIT)
+            if reply is None:
+                raise OSError("no reply")
+            count += 1
+        self.least = min(self.least, (self.processor_time() - before) / count)
+
+    def processor_time(self) -> float:
+        """The processor time of the server, in seconds."""
+        return int(Path(f"/proc/{self.server.process.pid}/schedstat").read_text().split()[0]) / 1e9
+
+
+def ask_over_stream(address, request: bytes):
+    with connect(address, WAIT) as stream:
+        stream.sendall(frame(request))
+        return read_frame(stream)

@@ -1,2 +1,0 @@
-pub mod Lacking
-pub mod NamedRecords

@@ -1,3 +1,0 @@
-pub mod Watch
-pub mod Requests
-pub mod Recording

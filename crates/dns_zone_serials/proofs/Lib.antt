@@ -1,3 +1,0 @@
-pub mod NamedLaws
-pub mod RaiseLaws
-pub mod SameLaws

@@ -1,4 +1,0 @@
-pub mod ZoneSerial
-pub mod NamedSet
-pub mod NamedRows
-pub mod Raise

@@ -1,0 +1,104 @@
+//! Where requests come from, and the time of day.
+
+use crate::arguments::Arguments;
+use crate::ending::Ending;
+use crate::replay::{Part, make_all};
+use dns_sockets::{Handler, Milliseconds, Service, Until};
+use std::time::Clock;
+
+/// Where requests come from.
+pub(crate) enum Source<'s> {
+    /// Sockets, until something ends the service.
+    Sockets(Service, Until),
+    /// A part of a script.
+    Script(&'s Part),
+}
+
+impl Drop for Source<'_> {
+    fn drop(self) {
+        match self {
+            Source::Sockets(service, _until) => drop(service),
+            Source::Script(_part) => {}
+        }
+    }
+}
+
+impl<'s> Source<'s> {
+    /// Takes a part of a script, if there is one; else opens the sockets that the arguments name, and prints a line for each address.
+    pub(crate) fn open(
+        rt: &HostRuntime,
+        arguments: &Arguments,
+        part: Option<&'s Part>,
+    ) -> Result<Source<'s>, Ending> {
+        match part {
+            Some(part) => Ok(Source::Script(part)),
+            None => Ok(Source::Sockets(open_service(rt, arguments)?, arguments.until)),
+        }
+    }
+
+    /// Returns the clock that goes with the requests.
+    pub(crate) fn clock(&self) -> WallClock {
+        match self {
+            Source::Sockets(_, _) => WallClock::System,
+            Source::Script(part) => WallClock::From(part.start),
+        }
+    }
+
+    /// Handles the requests, and returns what is printed of those of a script.
+    pub(crate) fn run<H: Handler>(
+        self,
+        rt: &HostRuntime,
+        handler: &mut H,
+    ) -> Result<String, Ending> {
+        match self {
+            Source::Sockets(service, until) => {
+                let mut service = service;
+                match service.run(rt, handler, until) {
+                    Ok(()) => Ok(String::new(rt.alloc())),
+                    Err(error) => Err(Ending::Failed(error)),
+                }
+            }
+            Source::Script(part) => make_all(rt, part, handler),
+        }
+    }
+}
+
+/// The clock by which signatures are in time.
+#[derive(Clone, Copy)]
+pub(crate) enum WallClock {
+    /// That of the system.
+    System,
+    /// One that shows these seconds since 1970 at moment 0, and goes on with the moments of requests.
+    From(u64),
+}
+
+impl WallClock {
+    /// Returns the seconds since 1970 at the moment of a request. Without a clock they are 0, so that no signature is in time.
+    pub(crate) fn seconds(self, rt: &HostRuntime, moment: Milliseconds) -> u64 {
+        match self {
+            WallClock::System => rt.since_1970().map_or(0, |time| time.as_secs()),
+            WallClock::From(start) => start.saturating_add(moment / 1_000),
+        }
+    }
+}
+
+/// Opens the sockets, and prints a line for each address.
+fn open_service(rt: &HostRuntime, arguments: &Arguments) -> Result<Service, Ending> {
+    let mut service = match Service::new(rt, rt.alloc()) {
+        Ok(service) => service,
+        Err(error) => return Err(Ending::Failed(error)),
+    };
+    let mut lines = String::new(rt.alloc());
+    for address in arguments.addresses.as_slice() {
+        match service.listen(rt, *address) {
+            Ok(address) => {
+                lines.push_str(format!(in rt.alloc(); "listening on {address}\n")?.as_str())?;
+            }
+            Err(error) => return Err(Ending::CannotListen(*address, error)),
+        }
+    }
+    match rt.print(lines.as_str()) {
+        Ok(()) => Ok(service),
+        Err(_) => Err(Ending::CannotPrint),
+    }
+}

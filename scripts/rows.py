@@ -1,0 +1,380 @@
+"""Where the rows of data are, and why some went: prints the tables of docs/ROWS.md.
+
+usage: python3 scripts/rows.py [--check]
+
+Each row of a program of rows either stays, as a row of the program `rows_values`; or goes, because a clause of a contract says the
+same of every value; or stays in `rows_layers` until a program that users run can read it. The rows of the first two kinds are counted
+here, as they were, those of the last kind in their files.
+
+With --check, the tables are compared with those in docs/ROWS.md, and the rows of the programs that are gone with the files of
+`rows_values`. The status is 1 if they differ.
+"""
+import sys
+from collections import Counter
+from pathlib import Path
+
+ROOT = Path(__file__).resolve().parent.parent
+PAGE = ROOT / "docs" / "ROWS.md"
+MARK = "<!-- scripts/rows.py -->\n"
+
+# The rows of the programs that `rows_values` takes the place of, by file and operation, as they were. Of the 41 rows of `write 41-3`
+# three go by a clause.
+TRIED = """
+rows_wire addresses: reverse 19, prefix-name 59, prefix 10, address 56, write-address 6
+rows_wire classes: class 43, class-code 16, opt-class 10-10, same-class 7-7
+rows_wire compression: write 41-3, write-over 9, all-names 7
+rows_wire decimals: decimal 51
+rows_wire decoder: read 45
+rows_wire encoder: write 72-9, write-over 6
+rows_wire items: all 10, all-refs 4, all-iter 4, fitting 5, first 4
+rows_wire labels: label 21, label-hex 14, label-ascii 2, label-debug 2, label-lower 2, label-sizes 4, into-label
+    11-11, label-order 14
+rows_wire names_limits: name 32, sizes 17, append-hex 4, append 4, prepend 3, prepend-hex 3, join 4, domain 2,
+    origin 3
+rows_wire names_order: order 36, order-case 6, equal 12, equal-case 5, equal-labels 5, equal-labels-case 3, zone 11,
+    zone-case 5
+rows_wire names_parts: base 8, lower-base 2, trim 11, star 6, lower-star 2, name-is 15, prepend 9, prepend-hex 3,
+    append 4, append-hex 2, join 7, domain 4, origin 10, from-labels 11, into-name 8-8, lower-copy 2
+rows_wire names_text: name 100, relaxed 5, ascii 7, debug 5, debug-lower 2, lower 4, lower-name 2, name-hex 5,
+    origin-hex 5
+rows_wire names_wire: read 94
+rows_wire numbers: encode 33, decode 52
+rows_wire sentences: decode-error 10, encode-error 2, proto-error 7, parse-error 5, code-error 1, lexer-error 5
+rows_wire serials: serial 80
+rows_wire special_use: usage 19
+rows_wire tokens: tokens 107, lines 5, unescape 9
+rows_wire ttl: ttl 82, ttl-hex 4-4
+rows_wire types: type 131, type-code 92, type-is 40-40, same-type 8-8
+rows_data canonical: write-canonical 10
+rows_data decoding: read 43
+rows_data encoding: write 19, write-whole 3
+rows_data hostile: read 51
+rows_data lengths: length 25
+rows_data parsing: parse 98
+rows_data printing: print 31
+rows_data sizes: parse 4, read 10, write 5, print 1
+rows_data values: same 41, address 6, held 14-14, copy 14-14, character-string 4
+rows_formats bitmaps: read 34, print 17, fits 11
+rows_formats dnssec: read 49, print 6
+rows_formats examples: read 49, print 36, fits 1
+rows_formats generic: read 27, print 8
+rows_formats kinds: read 63, print 12
+rows_formats location: read 78, print 7, fits 16
+rows_formats mnemonics: read 42, print 5
+rows_formats service: read 63, fits 7, print 14
+rows_message builder: update 88
+rows_message changes: changes 14-14, types 3-3
+rows_message decoding: message 84
+rows_message dig: print 57
+rows_message encoding: encode 71
+rows_message headers: response-code 29, code-number 20-20, code-parts 13-13, code-of-parts 8-8, op-code 11, header
+    56, message-header 1, encode-header 5, place-header 2-2, new-header 3-3, response-header 7-7, merge-code 6-6
+rows_message hostile: message 96, message-header 1-1, fronts 8-8, octets 6-6
+rows_message lines: line 22
+rows_message messages: message 216, message-header 5-2
+rows_message opt: message 45, encode 32, record 4
+rows_message pieces: questions 7-7, section-records 11-11, head 6, behind-owner 3-3, emit-parts 6-6
+rows_message printed: print 19
+rows_message rebuilt: rebuild 4-4, rebuild-update 1-1, truncate 3, strip 4, rebuild-singly 3-3,
+    rebuild-update-singly 2-2, parts 5-5, records 4-4, response 18, response-of 5, response-error 3
+rows_message record_sets: set 45, address-set 2-2, single-sets 1-1
+rows_message records: question 15, record 74, same-data 33, equal-questions 11, new-question 3-3, same-question 20,
+    sound 25, section 9-9
+rows_message truncated: encode 60
+rows_message updates: create 4, append 2, append-existing 2, compare-and-swap 3, delete-by-rdata 3, delete-rrset 2,
+    delete-all 3, message 4, encode 4
+"""
+
+# The operation of `rows_values` that takes the place of one, where it has another name.
+NOW = {
+    "rows_wire": {
+        "all-names": "`items names`",
+        "all": "`items all`",
+        "all-refs": "`items refs`",
+        "all-iter": "`items iter`",
+        "fitting": "`items fitting`",
+        "first": "`items first`",
+        "label-ascii": "`label-view ascii`",
+        "label-debug": "`label-view debug`",
+        "label-lower": "`label-view lower`",
+        "label-sizes": "`label-view sizes`",
+        "sizes": "`view sizes`",
+        "append-hex": "`join append-hex`",
+        "append": "`join append`",
+        "prepend": "`join prepend`",
+        "prepend-hex": "`join prepend-hex`",
+        "join": "`join join`",
+        "domain": "`join domain`",
+        "origin": "`join origin`",
+        "order": "`compare order`",
+        "order-case": "`compare order-case`",
+        "equal": "`compare equal`",
+        "equal-case": "`compare equal-case`",
+        "equal-labels": "`compare equal-labels`",
+        "equal-labels-case": "`compare equal-labels-case`",
+        "zone": "`compare zone`",
+        "zone-case": "`compare zone-case`",
+        "base": "`view base`",
+        "lower-base": "`view lower-base`",
+        "star": "`view star`",
+        "lower-star": "`view lower-star`",
+        "name-is": "`view kinds`",
+        "lower-copy": "`view lower-copy`",
+        "ascii": "`view ascii`",
+        "debug": "`view debug`",
+        "debug-lower": "`view lower-debug`",
+        "lower": "`view lower`",
+        "lower-name": "`view lower-copy`",
+        "origin-hex": "`join origin-hex`",
+        "encode": "`write`",
+        "decode": "`read`",
+        "decode-error": "`sentence decode`",
+        "encode-error": "`sentence encode`",
+        "proto-error": "`sentence proto`",
+        "parse-error": "`sentence parse`",
+        "code-error": "`sentence code`",
+        "lexer-error": "`sentence lexer`",
+    },
+    "rows_data": {
+        "write-canonical": "`data-bytes canonical`",
+        "read": "`data-hex`",
+        "write": "`data-bytes compressed`",
+        "write-whole": "`data-bytes whole`",
+        "length": "`data-view length`",
+        "parse": "`data`",
+        "print": "`data-view text`",
+        "same": "`data-same`",
+        "address": "`data-view address`",
+    },
+    "rows_formats": {
+        "read": "`format`",
+        "print": "`format-text`",
+        "fits": "`format-fits`",
+    },
+    "rows_message": {
+        "message-header": "`message`",
+        "encode-header": "`header-again`",
+        "record": "`item record`",
+        "head": "`item head`",
+        "truncate": "`remake truncate`",
+        "strip": "`remake strip`",
+        "response-of": "`remake response`",
+        "response-error": "`response-sentence`",
+        "question": "`item question`",
+        "same-data": "`same record-data`",
+        "equal-questions": "`same question`",
+        "same-question": "`same asked`",
+        "create": "`build create`",
+        "append": "`build append`",
+        "append-existing": "`build append-existing`",
+        "compare-and-swap": "`build compare-and-swap`",
+        "delete-by-rdata": "`build delete-by-rdata`",
+        "delete-rrset": "`build delete-rrset`",
+        "delete-all": "`build delete-all`",
+    },
+}
+
+# The clause that says the same of every value. Its definition is tried by the rows that are named behind it.
+CLAUSES = {
+    "rows_wire": {
+        "type-is": "the result of each `RecordType::is_*` is one comparison, or that of `is_dnssec` with a list: RFC 4034 and 4035",
+        "same-type": "`RecordType::canonical` and its `eq`, over `type_of` and `type_number`, which `type-code` tries",
+        "same-class": "`DNSClass::canonical` and its `eq`, over `class_of` and `class_number`, which `class-code` tries",
+        "opt-class": "`DNSClass::for_opt` is the greater of the size and 512; the rows of opt.rows have such classes",
+        "write": "`BinEncoder::with_name_encoding`, `emit_at` and `find_or_store_label_pointer`, and `Name::emit_with_behavior`, each of "
+        "which is the step before or after it; `mode`, `data`, `store`, `find` and `sized` try these",
+        "into-label": "`IntoLabel::into_label`, clauses `outcome` and `fault`, over the same definitions as `label` and `label-hex`",
+        "into-name": "`IntoName::into_name`, over the same definition as `name`",
+        "ttl-hex": "`parse_ttl_bytes` and `parse_ttl` are both `ttl_of_text`, which `ttl` tries",
+    },
+    "rows_data": {
+        "held": "`RecordData::try_borrow`, clauses `some` and `none`",
+        "copy": "`is_clone` of `RData` and of each of its types: a copy is the value",
+    },
+    "rows_message": {
+        "code-number": "`ResponseCode::to_str` is `code_name` and `u16::from` is `code_number`: `response-code` prints 19 of the 20 names",
+        "code-parts": "`ResponseCode::high`, `low`, `from_high_low` and `from_low`, over `code_high`, `code_low` and `code_from_parts`: "
+        "the rows of opt.rows have codes of both parts",
+        "code-of-parts": "the same",
+        "merge-code": "`Metadata::merge_response_code`, over `code_from_parts`",
+        "place-header": "`Place::replace`, over the encoding that `header-again` tries",
+        "new-header": "`Metadata::new`",
+        "response-header": "`Metadata::response_from_request`, over `response_metadata`, which `serve` of `rows_zone` tries",
+        "message-header": "`Message::from_vec`, which `message` tries",
+        "fronts": "`Message::from_vec`: bytes that end in a record are refused; the fuzzed inputs of `hostile` have all fronts",
+        "octets": "`Message::from_vec` and `to_vec`, and the law that a decoded message is encoded as itself; `hostile` has all octets",
+        "questions": "`Message::read_queries`, clauses `read` and `refused`, over the relation of `Message::from_vec`",
+        "section-records": "`Message::read_records`, clauses `read` and `refused`, over the relation of `Message::from_vec`",
+        "emit-parts": "`emit_message_parts`, over the pieces of `Message::to_vec_within`, which `encode` tries",
+        "behind-owner": "`emit_behind_owner`, clause `emits`, over the pieces of a record, which `encode` tries",
+        "rebuild": "`Message::add_queries`, `add_answers`, `add_authorities`, `add_additionals`, `set_edns`, `set_signature`",
+        "rebuild-singly": "`Message::add_query`, `add_answer`, `add_authority`, `add_additional`",
+        "rebuild-update": "`UpdateMessage::add_zone`, `add_pre_requisites`, `add_updates`, `add_additionals`",
+        "rebuild-update-singly": "`UpdateMessage::add_zone`, `add_pre_requisite`, `add_update`, `add_additional`",
+        "parts": "`Message::into_parts`",
+        "records": "`Message::all_sections` and `Edns::to_record`, over `all_records` and `opt_record`",
+        "address-set": "`RecordSet::with_ttl`, `add_rdata` and `new_record`, over the definitions that `set` tries",
+        "single-sets": "`RecordSet::from_record`",
+        "new-question": "`Query::new`, and its setters, each of which sets a field",
+        "section": "`Sequence::push` and `extend`",
+        "changes": "`update_code` and `update_changes`, clause `change`, over the definitions that `apply` of `rows_layers` tries",
+        "types": "`ZoneRows::types` of a `SetList`, which `apply` of `rows_layers` tries for a zone",
+    },
+}
+
+REPLAY = "a replay of requests by `nameserver`"
+SCRIPT = "a script of `stub` with replies"
+CHECKED = "a stored run of `zonecheck`"
+VALUES = "`rows_values`"
+
+# Where the rows of `rows_layers` go, by the program that each of its subjects was: all of a program, or by operation.
+LATER = {
+    "rows_server": {"*": REPLAY, "prefix": VALUES, "loopback": VALUES},
+    "rows_authority": {"*": REPLAY},
+    "rows_faults": {"*": REPLAY, "table": CHECKED.replace("zonecheck", "nameserver"), "json": VALUES},
+    "rows_tsig": {"*": REPLAY, "hmac": VALUES},
+    "rows_transfers": {"*": REPLAY},
+    "rows_differences": {"*": REPLAY},
+    "rows_journal": {"*": REPLAY + ", whose journal can be torn"},
+    "rows_zone": {"*": REPLAY}
+    | {it: CHECKED for it in ("zone", "zone-all", "zone-at", "zone-with", "zone-fault", "fault", "zone-file", "zone-file-all", "zone-file-at")}
+    | {it: CHECKED for it in ("zone-file-with", "zone-file-repeated", "entries", "included-names")}
+    | {it: VALUES for it in ("frames", "failing-frames", "write-frames")},
+    "rows_cache": {"*": SCRIPT, "bounds": VALUES, "ranges": VALUES},
+    "rows_stub": {"*": SCRIPT, "words": VALUES, "sound": VALUES, "sound-data": VALUES, "sound-record": VALUES, "fits": VALUES},
+    "rows_resolver": {"*": SCRIPT}
+    | {it: VALUES for it in ("names", "special", "config", "hosts", "hosts-bytes", "hosts-fault", "set-hosts", "error-text")},
+    "rows_check": {"*": CHECKED},
+    "hostile": {"*": "a stored run of `stub`, `nameserver` and `zonecheck`"},
+    "rows_net": {"*": VALUES, "schedule": SCRIPT, "update": SCRIPT, "steps": SCRIPT},
+}
+
+
+# The rows that are exchanges of the scripts of `nameserver` now, by file and operation, as they were: a row may have had several
+# requests. One of `any` asked for a transfer, which the program makes.
+SCRIPTED = """
+rows_authority any: answer 10, first 7
+rows_authority redirection: answer 7
+rows_authority replies: respond 16, header 12
+rows_authority resolution: answer 12
+rows_authority wildcards: answer 18
+rows_faults steps: steps 70
+rows_server zones: respond 136
+rows_transfers incremental: ixfr 11, refused 1, datagram 2
+rows_transfers serials: raise 14
+rows_transfers transfers: axfr 10
+"""
+IN_SCRIPTS = "a script of `nameserver`, `crates/nameserver/data/*.script`"
+
+
+def tried_files(table):
+    """The operations of each file that a table lists: how many rows, and how many of these go by a clause."""
+    files = {}
+    for line in " ".join(table.split("\n    ")).strip().split("\n"):
+        name, operations = line.split(": ")
+        files[tuple(name.split())] = [
+            (word, *(int(it) for it in (count + "-0").split("-")[:2]))
+            for word, count in (it.rsplit(" ", 1) for it in operations.split(", "))
+        ]
+    return files
+
+
+def subject_of(program):
+    """The subject of `rows_layers` that a program of rows is by now."""
+    return program.removeprefix("rows_")
+
+
+def shown(program):
+    """What the tables have for a program."""
+    is_subject = program in LATER and data_of(program).is_dir()
+    return f"`rows_layers`: {subject_of(program)}" if is_subject else f"`{program}`"
+
+
+def data_of(program):
+    """The folder with the rows of a subject."""
+    return ROOT / "crates" / "rows_layers" / "data" / subject_of(program)
+
+
+def rows_of(path):
+    """How many rows a file has, by operation."""
+    lines = path.read_text(encoding="utf-8").splitlines()
+    return Counter(it.split(" ")[0] for it in lines if it and not it.startswith("#"))
+
+
+def all_files():
+    """Each file of rows: its program, its name, and of each operation the rows that stay, go, and have another place."""
+    for (program, name), operations in tried_files(TRIED).items():
+        yield program, name, [(word, count - gone, gone, 0) for word, count, gone in operations]
+    scripted = tried_files(SCRIPTED)
+    for program in sorted(LATER):
+        files = {path.stem: rows_of(path) for path in data_of(program).glob("*.rows")}
+        for name in sorted({*files, *(it for one, it in scripted if one == program)}):
+            counts = files.get(name, Counter())
+            for word, count, _ in scripted.get((program, name), ()):
+                counts[word] += count
+            yield program, name, [(word, 0, 0, count) for word, count in counts.items()]
+
+
+def file_table(files):
+    """A line for each file, and the number of rows that the files of `rows_values` have."""
+    lines = ["| Program | File | Rows | Stay | Go by a clause | Have another place |", "|---|---|---|---|---|---|"]
+    sums, now = [0, 0, 0], 0
+    for program, name, operations in files:
+        counts = [sum(it[column] for it in operations) for column in (1, 2, 3)]
+        sums = [one + other for one, other in zip(sums, counts)]
+        now += counts[0] if not (ROOT / "crates" / program).is_dir() else 0
+        lines.append(f"| {shown(program)} | {name} | {sum(counts)} | " + " | ".join(str(it or "") for it in counts) + " |")
+    lines.append(f"| all | | {sum(sums)} | " + " | ".join(str(it) for it in sums) + " |")
+    return lines, now
+
+
+def operation_table(files):
+    """A line for each operation."""
+    rows = {}
+    for program, _, operations in files:
+        for word, *counts in operations:
+            old = rows.get((program, word), (0, 0, 0))
+            rows[program, word] = tuple(one + other for one, other in zip(old, counts))
+    lines = ["| Program | Operation | Rows | Place |", "|---|---|---|---|"]
+    for (program, word), (stays, gone, elsewhere) in rows.items():
+        parts = []
+        if stays:
+            new = NOW.get(program, {}).get(word, f"`{word}`")
+            parts.append(f"{new} of `rows_values`" + (f": {stays}" if gone else ""))
+        if gone:
+            parts.append((f"{gone} go, " if stays else "") + f"by {CLAUSES[program][word]}")
+        if elsewhere:
+            parts.append(place_of(program, word, elsewhere))
+        lines.append(f"| {shown(program)} | `{word}` | {stays + gone + elsewhere} | {'; '.join(parts)} |")
+    return lines
+
+
+def place_of(program, word, count):
+    """Where the rows of an operation are, or are to be."""
+    operations = [it for (one, _), words in tried_files(SCRIPTED).items() if one == program for it in words]
+    moved = sum(it[1] for it in operations if it[0] == word)
+    later = LATER[program].get(word, LATER[program]["*"])
+    if moved == count:
+        return IN_SCRIPTS
+    return f"{moved} in {IN_SCRIPTS}; {later}" if moved else later
+
+
+def main():
+    files = list(all_files())
+    by_file, now = file_table(files)
+    tables = "\n".join(by_file) + "\n\n" + "\n".join(operation_table(files)) + "\n"
+    if sys.argv[1:] != ["--check"]:
+        print(tables, end="")
+        return 0
+    counts = [sum(rows_of(it).values()) for it in sorted((ROOT / "crates" / "rows_values" / "data").glob("*.rows"))]
+    if sum(counts) != now:
+        print(f"rows.py: {sum(counts)} rows in rows_values, and {now} by the table")
+        return 1
+    if PAGE.read_text(encoding="utf-8").partition(MARK)[2] != tables:
+        print("rows.py: the tables of docs/ROWS.md are others: python3 scripts/rows.py prints them")
+        return 1
+    return 0
+
+
+if __name__ == "__main__":
+    sys.exit(main())
