@@ -292,7 +292,7 @@ def shown(program):
 
 def data_of(program):
     """The folder with the rows of a subject."""
-    return ROOT / "crates" / "rows_layers" / "data" / subject_of(program)
+    return ROOT / "check" / "harness" / "rows_layers" / "data" / subject_of(program)
 
 
 def rows_of(path):
@@ -366,7 +366,9 @@ def main():
     if sys.argv[1:] != ["--check"]:
         print(tables, end="")
         return 0
-    counts = [sum(rows_of(it).values()) for it in sorted((ROOT / "crates" / "rows_values" / "data").glob("*.rows"))]
+    files = (ROOT / "check" / "harness" / "rows_values" / "data").glob("*.rows")
+    # The rows of failing.rows show that a row can fail.
+    counts = [sum(rows_of(it).values()) for it in files if it.stem != "failing"]
     if sum(counts) != now:
         print(f"rows.py: {sum(counts)} rows in rows_values, and {now} by the table")
         return 1

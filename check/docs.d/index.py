@@ -8,17 +8,12 @@ For Rust programmers who use a library of this repository. Each crate has a page
 signatures, what they are for, when each error occurs, and their contracts, whose clauses say exactly what is proved.
 [READING_CONTRACTS.md](../READING_CONTRACTS.md) explains contracts in ten minutes. Where a page says "Preconditions", the
 prover requires every caller to meet them."""
-# The libraries that only programs of rows use.
-OF_TESTS = ("rows", "rows_text")
 WORDS = {"fn": "function", "const": "constant", "mod": "module", "type": "type alias"}
 
 
 def index_page(library):
     """The page that lists the crates, and their items by name."""
-    own = [it for it in library.crates if it in OF_TESTS]
-    used = [it for it in library.crates if it not in OF_TESTS]
-    parts = [HEAD, NOTE, "## Crates", crate_table(library, used)]
-    parts += ["## Crates for the tests of this repository", crate_table(library, own), "## Index"]
+    parts = [HEAD, NOTE, "## Crates", crate_table(library, library.crates), "## Index"]
     entries = sorted(set(index_entries(library)), key=lambda it: (it[0].lower(), it[1]))
     for letter in sorted({it[0][0].upper() for it in entries}):
         lines = [line for name, line in entries if name[0].upper() == letter]

@@ -1,4 +1,4 @@
-"""The rows of crates/rows_layers/data/zone that have the bytes of requests, by which the model of the server is checked: `rt ci` proves
+"""The rows of check/harness/rows_layers/data/zone that have the bytes of requests, by which the model of the server is checked: `rt ci` proves
 `Zone::serve` and runs it on the same rows, so the model and the proved server agree on them."""
 import re
 from pathlib import Path
@@ -6,7 +6,7 @@ from pathlib import Path
 from replies import Server
 from zones import comparable, zone_of
 
-DATA = Path(__file__).resolve().parent.parent.parent / "crates" / "rows_layers" / "data" / "zone"
+DATA = Path(__file__).resolve().parent.parent.parent / "check" / "harness" / "rows_layers" / "data" / "zone"
 AUTHORITY = "t. 60 IN SOA ns.t. h.t. 1 3600 600 86400 30\n"
 OPERATIONS = ("serve", "served-size", "update")
 ESCAPES = {"\\n": "\n", "\\r": "\r", "\\t": "\t", "\\s": " ", "\\\\": "\\"}
@@ -82,4 +82,4 @@ def try_rows(report, _program, _missing) -> None:
         elif word == "update":
             report.check(f"{title}: records", contents(zone_of(wanted[-1])), contents(server.zones[0]))
     report.check("rows that the model can read", True, tried > 800)
-    report.end(f"the model on {tried} rows of crates/rows_layers/data/zone")
+    report.end(f"the model on {tried} rows of check/harness/rows_layers/data/zone")
