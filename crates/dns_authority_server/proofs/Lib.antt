@@ -1,4 +1,5 @@
 pub mod FrontLaws
+pub mod MalformedLaws
 pub mod RespondingLaws
 pub mod SendingLaws
 pub mod WholeSetsLaws

@@ -1,4 +1,5 @@
 pub mod Reply
+pub mod Malformed
 pub mod WholeSets
 pub mod Sending
 pub mod TooMany

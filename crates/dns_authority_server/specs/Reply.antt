@@ -10,7 +10,7 @@ use Rattle.dns_messages.specs.declared.query.Query.{Query}
 use Rattle.dns_messages.specs.declared.message.Message.{Message}
 use Rattle.dns_messages.specs.Cut.{with_code}
 use Rattle.dns_messages.specs.Header.{response_metadata}
-use Rattle.dns_messages.specs.Message.{empty_message, version_of}
+use Rattle.dns_messages.specs.Message.{version_of}
 use Rattle.dns_zone.specs.Request.{repeated_queries}
 use Rattle.dns_zone.specs.Rows.{ZoneContent}
 use Rattle.dns_zone.specs.Serving.{reply_edns}
@@ -67,13 +67,3 @@ reply_with m a = record {
 -- the whole reply to a request
 abbrev pub reply : AnyAnswer → List ZoneContent → Message → Message
 reply any zones m = reply_with m (answer_to any zones m)
-
--- ---- malformed requests
-
--- the header of the reply to a malformed request
-abbrev pub malformed_metadata : Metadata → Metadata
-malformed_metadata request = record (response_metadata request) { response_code = FormErr }
-
--- the reply to a malformed request with this header: FormErr (RFC 1035 section 4.1.1)
-abbrev pub malformed_reply : Metadata → Message
-malformed_reply request = empty_message (malformed_metadata request)

@@ -1,5 +1,5 @@
 -- What is sent for bytes that arrive (RFC 1035 section 4.1).
-use Rattle.std.specs.Prelude.{◌≡◌, false, List, ℕ, Option, Some, None}
+use Rattle.std.specs.Prelude.{◌≡◌, false, Bool, List, ℕ, Option, Some, None}
 use Rattle.dns_messages.specs.declared.message_type.MessageType.TheVariants as kinds
 use Rattle.dns_messages.specs.declared.header.Metadata.{Metadata}
 use Rattle.dns_messages.specs.declared.message.Message.{Message}
@@ -11,15 +11,18 @@ use Rattle.dns_zone.specs.Request.{IsRequest}
 use Rattle.dns_zone.specs.Rows.{ZoneContent}
 use Rattle.dns_zone.specs.Serving.{has_query_header, reply_limit}
 use Rattle.dns_authority.specs.declared.asked.AnyAnswer.{AnyAnswer}
-use Rattle.dns_authority_server.specs.Reply.{malformed_reply, reply}
+use Rattle.dns_authority_server.specs.Malformed.{IsOptFound, malformed_reply}
+use Rattle.dns_authority_server.specs.Reply.{reply}
 use Rattle.dns_authority_server.specs.Sending.{sent}
 
--- the reply to the header of a query that bytes begin with: FormErr
+-- the reply to the header of a query that bytes begin with: FormErr, with an OPT record if the bytes have one
 pub record IsFormErr (bytes out : List ℕ) : Type 0 where
   pub metadata : Metadata
   pub peeked : peeked_metadata bytes ≡ Some metadata
   pub asks : metadata.message_type ≡ kinds.Query
-  pub encodes : Encodes 512 (malformed_reply metadata) out
+  pub has_opt : Bool
+  pub is_found : IsOptFound bytes has_opt
+  pub encodes : Encodes 512 (malformed_reply has_opt metadata) out
 
 -- What is sent for bytes that are not a request: FormErr if they begin with the header of a query, or else nothing.
 abbrev pub IsSentForOther : List ℕ → Option (List ℕ) → Type 0

@@ -4,11 +4,13 @@
 //! A reply that does not fit its transport is sent with as many sets of additional records as fit, or else without records (RFC 2181
 //! section 9).
 //!
-//! - `responding`: requests, and what they are answered with; `reply`: the reply with an answer;
+//! - `responding`: requests, and what they are answered with; `reply`: the reply with an answer; `malformed`: the reply to what does
+//!   not decode;
 //! - `reply_ref`: messages whose records are borrowed, and their bytes; `sending`: what of them is sent; `whole_sets`: where
 //!   sections may be cut.
 #![tactic(auto)]
 
+mod malformed;
 mod reply;
 mod reply_ref;
 mod responding;

@@ -5,7 +5,7 @@ ghost use Rattle.dns_messages.specs.Cut.{front_reach};
 ghost use Rattle.dns_messages.specs.Emit.{lent};
 ghost use Rattle.dns_messages.specs.Encoding.{Encodes};
 ghost use Rattle.dns_messages.specs.Message.{truncated};
-ghost use Rattle.dns_authority_server.specs.Reply.{edns_with, malformed_metadata, malformed_reply, metadata_with, reply_with};
+ghost use Rattle.dns_authority_server.specs.Reply.{edns_with, metadata_with, reply_with};
 ghost use Rattle.dns_authority.specs.Additional.{with_additionals};
 ghost use Rattle.dns_authority.specs.Front.{first_records};
 ghost use Rattle.dns_authority.specs.declared.answer.AuthorityAnswer.{AuthorityAnswer};
@@ -21,9 +21,6 @@ use std::alloc::{AllocError, Global};
 
 /// The most records of a section whose additional section is made before it is known whether they fit.
 const FEW_RECORDS: usize = 16;
-
-/// The number of bytes that every reply may have (RFC 1035 section 4.2.1).
-const LEAST_LIMIT: u16 = 512;
 
 /// The number of bytes of the shortest record: an owner of one byte, and the fields before its data (RFC 1035 section 4.1.3).
 const LEAST_RECORD_LEN: usize = 11;
@@ -191,31 +188,6 @@ fn reply_of<'a>(
         authorities: answer.authorities.as_slice(),
         additionals: answer.additionals.as_slice(),
         edns,
-    }
-}
-
-/// Returns the bytes of the reply to a malformed request with this header: it has the code `FormErr`, and nothing else.
-pub(crate) fn malformed_bytes(alloc: Global, request: &Metadata) -> Result<Vec<u8>, AllocError>
-    ensures { IfOk result (λ out. Encodes 512 (malformed_reply request.now) out.items) }
-{
-    let reply = ReplyRef {
-        metadata: malformed_metadata(request),
-        queries: &[],
-        answers: &[],
-        authorities: &[],
-        additionals: &[],
-        edns: None,
-    };
-    reply.prefix(alloc, LEAST_LIMIT)
-}
-
-/// Returns the header of the reply to a malformed request.
-fn malformed_metadata(request: &Metadata) -> Metadata
-    ensures { result ≡ malformed_metadata request.now }
-{
-    Metadata {
-        response_code: ResponseCode::FormErr,
-        ..Metadata::response_from_request(request)
     }
 }
 

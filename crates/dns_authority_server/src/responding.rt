@@ -10,7 +10,8 @@ ghost use Rattle.dns_authority_server.specs.Reply.{bare_answer_to, bare_answer_t
 ghost use Rattle.dns_authority_server.specs.Responding.{IsSentForOther, Responds};
 ghost use Rattle.dns_authority_server.specs.Sending.{sent};
 
-use crate::reply::{malformed_bytes, reply_bytes, too_many_records};
+use crate::malformed::{has_opt, malformed_bytes};
+use crate::reply::{reply_bytes, too_many_records};
 use dns_authority::{AuthorityAnswer, AuthorityView};
 use dns_messages::{Message, MessageType, Metadata, OpCode, Query, ResponseCode};
 use dns_zone::{Transport, decode_request, reply_limit};
@@ -18,8 +19,8 @@ use std::alloc::{AllocError, Global};
 
 /// Returns the reply to a request, or `None` for fewer bytes than a header has, and for a response.
 ///
-/// Bytes with the header of a query that do not decode, such as those with two OPT records, are answered with `FormErr`. The
-/// reply is within the limit of its transport.
+/// Bytes with the header of a query that do not decode, such as those with two OPT records, are answered with `FormErr`, and with an
+/// OPT record if they have one (RFC 6891 section 7). The reply is within the limit of its transport.
 pub fn respond(
     alloc: Global,
     authority: &AuthorityView<'_>,
@@ -35,7 +36,7 @@ pub fn respond(
     };
     match decode_request(alloc, request)? {
         Some(message) => Ok(Some(respond_to(alloc, authority, &message, transport)?)),
-        None => Ok(Some(malformed_bytes(alloc, &metadata)?)),
+        None => Ok(Some(malformed_bytes(alloc, &metadata, has_opt(request))?)),
     }
 }
 
@@ -59,14 +60,14 @@ pub fn respond_to(
 }
 
 /// Returns the reply to bytes that are not a request: `FormErr` for those that begin with the header of a query (RFC 1035 section
-/// 4.1.1). Others have none, which is decided before memory is taken.
+/// 4.1.1), with an OPT record if the bytes have one (RFC 6891 section 7). Others have none, which is decided before memory is taken.
 pub fn respond_to_other(alloc: Global, bytes: &[u8]) -> Result<Option<Vec<u8>>, AllocError>
     ensures reply { IfOk result (λ found. IsSentForOther bytes.now
         (option_map (λ out. out.items) found)) }
     ensures decided { has_query_header bytes.now ≡ false → result ≡ Ok None }
 {
     match query_metadata(bytes) {
-        Some(metadata) => Ok(Some(malformed_bytes(alloc, &metadata)?)),
+        Some(metadata) => Ok(Some(malformed_bytes(alloc, &metadata, has_opt(bytes))?)),
         None => Ok(None),
     }
 }
