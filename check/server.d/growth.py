@@ -1,11 +1,12 @@
-"""How the processor time of one question grows with the records of a set, and with the labels of a name.
+"""How the processor time of one question grows with the records of a set, the labels of a name, and the zones, and that of the start
+with the zones.
 
 The server answers by the whole of RFC 1034, as it does by default. Of each pair of sizes the greater is four times the less, and may
 take six times as long.
 """
 import time
 from pathlib import Path
-from typing import Callable, NamedTuple, Tuple
+from typing import Callable, List, NamedTuple, Tuple, Union
 
 from messages import query
 from nameserver import NameServer
@@ -19,11 +20,11 @@ HEAD = "t. 60 IN SOA ns.t. h.t. 1 3600 600 86400 30\nt. 60 IN NS ns.t.\nns.t. 60
 
 
 class Series(NamedTuple):
-    """A zone and a question for each size."""
+    """A zone, or some, and a question for each size."""
 
     title: str
     sizes: Tuple[int, int]
-    zone: Callable[[int], str]
+    zone: Callable[[int], Union[str, List[str]]]
     question: Callable[[int], bytes]
     over_stream: bool = False
 
@@ -43,9 +44,24 @@ def of_addresses(count: int) -> str:
     return HEAD + "".join(f"s.t. 60 IN A 10.{it >> 16}.{it >> 8 & 255}.{it & 255}\n" for it in range(count))
 
 
+def of_zones(count: int) -> List[str]:
+    """So many zones with an address each."""
+    return [f"z{it}. 60 IN SOA ns.t. h.t. 1 3600 600 86400 30\na.z{it}. 60 IN A 10.0.0.1\n" for it in range(count)]
+
+
+def beside_a_deep_zone(_: int) -> List[str]:
+    """A thousand such zones, and one whose origin has 100 labels."""
+    return of_zones(1_000) + [f"{labels_of_x(100)} 60 IN SOA ns.t. h.t. 1 3600 600 86400 30\n"]
+
+
+def labels_of_x(count: int) -> str:
+    """A name of so many labels, in none of the zones of `of_zones`."""
+    return "x." * count
+
+
 def absent(count: int) -> bytes:
     """A question for a name of so many labels that does not exist."""
-    return query(".".join(["x"] * count) + ".t.")
+    return query(labels_of_x(count) + "t.")
 
 
 SERIES = [
@@ -57,11 +73,23 @@ SERIES = [
     Series("addresses", (10_000, 40_000), of_addresses, lambda _: query("s.t.")),
     Series("labels that do not exist", (29, 116), lambda _: HEAD, absent),
     Series("labels at a wildcard", (29, 116), lambda _: HEAD + "*.t. 60 IN A 10.0.0.1\n", absent),
+    Series("labels in none of 1,000 zones", (31, 124), lambda _: of_zones(1_000), lambda count: query(labels_of_x(count))),
+    Series("labels beside a zone of 100 labels", (31, 124), beside_a_deep_zone, lambda count: query("y." * count)),
+    Series("zones, an address in the last", (2_500, 10_000), of_zones, lambda count: query(f"a.z{count - 1}.")),
+    Series("zones, a name of 120 labels in none", (2_500, 10_000), of_zones, lambda _: query(labels_of_x(120))),
 ]
+# How many zones are read by two starts.
+STARTS = (2_500, 10_000)
 
 
 def try_growth(report: Report, _program: str, given) -> None:
-    """Measures each series by the program itself, without `--plain`."""
+    """Measures each series, and the starts, by the program itself, without `--plain`."""
+    try_questions(report, given)
+    try_starts(report, given)
+
+
+def try_questions(report: Report, given) -> None:
+    """Measures each series."""
     for series in SERIES:
         report.begin()
         small, large = (Measured(given.program, series, size) for size in series.sizes)
@@ -76,6 +104,20 @@ def try_growth(report: Report, _program: str, given) -> None:
         report.end(title, f", {times}")
 
 
+def try_starts(report: Report, given) -> None:
+    """Measures the start with few zones and with many."""
+    report.begin()
+    least = [float("inf")] * len(STARTS)
+    for _ in range(ROUNDS):
+        for place, count in enumerate(STARTS):
+            with NameServer(of_zones(count), program=given.program, seconds=120, log=False) as server:
+                least[place] = min(least[place], processor_time(server))
+    title = f"the start, {STARTS[0]:,} and {STARTS[1]:,} zones"
+    times = f"{least[0] * 1e3:,.0f} and {least[1] * 1e3:,.0f} milliseconds"
+    report.check(f"{title}: {times}", True, least[1] <= MOST_GROWTH * least[0])
+    report.end(title, f", {times}")
+
+
 class Measured:
     """A server that is asked one question of a series, and the least processor time that it took for one."""
 
@@ -87,17 +129,18 @@ class Measured:
     def ask(self) -> None:
         """Asks as long as a turn lasts, and once at least."""
         address, count = (self.server.address, self.server.port), 0
-        start, before = time.monotonic(), self.processor_time()
+        start, before = time.monotonic(), processor_time(self.server)
         while count == 0 or time.monotonic() - start < TURN:
             reply = ask_over_stream(address, self.request) if self.over_stream else ask_datagram(address, self.request, WAIT)
             if reply is None:
                 raise OSError("no reply")
             count += 1
-        self.least = min(self.least, (self.processor_time() - before) / count)
+        self.least = min(self.least, (processor_time(self.server) - before) / count)
 
-    def processor_time(self) -> float:
-        """The processor time of the server, in seconds."""
-        return int(Path(f"/proc/{self.server.process.pid}/schedstat").read_text().split()[0]) / 1e9
+
+def processor_time(server: NameServer) -> float:
+    """The processor time of a server, in seconds."""
+    return int(Path(f"/proc/{server.process.pid}/schedstat").read_text().split()[0]) / 1e9
 
 
 def ask_over_stream(address, request: bytes):

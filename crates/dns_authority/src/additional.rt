@@ -13,6 +13,7 @@ use dns_data::RData;
 use dns_lookup_steps::barrier;
 use dns_names::Name;
 use dns_records::{Record, Sequence};
+use dns_server::ZoneTable;
 use dns_wire::RecordType;
 use dns_zone::Zone;
 use std::alloc::{AllocError, Global};
@@ -32,7 +33,7 @@ pub(crate) enum HostKind {
 /// Returns an answer with its additional section.
 pub(crate) fn with_additionals(
     alloc: Global,
-    zones: &[Zone],
+    zones: &ZoneTable,
     answer: AuthorityAnswer,
 ) -> Result<AuthorityAnswer, AllocError>
     ensures { IfOk result (λ whole. whole ≡ with_additionals zones.now answer) }
@@ -51,7 +52,7 @@ pub(crate) fn with_additionals(
 /// those of more are found through an index, so that the time does not grow with the square of their number.
 fn additionals_of(
     alloc: Global,
-    zones: &[Zone],
+    zones: &ZoneTable,
     answers: &[Record],
     authorities: &[Record],
 ) -> Result<Sequence<Record>, AllocError>
@@ -69,7 +70,7 @@ fn additionals_of(
 /// Returns the same section, made with an index of its sets.
 fn indexed_additionals(
     alloc: Global,
-    zones: &[Zone],
+    zones: &ZoneTable,
     answers: &[Record],
     authorities: &[Record],
 ) -> Result<Sequence<Record>, AllocError>
@@ -85,7 +86,7 @@ fn indexed_additionals(
 /// Adds the addresses of the hosts that some records name.
 fn with_hosts(
     alloc: Global,
-    zones: &[Zone],
+    zones: &ZoneTable,
     kind: HostKind,
     answers: &[Record],
     records: Sequence<Record>,
@@ -104,7 +105,7 @@ fn with_hosts(
 /// Adds the addresses of the host that data names, if it names one.
 fn with_host_of(
     alloc: Global,
-    zones: &[Zone],
+    zones: &ZoneTable,
     kind: HostKind,
     answers: &[Record],
     records: Sequence<Record>,
@@ -134,7 +135,7 @@ pub(crate) fn host_of(rdata: &RData) -> Option<&Name>
 /// Adds the addresses of a host.
 fn with_host(
     alloc: Global,
-    zones: &[Zone],
+    zones: &ZoneTable,
     kind: HostKind,
     answers: &[Record],
     records: Sequence<Record>,
@@ -150,7 +151,7 @@ fn with_host(
 /// Adds the records of a host and a type, unless the answers or the records have them.
 fn with_set(
     alloc: Global,
-    zones: &[Zone],
+    zones: &ZoneTable,
     kind: HostKind,
     answers: &[Record],
     records: Sequence<Record>,
@@ -178,7 +179,7 @@ fn has_set(records: &[Record], name: &Name, record_type: RecordType) -> bool
 
 /// Returns the records of a host and a type, in the closest zone: glue even below a zone cut.
 pub(crate) fn host_records<'a>(
-    zones: &'a [Zone],
+    zones: &'a ZoneTable,
     kind: HostKind,
     host: &Name,
     record_type: RecordType,
@@ -186,7 +187,7 @@ pub(crate) fn host_records<'a>(
     ensures { IfOk result (λ found. rows_of found.now
         ≡ rows_by kind zones.now host.now record_type) }
 {
-    let Some(zone) = closest_zone(zones, host)? else {
+    let Some(zone) = closest_zone(zones, host) else {
         return Ok(&[]);
     };
     match kind {

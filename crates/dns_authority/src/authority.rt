@@ -57,7 +57,7 @@ impl Authority {
         ensures any { result.any ≡ self.now.any }
     {
         AuthorityView {
-            zones: self.server.zones(),
+            zones: self.server.table(),
             any: self.any,
         }
     }

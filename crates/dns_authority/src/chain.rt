@@ -11,7 +11,7 @@ use crate::step::{Step, next_step};
 use dns_messages::ResponseCode;
 use dns_names::Name;
 use dns_records::Sequence;
-use dns_zone::Zone;
+use dns_server::ZoneTable;
 use std::alloc::{AllocError, Global};
 
 /// The most steps over aliases.
@@ -23,7 +23,7 @@ pub(crate) const MAX_ALIASES: usize = 7;
 pub(crate) fn answer_at(
     alloc: Global,
     links: usize,
-    zones: &[Zone],
+    zones: &ZoneTable,
     wanted: Wanted,
     owner: &Name,
 ) -> Result<AuthorityAnswer, AllocError>

@@ -15,14 +15,14 @@ use dns_lookup_steps::{dname_target, with_target};
 use dns_messages::ResponseCode;
 use dns_names::Name;
 use dns_records::{Record, Sequence};
+use dns_server::ZoneTable;
 use dns_wire::{DNSClass, RecordType};
-use dns_zone::Zone;
 use std::alloc::{AllocError, Global};
 
 /// Returns the step by the first DNAME record of a name above the owner. Data that is no name is a failure of the server.
 pub(crate) fn step_below(
     alloc: Global,
-    zones: &[Zone],
+    zones: &ZoneTable,
     record_type: RecordType,
     owner: &Name,
     at: &Name,
@@ -47,7 +47,7 @@ fn failure(alloc: Global) -> Step
 /// Returns the step by a DNAME record of a name above the owner.
 fn step_to(
     alloc: Global,
-    zones: &[Zone],
+    zones: &ZoneTable,
     record_type: RecordType,
     owner: &Name,
     at: &Name,
@@ -79,7 +79,7 @@ fn redirect(
 /// Returns the step by a DNAME record with the name that it makes of the owner.
 fn redirected(
     alloc: Global,
-    zones: &[Zone],
+    zones: &ZoneTable,
     record_type: RecordType,
     owner: &Name,
     at: &Name,
@@ -120,7 +120,7 @@ fn synthesized(owner: &Name, ttl: u32, target: &Name) -> Result<Record, AllocErr
 
 /// Returns the name at which an answer goes on after a synthesized alias: none if the alias answers the question.
 fn followed_for(
-    zones: &[Zone],
+    zones: &ZoneTable,
     record_type: RecordType,
     target: &Name,
 ) -> Result<Option<Name>, AllocError>

@@ -10,8 +10,8 @@ use crate::set_index::SetIndex;
 use dns_data::RData;
 use dns_names::Name;
 use dns_records::{Record, Sequence};
+use dns_server::ZoneTable;
 use dns_wire::RecordType;
-use dns_zone::Zone;
 use std::alloc::{AllocError, Global};
 
 /// An additional section that grows, with an index of its sets and of those of the answer section.
@@ -58,7 +58,7 @@ impl Section {
     pub(crate) fn with_hosts(
         self,
         alloc: Global,
-        zones: &[Zone],
+        zones: &ZoneTable,
         kind: HostKind,
         naming: &[Record],
     ) -> Result<Section, AllocError>
@@ -76,7 +76,7 @@ impl Section {
     fn with_host_of(
         self,
         alloc: Global,
-        zones: &[Zone],
+        zones: &ZoneTable,
         kind: HostKind,
         rdata: &RData,
     ) -> Result<Section, AllocError>
@@ -93,7 +93,7 @@ impl Section {
     fn with_host(
         self,
         alloc: Global,
-        zones: &[Zone],
+        zones: &ZoneTable,
         kind: HostKind,
         host: &Name,
     ) -> Result<Section, AllocError>
@@ -109,7 +109,7 @@ impl Section {
     fn with_set(
         self,
         alloc: Global,
-        zones: &[Zone],
+        zones: &ZoneTable,
         kind: HostKind,
         host: &Name,
         record_type: RecordType,

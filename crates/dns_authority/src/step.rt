@@ -18,6 +18,7 @@ use dns_lookup_steps::{barrier_above, is_cut, is_ds, source_of_synthesis};
 use dns_messages::ResponseCode;
 use dns_names::Name;
 use dns_records::{Record, Sequence};
+use dns_server::ZoneTable;
 use dns_text::usage;
 use dns_wire::RecordType;
 use dns_zone::Zone;
@@ -36,7 +37,7 @@ pub(crate) enum Step {
 /// are wanted.
 pub(crate) fn next_step(
     alloc: Global,
-    zones: &[Zone],
+    zones: &ZoneTable,
     wanted: Wanted,
     owner: &Name,
 ) -> Result<Step, AllocError>
@@ -57,7 +58,7 @@ pub(crate) fn next_step(
 /// Returns the step at a barrier: a referral at a zone cut, or else by a DNAME record.
 fn step_over(
     alloc: Global,
-    zones: &[Zone],
+    zones: &ZoneTable,
     zone: &Zone,
     wanted: Wanted,
     owner: &Name,
@@ -77,7 +78,7 @@ fn step_over(
 /// Returns the step at a name above which there is no barrier. It may be a zone cut itself.
 fn step_at_name(
     alloc: Global,
-    zones: &[Zone],
+    zones: &ZoneTable,
     zone: &Zone,
     wanted: Wanted,
     owner: &Name,
@@ -108,7 +109,7 @@ fn is_cut_for(zone: &Zone, record_type: RecordType, name: &Name) -> bool
 /// 3.3).
 fn step_beside(
     alloc: Global,
-    zones: &[Zone],
+    zones: &ZoneTable,
     zone: &Zone,
     wanted: Wanted,
     owner: &Name,
@@ -127,7 +128,7 @@ fn step_beside(
 /// Returns the step from a wildcard, if it exists. That its records are looked up first spares a look-up where there are some.
 fn step_of_source(
     alloc: Global,
-    zones: &[Zone],
+    zones: &ZoneTable,
     zone: &Zone,
     wanted: Wanted,
     owner: &Name,
@@ -164,7 +165,7 @@ fn no_name(alloc: Global, zone: &Zone) -> Result<Step, AllocError>
 /// Returns the step from the records of a name or a wildcard.
 fn step_from(
     alloc: Global,
-    zones: &[Zone],
+    zones: &ZoneTable,
     zone: &Zone,
     wanted: Wanted,
     owner: &Name,
@@ -182,7 +183,7 @@ fn step_from(
 /// data.
 fn step_by(
     alloc: Global,
-    zones: &[Zone],
+    zones: &ZoneTable,
     zone: &Zone,
     owner: &Name,
     source: &Name,
@@ -211,7 +212,7 @@ fn step_by(
 /// Returns the step along an alias of a name.
 fn alias_step(
     alloc: Global,
-    zones: &[Zone],
+    zones: &ZoneTable,
     owner: &Name,
     alias: &Record,
 ) -> Result<Step, AllocError>
@@ -235,22 +236,22 @@ fn alias_target(rdata: &RData) -> Option<&Name>
 }
 
 /// Returns the name at which an answer goes on, if it does.
-pub(crate) fn followed(zones: &[Zone], target: Option<&Name>) -> Result<Option<Name>, AllocError>
+pub(crate) fn followed(zones: &ZoneTable, target: Option<&Name>) -> Result<Option<Name>, AllocError>
     ensures { IfOk result (λ next. next ≡ followed zones.now (option_copied target.entry)) }
 {
     let Some(name) = target else {
         return Ok(None);
     };
-    if is_followed(zones, name)? {
+    if is_followed(zones, name) {
         return Ok(Some(name.clone()?));
     }
     Ok(None)
 }
 
 /// Returns `true` if an alias is followed to a name: to one in a zone, which is not a special-use name (RFC 6761).
-fn is_followed(zones: &[Zone], name: &Name) -> Result<bool, AllocError>
-    ensures { IfOk result (λ followed. followed ≡ is_followed zones.now name.now) }
+fn is_followed(zones: &ZoneTable, name: &Name) -> bool
+    ensures { result ≡ is_followed zones.now name.now }
 {
-    let zone = closest_zone(zones, name)?;
-    Ok(zone.is_some() && !(usage::is_loopback(name) || usage::is_nonexistent(name)))
+    closest_zone(zones, name).is_some()
+        && !(usage::is_loopback(name) || usage::is_nonexistent(name))
 }

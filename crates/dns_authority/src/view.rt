@@ -13,15 +13,15 @@ use crate::answer::AuthorityAnswer;
 use crate::asked::{AnyAnswer, Asked, Wanted, is_any};
 use crate::chain::{MAX_ALIASES, answer_at};
 use dns_messages::{Query, ResponseCode};
+use dns_server::ZoneTable;
 use dns_wire::{DNSClass, RecordType};
-use dns_zone::Zone;
 use std::alloc::{AllocError, Global};
 
 /// Zones that are borrowed from their server, and what questions for the type ANY are answered with.
 #[derive(Clone, Copy)]
 pub struct AuthorityView<'a> {
-    /// The zones. Of several with the same origin, the first answers.
-    pub zones: &'a [Zone],
+    /// The zones.
+    pub zones: &'a ZoneTable,
     /// The records that a question for the type ANY is answered with.
     pub any: AnyAnswer,
 }

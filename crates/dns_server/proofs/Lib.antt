@@ -1,5 +1,7 @@
 pub mod StreamLaws
 pub mod PlaceLaws
+pub mod PositionLaws
+pub mod ZoneTableLaws
 pub mod HistoryLaws
 pub mod AddressLaws
 pub mod MaintainingLaws

@@ -1,11 +1,8 @@
 -- The places of zones in a server.
-use Rattle.std.proofs.Common.{◌≡◌, ◌<◌, ◌≤◌, ◌+◌, ◌-◌, ℕ, Bool, true, false, ◌||◌, List, [], ◌∷◌, ◌++◌, refl, sym, ap, ◌∙◌, subst, length, drop, zero, suc, add-one, arith, length-drop, Option, Some, None}
-use Rattle.std.specs.Prelude.{nat_le, is_some, slice_get, slice_set, IsSomeAnd, IfOk, OnOk, OnErr, Result, Ok, Err}
-use Rattle.std.proofs.lemmas.Bool.Decides.{nat_tests}
-use Rattle.std.specs.Option.{option_or}
-use Rattle.std.proofs.lemmas.List.{drop_all}
-use Rattle.dns_names.specs.Compare.{at_or_below, same_labels}
-use Rattle.dns_names.proofs.ComparisonLaws.{same_labels-length, same_labels-symmetric, zone_by_last}
+use Rattle.std.proofs.Common.{◌≡◌, ℕ, Bool, true, false, ◌||◌, List, [], ◌∷◌, ◌++◌, refl, sym, ap, ◌∙◌, subst, zero, suc, Option, Some}
+use Rattle.std.specs.Prelude.{slice_get, slice_set, IsSomeAnd, IfOk, OnOk, OnErr, Result, Ok, Err}
+use Rattle.dns_names.specs.Compare.{same_labels}
+use Rattle.dns_names.proofs.ComparisonLaws.{same_labels-symmetric}
 use Rattle.dns_messages.specs.declared.message.Message.{Message}
 use Rattle.dns_messages.specs.declared.op_code.OpCode.{OpCode}
 use Rattle.dns_messages.specs.declared.op_code.OpCode.TheVariants as ops
@@ -16,77 +13,10 @@ use Rattle.dns_zone.specs.declared.transport.Transport.{Transport}
 use Rattle.dns_zone.specs.Rows.{ZoneContent, IsZone}
 use Rattle.dns_zone.specs.Serving.{IsReplyTo, zone_after, zone_by_code, zone_by_op}
 use Rattle.dns_server.specs.declared.server.route.Route.TheVariants as by
-use Rattle.dns_server.specs.Zones.{AreServable, closest, has_origin, is_at, place_at}
+use Rattle.dns_server.specs.Zones.{AreServable, has_origin, is_at}
 use Rattle.dns_differences.specs.declared.difference.Difference.{Difference}
 use Rattle.dns_zone.specs.Change.{IsChange}
 use Rattle.dns_server.specs.Server.{IsChangeOf, IsReplyBy, zones_by, zones_with}
-
--- ---- labels
-
--- as many labels are a name without its first ones exactly if the name is at or below them
-pub at-last : (origin name : List (List ℕ)) (past count left : ℕ) → count ≡ length origin → left ≡ length name - past → count ≡ left
-    → at_or_below origin name ≡ same_labels origin (drop past name)
-at-last origin name past count left c l e = by (nat_le past (length name)) refl
-  where
-    by : (b : Bool) → nat_le past (length name) ≡ b → at_or_below origin name ≡ same_labels origin (drop past name)
-    by true h = let le : past ≤ length name = grind (arith, nat_tests) in zone_by_last origin name past (omega (arith, c, l, e, le))
-    by false h =
-        let lt : length name < past = grind (arith, nat_tests) in
-        zone_by_last origin name (length name) (omega (arith, c, l, e, lt))
-        ∙ ap (same_labels origin) (drop_all (length name) name (omega arith) ∙ sym (drop_all past name (omega (arith, lt))))
-
--- with another number of labels they are not
-pub not-last : (origin name : List (List ℕ)) (past count left : ℕ) → count ≡ length origin → left ≡ length name - past → (count ≡ left → ⊥)
-    → same_labels origin (drop past name) ≡ false
-not-last origin name past count left c l differ = by (same_labels origin (drop past name)) refl
-  where
-    by : (b : Bool) → same_labels origin (drop past name) ≡ b → b ≡ false
-    by true e =
-        let same : length origin ≡ length (drop past name) = same_labels-length origin (drop past name) e in
-        absurd (differ (c ∙ (same ∙ (length-drop past name ∙ sym l))))
-    by false e = refl
-
--- ---- the closest zone
-
--- the zone at a name is the closest to it
-pub closest-here : (zones : List ZoneContent) (labels : List (List ℕ)) (place : ℕ) → place_at zones labels ≡ Some place
-    → closest zones labels ≡ Some place
-closest-here zones [] place e = e
-closest-here zones (label ∷ labels) place e = ap (λ (o : Option ℕ). option_or o (closest zones labels)) e
-
--- without one, the closest is that to the name above it
-pub closest-above : (zones : List ZoneContent) (labels : List (List ℕ)) (past : ℕ) → past < length labels
-    → place_at zones (drop past labels) ≡ None → closest zones (drop past labels) ≡ closest zones (drop (suc past) labels)
-closest-above zones [] past lt none = absurd (omega (arith, lt))
-closest-above zones (label ∷ labels) zero lt none = ap (λ (o : Option ℕ). option_or o (closest zones labels)) none
-closest-above zones (label ∷ labels) (suc past) lt none = closest-above zones labels past (omega (arith, lt)) none
-
--- nothing is above the root
-pub closest-root : (zones : List ZoneContent) (labels : List (List ℕ)) (past : ℕ) → length labels ≤ past
-    → closest zones (drop past labels) ≡ place_at zones (drop past labels)
-closest-root zones labels past le =
-    ap (closest zones) (drop_all past labels le) ∙ sym (ap (place_at zones) (drop_all past labels le))
-
--- a place that was found is that of the closest zone
-pub found-place : (zones : List ZoneContent) (labels : List (List ℕ)) (past : ℕ) (r : Option ℕ) (b : Bool)
-    → closest zones labels ≡ closest zones (drop past labels) → r ≡ place_at zones (drop past labels) → b ≡ is_some r → b ≡ true
-    → r ≡ closest zones labels
-found-place zones labels past None b inv e s t = absurd (cc)
-found-place zones labels past (Some k) b inv e s t = sym (inv ∙ closest-here zones (drop past labels) k (sym e))
-
--- without one, the search goes on above
-pub search-above : (zones : List ZoneContent) (labels : List (List ℕ)) (past : ℕ) (r : Option ℕ) (b : Bool) → past < length labels
-    → closest zones labels ≡ closest zones (drop past labels) → r ≡ place_at zones (drop past labels) → b ≡ is_some r → b ≡ false
-    → closest zones labels ≡ closest zones (drop (past + 1) labels)
-search-above zones labels past None b lt inv e s t =
-    inv ∙ (closest-above zones labels past lt (sym e) ∙ ap (λ (n : ℕ). closest zones (drop n labels)) (sym (add-one past)))
-search-above zones labels past (Some k) b lt inv e s t = absurd (cc)
-
--- and ends at the root
-pub search-end : (zones : List ZoneContent) (labels : List (List ℕ)) (past count : ℕ) (r : Option ℕ) → length labels ≤ past → past ≡ count
-    → closest zones labels ≡ closest zones (drop past labels) → r ≡ place_at zones (drop count labels) → r ≡ closest zones labels
-search-end zones labels past count r le same inv e =
-    e ∙ sym (inv ∙ (closest-root zones labels past le ∙ ap (λ (n : ℕ). place_at zones (drop n labels)) same))
 
 -- ---- zones that can be served
 

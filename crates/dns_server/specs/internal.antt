@@ -1,1 +1,2 @@
 pub mod SetTtls
+pub mod ZoneTable

@@ -2,7 +2,7 @@
 
 ghost use Rattle.std.specs.Prelude.{◌≡◌};
 
-use std::alloc::AllocFailed;
+use std::alloc::{AllocError, AllocFailed};
 use thiserror::Error;
 
 /// Why a zone is not added to a server.
@@ -23,6 +23,17 @@ impl<T: Drop> From<AllocFailed<T>> for AddZoneError {
     ghost from_gives = { λ _ error. error ≡ Memory };
 
     fn from(_error: AllocFailed<T>) -> AddZoneError {
+        AddZoneError::Memory
+    }
+}
+
+impl From<AllocError> for AddZoneError {
+    ghost use Rattle.std.specs.Prelude.{◌≡◌};
+    ghost use Rattle.dns_server.specs.declared.error.AddZoneError.TheVariants.{Memory};
+
+    ghost from_gives = { λ _ error. error ≡ Memory };
+
+    fn from(_error: AllocError) -> AddZoneError {
         AddZoneError::Memory
     }
 }

@@ -8,27 +8,25 @@ ghost use Rattle.dns_server.specs.Maintaining.{IsRecordableOf};
 ghost use Rattle.dns_server.specs.Server.{IsChangeOf, IsReplyBy, Responds, zones_after, zones_by, route};
 ghost use Rattle.dns_server.specs.declared.server.route.Route.TheVariants as by;
 
-mod maintaining;
+pub(crate) mod maintaining;
 mod route;
 mod set_ttls;
 
 use crate::error::AddZoneError;
 use crate::server::route::{Route, route_of};
 use crate::updates::Updates;
+use crate::zone_table::ZoneTable;
 use dns_differences::Difference;
 use dns_messages::Message;
-use dns_names::Name;
 use dns_zone::{Transport, Zone, bare_reply_bytes, decode_request};
 use std::alloc::{AllocError, Global};
 use std::marker::Model;
 
 /// A server of zones. No two zones have the same origin, ignoring ASCII case.
-///
-/// The zone of a request is found by a scan of the zones for the name of its question and each name above it.
 #[derive(Drop)]
 pub struct Server {
     alloc: Global,
-    zones: Vec<Zone>,
+    zones: ZoneTable,
 }
 
 /// What a request has led to.
@@ -52,7 +50,6 @@ pub struct ZoneChange {
 impl Model for Server {
     ghost use Rattle.std.specs.Prelude.{List};
     ghost use Rattle.dns_zone.specs.Rows.{ZoneContent};
-    ghost use Rattle.dns_server.specs.Zones.{AreServable};
     ghost use Rattle.std.specs.Coded.{codes};
     ghost use Rattle.std.specs.FinMap as rows_map;
 
@@ -60,9 +57,7 @@ impl Model for Server {
 
     ghost coded = { Prim.hlevel (codes, rows_map.code) };
 
-    ghost view = { λ server. server.zones.items };
-
-    ghost invariant = { λ server. AreServable server.zones.items };
+    ghost view = { λ server. server.zones };
 }
 
 impl Server {
@@ -72,7 +67,7 @@ impl Server {
     {
         Server {
             alloc,
-            zones: Vec::new(alloc),
+            zones: ZoneTable::new(alloc),
         }
     }
 
@@ -82,6 +77,13 @@ impl Server {
         ensures servable { AreServable self.now }
     {
         self.zones.as_slice()
+    }
+
+    /// Returns the zones as a table, which finds them by their origins.
+    pub fn table(&self) -> &ZoneTable
+        ensures { result.now ≡ self.now }
+    {
+        &self.zones
     }
 
     /// Adds a zone. An error leaves the server unchanged.
@@ -100,11 +102,7 @@ impl Server {
             → result ≡ Err AddZoneError.Duplicate }
         ensures servable { AreServable self.new }
     {
-        if has_zone(self.zones.as_slice(), zone.origin()) {
-            return Err(AddZoneError::Duplicate);
-        }
-        self.zones.push(zone)?;
-        Ok(())
+        self.zones.add(zone)
     }
 
     /// Serves a request: returns its reply, or `None` if the bytes do not decode or are a response. Bytes that do not begin
@@ -168,9 +166,9 @@ impl Server {
         ensures servable { AreServable self.new }
     {
         self.servable();
-        match route_of(self.zones.as_slice(), request, updates) {
+        match route_of(&self.zones, request, updates) {
             Route::Zone(place) => {
-                let served = self.serve_at(place, request, transport)?;
+                let served = self.zones.serve_at(place, request, transport)?;
                 Ok(Served {
                     reply: served.reply,
                     change: Some(ZoneChange {
@@ -189,42 +187,10 @@ impl Server {
         }
     }
 
-    /// Serves a request by the zone at a place.
-    fn serve_at(
-        &mut self,
-        place: usize,
-        request: &Message,
-        transport: Transport,
-    ) -> Result<dns_zone::Served, AllocError>
-        requires sound { IsSound request.now }
-        requires within { place < length self.old }
-        ensures reply { IfOk result (λ served. IsReplyBy self.old (by.Zone place)
-            transport request.now served.reply.items) }
-        ensures ok { OnOk result (self.new ≡ zones_by self.old request.now (by.Zone place)) }
-        ensures change { IfOk result (λ served. IsChangeOf self.old
-            (Some (record { place = place; difference = served.change })) self.new) }
-        ensures recordable { IfOk result (λ served. IsRecordableOf self.old
-            (Some (record { place = place; difference = served.change })) self.new) }
-        ensures err { OnErr result (self.new ≡ self.old) }
-        ensures servable { AreServable self.new }
-    {
-        let zone = &mut self.zones[place];
-        zone.serve_request(request, transport)
-    }
-
     /// Proves that the zones can be served; nothing is computed.
     fn servable(&self)
         ensures { AreServable self.now }
     {
         let _zones = self.zones();
     }
-}
-
-/// Returns `true` if a zone has this origin, ignoring ASCII case.
-fn has_zone(zones: &[Zone], origin: &Name) -> bool
-    ensures { result ≡ has_origin zones.now origin.now.labels }
-{
-    zones
-        .iter()
-        .any(|zone| zone.origin().eq_ignore_root(origin))
 }

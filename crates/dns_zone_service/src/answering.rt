@@ -122,7 +122,7 @@ fn whole_reply(
     ensures servable { AreServable server.now }
 {
     let authority = AuthorityView {
-        zones: server.zones(),
+        zones: server.table(),
         any,
     };
     let reply = respond_to(alloc, &authority, request, transport)?;

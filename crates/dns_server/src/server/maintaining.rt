@@ -14,9 +14,10 @@ ghost use Rattle.dns_updates.specs.Code.{update_code};
 ghost use Rattle.dns_formats.specs.Field.{fields_of};
 ghost use Rattle.dns_codes.specs.RecordType.{type_number};
 
-use crate::server::route::{Route, closest};
+use crate::server::route::Route;
 use crate::server::set_ttls::completed;
 use crate::server::{Served, Server, ZoneChange};
+use crate::zone_table::ZoneTable;
 use dns_codes::DNSClass;
 use dns_data::RData;
 use dns_formats::{fits, format_of};
@@ -50,9 +51,11 @@ impl Server {
         ensures servable { AreServable self.new }
     {
         self.servable();
-        match update_route_of(self.zones.as_slice(), request) {
+        match update_route_of(&self.zones, request) {
             Route::Zone(place) => {
-                let served = self.update_at(place, request, transport, serials)?;
+                let served = self
+                    .zones
+                    .update_at(self.alloc, place, request, transport, serials)?;
                 Ok(Served {
                     reply: served.reply,
                     change: Some(ZoneChange {
@@ -70,34 +73,10 @@ impl Server {
             }
         }
     }
-
-    /// Serves an update by the zone at a place.
-    fn update_at(
-        &mut self,
-        place: usize,
-        request: &Message,
-        transport: Transport,
-        serials: Serials,
-    ) -> Result<dns_zone::Served, AllocError>
-        requires sound { IsSound request.now }
-        requires update { request.now.metadata.op_code ≡ ops.Update }
-        requires within { place < length self.old }
-        ensures reply { IfOk result (λ served. IsReplyBy self.old (by.Zone place)
-            transport request.now served.reply.items) }
-        ensures ok { OnOk result
-            (self.new ≡ maintained_by serials self.old request.now (by.Zone place)) }
-        ensures recordable { IfOk result (λ served. IsRecordableOf self.old
-            (Some (record { place = place; difference = served.change })) self.new) }
-        ensures err { OnErr result (self.new ≡ self.old) }
-        ensures servable { AreServable self.new }
-    {
-        let zone = &mut self.zones[place];
-        update_and_reply(self.alloc, zone, request, transport, serials)
-    }
 }
 
 /// Serves an update by a zone. The reply is encoded before the change.
-fn update_and_reply(
+pub(crate) fn update_and_reply(
     alloc: Global,
     zone: &mut Zone,
     request: &Message,
@@ -148,7 +127,7 @@ fn apply(
 }
 
 /// Returns what decides the reply to an update.
-fn update_route_of(zones: &[Zone], request: &Message) -> Route
+fn update_route_of(zones: &ZoneTable, request: &Message) -> Route
     ensures route { result ≡ update_route zones.now request.now }
     ensures sound { IsRouteOf zones.now result }
 {
@@ -160,14 +139,14 @@ fn update_route_of(zones: &[Zone], request: &Message) -> Route
 }
 
 /// Returns what decides the reply to an update with this zone section.
-fn update_route_by_name(zones: &[Zone], queries: &[Query]) -> Route
+fn update_route_by_name(zones: &ZoneTable, queries: &[Query]) -> Route
     ensures route { result ≡ update_route_by_name zones.now queries.now }
     ensures sound { IsRouteOf zones.now result }
 {
     let [query] = queries else {
         return Route::Code(ResponseCode::FormErr);
     };
-    match closest(zones, &query.name) {
+    match zones.closest(&query.name) {
         Some(place) => Route::Zone(place),
         None => Route::Code(ResponseCode::NotAuth),
     }
