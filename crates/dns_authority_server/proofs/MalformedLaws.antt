@@ -1,11 +1,11 @@
 -- Records of a section that are looked at one after another, up to the first OPT record.
-use Rattle.std.proofs.Common.{◌≡◌, ◌∙◌, sym, refl, ap, subst, ℕ, Bool, true, false, ◌||◌, List, [], ◌∷◌, Option, Some, None}
+use Rattle.std.proofs.Common.{◌≡◌, ◌∙◌, sym, refl, ap, subst, ℕ, Bool, true, false, ◌||◌, List, [], ◌∷◌, Some, None}
 use Rattle.dns_codes.specs.declared.record_type.RecordType.{RecordType}
 use Rattle.dns_codes.specs.declared.record_type.RecordType.TheVariants as types
 use Rattle.dns_messages.specs.Section.{is_opt_type}
 use Rattle.dns_message_view.specs.MessageView.{RawMessage, ReadsRawMessage}
-use Rattle.dns_message_view.specs.RecordView.{RawRecord, IsRecordOf}
-use Rattle.dns_message_view.specs.RecordViews.{HasRecords, LendsFirst, LendsRecord}
+use Rattle.dns_message_view.specs.RecordView.{RawRecord}
+use Rattle.dns_message_view.specs.RecordViews.{HasRecords, LendsRecord}
 use Rattle.dns_message_view.specs.declared.record_view.RecordView.{RecordView}
 use Rattle.dns_message_view.specs.declared.record_views.RecordViews.{RecordViews}
 use Rattle.dns_authority_server.specs.Malformed.{IsOptFound, has_raw_opt}

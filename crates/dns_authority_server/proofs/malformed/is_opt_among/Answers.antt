@@ -15,9 +15,14 @@ returns-in-OPT c =
     (lent (goal.at.returns-in-OPT c).After-next _ c.in-Some.is) c.in-OPT.is
 
 pub loop-record-preserved : goal.loop-record-preserved
-loop-record-preserved c =
-    (tt, (tt, passed c.args.records c.loop-record.record-iterator c.next.new.self c.in-Some.record c.loop-record.invariant.1.1
-    (lent (goal.at.loop-record-preserved c).After-next _ c.in-Some.is) c.in_default.not-OPT))
+loop-record-preserved c = (
+  tt,
+  (
+    tt,
+    passed c.args.records c.loop-record.record-iterator c.next.new.self c.in-Some.record c.loop-record.invariant.1.1
+        (lent (goal.at.loop-record-preserved c).After-next _ c.in-Some.is) c.in_default.not-OPT,
+  ),
+)
 
 pub returns : goal.returns
 returns c =
