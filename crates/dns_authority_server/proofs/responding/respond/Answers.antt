@@ -20,7 +20,7 @@ returns-in_ok-malformed_bytes-in-None-clause-reply c =
       metadata = c.in-Some.metadata;
       peeked = c.in-Some.ensures.some.0;
       asks = c.in-Some.ensures.some.1;
-      has_opt = c.in-None.has_opt.result;
-      is_found = c.in-None.has_opt.ensures;
+      has_opt = c.has_opt.result;
+      is_found = c.has_opt.ensures;
       encodes = c.in_ok-malformed_bytes-in-None.ensures;
     })
