@@ -8,6 +8,7 @@ use Rattle.dns_journal.specs.Storage.{Disk}
 use Rattle.dns_recovery.specs.Updating.{IsOpen}
 use Rattle.dns_recovery.proofs.EventLaws.{ends_weaker}
 use Rattle.dns_zone.specs.Rows.{ZoneContent}
+use Rattle.dns_durable.specs.History.{IsEntryOf}
 use Rattle.dns_durable.specs.Durable.{IsGivenUp, Keeps, LeadsTo, Responds, TakesEntry, TakesEntryFront}
 use Rattle.dns_durable.specs.Incoming.{changes_in}
 use Rattle.dns_durable.specs.Rule.{entry_of}
@@ -115,6 +116,7 @@ keeps_given_up (Err error) old new zones after es up = keeps_refused [] error ol
 
 -- what requests lead to is a call
 pub responds_keep : (policy : Policy) (requests : List Incoming) (outcome : Result Replies AllocError) (old new : Position) (zones after : List ZoneContent) (es : List Event)
-    → Responds policy requests outcome old new zones after es → (entry : List ℕ) × Keeps entry outcome old new zones after es
-responds_keep policy requests outcome old new zones after es (inl up) = ([], keeps_given_up outcome old new zones after es up)
-responds_keep policy requests outcome old new zones after es (inr answers) = (entry_of policy.answering (changes_in answers.admitted), answers.answers.keeps)
+    → Responds policy requests outcome old new zones after es → (entry : List ℕ) × (IsEntryOf policy requests outcome entry × Keeps entry outcome old new zones after es)
+responds_keep policy requests outcome old new zones after es (inl up) = ([], (inl (up.refused, refl), keeps_given_up outcome old new zones after es up))
+responds_keep policy requests outcome old new zones after es (inr answers) =
+    (entry_of policy.answering (changes_in answers.admitted), (inr (answers.admitted, (answers.are_admitted, refl)), answers.answers.keeps))

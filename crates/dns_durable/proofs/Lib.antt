@@ -1,9 +1,12 @@
 pub mod AnsweringLaws
 pub mod BatchLaws
+pub mod CallLaws
 pub mod ChangesLaws
 pub mod CompactionLaws
 pub mod HistoryLaws
+pub mod HistoryWitness
 pub mod KeepingLaws
 pub mod ReplayLaws
 pub mod RuleLaws
 pub mod StoringLaws
+pub mod ZoneWitness

@@ -1,11 +1,11 @@
 -- The text of a zone takes the place of its journal.
 use Rattle.std.specs.Prelude.{◌≡◌, ◌≢◌, ◌⊎◌, ℕ, Bool, true, false, List, [], ◌∷◌, length, None, Result, Ok, Err}
-use Rattle.sha2.specs.Sha256.{sha256}
 use Rattle.dns_journal.specs.declared.error.AppendError.{AppendError}
 use Rattle.dns_journal.specs.declared.journal.Position.{Position}
-use Rattle.dns_journal.specs.Appending.{IsPosition, IsRefusal}
+use Rattle.dns_journal.specs.declared.journal.State.TheVariants as states
+use Rattle.dns_journal.specs.Appending.{IsRefusal}
 use Rattle.dns_journal.specs.Event.{Event}
-use Rattle.dns_recovery.specs.Compacting.{Compacts, mark}
+use Rattle.dns_recovery.specs.Compacting.{AsksToCompact, mark}
 use Rattle.dns_zone.specs.Load.{ReadsZoneIn}
 use Rattle.dns_zone.specs.Printed.{IsZoneText}
 use Rattle.dns_zone.specs.Rows.{ZoneContent}
@@ -25,15 +25,13 @@ pub record IsRewritten (zones : List ZoneContent) (text : List ℕ) (again : Zon
 
 -- A zone's text takes the place of the text and the updates of a journal, if that is done; the zone that is read from it is
 -- served.
-pub record Replaces (done : Bool) (old new : Position) (zones after : List ZoneContent) (es : List Event) : Type 0 where
-  pub text : List ℕ
+pub record Replaces (text : List ℕ) (done : Bool) (old new : Position) (zones after : List ZoneContent) (es : List Event) : Type 0 where
   pub again : ZoneContent
   pub rewritten : IsRewritten zones text again
   pub served : done ≡ true → after ≡ again ∷ []
   pub unchanged : done ≡ false → after ≡ zones
-  pub compacts : (former bytes digest : List ℕ) (payloads : List (List ℕ)) → IsPosition old bytes digest payloads
-      → digest ≡ sha256 former
-      → (sha256 text ≡ sha256 former → text ≡ former) → Compacts old new done former text bytes digest payloads es
+  pub ready : done ≡ true → old.state ≡ states.Ready
+  pub asks : AsksToCompact text done old new es
 
 -- nothing is done
 pub record IsLeftAlone (old new : Position) (zones after : List ZoneContent) (es : List Event) : Type 0 where
@@ -41,13 +39,13 @@ pub record IsLeftAlone (old new : Position) (zones after : List ZoneContent) (es
   pub position : new ≡ old
   pub zones_are : after ≡ zones
 
--- What a compaction asks of a storage, and the zones after it, by its result: nothing, unless the text is ready to take the place of
--- the old one.
-abbrev pub Rewrites : Result (Unit {0}) CompactError → Position → Position → List ZoneContent → List ZoneContent
+-- What a compaction to a text asks of a storage, and the zones after it, by its result: nothing, unless the text is ready to take the
+-- place of the old one.
+abbrev pub Rewrites : List ℕ → Result (Unit {0}) CompactError → Position → Position → List ZoneContent → List ZoneContent
     → List Event → Type 0
-Rewrites (Ok done) old new zones after es = Replaces true old new zones after es
-Rewrites (Err (errors.Journal error)) old new zones after es = Replaces false old new zones after es
-Rewrites (Err other) old new zones after es = IsLeftAlone old new zones after es
+Rewrites text (Ok done) old new zones after es = Replaces text true old new zones after es
+Rewrites text (Err (errors.Journal error)) old new zones after es = Replaces text false old new zones after es
+Rewrites text (Err other) old new zones after es = IsLeftAlone old new zones after es
 
 -- a zone has a text that is not this one
 pub record HasOtherText (zone : ZoneContent) (text : List ℕ) : Type 0 where

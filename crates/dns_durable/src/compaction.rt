@@ -1,6 +1,6 @@
 //! The text of a zone takes the place of its journal.
 
-ghost use Rattle.std.specs.Prelude.{◌≡◌, ◌<◌, ◌↔◌, ◌∷◌, [], string_bytes, false, Ok, IfErr, IfOk, IsOk, IsTrue};
+ghost use Rattle.std.specs.Prelude.{◌≡◌, ◌<◌, ◌↔◌, ◌∷◌, [], List, ℕ, string_bytes, false, Ok, IfErr, IfOk, IsOk, IsTrue};
 ghost use Rattle.dns_journal.specs.Storage.{Performs};
 ghost use Rattle.dns_journal.specs.declared.journal.State.TheVariants as states;
 ghost use Rattle.dns_zone.specs.Printed.{IsZoneText};
@@ -49,8 +49,8 @@ impl<S: Storage> DurableServer<S> {
             self.old.journal.position self.new.journal.position) }
         ensures key { IsOk result → self.new.journal.position.key ≡ key }
         ensures performs { Performs S.performs self.old.journal.storage self.new.journal.storage
-            (Rewrites result self.old.journal.position self.new.journal.position self.old.server
-            self.new.server) }
+            (λ es. (text : List ℕ) × Rewrites text result self.old.journal.position
+            self.new.journal.position self.old.server self.new.server es) }
     {
         let Rewritten { text, zone } = zone_text(alloc, self.server.zones())?;
         let server = server_of(alloc, zone)?;

@@ -54,6 +54,7 @@ module _ (old : Position) (text new bytes digest : List ℕ) (payloads : List (L
   -- while the mark is appended
   pub appending : (files : Files) → IsBeforeOrAfter old text bytes digest payloads (mark new) files → IsOldOrNew old text new bytes digest payloads files
   appending files before = record {
+    text_is = inl before.text_is;
     stands = λ left. inl (
       before.text_is,
       ⊎_elim (λ a. recovers_old files payloads before.text_is a refl) (λ b. recovers_old files (payloads ++ mark new ∷ []) before.text_is b (marked_updates payloads new)) (before.journal left),
@@ -66,6 +67,7 @@ module _ (old : Position) (text new bytes digest : List ℕ) (payloads : List (L
       let more = payloads ++ mark new ∷ [] in
       let read : IsJournal files.journal head more [] = subst (λ (l : List ℕ). IsJournal l head more []) (sym journal_is) is in
       record {
+        text_is = inr same;
         stands = λ left. elim (same_list digest (sha256 new)) [
           | inl e ↦ let former : files.text ≡ text = same ∙ one_text (sym e ∙ belongs) in inl (former, recovers_old files more former (record { head = head; end = []; is = read; of_text = of_text }) (marked_updates payloads new))
           | inr differs ↦ inr (
@@ -84,6 +86,7 @@ module _ (old : Position) (text new bytes digest : List ℕ) (payloads : List (L
   -- the new text, with a new journal
   pub begun : (files : Files) (journal head : List ℕ) → digest_in head ≡ sha256 new → IsJournal journal head [] [] → files.text ≡ new → files.journal ≡ journal → IsOldOrNew old text new bytes digest payloads files
   begun files journal head of_text is same journal_is = record {
+    text_is = inr same;
     stands = λ left. inr (
       same,
       record {
@@ -102,6 +105,7 @@ module _ (old : Position) (text new bytes digest : List ℕ) (payloads : List (L
       let more = payloads ++ mark new ∷ [] in
       let read : IsJournal files.journal head more [] = subst (λ (l : List ℕ). IsJournal l head more []) (sym journal_is) is in
       record {
+        text_is = inl same;
         stands = λ left. inl (same, recovers_old files more same (record { head = head; end = []; is = read; of_text = of_text }) (marked_updates payloads new));
       }
 
@@ -148,7 +152,7 @@ module _ (old : Position) (text new bytes digest : List ℕ) (payloads : List (L
   before_it : IsPosition old bytes digest payloads → LeavesOnly (IsOldOrNew old text new bytes digest payloads) (at_rest text bytes)
   before_it at files leaves =
       let same : IsJournal files.journal at.head payloads [] = subst (λ (l : List ℕ). IsJournal l at.head payloads []) (sym (rest_is text bytes files leaves)) at.journal in
-      record { stands = λ left. inl (leaves.text, recovers_old files payloads leaves.text (record { head = at.head; end = []; is = same; of_text = at.of_text }) refl) }
+      record { text_is = inl leaves.text; stands = λ left. inl (leaves.text, recovers_old files payloads leaves.text (record { head = at.head; end = []; is = same; of_text = at.of_text }) refl) }
 
   -- nothing was asked
   pub nothing_done : IsPosition old bytes digest payloads → Compacts old old false text new bytes digest payloads []

@@ -1,3 +1,4 @@
+pub mod AskingLaws
 pub mod BeginningLaws
 pub mod CompactingLaws
 pub mod EventLaws

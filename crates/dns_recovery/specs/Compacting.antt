@@ -43,8 +43,10 @@ pub record Recovers (files : Files) (updates : List (List ℕ)) : Type 0 where
   pub by : ((digest_in head ≡ sha256 files.text) × (updates ≡ updates_in payloads))
       ⊎ ((digest_in head ≢ sha256 files.text) × ((last_payload payloads ≡ mark files.text) × (updates ≡ [])))
 
--- Files stand for the old text with its updates, or for the new text without any, if a crash leaves of the mark what it may leave.
+-- Files have the old text or the new one. They stand for the old one with its updates, or for the new one without any, if a crash
+-- leaves of the mark what it may leave.
 pub record IsOldOrNew (old : Position) (text new bytes digest : List ℕ) (payloads : List (List ℕ)) (files : Files) : Type 0 where
+  pub text_is : (files.text ≡ text) ⊎ (files.text ≡ new)
   pub stands : IsRemainder old (mark new) (drop (length bytes) files.journal)
       → ((files.text ≡ text) × Recovers files (updates_in payloads)) ⊎ ((files.text ≡ new) × Recovers files [])
 
@@ -63,3 +65,11 @@ pub record Compacts (old_position new_position : Position) (done : Bool) (text n
   pub position : done ≡ true → IsPosition new_position (header (sha256 new ++ new_position.key)) (sha256 new) []
   pub ready : done ≡ true → new_position.state ≡ states.Ready
   pub refused : done ≡ false → new_position.state ≡ states.Ready → (es ≡ []) × (new_position ≡ old_position)
+
+-- What a compaction to a text asks of a storage: what keeps the updates of each text that the journal may belong to, unless that has
+-- the same digest; and nothing if the journal is not ready.
+pub record AsksToCompact (new : List ℕ) (done : Bool) (old_position new_position : Position) (es : List Event) : Type 0 where
+  pub compacts : (text bytes digest : List ℕ) (payloads : List (List ℕ)) → IsPosition old_position bytes digest payloads
+      → digest ≡ sha256 text → (sha256 new ≡ sha256 text → new ≡ text)
+      → Compacts old_position new_position done text new bytes digest payloads es
+  pub idle : old_position.state ≢ states.Ready → (es ≡ []) × (new_position ≡ old_position)

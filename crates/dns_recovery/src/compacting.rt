@@ -1,13 +1,13 @@
 //! A text and its journal are replaced.
 
-ghost use Rattle.std.specs.Prelude.{◌≡◌, ◌++◌, List, ℕ, length, is_ok, IfErr, IfOk, IsOk};
+ghost use Rattle.std.specs.Prelude.{◌≡◌, ◌++◌, length, is_ok, IfErr, IfOk, IsOk};
 ghost use Rattle.sha2.specs.Sha256.{sha256};
 ghost use Rattle.dns_journal_format.specs.Format.{header};
-ghost use Rattle.dns_journal.specs.Appending.{IsPosition, IsRefusal};
+ghost use Rattle.dns_journal.specs.Appending.{IsRefusal};
 ghost use Rattle.dns_journal.specs.Storage.{Performs};
 ghost use Rattle.dns_journal.specs.declared.journal.State.TheVariants as states;
 ghost use Rattle.dns_recovery.specs.Beginning.{IsFirst};
-ghost use Rattle.dns_recovery.specs.Compacting.{mark, Compacts, IsReplaced};
+ghost use Rattle.dns_recovery.specs.Compacting.{mark, AsksToCompact, IsReplaced};
 
 use crate::beginning::{NewJournal, new_journal};
 use dns_journal::{AppendError, Journal, Position, State, Storage};
@@ -45,11 +45,8 @@ pub fn compact<S: Storage>(
     ensures refused { IfErr result
         (IsRefusal journal.old.position (mark text.now) journal.new.position) }
     ensures key { IsOk result → journal.new.position.key ≡ key }
-    ensures performs { Performs S.performs journal.old.storage journal.new.storage (λ es.
-        (old bytes digest : List ℕ) (payloads : List (List ℕ))
-        → IsPosition journal.old.position bytes digest payloads → digest ≡ sha256 old
-        → (sha256 text.now ≡ sha256 old → text.now ≡ old)
-        → Compacts journal.old.position journal.new.position (is_ok result) old text.now bytes digest payloads es) }
+    ensures performs { Performs S.performs journal.old.storage journal.new.storage (AsksToCompact
+        text.now (is_ok result) journal.old.position journal.new.position) }
 {
     a_header_is_a_journal();
     let replacement = match replacement_of(alloc, text, key) {

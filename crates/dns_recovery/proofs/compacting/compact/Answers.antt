@@ -1,11 +1,12 @@
-use Rattle.std.proofs.Common.{◌≡◌, [], ◌++◌, ℕ, true, false, List, refl, subst, ◌∙◌}
+use Rattle.std.proofs.Common.{◌≡◌, [], ◌++◌, ℕ, true, false, List, inl, inr, refl, subst, ◌∙◌}
 use Rattle.sha2.specs.Sha256.{sha256}
 use Rattle.dns_journal_format.specs.Format.{header}
 use Rattle.dns_journal.specs.declared.journal.State.TheVariants as states
 use Rattle.dns_journal.specs.Appending.{Appends, IsPosition}
 use Rattle.dns_recovery.specs.Compacting.{IsReplaced, mark}
 use Rattle.dns_recovery.proofs.BeginningLaws.{first_digest, first_position, head_len}
-use Rattle.dns_recovery.proofs.CompactingLaws.{all_done, append_refused, nothing_done, replace_failed}
+use Rattle.dns_recovery.proofs.CompactingLaws.{all_done, replace_failed}
+use Rattle.dns_recovery.proofs.AskingLaws.{asks_done, asks_idle, asks_nothing, asks_refused, ready_or}
 use Rattle.dns_recovery.proofs.EventLaws.{led_append}
 use Rattle.dns_recovery.proofs.compacting.compact.Goals as goal
 
@@ -13,21 +14,30 @@ pub returns-in-Err-clause-performs : goal.returns-in-Err-clause-performs
 returns-in-Err-clause-performs g c = record {
   events = [];
   led = refl;
-  holds = λ old bytes digest payloads at belongs one. nothing_done c.args.journal.now.position old c.args.text.now bytes digest payloads belongs one at;
+  holds = asks_nothing c.args.text.now c.args.journal.now.position;
 }
 
 pub returns-in-Err-append-clause-performs : goal.returns-in-Err-append-clause-performs
 returns-in-Err-append-clause-performs g c =
     let mark_is : c.as_slice.result.now ≡ mark c.args.text.now = c.as_slice.ensures.value ∙ c.in-Ok.ensures.mark in
+    let text = c.args.text.now in
     let p = c.args.journal.now.position in
     let q = c.append.new.self.position in
-    let es = c.in-Err-append.ensures.performs.events in
-    record {
-      events = es;
-      led = c.in-Err-append.ensures.performs.led;
-      holds = λ old bytes digest payloads at belongs one. append_refused p old c.args.text.now bytes digest payloads belongs one q es
-          (subst (λ (m : List ℕ). Appends p q m false old bytes digest payloads es) mark_is (c.in-Err-append.ensures.performs.holds old bytes digest payloads at));
-    }
+    let asked = c.in-Err-append.ensures.calls in
+    let appended = c.in-Err-append.ensures.performs in
+    elim (ready_or p.state) [
+      | inl ready ↦ record {
+        events = appended.events;
+        led = appended.led;
+        holds = asks_refused text p q appended.events ready
+            (λ bytes digest payloads at old. subst (λ (m : List ℕ). Appends p q m false old bytes digest payloads appended.events) mark_is (appended.holds old bytes digest payloads at));
+      }
+      | inr not ↦ record {
+        events = asked.events;
+        led = asked.led;
+        holds = asks_idle text _ _ p q c.in-Err-append.error asked.events not c.in-Err-append.ensures.refused asked.holds;
+      }
+    ]
 
 pub returns-in-Ready-clause-performs : goal.returns-in-Ready-clause-performs
 returns-in-Ready-clause-performs g c =
@@ -46,9 +56,9 @@ returns-in-Ready-clause-performs g c =
     record {
       events = es ++ c.in-Ready.ensures.events;
       led = led_append g.S.Storage.performs _ _ _ es c.in-Ready.ensures.events c.in-Ok-append.ensures.performs.led c.in-Ready.ensures.led;
-      holds = λ old bytes digest payloads at belongs one. all_done p old c.args.text.now bytes digest payloads belongs one q es
+      holds = asks_done c.args.text.now true p r _ (c.in-Ok-append.ensures.ready refl) (λ old bytes digest payloads at belongs one. all_done p old c.args.text.now bytes digest payloads belongs one q es
           (subst (λ (m : List ℕ). Appends p q m true old bytes digest payloads es) mark_is (c.in-Ok-append.ensures.performs.holds old bytes digest payloads at)) key of_new begun r
-          c.in-Ready.ensures.events (subst (λ (j : List ℕ). IsReplaced c.args.text.now j states.Ready c.in-Ready.ensures.events) header_is c.in-Ready.ensures.holds) at_end c.in-Ok.ensures.position.key_is c.in-Ok.ensures.position.ready;
+          c.in-Ready.ensures.events (subst (λ (j : List ℕ). IsReplaced c.args.text.now j states.Ready c.in-Ready.ensures.events) header_is c.in-Ready.ensures.holds) at_end c.in-Ok.ensures.position.key_is c.in-Ok.ensures.position.ready);
     }
 
 pub returns-in-Torn-clause-performs : goal.returns-in-Torn-clause-performs
@@ -65,9 +75,9 @@ returns-in-Torn-clause-performs g c =
     record {
       events = es ++ c.in-Torn.ensures.events;
       led = led_append g.S.Storage.performs _ _ _ es c.in-Torn.ensures.events c.in-Ok-append.ensures.performs.led c.in-Torn.ensures.led;
-      holds = λ old bytes digest payloads at belongs one. replace_failed p old c.args.text.now bytes digest payloads belongs one q es
+      holds = asks_done c.args.text.now false p _ _ (c.in-Ok-append.ensures.ready refl) (λ old bytes digest payloads at belongs one. replace_failed p old c.args.text.now bytes digest payloads belongs one q es
           (subst (λ (m : List ℕ). Appends p q m true old bytes digest payloads es) mark_is (c.in-Ok-append.ensures.performs.holds old bytes digest payloads at)) key of_new begun _ states.Torn
-          c.in-Torn.ensures.events (subst (λ (j : List ℕ). IsReplaced c.args.text.now j states.Torn c.in-Torn.ensures.events) header_is c.in-Torn.ensures.holds) refl;
+          c.in-Torn.ensures.events (subst (λ (j : List ℕ). IsReplaced c.args.text.now j states.Torn c.in-Torn.ensures.events) header_is c.in-Torn.ensures.holds) refl);
     }
 
 pub returns-clause-performs : goal.returns-clause-performs
@@ -84,7 +94,7 @@ returns-clause-performs g c =
     record {
       events = es ++ c.in-Lost.ensures.events;
       led = led_append g.S.Storage.performs _ _ _ es c.in-Lost.ensures.events c.in-Ok-append.ensures.performs.led c.in-Lost.ensures.led;
-      holds = λ old bytes digest payloads at belongs one. replace_failed p old c.args.text.now bytes digest payloads belongs one q es
+      holds = asks_done c.args.text.now false p _ _ (c.in-Ok-append.ensures.ready refl) (λ old bytes digest payloads at belongs one. replace_failed p old c.args.text.now bytes digest payloads belongs one q es
           (subst (λ (m : List ℕ). Appends p q m true old bytes digest payloads es) mark_is (c.in-Ok-append.ensures.performs.holds old bytes digest payloads at)) key of_new begun _ states.Lost
-          c.in-Lost.ensures.events (subst (λ (j : List ℕ). IsReplaced c.args.text.now j states.Lost c.in-Lost.ensures.events) header_is c.in-Lost.ensures.holds) refl;
+          c.in-Lost.ensures.events (subst (λ (j : List ℕ). IsReplaced c.args.text.now j states.Lost c.in-Lost.ensures.events) header_is c.in-Lost.ensures.holds) refl);
     }

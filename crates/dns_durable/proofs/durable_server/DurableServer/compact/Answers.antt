@@ -1,8 +1,7 @@
 use Rattle.std.proofs.Common.{◌≡◌, [], ℕ, List, true, false, refl, ap, subst, ◌∙◌}
 use Rattle.std.specs.String.{string_bytes}
-use Rattle.sha2.specs.Sha256.{sha256}
-use Rattle.dns_journal.specs.Appending.{IsPosition, IsRefusal}
-use Rattle.dns_recovery.specs.Compacting.{Compacts, mark}
+use Rattle.dns_journal.specs.Appending.{IsRefusal}
+use Rattle.dns_recovery.specs.Compacting.{AsksToCompact, mark}
 use Rattle.dns_zone.specs.Rows.{ZoneContent}
 use Rattle.dns_durable.specs.Compaction.{IsRewritten}
 use Rattle.dns_durable.proofs.durable_server.DurableServer.compact.Goals as goal
@@ -16,17 +15,16 @@ returns-in-Ok-clause-performs g c =
     record {
       events = es;
       led = c.in-Ok.ensures.performs.led;
-      holds = record {
-        text = text;
+      holds = (text, record {
         again = c.in_ok-text.zone;
         rewritten = subst (λ (z : List ZoneContent). IsRewritten z text c.in_ok-text.zone) c.zones.ensures.zones
             (subst (λ (o : ZoneContent). IsRewritten c.zones.result.now text o) c.in_ok-text.zone-is
             (subst (λ (t : _). IsRewritten c.zones.result.now (string_bytes t) c.in_ok-text.field-0.zone) c.in_ok-text.text-is c.in_ok-text.ensures.rewritten));
         served = λ _. cc (c.in_ok-server.ensures.ok, c.in_ok-text.zone-is);
         unchanged = λ e. absurd cc;
-        compacts = subst (λ (t : List ℕ). (former bytes digest : List ℕ) (payloads : List (List ℕ)) → IsPosition p bytes digest payloads → digest ≡ sha256 former
-            → (sha256 t ≡ sha256 former → t ≡ former) → Compacts p q true former t bytes digest payloads es) (c.as_bytes.ensures.value ∙ ap (λ (t : _). string_bytes t) c.in_ok-text.text-is) c.in-Ok.ensures.performs.holds;
-      };
+        ready = λ _. c.in-Ok.ensures.ready refl;
+        asks = subst (λ (t : List ℕ). AsksToCompact t true p q es) (c.as_bytes.ensures.value ∙ ap (λ (t : _). string_bytes t) c.in_ok-text.text-is) c.in-Ok.ensures.performs.holds;
+      });
     }
 
 pub returns-clause-performs : goal.returns-clause-performs
@@ -38,17 +36,16 @@ returns-clause-performs g c =
     record {
       events = es;
       led = c.in-Err.ensures.performs.led;
-      holds = record {
-        text = text;
+      holds = (text, record {
         again = c.in_ok-text.zone;
         rewritten = subst (λ (z : List ZoneContent). IsRewritten z text c.in_ok-text.zone) c.zones.ensures.zones
             (subst (λ (o : ZoneContent). IsRewritten c.zones.result.now text o) c.in_ok-text.zone-is
             (subst (λ (t : _). IsRewritten c.zones.result.now (string_bytes t) c.in_ok-text.field-0.zone) c.in_ok-text.text-is c.in_ok-text.ensures.rewritten));
         served = λ e. absurd cc;
         unchanged = λ _. refl;
-        compacts = subst (λ (t : List ℕ). (former bytes digest : List ℕ) (payloads : List (List ℕ)) → IsPosition p bytes digest payloads → digest ≡ sha256 former
-            → (sha256 t ≡ sha256 former → t ≡ former) → Compacts p q false former t bytes digest payloads es) (c.as_bytes.ensures.value ∙ ap (λ (t : _). string_bytes t) c.in_ok-text.text-is) c.in-Err.ensures.performs.holds;
-      };
+        ready = λ e. absurd cc;
+        asks = subst (λ (t : List ℕ). AsksToCompact t false p q es) (c.as_bytes.ensures.value ∙ ap (λ (t : _). string_bytes t) c.in_ok-text.text-is) c.in-Err.ensures.performs.holds;
+      });
     }
 
 pub returns-clause-refused : goal.returns-clause-refused
