@@ -1,7 +1,6 @@
 -- Calls of a history: what batches and compactions that succeed or are refused ask of a storage, and what they leave.
-use Rattle.std.proofs.Common.{◌≡◌, ◌≢◌, ◌+◌, ℕ, Bool, true, false, List, [], ◌∷◌, ◌++◌, length, take, drop, Result, Ok, Err, refl, sym, ap, subst, ◌∙◌, arith, inl, inr, length-append}
+use Rattle.std.proofs.Common.{◌≡◌, ◌≢◌, ◌+◌, ℕ, Bool, true, false, List, [], ◌∷◌, ◌++◌, length, take, drop, Ok, refl, sym, ap, subst, ◌∙◌, arith, inr, length-append}
 use Rattle.std.proofs.lemmas.List.{take_at, drop_at, length-take}
-use Rattle.std.specs.declared.alloc.AllocError.{AllocError}
 use Rattle.sha2.specs.Sha256.{sha256}
 use Rattle.dns_journal_format.specs.Format.{entry, first_link, header, next, IsShort}
 use Rattle.dns_journal_format.proofs.JournalLaws.{appended, new_journal, torn_write_cut}
@@ -13,7 +12,7 @@ use Rattle.dns_journal.specs.Event.{Event, Files}
 use Rattle.dns_journal.specs.Event as events
 use Rattle.dns_journal.specs.Storage.{Disk, Leaves, appended as written, at_rest}
 use Rattle.dns_journal.proofs.CrashLaws.{ready_appends}
-use Rattle.dns_recovery.specs.Compacting.{AsksToCompact, mark}
+use Rattle.dns_recovery.specs.Compacting.{mark}
 use Rattle.dns_recovery.specs.Updating.{IsOpen, update_payload}
 use Rattle.dns_recovery.proofs.AskingLaws.{asks_done}
 use Rattle.dns_recovery.proofs.BeginningLaws.{first_digest, first_position, head_len}

@@ -1,5 +1,5 @@
 -- What a crash leaves of the updates of calls.
-use Rattle.std.proofs.Common.{◌≡◌, ◌≢◌, ◌⊎◌, ℕ, Bool, true, false, List, [], ◌∷◌, ◌++◌, length, drop, Result, Ok, Err, refl, sym, ap, subst, ◌∙◌, inl, inr, ⊎_elim, append_assoc, append-nil}
+use Rattle.std.proofs.Common.{◌≡◌, ◌≢◌, ◌⊎◌, ℕ, Bool, true, false, List, [], ◌∷◌, ◌++◌, drop, Result, Ok, Err, refl, sym, ap, subst, ◌∙◌, inl, inr, ⊎_elim, append_assoc, append-nil}
 use Rattle.std.specs.declared.alloc.AllocError.{AllocError}
 use Rattle.sha2.specs.Sha256.{sha256}
 use Rattle.dns_journal_format.specs.Format.{header}
@@ -8,23 +8,23 @@ use Rattle.dns_journal.specs.declared.journal.State.TheVariants as states
 use Rattle.dns_journal.specs.Appending.{IsRemainder}
 use Rattle.dns_journal.specs.Event.{Event, Files}
 use Rattle.dns_journal.specs.Storage.{Always, Disk, Ends, LeavesOnly, at_rest}
-use Rattle.dns_recovery.specs.Compacting.{Compacts, IsOldOrNew, Recovers, mark}
+use Rattle.dns_recovery.specs.Compacting.{IsOldOrNew, Recovers, mark}
 use Rattle.dns_recovery.specs.Updating.{IsOpen}
 use Rattle.dns_recovery.proofs.AskingLaws.{ready_or}
 use Rattle.dns_recovery.proofs.EventLaws.{always_weaker, ends_then, ends_weaker}
 use Rattle.dns_recovery.proofs.UpdatingLaws.{open_stands}
 use Rattle.dns_zone.specs.Rows.{ZoneContent}
 use Rattle.dns_durable.specs.Compaction.{IsLeftAlone, IsRewritten, Replaces, Rewrites}
-use Rattle.dns_durable.specs.Durable.{Commits, EndsIn, IsUnchanged, Keeps, LeadsTo, is_acknowledged}
+use Rattle.dns_durable.specs.Durable.{Commits, EndsIn, IsUnchanged, LeadsTo, is_acknowledged}
 use Rattle.dns_durable.specs.declared.durable_server.Replies.{Replies}
 use Rattle.dns_durable.specs.declared.error.CompactError.{CompactError}
 use Rattle.dns_durable.specs.declared.error.CompactError.TheVariants as errors
-use Rattle.dns_durable.specs.History.{AreBatches, AreGenuine, AreInJournal, AreInLastText, AreInText, AreReady, Call, Deed, HasOwnDigest, HaveOwnDigests, IsBatch, IsGenuineOf, IsMade, IsServed, IsTextOf, KeepsContract, Kept, Outlasts, OutlastsInJournal, Runs, Serves, StandAfter, Writes, entries_in, events_of, is_done, position_after, text_after}
+use Rattle.dns_durable.specs.History.{AreBatches, AreGenuine, AreInJournal, AreReady, Call, Deed, HasOwnDigest, HaveOwnDigests, IsBatch, IsGenuineOf, IsMade, IsServed, IsTextOf, KeepsContract, Kept, Outlasts, OutlastsInJournal, Runs, StandAfter, Writes, entries_in, events_of, is_done, position_after, text_after}
 use Rattle.dns_durable.specs.History.Deed.{batch, compaction}
 use Rattle.dns_durable.specs.History.Kept.{nothing, with_it, without_it}
 use Rattle.dns_durable.specs.History.Runs.{a_call}
 use Rattle.dns_durable.specs.History.Serves.{serves_none, serves_call}
-use Rattle.dns_durable.specs.Storing.{IsWithOrWithout, entries_of}
+use Rattle.dns_durable.specs.Storing.{IsWithOrWithout}
 use Rattle.dns_durable.proofs.StoringLaws.{entries_none}
 
 -- what always holds, holds at the end
@@ -224,14 +224,14 @@ interrupted text updates p zones c files ready at = record {
   text_is = at.text_is;
   stands = λ genuine. ⊎_elim
       (λ old. inl (⊎_elim (λ a. in_journal text updates [] c.deed files old.0 nothing a)
-          (λ b. record {
-            text_is = old.0;
-            kept = [];
-            last = entries_in c.deed;
-            are_kept = nothing;
-            is_last = inr refl;
-            recovers = subst (λ (l : List (List ℕ)). Recovers files (l ++ entries_in c.deed)) (sym (append-nil updates)) b.1;
-          }) old.1))
+      (λ b. record {
+        text_is = old.0;
+        kept = [];
+        last = entries_in c.deed;
+        are_kept = nothing;
+        is_last = inr refl;
+        recovers = subst (λ (l : List (List ℕ)). Recovers files (l ++ entries_in c.deed)) (sym (append-nil updates)) b.1;
+      }) old.1))
       (λ is_new. inr (inr (record {
         writes = is_new.0;
         is_text = record { served = zones; again = is_new.1.0.0; serves = serves_none; rewritten = is_new.1.0.1 };
@@ -246,15 +246,15 @@ after_stuck text updates p zones b done c files ready stopped not kept at = reco
   text_is = ⊎_elim (λ same. inl (of_former text (done ++ c ∷ []) files.text same)) (λ writes. inr writes) at.text_is;
   stands = λ genuine. ⊎_elim
       (λ old. inl (⊎_elim (λ a. in_journal text updates (b ∷ done) c.deed files old.0 (without_it {c = b} not kept) a)
-          (λ with_batch. record {
-            text_is = old.0;
-            kept = entries_in b.deed ++ [];
-            last = [];
-            are_kept = with_it {c = b} (with_batch.0, inr stopped) kept;
-            is_last = inl refl;
-            recovers = subst (λ (l : List (List ℕ)). Recovers files l)
-                (sym (append-nil (updates ++ (entries_in b.deed ++ [])) ∙ ap (λ (l : List (List ℕ)). updates ++ l) (append-nil (entries_in b.deed)))) with_batch.1;
-          }) old.1))
+      (λ with_batch. record {
+        text_is = old.0;
+        kept = entries_in b.deed ++ [];
+        last = [];
+        are_kept = with_it {c = b} (with_batch.0, inr stopped) kept;
+        is_last = inl refl;
+        recovers = subst (λ (l : List (List ℕ)). Recovers files l)
+            (sym (append-nil (updates ++ (entries_in b.deed ++ [])) ∙ ap (λ (l : List (List ℕ)). updates ++ l) (append-nil (entries_in b.deed)))) with_batch.1;
+      }) old.1))
       (λ is_new. inr (inl (record {
         before = [];
         compacted = b;

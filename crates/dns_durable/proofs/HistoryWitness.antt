@@ -1,6 +1,6 @@
 -- Runs of a server that meet what the laws of crashes ask: an update, a query, updates that are refused, a second update, and a crash
 -- that tears the write of a third one at the end of its frame; and the same with a compaction before the second update.
-use Rattle.std.proofs.Common.{◌≡◌, ◌≢◌, ◌⊎◌, ◌∙◌, ℕ, Bool, true, false, List, [], ◌∷◌, ◌++◌, length, drop, Result, Ok, Err, refl, sym, ap, subst, arith, inl, inr, ⊎_elim, append-nil}
+use Rattle.std.proofs.Common.{◌≡◌, ◌⊎◌, ◌∙◌, ℕ, Bool, true, false, List, [], ◌∷◌, ◌++◌, length, Ok, refl, sym, ap, subst, inl, inr, ⊎_elim, append-nil}
 use Rattle.dns_journal_format.specs.Format.{entry}
 use Rattle.dns_journal.specs.declared.journal.Position.{Position}
 use Rattle.dns_journal.specs.declared.journal.State.TheVariants as states
@@ -211,11 +211,11 @@ module _ (replies refusals : Replies) (is : replies.is_stored ≡ true) (not : r
       rewritten = rewritten;
     },
     ⊎_elim not_first (λ replaced_once. ⊎_elim
-    (λ at.
-    let journal : AreInJournal next_text [] (then_two ∷ []) then_three.deed left_again =
-    subst (λ (l : List Call). AreInJournal next_text [] l then_three.deed left_again) (after_it at.before at.compacted at.rest next_text at.done_is at.writes) at.journal in
-    let a = kept_done then_two [] journal.kept is journal.are_kept in
-    kept_last left_again frames_three (frames_two ∷ []) journal.kept journal.last (Ok replies) refl
-    (a.1.1 ∙ ap (λ (l : List (List ℕ)). frames_two ∷ l) (kept_none a.0 a.1.0)) journal.is_last journal.recovers)
-    (λ at. absurd at.writes) replaced_once) stands,
+        (λ at.
+        let journal : AreInJournal next_text [] (then_two ∷ []) then_three.deed left_again =
+        subst (λ (l : List Call). AreInJournal next_text [] l then_three.deed left_again) (after_it at.before at.compacted at.rest next_text at.done_is at.writes) at.journal in
+        let a = kept_done then_two [] journal.kept is journal.are_kept in
+        kept_last left_again frames_three (frames_two ∷ []) journal.kept journal.last (Ok replies) refl
+        (a.1.1 ∙ ap (λ (l : List (List ℕ)). frames_two ∷ l) (kept_none a.0 a.1.0)) journal.is_last journal.recovers)
+        (λ at. absurd at.writes) replaced_once) stands,
   )

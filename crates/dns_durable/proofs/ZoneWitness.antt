@@ -1,5 +1,5 @@
 -- A zone, updates of it that add a TXT record each, and its text after the first one.
-use Rattle.std.proofs.Common.{◌≡◌, ◌≢◌, ◌≤◌, ◌<◌, ◌∙◌, arith, ℕ, Bool, true, false, cond, List, [], ◌∷◌, ◌++◌, length, refl, sym, ap, subst, Option, Some, None, Ok, unwrap_or, is_some, ◌||◌, ◌==◌, ◌^◌, get_or}
+use Rattle.std.proofs.Common.{◌≡◌, ◌≢◌, ◌≤◌, ◌<◌, ◌∙◌, arith, ℕ, Bool, true, false, cond, List, [], ◌∷◌, length, refl, sym, ap, subst, Option, Some, None, Ok, unwrap_or, is_some, ◌||◌, ◌==◌, ◌^◌, get_or}
 use Rattle.std.proofs.lemmas.Bool.Decides.{nat_tests}
 use Rattle.std.specs.FinMap as rows_map
 use Rattle.std.specs.Fmt.{digits}
@@ -10,7 +10,7 @@ use Rattle.sha2.specs.Sha256.{first_words, schedule, rounds, compress, hash_afte
 use Rattle.dns_codes.specs.declared.dns_class.DNSClass.TheVariants.{IN}
 use Rattle.dns_codes.specs.declared.record_type.RecordType.TheVariants as types
 use Rattle.dns_data.specs.declared.rdata.RData.TheVariants as of
-use Rattle.dns_messages.specs.Cut.{cut, cut_form, front_reach}
+use Rattle.dns_messages.specs.Cut.{cut_form}
 use Rattle.dns_messages.specs.Header.{new_metadata}
 use Rattle.dns_messages.specs.Message.{empty_message}
 use Rattle.dns_messages.specs.Sound.{IsSound}
@@ -35,7 +35,7 @@ use Rattle.dns_server.specs.declared.updates.Updates.TheVariants.{Allowed}
 use Rattle.dns_zone.proofs.KeptLaws.{tied_key}
 use Rattle.dns_zone.specs.Printed.{AreZoneSets, IsZoneText, zone_text}
 use Rattle.dns_zone.specs.Request.{IsRequest}
-use Rattle.dns_zone.specs.Rows.{Key, Rows, ZoneContent, AreSoundSets, IsSoundRow, IsSoundSet, key_cmp, rows_of_sets, zone_of}
+use Rattle.dns_zone.specs.Rows.{Key, Rows, ZoneContent, AreSoundSets, IsSoundRow, key_cmp, zone_of}
 use Rattle.dns_zone.proofs.RowLaws.{key_antisymmetric, key_total}
 use Rattle.dns_zone_service.specs.declared.answering.Answering.TheVariants.{Plain}
 use Rattle.dns_journal_format.specs.Format.{IsShort}

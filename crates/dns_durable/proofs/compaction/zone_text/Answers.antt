@@ -1,4 +1,4 @@
-use Rattle.std.proofs.Common.{[], ℕ, List, true, None, Ok, Err, ap, inl, inr, subst, sym, ◌∙◌}
+use Rattle.std.proofs.Common.{[], ℕ, List, None, Ok, Err, ap, inl, inr, subst, sym, ◌∙◌}
 use Rattle.std.specs.String.{string_bytes}
 use Rattle.dns_zone.specs.Load.{ReadsZoneIn}
 use Rattle.dns_zone.specs.Printed.{IsZoneText}

@@ -1,4 +1,4 @@
-use Rattle.std.proofs.Common.{List, length, map}
+use Rattle.std.proofs.Common.{length, map}
 use Rattle.dns_durable.proofs.ReplayLaws.{HasReplayed}
 use Rattle.dns_durable.proofs.replaying.replay.Given as goal
 
