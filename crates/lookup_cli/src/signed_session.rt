@@ -55,7 +55,8 @@ impl<N: Network + Drop, I: IdSource + Drop> SignedSession<N, I> {
         ensures { IfOk result (IsSignedCode
             (network_calls N.sends N.receives N.streams N.reads_clock)
             self.old.pool.requester.network.signer.key self.old.pool.requester.network.base
-            update.now) }
+            update.now self.old.pool.requester.network.network
+            self.new.pool.requester.network.network) }
     {
         send_signed_update(&mut self.pool, update)
     }

@@ -1,1 +1,4 @@
+mod ArrivalLaws
+mod RepliedLaws
 mod SignedLaws
+mod SignedWitness

@@ -43,9 +43,10 @@ pub record SendsUpdate {N I : Type 0} (calls : NetworkCalls N) (old : NameServer
   pub updates : Updates (signed_calls calls) old update reply new
   pub outcome_is : outcome ≡ outcome_of reply old.requester.network.refused new.requester.network.refused new.requester.network.refusal
 
--- a response code is that of a reply which a holder of a key signed for an update
-pub record IsSignedCode {N : Type 0} (calls : NetworkCalls N) (key : Key) (base : ℕ) (update : Message) (code : ResponseCode)
-    : Type 0 where
+-- A response code is that of a reply which a holder of a key signed for an update, and which the network below gave as it went from
+-- a state to another.
+pub record IsSignedCode {N : Type 0} (calls : NetworkCalls N) (key : Key) (base : ℕ) (update : Message) (old new : N)
+    (code : ResponseCode) : Type 0 where
   pub response : DnsResponse
-  pub signed : IsSignedReply calls key base update response
+  pub signed : IsSignedReply calls key base update old new response
   pub code_is : code ≡ response.message.metadata.response_code

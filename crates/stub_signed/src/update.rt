@@ -27,7 +27,8 @@ pub fn send_signed_update<N: Network, I: IdSource>(
         update.now result pool.new }
     ensures signed { IfOk result (IsSignedCode
         (network_calls N.sends N.receives N.streams N.reads_clock)
-        pool.old.requester.network.signer.key pool.old.requester.network.base update.now) }
+        pool.old.requester.network.signer.key pool.old.requester.network.base update.now
+        pool.old.requester.network.network pool.new.requester.network.network) }
 {
     let before = pool.network().refused();
     let outcome = pool.send_update(update);
