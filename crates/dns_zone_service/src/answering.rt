@@ -121,6 +121,7 @@ fn whole_reply(
     ensures change { IfOk result (λ served. served.change ≡ None) }
     ensures servable { AreServable server.now }
 {
+    let _zones = server.zones();
     let authority = AuthorityView {
         zones: server.table(),
         any,
