@@ -1,0 +1,6 @@
+mod MoreLaws
+mod NameLaws
+mod RecordLaws
+mod RequestWitness
+mod SameLaws
+mod VerifyingLaws
