@@ -32,8 +32,8 @@ def stored_run(name):
     program = built(name)
     words = lines_in(crate / "args")
     with tempfile.TemporaryDirectory() as folder:
-        room = Path(folder, "data")
-        shutil.copytree(crate / "data", room) if (crate / "data").is_dir() else room.mkdir()
+        room, files = Path(folder, "data"), data_of(name)
+        shutil.copytree(files, room) if files.is_dir() else room.mkdir()
         given = crate / "stdin"
         with open(given if given.exists() else os.devnull, "rb") as stdin:
             done = run([program, *words], cwd=room, stdin=stdin, seconds=PROGRAM_SECONDS)
@@ -44,6 +44,12 @@ def stored_run(name):
     if done.stdout != wanted:
         raise Failure(f"other output:\n{difference(wanted, done.stdout)}")
     return f"{wanted.count(bytes([10]))} lines"
+
+
+def data_of(name):
+    """The folder with a program's files: that of `examples` is in crates/, where its users look for it."""
+    own = folder_of(ROOT, name) / "data"
+    return own if own.is_dir() else ROOT / "crates" / name / "data"
 
 
 def built(name):

@@ -6,7 +6,7 @@ CODE = re.compile(r"`([^`\n]+)`")
 ITEM = re.compile(r"([a-z]\w*)::([\w:{}, ]+?)(?:#(\w+))?")
 FILE = re.compile(r"(?:crates/)?(\w+/specs/[\w/{}, ]+\.antt)(?:: ([\w, -]+))?")
 LINK = re.compile(r"\]\(([^)#:\s]*)(?:#([^)\s]*))?\)")
-# Names that a sentence places in a file, as "`IsFresh` and `IsReached`, in `stub_history/specs/Stands.antt`".
+# Names that a sentence places in a file, as "`IsFresh` and `IsReached`, in `stub_laws/specs/history/Stands.antt`".
 PLACED = re.compile(r"((?:`[\w-]+`(?:, | and |, and )?)+),? in `(\w+/specs/[\w/{},]+\.antt)`")
 # A line that declares a definition, a field of a record or a constructor.
 DECLARED = re.compile(

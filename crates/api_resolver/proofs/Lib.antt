@@ -1,2 +1,3 @@
 mod LookupLaws
 mod ReplayLaws
+mod ProgressLaws

@@ -4,12 +4,12 @@ use Rattle.std.specs.declared.net.socket_addr.SocketAddr.{SocketAddr}
 use Rattle.dns_messages.specs.declared.query.Query.{Query}
 use Rattle.stub_client.specs.Handle.{Outcome}
 use Rattle.stub_client.specs.Looks.{Reply}
-use Rattle.stub_known.specs.Known.{known_outcome}
-use Rattle.stub_known.specs.Progress as progress
-use Rattle.stub_known.specs.declared.known.KnownOutcome.{KnownOutcome}
-use Rattle.stub_known.specs.declared.known.KnownReply.{KnownReply}
-use Rattle.stub_known.specs.declared.progress.Progress.{Progress}
-use Rattle.stub_known.specs.declared.progress.Progress.TheVariants as progresses
+use Rattle.api_resolver.specs.known.Known.{known_outcome}
+use Rattle.api_resolver.specs.known.Progress as progress
+use Rattle.api_resolver.specs.declared.known.known.KnownOutcome.{KnownOutcome}
+use Rattle.api_resolver.specs.declared.known.known.KnownReply.{KnownReply}
+use Rattle.api_resolver.specs.declared.known.progress.Progress.{Progress}
+use Rattle.api_resolver.specs.declared.known.progress.Progress.TheVariants as progresses
 use Rattle.stub_lookup.specs.declared.error.LinkFault.TheVariants as fault
 use Rattle.stub_lookup.specs.declared.error.NetError.{NetError}
 use Rattle.stub_lookup.specs.declared.error.NetError.TheVariants as net

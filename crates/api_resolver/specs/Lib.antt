@@ -1,3 +1,4 @@
 pub mod Replay
 pub mod Exchange
 pub mod Lookup
+pub mod known

@@ -1,8 +1,8 @@
 -- A lookup that is open, or has ended.
 use Rattle.std.specs.Prelude.{◌≡◌, ◌≢◌, ◌++◌, ◌/◌, false, filter_map, List, [], ◌∷◌, ℕ, Option, Some, None, Ok, Err}
 use Rattle.std.specs.declared.net.socket_addr.SocketAddr.{SocketAddr}
-use Rattle.dns_codes.specs.declared.dns_class.DNSClass.TheVariants.{IN}
-use Rattle.dns_codes.specs.declared.record_type.RecordType.{RecordType}
+use Rattle.dns_wire.specs.declared.codes.dns_class.DNSClass.TheVariants.{IN}
+use Rattle.dns_wire.specs.declared.codes.record_type.RecordType.{RecordType}
 use Rattle.dns_messages.specs.declared.query.Query.{Query}
 use Rattle.dns_names.specs.Name.{DomainName}
 use Rattle.stub_cache.specs.Ttl.{default_bounds, plain_config}
@@ -19,15 +19,15 @@ use Rattle.stub_servers.specs.Server.{server_of}
 use Rattle.stub_servers.specs.ServerList.{is_round_robin, servers_from}
 use Rattle.stub_servers.specs.Servers.{Servers}
 use Rattle.api_resolver.specs.Exchange.{HasEnded, IsWaiting, Steps}
-use Rattle.stub_known.specs.Known.{known_outcome}
-use Rattle.stub_known.specs.Progress.{Concludes, GoesOn}
+use Rattle.api_resolver.specs.known.Known.{known_outcome}
+use Rattle.api_resolver.specs.known.Progress.{Concludes, GoesOn}
 use Rattle.api_resolver.specs.declared.event.Arrival.TheVariants.{Message}
 use Rattle.api_resolver.specs.declared.event.Event.{Event}
 use Rattle.api_resolver.specs.declared.exchange.Awaited.{Awaited}
 use Rattle.api_resolver.specs.declared.exchange.Continuation.TheVariants as next
 use Rattle.api_resolver.specs.declared.exchange.Exchange.{Exchange}
 use Rattle.api_resolver.specs.declared.exchange.Start.{Start}
-use Rattle.stub_known.specs.declared.known.KnownOutcome.{KnownOutcome}
+use Rattle.api_resolver.specs.declared.known.known.KnownOutcome.{KnownOutcome}
 use Rattle.api_resolver.specs.declared.lookup.Course.{Course}
 use Rattle.api_resolver.specs.declared.lookup.LookupState.{LookupState}
 use Rattle.api_resolver.specs.declared.lookup.LookupState.TheVariants.{Ended, Waits}

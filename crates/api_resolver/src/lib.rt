@@ -9,10 +9,15 @@
 //!
 //! - `event`: what comes of a wait; `replayed`: a network of what has come so far; `exchange`: the exchange for a question;
 //! - `lookup`: a lookup that is open, or has ended; `resolver`: the resolver, with its cache
+//!
+//! Further modules, each with a page of its own:
+//! - [`known`]: lookups over the replies that are known: the lookup of a client as steps, for callers that ask the servers
+//!   themselves.
 #![tactic(auto)]
 
 mod event;
 mod exchange;
+pub mod known;
 mod lookup;
 mod replayed;
 mod resolver;

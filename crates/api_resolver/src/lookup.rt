@@ -3,9 +3,9 @@
 ghost use Rattle.std.specs.Prelude.{◌≡◌, ◌∷◌, [], ◌≤◌, ◌/◌, ◌^◌, length, None, Some};
 
 use crate::exchange::{Awaited, Exchange};
+use crate::known::KnownReply;
 use dns_messages::{Query, Sequence};
 use std::net::SocketAddr;
-use stub_known::KnownReply;
 use stub_lookup::{Lookup, Moment, NetError};
 
 /// What a lookup asks, and what is known of it.

@@ -2,12 +2,13 @@
 
 ghost use Rattle.std.specs.Prelude.{◌≡◌, ◌/◌, IfOk, OnErr};
 ghost use Rattle.api_resolver.specs.Lookup.{Follows, Goes, IsFresh, KeepsSettings, Opens, OpensFrom, Receives, Takes, TakesEvent, course_of, ended_for_memory, failure_of, lookup_settings_of};
-ghost use Rattle.stub_known.specs.Progress.{ComesTo};
+ghost use Rattle.api_resolver.specs.known.Progress.{ComesTo};
 
 use crate::event::{Arrival, Event};
 use crate::exchange::{
     Continuation, Exchange, ExchangeSettings, ExchangeStep, Start, run_exchange,
 };
+use crate::known::{AnsweredHandle, KnownReply, Progress, known_outcome, look_up};
 use crate::lookup::{Course, LookupState, OpenLookup};
 use dns_messages::{DnsResponse, Query, Sequence};
 use dns_names::Name;
@@ -17,7 +18,6 @@ use std::mem;
 use std::net::SocketAddr;
 use stub_client::CachingClient;
 use stub_config::{DnsRequestOptions, ResolverConfig, ResolverOpts};
-use stub_known::{AnsweredHandle, KnownReply, Progress, known_outcome, look_up};
 use stub_lookup::{LinkFault, NetError};
 use stub_servers::ServerList;
 

@@ -2,7 +2,7 @@
 use Rattle.std.proofs.Common.{◌≡◌, ℕ, List, [], ◌∷◌, map, refl, sym, ap, ◌∙◌, Some, None}
 use Rattle.std.specs.Prelude.{slice_get}
 use Rattle.std.specs.List.{flat_map}
-use Rattle.dns_codes.specs.declared.record_type.RecordType.{RecordType}
+use Rattle.dns_wire.specs.declared.codes.record_type.RecordType.{RecordType}
 use Rattle.dns_records.specs.declared.row.Row.{Row}
 use Rattle.dns_authority.specs.Asked.{filled, first_filled}
 use Rattle.dns_authority.proofs.OrderLaws.{first_is, first_of, joined, joined_filled, joined_sets}

@@ -1,7 +1,7 @@
 -- The code of an answer, and whether names exist.
 use Rattle.std.proofs.Common.{◌≡◌, ◌≤◌, ◌==◌, Bool, true, false, not, cond, ℕ, zero, suc, List, [], ◌∷◌, map, refl, ap, ◌∙◌, arith, Option, Some, None}
-use Rattle.dns_codes.specs.DNSClass.{class_number}
-use Rattle.dns_codes.specs.declared.record_type.RecordType.TheVariants as types
+use Rattle.dns_wire.specs.codes.DNSClass.{class_number}
+use Rattle.dns_wire.specs.declared.codes.record_type.RecordType.TheVariants as types
 use Rattle.dns_names.specs.Name.{DomainName}
 use Rattle.dns_messages.specs.declared.query.Query.{Query}
 use Rattle.dns_messages.specs.declared.response_code.ResponseCode.{ResponseCode}
@@ -10,9 +10,9 @@ use Rattle.dns_records.specs.Record.{Record}
 use Rattle.dns_records.specs.declared.row.Row.{Row}
 use Rattle.dns_zone.specs.Rows.{ZoneContent, rows_at}
 use Rattle.dns_zone.specs.Answer.{max_aliases, record_of}
-use Rattle.dns_lookup_steps.specs.Barrier.{barrier, is_cut}
-use Rattle.dns_lookup_steps.specs.Redirection.{dname_target}
-use Rattle.dns_lookup_steps.specs.Wildcard.{answering_name}
+use Rattle.dns_authority.specs.steps.Barrier.{barrier, is_cut}
+use Rattle.dns_authority.specs.steps.Redirection.{dname_target}
+use Rattle.dns_authority.specs.steps.Wildcard.{answering_name}
 use Rattle.dns_authority.specs.declared.answer.AuthorityAnswer.{AuthorityAnswer}
 use Rattle.dns_authority.specs.declared.asked.AnyAnswer.{AnyAnswer}
 use Rattle.dns_authority.specs.declared.asked.Asked.{Asked}

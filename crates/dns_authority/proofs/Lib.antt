@@ -12,3 +12,15 @@ pub mod PlainLaws
 pub mod SourceLaws
 pub mod StepLaws
 pub mod SetIndexLaws
+pub mod BarrierLaws
+pub mod EncloserLaws
+pub mod StepsExistenceLaws
+pub mod RedirectionLaws
+pub mod WildcardLaws
+pub mod RepliesFrontLaws
+pub mod MalformedLaws
+pub mod RespondingLaws
+pub mod SendingLaws
+pub mod WholeSetsLaws
+pub mod TooManyLaws
+pub mod SentLaws

@@ -3,10 +3,10 @@ use Rattle.std.proofs.Common.{◌≡◌, ◌==◌, Bool, true, false, ◌&&◌, 
 use Rattle.std.specs.Prelude.{is_some, option_map, position}
 use Rattle.std.specs.Option.{option_or}
 use Rattle.std.specs.List.{find}
-use Rattle.dns_codes.specs.RecordType.{type_number}
-use Rattle.dns_codes.specs.DNSClass.{class_number}
-use Rattle.dns_codes.specs.declared.record_type.RecordType.{RecordType}
-use Rattle.dns_codes.specs.declared.record_type.RecordType.TheVariants as types
+use Rattle.dns_wire.specs.codes.RecordType.{type_number}
+use Rattle.dns_wire.specs.codes.DNSClass.{class_number}
+use Rattle.dns_wire.specs.declared.codes.record_type.RecordType.{RecordType}
+use Rattle.dns_wire.specs.declared.codes.record_type.RecordType.TheVariants as types
 use Rattle.dns_names.specs.Name.{DomainName}
 use Rattle.dns_names.specs.Build.{base_name}
 use Rattle.dns_names.specs.Compare.{at_or_below, same_labels}
@@ -22,9 +22,9 @@ use Rattle.dns_zone.specs.Rows.{ZoneContent, rows_at, some_row_below}
 use Rattle.dns_zone.specs.Answer as own
 use Rattle.dns_zone.specs.Answer.{answer_at as own_answer_at, authority, is_no_row_type, max_aliases, record_of}
 use Rattle.dns_server.specs.Zones.{closest, is_at}
-use Rattle.dns_lookup_steps.specs.Barrier.{barrier, cut_at, has_rows, is_barrier, is_ds, names_above}
-use Rattle.dns_lookup_steps.proofs.ExistenceLaws.{absent_rows}
-use Rattle.dns_lookup_steps.specs.Wildcard.{answering_name, closest_encloser, if_exists, source_of_synthesis, wildcard_below}
+use Rattle.dns_authority.specs.steps.Barrier.{barrier, cut_at, has_rows, is_barrier, is_ds, names_above}
+use Rattle.dns_authority.proofs.StepsExistenceLaws.{absent_rows}
+use Rattle.dns_authority.specs.steps.Wildcard.{answering_name, closest_encloser, if_exists, source_of_synthesis, wildcard_below}
 use Rattle.dns_authority.specs.declared.answer.AuthorityAnswer.{AuthorityAnswer}
 use Rattle.dns_authority.specs.declared.asked.AnyAnswer.{AnyAnswer}
 use Rattle.dns_authority.specs.declared.asked.Asked.{Asked}

@@ -3,8 +3,8 @@ use Rattle.std.proofs.Common.{◌≡◌, Bool, true, false, ◌&&◌, not, cond,
 use Rattle.std.specs.Prelude.{nat_lt}
 use Rattle.std.specs.List.{flat_map}
 use Rattle.std.specs.Option.{option_or}
-use Rattle.dns_codes.specs.RecordType.{type_of}
-use Rattle.dns_codes.specs.declared.record_type.RecordType.TheVariants as types
+use Rattle.dns_wire.specs.codes.RecordType.{type_of}
+use Rattle.dns_wire.specs.declared.codes.record_type.RecordType.TheVariants as types
 use Rattle.dns_names.specs.Name.{DomainName}
 use Rattle.dns_names.specs.Labels.{begins_with_star}
 use Rattle.dns_messages.specs.declared.response_code.ResponseCode.TheVariants.{NXDomain}
@@ -12,8 +12,8 @@ use Rattle.dns_records.specs.Record.{Record}
 use Rattle.dns_records.specs.declared.row.Row.{Row}
 use Rattle.dns_zone.specs.Answer.{record_of}
 use Rattle.dns_zone.specs.Rows.{Rows, ZoneContent, rows_at, some_row_below}
-use Rattle.dns_lookup_steps.specs.Barrier.{barrier, barrier_above, cut_at, is_cut, is_ds}
-use Rattle.dns_lookup_steps.specs.Wildcard.{if_exists, source_of_synthesis}
+use Rattle.dns_authority.specs.steps.Barrier.{barrier, barrier_above, cut_at, is_cut, is_ds}
+use Rattle.dns_authority.specs.steps.Wildcard.{if_exists, source_of_synthesis}
 use Rattle.dns_authority.specs.declared.asked.AnyAnswer.{AnyAnswer}
 use Rattle.dns_authority.specs.declared.asked.AnyAnswer.TheVariants.{AllSets, FirstSet}
 use Rattle.dns_authority.specs.declared.asked.Asked.{Asked}
@@ -21,7 +21,7 @@ use Rattle.dns_authority.specs.declared.step.Step.{Step}
 use Rattle.dns_authority.specs.declared.step.Step.TheVariants.{End}
 use Rattle.dns_authority.specs.Asked.{any_numbers, any_rows, asked_rows, first_filled, is_any, rows_by_number}
 use Rattle.dns_authority.specs.Step.{negative, referral, step_at, step_below, step_by, step_from, step_over, step_with}
-use Rattle.dns_lookup_steps.proofs.ExistenceLaws.{absent_rows}
+use Rattle.dns_authority.proofs.StepsExistenceLaws.{absent_rows}
 
 -- ---- a name that does not exist has none of the rows that are asked for
 

@@ -1,9 +1,9 @@
 -- The additional section: addresses of the hosts that the other sections name (RFC 1034 section 4.3.2 step 6).
 use Rattle.std.specs.Prelude.{◌==◌, ◌&&◌, ◌||◌, ◌++◌, map, if◌then◌else◌, Bool, List, [], ◌∷◌, Option, Some, None}
 use Rattle.std.specs.List.{list_any}
-use Rattle.dns_codes.specs.RecordType.{type_number}
-use Rattle.dns_codes.specs.declared.record_type.RecordType.{RecordType}
-use Rattle.dns_codes.specs.declared.record_type.RecordType.TheVariants as types
+use Rattle.dns_wire.specs.codes.RecordType.{type_number}
+use Rattle.dns_wire.specs.declared.codes.record_type.RecordType.{RecordType}
+use Rattle.dns_wire.specs.declared.codes.record_type.RecordType.TheVariants as types
 use Rattle.dns_names.specs.Name.{DomainName}
 use Rattle.dns_names.specs.Compare.{same_labels}
 use Rattle.dns_data.specs.declared.rdata.RData.{RData}
@@ -13,7 +13,7 @@ use Rattle.dns_records.specs.Record.{Record}
 use Rattle.dns_records.specs.declared.row.Row.{Row}
 use Rattle.dns_zone.specs.Rows.{ZoneContent, rows_at}
 use Rattle.dns_zone.specs.Answer.{record_of}
-use Rattle.dns_lookup_steps.specs.Barrier.{barrier}
+use Rattle.dns_authority.specs.steps.Barrier.{barrier}
 use Rattle.dns_authority.specs.declared.answer.AuthorityAnswer.{AuthorityAnswer}
 use Rattle.dns_authority.specs.declared.additional.HostKind.{HostKind}
 use Rattle.dns_authority.specs.declared.additional.HostKind.TheVariants as kinds

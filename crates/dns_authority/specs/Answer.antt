@@ -1,8 +1,8 @@
 -- The answer of an authoritative server to a question (RFC 1034 section 4.3.2).
 use Rattle.std.specs.Prelude.{◌==◌, ◌&&◌, ◌++◌, true, not, zero, suc, if◌then◌else◌, Bool, List, [], ℕ, Option, Some, None}
-use Rattle.dns_codes.specs.RecordType.{type_number}
-use Rattle.dns_codes.specs.DNSClass.{class_number}
-use Rattle.dns_codes.specs.declared.record_type.RecordType.{RecordType}
+use Rattle.dns_wire.specs.codes.RecordType.{type_number}
+use Rattle.dns_wire.specs.codes.DNSClass.{class_number}
+use Rattle.dns_wire.specs.declared.codes.record_type.RecordType.{RecordType}
 use Rattle.dns_names.specs.Name.{DomainName}
 use Rattle.dns_messages.specs.declared.query.Query.{Query}
 use Rattle.dns_messages.specs.declared.response_code.ResponseCode.TheVariants.{NotImp, Refused}

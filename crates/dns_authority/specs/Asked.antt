@@ -1,8 +1,8 @@
 -- What a question asks for: the rows of one type, or of any (RFC 1034 section 3.7.1).
 use Rattle.std.specs.Prelude.{◌==◌, map, not, if◌then◌else◌, Bool, List, [], ◌∷◌, ℕ}
 use Rattle.std.specs.List.{filter, flat_map, range_with_len}
-use Rattle.dns_codes.specs.RecordType.{type_number, type_of}
-use Rattle.dns_codes.specs.declared.record_type.RecordType.{RecordType}
+use Rattle.dns_wire.specs.codes.RecordType.{type_number, type_of}
+use Rattle.dns_wire.specs.declared.codes.record_type.RecordType.{RecordType}
 use Rattle.dns_records.specs.declared.row.Row.{Row}
 use Rattle.dns_zone.specs.Rows.{Rows, rows_at}
 use Rattle.dns_authority.specs.declared.asked.AnyAnswer.{AnyAnswer}

@@ -3,8 +3,8 @@ use Rattle.std.specs.Prelude.{◌≡◌, ◌≤◌, suc, List, ℕ, Some, None}
 use Rattle.dns_names.specs.Name.{DomainName}
 use Rattle.dns_records.specs.Record.{Record}
 use Rattle.dns_zone.specs.Rows.{ZoneContent}
-use Rattle.dns_lookup_steps.specs.Barrier.{barrier}
-use Rattle.dns_lookup_steps.specs.Wildcard.{answering_name}
+use Rattle.dns_authority.specs.steps.Barrier.{barrier}
+use Rattle.dns_authority.specs.steps.Wildcard.{answering_name}
 use Rattle.dns_authority.specs.declared.asked.Asked.{Asked}
 use Rattle.dns_authority.specs.declared.step.Step.TheVariants.{Links}
 use Rattle.dns_authority.specs.Step.{step, zone_for}

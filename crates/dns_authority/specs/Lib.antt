@@ -7,3 +7,7 @@ pub mod Plain
 pub mod Origin
 pub mod Existence
 pub mod SetIndex
+pub mod steps
+pub mod replies
+pub mod sent
+pub mod service

@@ -1,16 +1,16 @@
 -- Where the records of an answer come from: rows of a zone, or what is synthesized from them.
 use Rattle.std.specs.Prelude.{◌≡◌, true, false, List, Some, None}
 use Rattle.std.specs.List.{AllByRecursion, Contains}
-use Rattle.dns_codes.specs.declared.record_type.RecordType.{RecordType}
-use Rattle.dns_codes.specs.declared.record_type.RecordType.TheVariants as types
+use Rattle.dns_wire.specs.declared.codes.record_type.RecordType.{RecordType}
+use Rattle.dns_wire.specs.declared.codes.record_type.RecordType.TheVariants as types
 use Rattle.dns_names.specs.Name.{DomainName}
 use Rattle.dns_records.specs.Record.{Record}
 use Rattle.dns_records.specs.declared.row.Row.{Row}
 use Rattle.dns_zone.specs.Rows.{ZoneContent, rows_at}
 use Rattle.dns_zone.specs.Answer.{authority_row, record_of}
-use Rattle.dns_lookup_steps.specs.Barrier.{barrier, is_cut}
-use Rattle.dns_lookup_steps.specs.Redirection.{dname_target}
-use Rattle.dns_lookup_steps.specs.Wildcard.{answering_name}
+use Rattle.dns_authority.specs.steps.Barrier.{barrier, is_cut}
+use Rattle.dns_authority.specs.steps.Redirection.{dname_target}
+use Rattle.dns_authority.specs.steps.Wildcard.{answering_name}
 use Rattle.dns_authority.specs.declared.answer.AuthorityAnswer.{AuthorityAnswer}
 use Rattle.dns_authority.specs.Step.{closest_zone, redirect, synthesized, zone_for}
 

@@ -1,11 +1,11 @@
 -- Zones whose answers need no wildcards, referrals and DNAME records.
 use Rattle.std.specs.Prelude.{◌≡◌, false, List, ◌∷◌, ℕ}
-use Rattle.dns_codes.specs.declared.record_type.RecordType.TheVariants as types
+use Rattle.dns_wire.specs.declared.codes.record_type.RecordType.TheVariants as types
 use Rattle.dns_names.specs.Name.{DomainName}
 use Rattle.dns_names.specs.Build.{star}
 use Rattle.dns_zone.specs.Rows.{ZoneContent, some_row_below}
 use Rattle.dns_zone.specs.declared.zone.answer.Answer.{Answer}
-use Rattle.dns_lookup_steps.specs.Barrier.{has_rows, is_cut}
+use Rattle.dns_authority.specs.steps.Barrier.{has_rows, is_cut}
 use Rattle.dns_authority.specs.declared.answer.AuthorityAnswer.{AuthorityAnswer}
 
 -- A zone without wildcards, zone cuts and DNAME records: no name that begins with the label `*` exists, so that no owner has such

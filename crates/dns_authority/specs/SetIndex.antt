@@ -1,7 +1,7 @@
 -- The record sets of an answer, as an index has them.
 use Rattle.std.specs.Prelude.{◌≡◌, ◌||◌, Bool, false, List}
 use Rattle.std.specs.BTreeSet.{contains}
-use Rattle.dns_codes.specs.declared.record_type.RecordType.{RecordType}
+use Rattle.dns_wire.specs.declared.codes.record_type.RecordType.{RecordType}
 use Rattle.dns_names.specs.Name.{DomainName}
 use Rattle.dns_records.specs.Record.{Record}
 use Rattle.dns_updates.specs.Keys.{owner_code, place_cmp, type_code}

@@ -1,9 +1,9 @@
 -- What a zone has for a question at a name (RFC 1034 section 4.3.2 step 3).
 use Rattle.std.specs.Prelude.{◌==◌, ◌-◌, ◌&&◌, ◌||◌, not, true, false, length, map, slice_get, if◌then◌else◌, is_some, Bool, List, [], ◌∷◌, ℕ, Option, Some, None}
 use Rattle.std.specs.Option.{option_or}
-use Rattle.dns_codes.specs.RecordType.{type_number}
-use Rattle.dns_codes.specs.declared.record_type.RecordType.{RecordType}
-use Rattle.dns_codes.specs.declared.record_type.RecordType.TheVariants as types
+use Rattle.dns_wire.specs.codes.RecordType.{type_number}
+use Rattle.dns_wire.specs.declared.codes.record_type.RecordType.{RecordType}
+use Rattle.dns_wire.specs.declared.codes.record_type.RecordType.TheVariants as types
 use Rattle.dns_names.specs.Name.{DomainName}
 use Rattle.dns_names.specs.Build.{base_name}
 use Rattle.dns_text.specs.Usage.{is_loopback, is_nonexistent}
@@ -16,9 +16,9 @@ use Rattle.dns_records.specs.declared.row.Row.{Row}
 use Rattle.dns_zone.specs.Rows.{ZoneContent, rows_at}
 use Rattle.dns_zone.specs.Answer.{authority, record_of}
 use Rattle.dns_server.specs.Zones.{closest}
-use Rattle.dns_lookup_steps.specs.Barrier.{barrier, is_cut, is_ds}
-use Rattle.dns_lookup_steps.specs.Wildcard.{answering_name}
-use Rattle.dns_lookup_steps.specs.Redirection.{dname_target, with_target}
+use Rattle.dns_authority.specs.steps.Barrier.{barrier, is_cut, is_ds}
+use Rattle.dns_authority.specs.steps.Wildcard.{answering_name}
+use Rattle.dns_authority.specs.steps.Redirection.{dname_target, with_target}
 use Rattle.dns_authority.specs.declared.answer.AuthorityAnswer.{AuthorityAnswer}
 use Rattle.dns_authority.specs.declared.asked.Asked.{Asked}
 use Rattle.dns_authority.specs.declared.step.Step.{Step}

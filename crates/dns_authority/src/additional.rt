@@ -3,14 +3,14 @@
 ghost use Rattle.std.specs.Prelude.{◌≡◌, IfOk, option_copied};
 ghost use Rattle.dns_zone.specs.Rows.{rows_of};
 ghost use Rattle.dns_authority.specs.Additional.{additionals_of, has_set, host_of, rows_by, rows_without, with_additionals, with_host, with_host_of, with_hosts, with_set};
-ghost use Rattle.dns_lookup_steps.specs.Barrier.{barrier};
+ghost use Rattle.dns_authority.specs.steps.Barrier.{barrier};
 
 use crate::answer::AuthorityAnswer;
 use crate::copies::push_copies;
 use crate::section::Section;
+use crate::steps::barrier;
 use crate::zones::closest_zone;
 use dns_data::RData;
-use dns_lookup_steps::barrier;
 use dns_names::Name;
 use dns_records::{Record, Sequence};
 use dns_server::ZoneTable;

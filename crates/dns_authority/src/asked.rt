@@ -7,10 +7,10 @@ ghost use Rattle.dns_zone.specs.Answer.{record_of};
 ghost use Rattle.dns_authority.specs.Asked.{any_numbers, asked_rows, filled, first_filled, is_any, rows_by_number};
 
 use crate::copies::{first_copies, joined};
-use dns_codes::laws::type_number_round_trips;
 use dns_names::Name;
 use dns_records::{Record, Sequence};
 use dns_wire::RecordType;
+use dns_wire::codes::laws::type_number_round_trips;
 use dns_zone::Zone;
 use std::alloc::{AllocError, Global};
 

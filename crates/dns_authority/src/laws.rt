@@ -1,7 +1,7 @@
 //! Theorems about the definitions of this crate, as functions with empty bodies.
 
 ghost use Rattle.std.specs.Prelude.{◌≡◌, ◌∷◌, [], false, List};
-ghost use Rattle.dns_codes.specs.DNSClass.{class_number};
+ghost use Rattle.dns_wire.specs.codes.DNSClass.{class_number};
 ghost use Rattle.dns_messages.specs.declared.query.Query.{Query};
 ghost use Rattle.dns_messages.specs.declared.response_code.ResponseCode.TheVariants.{NXDomain};
 ghost use Rattle.dns_zone.specs.Answer.{answer, max_aliases};

@@ -10,6 +10,13 @@
 //! - `asked`: the records of a type, or of ANY; `copies`: records of a zone, with an owner;
 //! - `additional`: the additional section; `section` and `set_index`: that of an answer with many records, found through an index;
 //! - `laws`: theorems about the definitions of this crate.
+//!
+//! Further modules, each with a page of its own:
+//! - [`steps`]: the steps of a lookup within a zone (RFC 1034 section 4.3.2);
+//! - [`replies`]: the replies of an authoritative server to requests as bytes (RFC 1035 section 4.1, RFC 6891);
+//! - [`sent`]: what is known of the replies that an authoritative server sends, as theorems about their bytes;
+//! - [`service`]: requests to a server of zones, and how it answers them: each by its zone alone, or by the whole of RFC 1034
+//!   section 4.3.2.
 #![tactic(auto)]
 
 mod additional;
@@ -20,9 +27,13 @@ mod chain;
 mod copies;
 pub mod laws;
 mod redirection;
+pub mod replies;
 mod section;
+pub mod sent;
+pub mod service;
 mod set_index;
 mod step;
+pub mod steps;
 mod view;
 mod zones;
 

@@ -2,7 +2,7 @@
 
 ghost use Rattle.std.specs.Prelude.{◌≡◌, IfOk, option_copied};
 ghost use Rattle.dns_data.specs.declared.rdata.RData.{RData};
-ghost use Rattle.dns_lookup_steps.specs.Redirection.{dname_target};
+ghost use Rattle.dns_authority.specs.steps.Redirection.{dname_target};
 ghost use Rattle.dns_zone.specs.Rows.{row_of, rows_of};
 ghost use Rattle.dns_authority.specs.Step.{followed_for, is_alias_type, redirect, redirected, refusal, step_below, step_to, synthesized};
 
@@ -10,8 +10,8 @@ use crate::answer::AuthorityAnswer;
 use crate::asked::is_any;
 use crate::copies::copy;
 use crate::step::{Step, followed};
+use crate::steps::{dname_target, with_target};
 use dns_data::{CNAME, RData};
-use dns_lookup_steps::{dname_target, with_target};
 use dns_messages::ResponseCode;
 use dns_names::Name;
 use dns_records::{Record, Sequence};

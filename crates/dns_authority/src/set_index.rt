@@ -1,7 +1,7 @@
 //! The record sets of an answer, found in logarithmic time.
 
 ghost use Rattle.std.specs.Prelude.{◌≡◌, ◌||◌, OnOk};
-ghost use Rattle.dns_codes.specs.declared.record_type.RecordType.{RecordType};
+ghost use Rattle.dns_wire.specs.declared.codes.record_type.RecordType.{RecordType};
 ghost use Rattle.dns_names.specs.Name.{DomainName};
 ghost use Rattle.dns_authority.specs.Additional.{has_set, is_of_set};
 ghost use Rattle.dns_authority.specs.SetIndex.{is_indexed, HasNoSet};

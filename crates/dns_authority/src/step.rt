@@ -3,8 +3,8 @@
 ghost use Rattle.std.specs.Prelude.{◌≡◌, ◌≤◌, ◌&&◌, [], false, not, IfOk, Option, Some, option_copied};
 ghost use Rattle.dns_names.specs.Name.{DomainName};
 ghost use Rattle.dns_zone.specs.Rows.{row_of, rows_at, some_row_below};
-ghost use Rattle.dns_lookup_steps.specs.Barrier.{cut_at, is_cut, is_ds};
-ghost use Rattle.dns_lookup_steps.specs.Wildcard.{if_exists, source_of_synthesis};
+ghost use Rattle.dns_authority.specs.steps.Barrier.{cut_at, is_cut, is_ds};
+ghost use Rattle.dns_authority.specs.steps.Wildcard.{if_exists, source_of_synthesis};
 ghost use Rattle.dns_authority.specs.Front.{step_front};
 ghost use Rattle.dns_authority.specs.Step.{alias_step, alias_target, followed, is_followed, negative, step, step_at, step_by, step_from, step_over, step_with};
 
@@ -12,9 +12,9 @@ use crate::answer::AuthorityAnswer;
 use crate::asked::{Wanted, asked_records};
 use crate::copies::copy;
 use crate::redirection::step_below;
+use crate::steps::{barrier_above, is_cut, is_ds, source_of_synthesis};
 use crate::zones::{closest_zone, zone_for};
 use dns_data::RData;
-use dns_lookup_steps::{barrier_above, is_cut, is_ds, source_of_synthesis};
 use dns_messages::ResponseCode;
 use dns_names::Name;
 use dns_records::{Record, Sequence};

@@ -1,7 +1,7 @@
 //! The zones of an authoritative server, borrowed, and their answers to questions (RFC 1034 section 4.3.2).
 
 ghost use Rattle.std.specs.Prelude.{◌≡◌, ◌≤◌, true, Ok, IfOk};
-ghost use Rattle.dns_codes.specs.RecordType.{type_number};
+ghost use Rattle.dns_wire.specs.codes.RecordType.{type_number};
 ghost use Rattle.dns_zone.specs.Answer.{is_no_row_type};
 ghost use Rattle.dns_authority.specs.Additional.{with_additionals};
 ghost use Rattle.dns_authority.specs.Answer.{authority_answer, bare_answer, is_unanswered};

@@ -3,7 +3,7 @@
 ghost use Rattle.std.specs.Prelude.{◌≡◌, IfOk, option_copied};
 ghost use Rattle.dns_authority.specs.Step.{closest_zone, zone_for};
 
-use dns_lookup_steps::is_ds;
+use crate::steps::is_ds;
 use dns_names::Name;
 use dns_server::ZoneTable;
 use dns_wire::RecordType;

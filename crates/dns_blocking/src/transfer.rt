@@ -1,12 +1,12 @@
 //! Messages are carried over streams, as frames (RFC 1035 section 4.2.2, RFC 7766 section 8).
 
 ghost use Rattle.std.specs.Prelude.{◌≡◌, ◌<◌, ◌≤◌, ◌++◌, List, ℕ, length, Err, IfOk, OnErr};
-ghost use Rattle.dns_frames.specs.Frame.{frame};
+ghost use Rattle.dns_message_bytes.specs.frames.Frame.{frame};
 ghost use Rattle.dns_blocking.specs.declared.error.SocketError.TheVariants.{Failed};
 
 use crate::calls::{read, write};
 use crate::error::SocketError;
-use dns_frames::{FrameError, ListSource, read_frame, write_frame};
+use dns_message_bytes::frames::{FrameError, ListSource, read_frame, write_frame};
 use std::alloc::{AllocError, Global};
 use std::net::TcpStream;
 

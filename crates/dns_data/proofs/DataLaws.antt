@@ -1,8 +1,8 @@
 -- Data by type: what it decodes from, and that it is sound.
 use Rattle.std.proofs.Common.{◌≡◌, ◌≢◌, ℕ, ◌+◌, ◌<◌, ◌^◌, false, List, [], refl, sym, ap, subst, ◌∙◌, arith}
-use Rattle.dns_codes.specs.declared.record_type.RecordType.{RecordType}
-use Rattle.dns_codes.specs.declared.record_type.RecordType.TheVariants as types
-use Rattle.dns_codes.specs.RecordType.{type_number, type_of}
+use Rattle.dns_wire.specs.declared.codes.record_type.RecordType.{RecordType}
+use Rattle.dns_wire.specs.declared.codes.record_type.RecordType.TheVariants as types
+use Rattle.dns_wire.specs.codes.RecordType.{type_number, type_of}
 use Rattle.dns_wire.specs.declared.error.DecodeError.TheVariants.{IncorrectRDataLengthRead}
 use Rattle.dns_data.specs.Field.{Kind}
 use Rattle.dns_data.specs.Wire.{ValuesAt, RefusesValues, wrong_length}

@@ -7,10 +7,10 @@ use Rattle.std.specs.Net.Addr.{ipv6_segments}
 use Rattle.std.specs.Net.Grammar.{IsColonHex}
 use Rattle.std.proofs.lemmas.Bool.Decides.{nat_tests}
 use Rattle.std.proofs.lemmas.List.{length-replicate}
-use Rattle.dns_codes.specs.Decimal.{at_most, decimal, decimal_up_to}
-use Rattle.dns_codes.specs.RecordType.{type_number, type_of}
-use Rattle.dns_codes.specs.declared.record_type.RecordType.{RecordType}
-use Rattle.dns_codes.specs.declared.record_type.RecordType.TheVariants as types
+use Rattle.dns_wire.specs.codes.Decimal.{at_most, decimal, decimal_up_to}
+use Rattle.dns_wire.specs.codes.RecordType.{type_number, type_of}
+use Rattle.dns_wire.specs.declared.codes.record_type.RecordType.{RecordType}
+use Rattle.dns_wire.specs.declared.codes.record_type.RecordType.TheVariants as types
 use Rattle.dns_wire.specs.Name.{max_name_len, name_len}
 use Rattle.dns_names.specs.Name.{DomainName}
 use Rattle.dns_names.specs.Parse.{name_of_text}

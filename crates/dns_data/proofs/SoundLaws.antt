@@ -1,7 +1,7 @@
 -- Data of numbers, addresses and names is sound if its values are: it takes at most 255 bytes for each field.
 use Rattle.std.proofs.Common.{◌≡◌, ◌*◌, ◌<◌, ◌≤◌, ◌^◌, ℕ, false, List, [], ◌∷◌, length, ap, arith, length-append}
 use Rattle.std.specs.Net.Addr.{ipv4_octets, octets_of}
-use Rattle.dns_codes.specs.RecordType.{type_number, type_of}
+use Rattle.dns_wire.specs.codes.RecordType.{type_number, type_of}
 use Rattle.dns_wire.specs.Name.{name_len}
 use Rattle.dns_wire.specs.Encodable.{Piece, Position, start_position, name_form, whole_form, form, after}
 use Rattle.dns_wire.specs.declared.name_encoding.NameEncoding.TheVariants.{Uncompressed}

@@ -1,8 +1,8 @@
 -- The fields of record data, one after another.
 use Rattle.std.proofs.Common.{◌≡◌, true, List, [], Option, sym, ap, subst, ◌∙◌}
 use Rattle.std.specs.Prelude.{◌≢◌}
-use Rattle.dns_codes.specs.RecordType.{type_number, type_of}
-use Rattle.dns_codes.specs.declared.record_type.RecordType.{RecordType}
+use Rattle.dns_wire.specs.codes.RecordType.{type_number, type_of}
+use Rattle.dns_wire.specs.declared.codes.record_type.RecordType.{RecordType}
 use Rattle.dns_names.specs.Name.{DomainName}
 use Rattle.dns_text.specs.Lexer.{Lexeme}
 use Rattle.dns_data.specs.Text.{AreParsed, RefusesTokens, tokens_left, has_text}

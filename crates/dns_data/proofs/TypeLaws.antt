@@ -1,7 +1,7 @@
 -- Tables of the types with fields.
 use Rattle.std.proofs.Common.{◌≡◌, ◌≢◌, ℕ, false, List, [], ◌∷◌, refl, rules}
-use Rattle.dns_codes.specs.declared.record_type.RecordType.{RecordType}
-use Rattle.dns_codes.specs.declared.record_type.RecordType.TheVariants as types
+use Rattle.dns_wire.specs.declared.codes.record_type.RecordType.{RecordType}
+use Rattle.dns_wire.specs.declared.codes.record_type.RecordType.TheVariants as types
 use Rattle.dns_data.specs.Field.{Kind, Opaque, Values}
 use Rattle.dns_data.specs.Text.{has_text}
 use Rattle.dns_data.specs.declared.rdata.RData.{RData}

@@ -1,7 +1,7 @@
 //! Theorems about the definitions of this crate, as functions with empty bodies.
 
 ghost use Rattle.std.specs.Prelude.{◌≡◌, ◌≢◌, ◌-◌, ◌<◌, ◌^◌, ◌&&◌, nat_eq, ℕ, List, Option, Some, [], false, true};
-ghost use Rattle.dns_codes.specs.declared.record_type.RecordType.{RecordType};
+ghost use Rattle.dns_wire.specs.declared.codes.record_type.RecordType.{RecordType};
 ghost use Rattle.dns_data.specs.Field.{OptionValue, same_option, lower_values};
 ghost use Rattle.dns_data.specs.declared.rdata.RData.{RData};
 ghost use Rattle.dns_data.specs.declared.rdata.a.A.{A};

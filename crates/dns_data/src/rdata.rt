@@ -83,7 +83,7 @@ impl Drop for RData {
 
 impl RData {
     ghost use Rattle.dns_wire.specs.Decoder.{Advances};
-    ghost use Rattle.dns_codes.specs.RecordType.{type_number, type_of};
+    ghost use Rattle.dns_wire.specs.codes.RecordType.{type_number, type_of};
     ghost use Rattle.dns_data.specs.Field.{Opaque};
     ghost use Rattle.dns_data.specs.Wire.{ValuesAt, RefusesFields};
     ghost use Rattle.dns_data.specs.rdata.{data_type, data_kinds, data_values, kinds_of_type, empty_data, ReadsData, RefusesData, RefusesDataEarly};

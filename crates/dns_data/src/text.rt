@@ -11,9 +11,9 @@ ghost use Rattle.dns_data.specs.internal.Text.{HasNoWord};
 
 use crate::error::RDataParseError;
 use crate::octets::CharacterString;
-use dns_codes::parse_decimal;
 use dns_names::Name;
 use dns_text::{Token, parse_ipv4, parse_ipv6, parse_ttl_bytes, unescape};
+use dns_wire::codes::parse_decimal;
 use std::alloc::Global;
 use std::marker::Model;
 use std::net::{Ipv4Addr, Ipv6Addr};

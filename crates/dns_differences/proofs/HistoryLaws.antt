@@ -3,9 +3,9 @@ use Rattle.std.proofs.Common.{◌≡◌, ◌==◌, ◌≤◌, ◌<◌, ◌+◌, 
 use Rattle.std.specs.Prelude.{nat_le, map}
 use Rattle.std.proofs.lemmas.Bool.{eqb-true, leb-true, le-leb, lt-leb}
 use Rattle.std.proofs.Math.Seq.{drop-cons, drop-length}
-use Rattle.dns_codes.specs.SerialNumber.{serial_order}
-use Rattle.dns_codes.specs.declared.serial_number.SerialOrder.{SerialOrder}
-use Rattle.dns_codes.specs.declared.serial_number.SerialOrder.TheVariants as orders
+use Rattle.dns_wire.specs.codes.SerialNumber.{serial_order}
+use Rattle.dns_wire.specs.declared.codes.serial_number.SerialOrder.{SerialOrder}
+use Rattle.dns_wire.specs.declared.codes.serial_number.SerialOrder.TheVariants as orders
 use Rattle.dns_records.specs.Record.{Record}
 use Rattle.dns_records.specs.Rows.{Rows}
 use Rattle.dns_differences.specs.declared.difference.Difference.{Difference}

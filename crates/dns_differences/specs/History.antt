@@ -1,9 +1,9 @@
 -- The last differences of a zone (RFC 1995 section 5).
 use Rattle.std.specs.Prelude.{◌+◌, ◌&&◌, ◌++◌, nat_le, nat_eq, length, if◌then◌else◌, Bool, List, [], ◌∷◌, ℕ, Option, Some, None}
 use Rattle.std.specs.Option.{option_eq}
-use Rattle.dns_codes.specs.SerialNumber.{serial_order}
-use Rattle.dns_codes.specs.declared.serial_number.SerialOrder.{SerialOrder}
-use Rattle.dns_codes.specs.declared.serial_number.SerialOrder.TheVariants as orders
+use Rattle.dns_wire.specs.codes.SerialNumber.{serial_order}
+use Rattle.dns_wire.specs.declared.codes.serial_number.SerialOrder.{SerialOrder}
+use Rattle.dns_wire.specs.declared.codes.serial_number.SerialOrder.TheVariants as orders
 use Rattle.dns_records.specs.Rows.{Rows}
 use Rattle.dns_differences.specs.declared.difference.Difference.{Difference}
 use Rattle.dns_differences.specs.declared.history.Limits.{Limits}

@@ -5,7 +5,7 @@ ghost use Rattle.dns_differences.specs.Difference.{is_empty, is_numbered, octets
 ghost use Rattle.dns_differences.specs.History.{extended, from_serial, kept, known_since, last_serial, recorded, same_serial, since};
 
 use crate::difference::{Difference, left_after};
-use dns_codes::{SerialNumber, SerialOrder};
+use dns_wire::codes::{SerialNumber, SerialOrder};
 use std::alloc::{AllocError, Global};
 
 /// How much a history keeps at most.

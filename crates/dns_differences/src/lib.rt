@@ -6,11 +6,15 @@
 //!
 //! - `difference`: differences; `history`: the last differences of a zone;
 //! - `laws`: theorems about the definitions of this crate.
+//!
+//! Further modules, each with a page of its own:
+//! - [`serials`]: serial numbers of zones that rise with each change (RFC 2136 section 3.6, RFC 1982).
 #![tactic(auto)]
 
 mod difference;
 mod history;
 pub mod laws;
+pub mod serials;
 
 pub use difference::Difference;
 pub use history::{History, Limits};

@@ -1,7 +1,7 @@
 -- What requests leave.
 use Rattle.std.proofs.Common.{◌≡◌, ℕ, zero, suc, Bool, true, false, if◌then◌else◌, List, [], ◌∷◌, ◌++◌, Option, Some, None, Result, Ok, Err, refl, sym, ap, subst, ◌∙◌, append_assoc}
 use Rattle.std.specs.Prelude.{slice_get, slice_set, IfOk, OnOk}
-use Rattle.dns_frames.specs.Frame.{frame, stream_of}
+use Rattle.dns_message_bytes.specs.frames.Frame.{frame, stream_of}
 use Rattle.dns_messages.specs.declared.message.Message.{Message}
 use Rattle.dns_messages.specs.declared.op_code.OpCode.{OpCode}
 use Rattle.dns_messages.specs.declared.op_code.OpCode.TheVariants as ops
@@ -13,9 +13,9 @@ use Rattle.dns_server.specs.Zones.{closest}
 use Rattle.dns_zone.specs.Rows.{ZoneContent}
 use Rattle.dns_zone.specs.Serving.{zone_after, zone_by_op}
 use Rattle.dns_zone.specs.declared.zone.serials.Serials.{Serials}
-use Rattle.dns_zone_service.specs.Answering.{IsServiceReply, zones_by_op, zones_served}
-use Rattle.dns_zone_service.specs.declared.answering.Answering.{Answering}
-use Rattle.dns_zone_service.specs.declared.answering.Answering.TheVariants.{Plain, Whole}
+use Rattle.dns_authority.specs.service.Answering.{IsServiceReply, zones_by_op, zones_served}
+use Rattle.dns_authority.specs.declared.service.answering.Answering.{Answering}
+use Rattle.dns_authority.specs.declared.service.answering.Answering.TheVariants.{Plain, Whole}
 use Rattle.dns_durable.specs.Durable.{Takes, TakesFront}
 use Rattle.dns_durable.specs.Durable.Takes.{no_frame, a_frame}
 use Rattle.dns_durable.specs.Incoming.{AreJudged, IsJudged, IsJudgedIfAny, change_of, changes_in, is_change}

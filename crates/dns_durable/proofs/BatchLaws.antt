@@ -2,9 +2,9 @@
 use Rattle.std.proofs.Common.{◌≡◌, ◌≤◌, ◌<◌, ◌-◌, ℕ, suc, Bool, true, false, List, [], ◌∷◌, ◌++◌, length, take, drop, get_or, map, Option, Result, Ok, Err, refl, sym, ap, subst, ◌∙◌, ◌⊎◌, ⊎_elim, arith, append_assoc, append-nil}
 use Rattle.std.proofs.lemmas.List.{take_all}
 use Rattle.std.specs.Prelude.{OnErr}
-use Rattle.dns_frames.specs.Frame.{stream_of}
+use Rattle.dns_message_bytes.specs.frames.Frame.{stream_of}
 use Rattle.dns_zone.specs.Rows.{ZoneContent}
-use Rattle.dns_zone_service.specs.declared.answering.Answering.{Answering}
+use Rattle.dns_authority.specs.declared.service.answering.Answering.{Answering}
 use Rattle.dns_durable.specs.Durable.{TakesFront}
 use Rattle.dns_durable.specs.Incoming.{AreAdmitted, AreJudged, IsAdmitted, IsJudgedIfAny, IsShortIfAny, change_of, changes_in}
 use Rattle.dns_durable.specs.Incoming.AreAdmitted.{no_request, a_request}

@@ -2,9 +2,9 @@
 use Rattle.std.proofs.Common.{◌≡◌, ◌≢◌, ◌+◌, ℕ, Bool, true, false, List, [], ◌∷◌, ◌++◌, length, take, drop, Ok, refl, sym, ap, subst, ◌∙◌, arith, inr, length-append}
 use Rattle.std.proofs.lemmas.List.{take_at, drop_at, length-take}
 use Rattle.sha2.specs.Sha256.{sha256}
-use Rattle.dns_journal_format.specs.Format.{entry, first_link, header, next, IsShort}
-use Rattle.dns_journal_format.proofs.JournalLaws.{appended, new_journal, torn_write_cut}
-use Rattle.dns_journal_format.proofs.TornLaws.{frame_part}
+use Rattle.dns_journal.specs.format.Format.{entry, first_link, header, next, IsShort}
+use Rattle.dns_journal.proofs.JournalLaws.{appended, new_journal, torn_write_cut}
+use Rattle.dns_journal.proofs.TornLaws.{frame_part}
 use Rattle.dns_journal.specs.declared.journal.Position.{Position}
 use Rattle.dns_journal.specs.declared.journal.State.TheVariants as states
 use Rattle.dns_journal.specs.Appending.{IsPosition, IsRemainder}
@@ -12,12 +12,12 @@ use Rattle.dns_journal.specs.Event.{Event, Files}
 use Rattle.dns_journal.specs.Event as events
 use Rattle.dns_journal.specs.Storage.{Disk, Leaves, appended as written, at_rest}
 use Rattle.dns_journal.proofs.CrashLaws.{ready_appends}
-use Rattle.dns_recovery.specs.Compacting.{mark}
-use Rattle.dns_recovery.specs.Updating.{IsOpen, update_payload}
-use Rattle.dns_recovery.proofs.AskingLaws.{asks_done}
-use Rattle.dns_recovery.proofs.BeginningLaws.{first_digest, first_position, head_len}
-use Rattle.dns_recovery.proofs.CompactingLaws.{all_done}
-use Rattle.dns_recovery.proofs.UpdatingLaws.{appends_update}
+use Rattle.dns_durable.specs.recovery.Compacting.{mark}
+use Rattle.dns_durable.specs.recovery.Updating.{IsOpen, update_payload}
+use Rattle.dns_durable.proofs.AskingLaws.{asks_done}
+use Rattle.dns_durable.proofs.BeginningLaws.{first_digest, first_position, head_len}
+use Rattle.dns_durable.proofs.CompactingLaws.{all_done}
+use Rattle.dns_durable.proofs.UpdatingLaws.{appends_update}
 use Rattle.dns_zone.specs.Rows.{ZoneContent}
 use Rattle.dns_durable.specs.Compaction.{IsRewritten, Rewrites}
 use Rattle.dns_durable.specs.Durable.{Keeps, TakesEntry}

@@ -2,17 +2,17 @@
 use Rattle.std.proofs.Common.{◌≡◌, ◌≢◌, ◌⊎◌, ℕ, Bool, true, false, List, [], ◌∷◌, ◌++◌, drop, Result, Ok, Err, refl, sym, ap, subst, ◌∙◌, inl, inr, ⊎_elim, append_assoc, append-nil}
 use Rattle.std.specs.declared.alloc.AllocError.{AllocError}
 use Rattle.sha2.specs.Sha256.{sha256}
-use Rattle.dns_journal_format.specs.Format.{header}
+use Rattle.dns_journal.specs.format.Format.{header}
 use Rattle.dns_journal.specs.declared.journal.Position.{Position}
 use Rattle.dns_journal.specs.declared.journal.State.TheVariants as states
 use Rattle.dns_journal.specs.Appending.{IsRemainder}
 use Rattle.dns_journal.specs.Event.{Event, Files}
 use Rattle.dns_journal.specs.Storage.{Always, Disk, Ends, LeavesOnly, at_rest}
-use Rattle.dns_recovery.specs.Compacting.{IsOldOrNew, Recovers, mark}
-use Rattle.dns_recovery.specs.Updating.{IsOpen}
-use Rattle.dns_recovery.proofs.AskingLaws.{ready_or}
-use Rattle.dns_recovery.proofs.EventLaws.{always_weaker, ends_then, ends_weaker}
-use Rattle.dns_recovery.proofs.UpdatingLaws.{open_stands}
+use Rattle.dns_durable.specs.recovery.Compacting.{IsOldOrNew, Recovers, mark}
+use Rattle.dns_durable.specs.recovery.Updating.{IsOpen}
+use Rattle.dns_durable.proofs.AskingLaws.{ready_or}
+use Rattle.dns_durable.proofs.EventLaws.{always_weaker, ends_then, ends_weaker}
+use Rattle.dns_durable.proofs.UpdatingLaws.{open_stands}
 use Rattle.dns_zone.specs.Rows.{ZoneContent}
 use Rattle.dns_durable.specs.Compaction.{IsLeftAlone, IsRewritten, Replaces, Rewrites}
 use Rattle.dns_durable.specs.Durable.{Commits, EndsIn, IsUnchanged, LeadsTo, is_acknowledged}

@@ -1,13 +1,13 @@
 -- Runs of a server that meet what the laws of crashes ask: an update, a query, updates that are refused, a second update, and a crash
 -- that tears the write of a third one at the end of its frame; and the same with a compaction before the second update.
 use Rattle.std.proofs.Common.{◌≡◌, ◌⊎◌, ◌∙◌, ℕ, Bool, true, false, List, [], ◌∷◌, ◌++◌, length, Ok, refl, sym, ap, subst, inl, inr, ⊎_elim, append-nil}
-use Rattle.dns_journal_format.specs.Format.{entry}
+use Rattle.dns_journal.specs.format.Format.{entry}
 use Rattle.dns_journal.specs.declared.journal.Position.{Position}
 use Rattle.dns_journal.specs.declared.journal.State.TheVariants as states
 use Rattle.dns_journal.specs.Event.{Files}
 use Rattle.dns_journal.specs.Storage.{at_rest}
-use Rattle.dns_recovery.specs.Compacting.{Recovers}
-use Rattle.dns_recovery.specs.Updating.{IsOpen, update_payload}
+use Rattle.dns_durable.specs.recovery.Compacting.{Recovers}
+use Rattle.dns_durable.specs.recovery.Updating.{IsOpen, update_payload}
 use Rattle.dns_zone.specs.Rows.{ZoneContent}
 use Rattle.dns_durable.specs.History.{AreGenuine, AreInJournal, Call, IsBatch, IsMade, IsTextAfter, IsWholeOrNone, Kept, Runs, StandAfter, Writes, entries_in, is_done}
 use Rattle.dns_durable.specs.History.Deed.{batch, compaction}

@@ -5,8 +5,8 @@ use Rattle.dns_journal.specs.declared.journal.Position.{Position}
 use Rattle.dns_journal.specs.declared.journal.State.TheVariants as states
 use Rattle.dns_journal.specs.Event.{Event}
 use Rattle.dns_journal.specs.Storage.{Disk}
-use Rattle.dns_recovery.specs.Updating.{IsOpen}
-use Rattle.dns_recovery.proofs.EventLaws.{ends_weaker}
+use Rattle.dns_durable.specs.recovery.Updating.{IsOpen}
+use Rattle.dns_durable.proofs.EventLaws.{ends_weaker}
 use Rattle.dns_zone.specs.Rows.{ZoneContent}
 use Rattle.dns_durable.specs.History.{IsEntryOf}
 use Rattle.dns_durable.specs.Durable.{IsGivenUp, Keeps, LeadsTo, Responds, TakesEntry, TakesEntryFront}

@@ -10,3 +10,15 @@ pub mod ReplayLaws
 pub mod RuleLaws
 pub mod StoringLaws
 pub mod ZoneWitness
+pub mod AskingLaws
+pub mod BeginningLaws
+pub mod CompactingLaws
+pub mod EventLaws
+pub mod OpeningLaws
+pub mod UpdatingLaws
+pub mod SpecialLaws
+pub mod TypeLaws
+pub mod GenericLaws
+pub mod LineLaws
+pub mod FileLaws
+pub mod ZoneLaws

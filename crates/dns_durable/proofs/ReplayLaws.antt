@@ -1,7 +1,7 @@
 -- Updates that are served, one after another.
 use Rattle.std.proofs.Common.{◌≡◌, ◌≤◌, ◌<◌, ◌-◌, ◌∙◌, ℕ, suc, Bor, List, [], ◌∷◌, ◌++◌, length, take, drop, get_or, map, refl, sym, ap, subst, arith, append-nil, append_assoc}
 use Rattle.std.proofs.lemmas.List.{take_all}
-use Rattle.dns_frames.specs.Frame.{frame}
+use Rattle.dns_message_bytes.specs.frames.Frame.{frame}
 use Rattle.dns_messages.specs.declared.message.Message.{Message}
 use Rattle.dns_zone.specs.Rows.{ZoneContent}
 use Rattle.dns_durable.specs.Durable.{IsTaken, Replays, Takes, TakesEntry}

@@ -1,11 +1,11 @@
 -- Entries, and the rules by which their updates are made.
 use Rattle.std.proofs.Common.{◌≡◌, ℕ, List, [], ◌∷◌, ◌++◌, refl, sym, ap, subst, ◌∙◌, append_assoc, append-nil}
-use Rattle.dns_frames.specs.Frame.{frame, stream_of}
+use Rattle.dns_message_bytes.specs.frames.Frame.{frame, stream_of}
 use Rattle.dns_messages.specs.declared.message.Message.{Message}
 use Rattle.dns_zone.specs.Rows.{ZoneContent}
 use Rattle.dns_zone.specs.declared.zone.serials.Serials.TheVariants.{Kept, Rising}
-use Rattle.dns_zone_service.specs.declared.answering.Answering.{Answering}
-use Rattle.dns_zone_service.specs.declared.answering.Answering.TheVariants.{Plain, Whole}
+use Rattle.dns_authority.specs.declared.service.answering.Answering.{Answering}
+use Rattle.dns_authority.specs.declared.service.answering.Answering.TheVariants.{Plain, Whole}
 use Rattle.dns_durable.specs.Durable.{Takes, TakesEntry, TakesEntryFront, TakesFront}
 use Rattle.dns_durable.specs.Durable.Takes.{no_frame, a_frame}
 use Rattle.dns_durable.specs.Rule.{begun, entry_of, entry_with, mark_of, step_of}

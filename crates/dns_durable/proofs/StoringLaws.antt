@@ -4,10 +4,10 @@ use Rattle.dns_journal.specs.declared.journal.Position.{Position}
 use Rattle.dns_journal.specs.declared.journal.State.TheVariants as states
 use Rattle.dns_journal.specs.Event.{Event}
 use Rattle.dns_journal.specs.Storage.{Disk, Ends, LeavesOnly}
-use Rattle.dns_recovery.specs.Compacting.{Recovers}
-use Rattle.dns_recovery.specs.Updating.{AppendsUpdate, IsBeforeOrAfterUpdate, IsOpen}
-use Rattle.dns_recovery.proofs.EventLaws.{always_weaker}
-use Rattle.dns_recovery.proofs.UpdatingLaws.{open_stands}
+use Rattle.dns_durable.specs.recovery.Compacting.{Recovers}
+use Rattle.dns_durable.specs.recovery.Updating.{AppendsUpdate, IsBeforeOrAfterUpdate, IsOpen}
+use Rattle.dns_durable.proofs.EventLaws.{always_weaker}
+use Rattle.dns_durable.proofs.UpdatingLaws.{open_stands}
 use Rattle.dns_durable.specs.Storing.{Asks, IsWithOrWithout, entries_of}
 
 pub entries_some : (frames : List ℕ) → frames ≢ [] → entries_of frames ≡ frames ∷ []

@@ -7,8 +7,8 @@ use Rattle.std.specs.List.{IsDistinct}
 use Rattle.std.specs.Ordering.{eq_by_cmp}
 use Rattle.std.specs.Prelude.{IfSome}
 use Rattle.sha2.specs.Sha256.{first_words, schedule, rounds, compress, hash_after, digest_bytes, sha256}
-use Rattle.dns_codes.specs.declared.dns_class.DNSClass.TheVariants.{IN}
-use Rattle.dns_codes.specs.declared.record_type.RecordType.TheVariants as types
+use Rattle.dns_wire.specs.declared.codes.dns_class.DNSClass.TheVariants.{IN}
+use Rattle.dns_wire.specs.declared.codes.record_type.RecordType.TheVariants as types
 use Rattle.dns_data.specs.declared.rdata.RData.TheVariants as of
 use Rattle.dns_messages.specs.Cut.{cut_form}
 use Rattle.dns_messages.specs.Header.{new_metadata}
@@ -28,8 +28,8 @@ use Rattle.dns_records.specs.RecordSet.{RecordSetValue}
 use Rattle.dns_records.specs.declared.row.Row.{Row}
 use Rattle.dns_zone.specs.Load.{ReadsZoneIn}
 use Rattle.dns_zone_file.specs.declared.types.Types.TheVariants.{All}
-use Rattle.zone_texts.specs.Stated.{AreStatedAt, IsStated}
-use Rattle.zone_texts.proofs.ZoneLaws.{text_reads}
+use Rattle.dns_durable.specs.zone_texts.Stated.{AreStatedAt, IsStated}
+use Rattle.dns_durable.proofs.ZoneLaws.{text_reads}
 use Rattle.dns_server.specs.Server.{zones_after}
 use Rattle.dns_server.specs.declared.updates.Updates.TheVariants.{Allowed}
 use Rattle.dns_zone.proofs.KeptLaws.{tied_key}
@@ -37,10 +37,10 @@ use Rattle.dns_zone.specs.Printed.{AreZoneSets, IsZoneText, zone_text}
 use Rattle.dns_zone.specs.Request.{IsRequest}
 use Rattle.dns_zone.specs.Rows.{Key, Rows, ZoneContent, AreSoundSets, IsSoundRow, key_cmp, zone_of}
 use Rattle.dns_zone.proofs.RowLaws.{key_antisymmetric, key_total}
-use Rattle.dns_zone_service.specs.declared.answering.Answering.TheVariants.{Plain}
-use Rattle.dns_journal_format.specs.Format.{IsShort}
-use Rattle.dns_recovery.specs.Compacting.{mark}
-use Rattle.dns_recovery.specs.Updating.{update_payload}
+use Rattle.dns_authority.specs.declared.service.answering.Answering.TheVariants.{Plain}
+use Rattle.dns_journal.specs.format.Format.{IsShort}
+use Rattle.dns_durable.specs.recovery.Compacting.{mark}
+use Rattle.dns_durable.specs.recovery.Updating.{update_payload}
 use Rattle.sha2.proofs.Facts256.{length-sha256}
 use Rattle.dns_durable.specs.Compaction.{IsRewritten}
 use Rattle.dns_durable.specs.Durable.{TakesEntry}

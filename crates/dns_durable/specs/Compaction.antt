@@ -5,7 +5,7 @@ use Rattle.dns_journal.specs.declared.journal.Position.{Position}
 use Rattle.dns_journal.specs.declared.journal.State.TheVariants as states
 use Rattle.dns_journal.specs.Appending.{IsRefusal}
 use Rattle.dns_journal.specs.Event.{Event}
-use Rattle.dns_recovery.specs.Compacting.{AsksToCompact, mark}
+use Rattle.dns_durable.specs.recovery.Compacting.{AsksToCompact, mark}
 use Rattle.dns_zone.specs.Load.{ReadsZoneIn}
 use Rattle.dns_zone.specs.Printed.{IsZoneText}
 use Rattle.dns_zone.specs.Rows.{ZoneContent}

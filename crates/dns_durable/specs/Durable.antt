@@ -2,13 +2,13 @@
 use Rattle.std.specs.Prelude.{◌≡◌, ◌≢◌, ◌≤◌, ◌⊎◌, ℕ, Bool, true, false, List, [], ◌∷◌, ◌++◌, length, map, option_map, alloc_error}
 use Rattle.std.specs.Prelude.{Result, Ok, Err}
 use Rattle.std.specs.declared.alloc.AllocError.{AllocError}
-use Rattle.dns_frames.specs.Frame.{frame}
+use Rattle.dns_message_bytes.specs.frames.Frame.{frame}
 use Rattle.dns_journal.specs.declared.journal.Position.{Position}
 use Rattle.dns_journal.specs.declared.journal.State.TheVariants as states
 use Rattle.dns_journal.specs.Event.{Event}
 use Rattle.dns_journal.specs.Storage.{Always, Disk, Ends, LeavesOnly}
 use Rattle.dns_messages.specs.declared.message.Message.{Message}
-use Rattle.dns_recovery.specs.Updating.{IsOpen}
+use Rattle.dns_durable.specs.recovery.Updating.{IsOpen}
 use Rattle.dns_zone.specs.Request.{IsRequest}
 use Rattle.dns_zone.specs.Rows.{ZoneContent}
 use Rattle.dns_durable.specs.Incoming.{AreAdmitted, changes_in}

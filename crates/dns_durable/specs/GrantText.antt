@@ -1,11 +1,11 @@
 -- Grants from words.
 use Rattle.std.specs.Prelude.{ℕ, true, List, [], ◌∷◌, ◌++◌, Some, None, Result, Ok, Err}
-use Rattle.dns_codes.specs.CodeText.{type_of_text}
-use Rattle.dns_codes.specs.declared.record_type.RecordType.{RecordType}
+use Rattle.dns_wire.specs.codes.CodeText.{type_of_text}
+use Rattle.dns_wire.specs.declared.codes.record_type.RecordType.{RecordType}
 use Rattle.dns_names.specs.Name.{DomainName}
 use Rattle.dns_names.specs.Parse.{name_of_text}
 use Rattle.dns_tsig.specs.WireName.{canonical_name}
-use Rattle.dns_grants.specs.declared.grant.Grant.{Grant}
+use Rattle.dns_keys.specs.declared.grants.grant.Grant.{Grant}
 use Rattle.dns_durable.specs.declared.error.GrantError.{GrantError}
 use Rattle.dns_durable.specs.declared.error.GrantError.TheVariants as errors
 

@@ -6,7 +6,7 @@ use Rattle.dns_journal.specs.declared.journal.Position.{Position}
 use Rattle.dns_journal.specs.declared.journal.State.TheVariants as states
 use Rattle.dns_journal.specs.Appending.{IsRemainder}
 use Rattle.dns_journal.specs.Event.{Event, Files}
-use Rattle.dns_recovery.specs.Compacting.{Recovers, mark}
+use Rattle.dns_durable.specs.recovery.Compacting.{Recovers, mark}
 use Rattle.dns_zone.specs.Rows.{ZoneContent}
 use Rattle.dns_durable.specs.Compaction.{IsRewritten, Rewrites}
 use Rattle.dns_durable.specs.Durable.{Keeps, TakesEntry, is_acknowledged}

@@ -9,3 +9,5 @@ pub mod Replay
 pub mod Reply
 pub mod Rule
 pub mod Storing
+pub mod recovery
+pub mod zone_texts

@@ -1,7 +1,7 @@
 -- Who may update the zones of a server (RFC 2136 section 3.3, RFC 8945 section 5.2).
 use Rattle.std.specs.Prelude.{ℕ, if◌then◌else◌, slice_get, Option, Some, None}
 use Rattle.dns_messages.specs.declared.message.Message.{Message}
-use Rattle.dns_grants.specs.Grant.{permits}
+use Rattle.dns_keys.specs.grants.Grant.{permits}
 use Rattle.dns_server.specs.declared.updates.Updates.{Updates}
 use Rattle.dns_server.specs.declared.updates.Updates.TheVariants.{Allowed, Refused}
 use Rattle.dns_tsig.specs.declared.key.Key.{Key}

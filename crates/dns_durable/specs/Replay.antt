@@ -1,6 +1,6 @@
 -- Why the updates of a journal are not all served again, and the zones after those that were.
 use Rattle.std.specs.Prelude.{◌≡◌, ◌≤◌, ◌⊎◌, ℕ, suc, List, ◌∷◌, ◌++◌, length, None}
-use Rattle.dns_frames.specs.Frame.{frame, EndsWithinFrame}
+use Rattle.dns_message_bytes.specs.frames.Frame.{frame, EndsWithinFrame}
 use Rattle.dns_zone.specs.Request.{DecodesRequest}
 use Rattle.dns_zone.specs.Rows.{ZoneContent}
 use Rattle.dns_durable.specs.Durable.{Replays, Takes, TakesEntryFront}

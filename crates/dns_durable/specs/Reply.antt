@@ -7,8 +7,8 @@ use Rattle.dns_tsig.specs.Reply.{IsReply}
 use Rattle.dns_zone.specs.declared.transport.Transport.{Transport}
 use Rattle.dns_zone.specs.Request.{IsEncodedReply, reply_without_zone}
 use Rattle.dns_zone.specs.Rows.{ZoneContent}
-use Rattle.dns_zone_service.specs.Answering.{IsReplyToOther, IsServiceReply}
-use Rattle.dns_zone_service.specs.declared.answering.Answering.{Answering}
+use Rattle.dns_authority.specs.service.Answering.{IsReplyToOther, IsServiceReply}
+use Rattle.dns_authority.specs.declared.service.answering.Answering.{Answering}
 use Rattle.dns_durable.specs.Incoming.{is_change}
 use Rattle.dns_durable.specs.Rule.{step_of}
 use Rattle.dns_durable.specs.declared.incoming.Admitted.{Admitted}

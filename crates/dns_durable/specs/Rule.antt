@@ -1,14 +1,14 @@
 -- By which rule the updates of a journal are made: whether serial numbers rise, and data has the format of its type.
 use Rattle.std.specs.Prelude.{◌==◌, ◌&&◌, if◌then◌else◌, ℕ, List, [], ◌∷◌, ◌++◌, Option, Some, None}
 use Rattle.dns_authority.specs.declared.asked.AnyAnswer.TheVariants.{AllSets}
-use Rattle.dns_frames.specs.Frame.{stream_of}
+use Rattle.dns_message_bytes.specs.frames.Frame.{stream_of}
 use Rattle.dns_messages.specs.declared.message.Message.{Message}
 use Rattle.dns_server.specs.declared.updates.Updates.TheVariants.{Allowed}
 use Rattle.dns_zone.specs.Rows.{ZoneContent}
 use Rattle.dns_zone.specs.declared.zone.serials.Serials.TheVariants.{Kept, Rising}
-use Rattle.dns_zone_service.specs.Answering.{zones_served}
-use Rattle.dns_zone_service.specs.declared.answering.Answering.{Answering}
-use Rattle.dns_zone_service.specs.declared.answering.Answering.TheVariants.{Plain, Whole}
+use Rattle.dns_authority.specs.service.Answering.{zones_served}
+use Rattle.dns_authority.specs.declared.service.answering.Answering.{Answering}
+use Rattle.dns_authority.specs.declared.service.answering.Answering.TheVariants.{Plain, Whole}
 
 -- the zones after an update that may be made, by a rule
 abbrev pub step_of : Answering → List ZoneContent → Message → List ZoneContent

@@ -5,8 +5,8 @@ use Rattle.dns_journal.specs.declared.journal.State.TheVariants as states
 use Rattle.dns_journal.specs.Appending.{IsRemainder}
 use Rattle.dns_journal.specs.Event.{Event, Files}
 use Rattle.dns_journal.specs.Storage.{Always, Disk, Ends, LeavesOnly}
-use Rattle.dns_recovery.specs.Compacting.{Recovers}
-use Rattle.dns_recovery.specs.Updating.{IsOpen, update_payload}
+use Rattle.dns_durable.specs.recovery.Compacting.{Recovers}
+use Rattle.dns_durable.specs.recovery.Updating.{IsOpen, update_payload}
 
 -- the entry for the frames of updates, if there are any
 abbrev pub entries_of : List ℕ → List (List ℕ)

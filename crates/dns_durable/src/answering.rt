@@ -1,7 +1,7 @@
 //! Requests are answered, once their updates are on the disk.
 
 ghost use Rattle.std.specs.Prelude.{◌≡◌, ◌<◌, ◌⊎◌, true, false, None, map, option_map, IfOk, OnErr, OnOk};
-ghost use Rattle.dns_frames.specs.Frame.{stream_of};
+ghost use Rattle.dns_message_bytes.specs.frames.Frame.{stream_of};
 ghost use Rattle.dns_messages.specs.Header.{code_number, code_of};
 ghost use Rattle.dns_messages.specs.Sound.{IsSound};
 ghost use Rattle.dns_server.specs.Maintaining.{IsRecordableOf};
@@ -13,11 +13,11 @@ ghost use Rattle.dns_durable.specs.Rule.{step_of};
 
 use crate::incoming::{Admitted, Arrived};
 use crate::policy::{Admission, Policy};
+use dns_authority::service::Answering;
 use dns_messages::{Message, ResponseCode};
 use dns_server::{Served, Server, ZoneChange};
 use dns_tsig::sign_reply;
 use dns_zone::{Transport, bare_reply_bytes};
-use dns_zone_service::Answering;
 use std::alloc::{AllocError, Global};
 
 /// How requests were answered.

@@ -8,8 +8,8 @@ ghost use Rattle.dns_durable.specs.Compaction.{HasOtherText, IsCompactRefusal, I
 
 use crate::durable_server::DurableServer;
 use crate::error::CompactError;
+use crate::recovery::compact;
 use dns_journal::{State, Storage};
-use dns_recovery::compact;
 use dns_server::Server;
 use dns_zone::{Zone, ZoneFault};
 use dns_zone_file::Types;

@@ -4,7 +4,7 @@ ghost use Rattle.std.specs.Prelude.{◌≡◌, ◌≢◌, ◌++◌, ◌∷◌, [
 ghost use Rattle.dns_durable.specs.GrantText.{grant_in, grant_value, name_in, type_in, types_after};
 
 use crate::error::GrantError;
-use dns_grants::Grant;
+use dns_keys::grants::Grant;
 use dns_names::{Name, ParseError};
 use dns_tsig::canonical_name;
 use dns_wire::RecordType;

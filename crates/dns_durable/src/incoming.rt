@@ -8,12 +8,12 @@ ghost use Rattle.dns_durable.specs.Rule.{begun, entry_of, entry_with};
 
 use crate::policy::{Admission, Policy, admission_of};
 use crate::rule::mark_of;
-use dns_frames::write_frame;
+use dns_authority::service::Answering;
+use dns_message_bytes::frames::write_frame;
 use dns_messages::{Message, Metadata, OpCode};
 use dns_server::Updates;
 use dns_tsig::{Checked, verify_request};
 use dns_zone::{Transport, decode_request};
-use dns_zone_service::Answering;
 use std::alloc::{AllocError, Global};
 
 /// The greatest length of a message in a frame.

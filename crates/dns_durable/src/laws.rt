@@ -5,7 +5,7 @@ ghost use Rattle.std.specs.declared.alloc.AllocError.{AllocError};
 ghost use Rattle.dns_journal.specs.declared.journal.Position.{Position};
 ghost use Rattle.dns_journal.specs.Event.{Event, Files};
 ghost use Rattle.dns_journal.specs.Storage.{Always, Disk, Ends, LeavesOnly};
-ghost use Rattle.dns_recovery.specs.Updating.{IsOpen};
+ghost use Rattle.dns_durable.specs.recovery.Updating.{IsOpen};
 ghost use Rattle.dns_zone.specs.Rows.{ZoneContent};
 ghost use Rattle.dns_durable.specs.Durable.{Keeps, Responds};
 ghost use Rattle.dns_durable.specs.History.{AreBatches, AreGenuine, AreReady, Call, HaveOwnDigests, IsEntryOf, IsGenuineOf, Outlasts, OutlastsInJournal, Runs, events_of, position_after};

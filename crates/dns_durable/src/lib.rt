@@ -9,6 +9,10 @@
 //!   `durable_server`: all of this; `rule`: by which rule updates are made; `replaying`: those of a journal are served again;
 //!   `compaction`: the text of a zone takes the place of its journal;
 //! - `laws`: theorems; `error`: why updates are not served again, or words are not a grant.
+//!
+//! Further modules, each with a page of its own:
+//! - [`recovery`]: a zone file and its journal: what they stand for after a crash, and how the journal is replaced;
+//! - [`zone_texts`]: the text of a zone is read back as a zone file of all types (RFC 1035 section 5.1, RFC 3597 section 5).
 #![tactic(auto)]
 
 mod answering;
@@ -19,9 +23,11 @@ mod grant_text;
 mod incoming;
 pub mod laws;
 mod policy;
+pub mod recovery;
 mod replaying;
 mod rule;
 mod storing;
+pub mod zone_texts;
 
 pub use durable_server::{DurableServer, Replies};
 pub use error::{CompactError, GrantError, ReplayError};

@@ -3,11 +3,11 @@
 ghost use Rattle.std.specs.Prelude.{◌≡◌};
 ghost use Rattle.dns_durable.specs.Policy.{admission, updates_by};
 
-use dns_grants::{Grant, permits};
+use dns_authority::service::Answering;
+use dns_keys::grants::{Grant, permits};
 use dns_messages::Message;
 use dns_server::Updates;
 use dns_tsig::{Key, Verdict};
-use dns_zone_service::Answering;
 
 /// Who may update the zones of a server, and how other requests are answered.
 #[derive(Drop)]

@@ -1,7 +1,7 @@
 //! The updates of a journal are served again.
 
 ghost use Rattle.std.specs.Prelude.{◌≡◌, ◌≤◌, ◌<◌, ◌++◌, length, map, ℕ, None, Err, IfErr, IfSome, OnErr, OnOk};
-ghost use Rattle.dns_frames.specs.Frame.{frame, frame_len};
+ghost use Rattle.dns_message_bytes.specs.frames.Frame.{frame, frame_len};
 ghost use Rattle.dns_zone.specs.Request.{DecodesRequest};
 ghost use Rattle.dns_durable.specs.Durable.{IsTaken, Replays, TakesEntry};
 ghost use Rattle.dns_durable.specs.Replay.{IsEntryRefusal, IsReplayRefusal};
@@ -9,9 +9,9 @@ ghost use Rattle.dns_durable.specs.Rule.{step_of};
 
 use crate::error::ReplayError;
 use crate::rule::{EntryRule, rule_of};
+use dns_authority::service::Answering;
 use dns_server::{Server, Updates};
 use dns_zone::{Transport, decode_request};
-use dns_zone_service::Answering;
 use std::alloc::Global;
 
 /// The first frame of bytes (RFC 1035 section 4.2.2).

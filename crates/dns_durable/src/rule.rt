@@ -4,8 +4,8 @@ ghost use Rattle.std.specs.Prelude.{◌≡◌, ◌≤◌, ◌∷◌, length};
 ghost use Rattle.dns_durable.specs.Rule.{mark_of, rule_in, rule_of_byte, rule_of_mark, updates_in};
 
 use dns_authority::AnyAnswer;
+use dns_authority::service::Answering;
 use dns_zone::Serials;
-use dns_zone_service::Answering;
 
 /// The updates of an entry, and the rule by which they are made.
 #[derive(Clone, Copy, Debug)]

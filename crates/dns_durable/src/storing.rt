@@ -4,8 +4,8 @@ ghost use Rattle.std.specs.Prelude.{List, ℕ};
 ghost use Rattle.dns_journal.specs.Storage.{Performs};
 ghost use Rattle.dns_durable.specs.Storing.{Asks};
 
+use crate::recovery::append_update;
 use dns_journal::{Journal, State, Storage};
-use dns_recovery::append_update;
 use std::alloc::Global;
 
 /// The greatest length of the frames of an entry.

@@ -1,6 +1,6 @@
 -- How a reply is sent.
 use Rattle.std.specs.Prelude.{if◌then◌else◌, List, ℕ, Option, Some, None, option_map}
-use Rattle.dns_fault_rules.specs.declared.fault.Fault.{Fault}
+use Rattle.dns_faults.specs.declared.rules.fault.Fault.{Fault}
 use Rattle.dns_faults.specs.declared.delivery.Delivery.{Delivery}
 
 -- how a reply is sent: its bytes, the number of copies, the delay in milliseconds, and after how many bytes of its frame the

@@ -1,7 +1,7 @@
 -- Edits of a reply.
 use Rattle.std.specs.Prelude.{◌≡◌, if◌then◌else◌, Bool, true, false, List, ℕ, Option, Some, None}
-use Rattle.dns_fault_rules.specs.declared.fault.Fault.{Fault}
-use Rattle.dns_fault_rules.specs.Edits.{garbage, with_wrong_id, with_wrong_question}
+use Rattle.dns_faults.specs.declared.rules.fault.Fault.{Fault}
+use Rattle.dns_faults.specs.rules.Edits.{garbage, with_wrong_id, with_wrong_question}
 use Rattle.dns_faults.specs.Truncated.{IsTruncated}
 
 -- bytes in place of a reply, if there are any

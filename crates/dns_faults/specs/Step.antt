@@ -7,13 +7,13 @@ use Rattle.dns_messages.specs.declared.message.Message.{Message}
 use Rattle.dns_messages.specs.declared.query.Query.{Query}
 use Rattle.dns_messages.specs.Encoding.{Encodes}
 use Rattle.dns_messages.specs.Grammar.{ReadsMessage}
-use Rattle.dns_fault_rules.specs.declared.fault.Fault.{Fault}
-use Rattle.dns_fault_rules.specs.declared.fault.Service.{Service}
-use Rattle.dns_fault_rules.specs.declared.fault.Service.TheVariants as services
-use Rattle.dns_fault_rules.specs.declared.fault.Transport.{Transport}
-use Rattle.dns_fault_rules.specs.declared.table.CountedRule.{CountedRule}
-use Rattle.dns_fault_rules.specs.Fault.{on_transport}
-use Rattle.dns_fault_rules.specs.Table.{applies, counted}
+use Rattle.dns_faults.specs.declared.rules.fault.Fault.{Fault}
+use Rattle.dns_faults.specs.declared.rules.fault.Service.{Service}
+use Rattle.dns_faults.specs.declared.rules.fault.Service.TheVariants as services
+use Rattle.dns_faults.specs.declared.rules.fault.Transport.{Transport}
+use Rattle.dns_faults.specs.declared.rules.table.CountedRule.{CountedRule}
+use Rattle.dns_faults.specs.rules.Fault.{on_transport}
+use Rattle.dns_faults.specs.rules.Table.{applies, counted}
 use Rattle.dns_faults.specs.Coded.{coded_reply}
 use Rattle.dns_faults.specs.Delivery.{Sending, plain_sending, sending_by}
 use Rattle.dns_faults.specs.Edited.{IsEdited}

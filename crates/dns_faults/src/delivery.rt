@@ -3,7 +3,7 @@
 ghost use Rattle.std.specs.Prelude.{◌≡◌, option_map};
 ghost use Rattle.dns_faults.specs.Delivery.{plain_sending, sending, sending_by};
 
-use dns_fault_rules::Fault;
+use crate::rules::Fault;
 
 /// A reply, and how it is sent.
 #[derive(Drop)]

@@ -3,8 +3,8 @@
 ghost use Rattle.std.specs.Prelude.{◌≡◌, IfOk};
 ghost use Rattle.dns_faults.specs.Edited.{IsEdited, with_edits};
 
+use crate::rules::{Fault, garbage, set_wrong_id, set_wrong_question};
 use crate::truncated::truncated_reply;
-use dns_fault_rules::{Fault, garbage, set_wrong_id, set_wrong_question};
 use std::alloc::{AllocError, Global};
 
 /// Returns a reply to a request with this id as a fault edits it: truncated, with the wrong id, with the wrong question,

@@ -7,6 +7,10 @@
 //! - `delivery`: how a reply is sent; `edited`: edits of a reply; `coded`: replies with a response code alone; `truncated`:
 //!   truncated replies;
 //! - `laws`: theorems about the definitions of this crate.
+//!
+//! Further modules, each with a page of its own:
+//! - [`rules`]: faults on demand for a test name server: rules, and the rule that decides;
+//! - [`table`]: the text of a table of faults: one rule a line.
 #![tactic(auto)]
 
 mod coded;
@@ -14,8 +18,10 @@ mod delivery;
 mod edited;
 mod fixed_server;
 pub mod laws;
+pub mod rules;
 mod server;
 mod step;
+pub mod table;
 mod truncated;
 
 pub use coded::coded_reply;

@@ -8,8 +8,8 @@ ghost use Rattle.dns_faults.specs.Step.{Answers, IsFaulty, IsLeft, IsLeftBy, IsP
 use crate::coded::coded_reply;
 use crate::delivery::Delivery;
 use crate::edited::edited_reply;
+use crate::rules::{Fault, FaultTable, Service, Transport};
 use crate::server::FaultServer;
-use dns_fault_rules::{Fault, FaultTable, Service, Transport};
 use dns_messages::laws::messages_decode_unambiguously;
 use dns_messages::{Message, MessageType, Query};
 use dns_wire::DecodeError;

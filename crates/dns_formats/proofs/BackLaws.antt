@@ -14,7 +14,7 @@ use Rattle.base64.specs.GeneralPurpose.{encode_of}
 use Rattle.hex.specs.Hex.{encode_lower}
 use Rattle.hex.specs.Hex as hex
 use Rattle.hex.specs.declared.error.FromHexError.{FromHexError}
-use Rattle.dns_codes.specs.Decimal.{is_digit, decimal_up_to}
+use Rattle.dns_wire.specs.codes.Decimal.{is_digit, decimal_up_to}
 use Rattle.dns_wire.specs.Name.{AreLabels}
 use Rattle.dns_names.specs.Name.{DomainName}
 use Rattle.dns_names.specs.Build.{complete}
@@ -28,37 +28,37 @@ use Rattle.dns_text.proofs.PrintedData.{name_datum, decimal_datum, string_datum}
 use Rattle.dns_text.proofs.TokenGrammarLaws.{tested}
 use Rattle.dns_formats.specs.Value.{number_or_fault, bytes_of_number, bytes_of_name, octets_or_fault, counted, is_tag}
 use Rattle.dns_formats.specs.Rest.{hex_words, base64_words, hex_outcome, base64_outcome}
-use Rattle.dns_codes.specs.CodeText.{or_else}
-use Rattle.dns_codes.specs.declared.record_type.RecordType.{RecordType}
-use Rattle.dns_bitmaps.specs.Bitmap.{types_of, is_bitmap}
-use Rattle.dns_bitmaps.specs.Base32.{encoded, digit_value, are_digits}
-use Rattle.dns_bitmaps.proofs.ReadBackLaws.{bitmap_back, types_small}
-use Rattle.dns_bitmaps.proofs.Base32Laws.{base32_back, digits_are}
+use Rattle.dns_wire.specs.codes.CodeText.{or_else}
+use Rattle.dns_wire.specs.declared.codes.record_type.RecordType.{RecordType}
+use Rattle.dns_fields.specs.bitmaps.Bitmap.{types_of, is_bitmap}
+use Rattle.dns_fields.specs.bitmaps.Base32.{encoded, digit_value, are_digits}
+use Rattle.dns_fields.proofs.ReadBackLaws.{bitmap_back, types_small}
+use Rattle.dns_fields.proofs.Base32Laws.{base32_back, digits_are}
 use Rattle.dns_formats.specs.Field.{takes_rest, may_be_empty}
-use Rattle.dns_bitmaps.specs.TypeWord.{number_among}
+use Rattle.dns_fields.specs.bitmaps.TypeWord.{number_among}
 use Rattle.dns_formats.specs.Mnemonic.{algorithms, certificate_types, mnemonic_or_fault}
 use Rattle.dns_formats.specs.Types.{number_of_type, then_numbers, before_numbers, type_numbers, bitmap_or_fault, hash_outcome, hash_bytes}
 use Rattle.dns_formats.specs.Read.{is_missing, field_bytes}
 use Rattle.dns_formats.specs.Wire.{at_least, name_end, short_name, counted_len, value_len}
 use Rattle.dns_formats.specs.Dnssec.{type_or_fault, date_seconds, time_or_fault, salt_bytes}
-use Rattle.dns_service.specs.Text.{parameter_texts}
-use Rattle.dns_service.specs.Wire.{are_parameters}
+use Rattle.dns_fields.specs.service.Text.{parameter_texts}
+use Rattle.dns_fields.specs.service.Wire.{are_parameters}
 use Rattle.dns_formats.specs.Print.{labels_at, salt_text, front_token, type_tokens, word_tokens, front_tokens}
 use Rattle.dns_formats.specs.Data.{is_generic}
 use Rattle.dns_formats.specs.declared.fault.TokenFault.{TokenFault}
 use Rattle.dns_formats.specs.declared.fault.TokenFault.TheVariants.{StringTooLong, NotATag}
 use Rattle.dns_formats.specs.declared.field.Field.{Field}
 use Rattle.dns_formats.specs.declared.field.Field.TheVariants as kind
-use Rattle.dns_service.proofs.DecimalLaws.{Spelled, spelled, decimal_parses}
+use Rattle.dns_fields.proofs.DecimalLaws.{Spelled, spelled, decimal_parses}
 use Rattle.dns_formats.proofs.NameLaws.{name_to}
 use Rattle.dns_formats.proofs.WordLaws.{IsTame, IsPlainWord, tame_word, tag_word, unlike}
 use Rattle.dns_formats.proofs.EncodingLaws.{hex_word, hex_first, hex_back, base64_word, base64_back}
 use Rattle.dns_formats.proofs.TypeLaws.{word_plain, word_parses, round_trips}
 use Rattle.dns_formats.proofs.ParameterLaws.{parameters_back, parameters_data}
-use Rattle.dns_location.specs.Wire.{number_at, is_location}
-use Rattle.dns_location.specs.Text.{distance, location_words}
-use Rattle.dns_location.proofs.LocationBackLaws.{location_back}
-use Rattle.dns_location.proofs.TameLaws.{north_small}
+use Rattle.dns_fields.specs.location.Wire.{number_at, is_location}
+use Rattle.dns_fields.specs.location.Text.{distance, location_words}
+use Rattle.dns_fields.proofs.LocationBackLaws.{location_back}
+use Rattle.dns_fields.proofs.TameLaws.{north_small}
 use Rattle.dns_formats.specs.Location.{of_location}
 use Rattle.dns_formats.proofs.LocationLaws.{location_data}
 

@@ -6,7 +6,7 @@ use Rattle.std.specs.List.{AllByRecursion}
 use Rattle.std.proofs.lemmas.Bool.Decides.{nat_tests}
 use Rattle.std.proofs.lemmas.List.{append-nil}
 use Rattle.hex.specs.Hex.{encode_lower, decode_pairs}
-use Rattle.dns_codes.specs.Decimal.{decimal_up_to}
+use Rattle.dns_wire.specs.codes.Decimal.{decimal_up_to}
 use Rattle.hex.specs.declared.error.FromHexError.{FromHexError}
 use Rattle.dns_names.specs.Name.{DomainName}
 use Rattle.dns_names.specs.Print.{AreOctets}
@@ -26,7 +26,7 @@ use Rattle.dns_formats.specs.declared.fault.TokenFault.{TokenFault}
 use Rattle.dns_formats.specs.declared.fault.FormatFault.{FormatFault}
 use Rattle.dns_formats.specs.declared.fault.FormatFault.TheVariants.{MissingToken, WrongLength, NotOfType, TooLong}
 use Rattle.dns_formats.specs.declared.field.Field.{Field}
-use Rattle.dns_service.proofs.DecimalLaws.{decimal_parses}
+use Rattle.dns_fields.proofs.DecimalLaws.{decimal_parses}
 use Rattle.dns_formats.proofs.WordLaws.{tag_tame, tame_word}
 use Rattle.dns_formats.proofs.EncodingLaws.{hex_word, hex_back}
 use Rattle.dns_formats.proofs.BackLaws.{value_back}

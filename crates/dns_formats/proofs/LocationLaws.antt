@@ -3,9 +3,9 @@ use Rattle.std.proofs.Common.{◌≡◌, ℕ, true, List, [], ◌∷◌}
 use Rattle.std.specs.List.{AllByRecursion}
 use Rattle.dns_names.specs.Print.{AreOctets}
 use Rattle.dns_text.specs.Tokens.{IsDatum}
-use Rattle.dns_location.specs.Wire.{is_location}
-use Rattle.dns_location.specs.Text.{location_words}
-use Rattle.dns_location.proofs.TameLaws.{IsTameWord, words_tame}
+use Rattle.dns_fields.specs.location.Wire.{is_location}
+use Rattle.dns_fields.specs.location.Text.{location_words}
+use Rattle.dns_fields.proofs.TameLaws.{IsTameWord, words_tame}
 use Rattle.dns_formats.specs.Print.{word_tokens}
 use Rattle.dns_formats.proofs.WordLaws.{tame_word}
 

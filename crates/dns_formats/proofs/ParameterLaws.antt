@@ -7,12 +7,12 @@ use Rattle.dns_names.specs.Print.{AreOctets}
 use Rattle.dns_text.specs.CharacterString.{unescaped}
 use Rattle.dns_text.specs.Lexer.{Lexeme}
 use Rattle.dns_text.specs.Tokens.{IsDatum}
-use Rattle.dns_service.specs.Wire.{are_parameters}
-use Rattle.dns_service.specs.Parameter.{with_parameter}
-use Rattle.dns_service.specs.Text.{parameter_text, parameter_texts}
-use Rattle.dns_service.proofs.ParameterBackLaws.{Raw, raw_key, raw_bytes, all_bytes, AreLower, IsRaw, lower_up, lower_then, bytes_then, one_more, split}
-use Rattle.dns_service.proofs.ParameterWordLaws.{parameter_datum, text_name, text_value}
-use Rattle.dns_service.proofs.ValueBackLaws.{text_octets}
+use Rattle.dns_fields.specs.service.Wire.{are_parameters}
+use Rattle.dns_fields.specs.service.Parameter.{with_parameter}
+use Rattle.dns_fields.specs.service.Text.{parameter_text, parameter_texts}
+use Rattle.dns_fields.proofs.ParameterBackLaws.{Raw, raw_key, raw_bytes, all_bytes, AreLower, IsRaw, lower_up, lower_then, bytes_then, one_more, split}
+use Rattle.dns_fields.proofs.ParameterWordLaws.{parameter_datum, text_name, text_value}
+use Rattle.dns_fields.proofs.ValueBackLaws.{text_octets}
 use Rattle.dns_formats.specs.Print.{word_tokens}
 use Rattle.dns_formats.specs.Service.{of_service, key_end, quoted_value, value_text, more_tokens, with_octets, in_order, together, parameters_bytes}
 use Rattle.dns_formats.specs.declared.fault.TokenFault.{TokenFault}

@@ -9,11 +9,11 @@ use Rattle.dns_names.specs.Print.{label_text, dotted_labels, text_of_labels}
 use Rattle.dns_text.specs.Lexer.{Lexeme}
 use Rattle.dns_text.specs.Tokens.{datum_text, data_text}
 use Rattle.dns_formats.specs.Wire.{counted_octets, value_len, value_size, fits}
-use Rattle.dns_bitmaps.specs.TypeWord.{word_of_type}
-use Rattle.dns_bitmaps.specs.Bitmap.{types_of, spaced_types}
-use Rattle.dns_service.specs.Text.{parameter_texts}
-use Rattle.dns_service.specs.Text as service
-use Rattle.dns_location.specs.Text.{location_words, spaced_words, joined_words}
+use Rattle.dns_fields.specs.bitmaps.TypeWord.{word_of_type}
+use Rattle.dns_fields.specs.bitmaps.Bitmap.{types_of, spaced_types}
+use Rattle.dns_fields.specs.service.Text.{parameter_texts}
+use Rattle.dns_fields.specs.service.Text as service
+use Rattle.dns_fields.specs.location.Text.{location_words, spaced_words, joined_words}
 use Rattle.dns_formats.specs.Field.{may_be_empty, begins}
 use Rattle.dns_formats.specs.Print.{labels_at, front_token, type_tokens, word_tokens, list_tokens, some_tokens, front_tokens, data_tokens, lead, spaced, generic_text}
 use Rattle.dns_formats.specs.Value.{is_tag}

@@ -5,15 +5,15 @@ use Rattle.std.specs.Fmt.{decimal}
 use Rattle.std.specs.List.{AllByRecursion}
 use Rattle.std.specs.Str.{str_eq_ignore_ascii_case}
 use Rattle.std.proofs.lemmas.Bool.Decides.{nat_tests}
-use Rattle.dns_codes.specs.CodeText.{type_name, named_types, type_text, type_of_text, numbered_type, numbered_text, or_else}
-use Rattle.dns_codes.specs.Decimal.{is_digit, decimal_up_to}
-use Rattle.dns_codes.specs.RecordType.{type_number, type_of}
-use Rattle.dns_codes.specs.declared.record_type.RecordType.{RecordType}
-use Rattle.dns_codes.specs.declared.record_type.RecordType.TheVariants as of
-use Rattle.dns_bitmaps.specs.TypeWord.{name_among, other_types, type_of_word, name_or_text, word_of_type}
-use Rattle.dns_bitmaps.proofs.WordLaws.{word_back}
+use Rattle.dns_wire.specs.codes.CodeText.{type_name, named_types, type_text, type_of_text, numbered_type, numbered_text, or_else}
+use Rattle.dns_wire.specs.codes.Decimal.{is_digit, decimal_up_to}
+use Rattle.dns_wire.specs.codes.RecordType.{type_number, type_of}
+use Rattle.dns_wire.specs.declared.codes.record_type.RecordType.{RecordType}
+use Rattle.dns_wire.specs.declared.codes.record_type.RecordType.TheVariants as of
+use Rattle.dns_fields.specs.bitmaps.TypeWord.{name_among, other_types, type_of_word, name_or_text, word_of_type}
+use Rattle.dns_fields.proofs.BitmapsWordLaws.{word_back}
 use Rattle.dns_formats.specs.Value.{is_tag}
-use Rattle.dns_service.proofs.DecimalLaws.{spelled, decimal_parses}
+use Rattle.dns_fields.proofs.DecimalLaws.{spelled, decimal_parses}
 use Rattle.dns_formats.proofs.WordLaws.{IsTame, tag_tame, IsPlainWord, tame_word, tag_word}
 
 pub round_trips : (n : ℕ) → type_number (type_of n) ≡ n

@@ -3,12 +3,12 @@ use Rattle.std.specs.Prelude.{ℕ, ◌+◌, ◌-◌, ◌*◌, ◌/◌, ◌%◌, 
 use Rattle.std.specs.Int.{w16, w32, to_be_bytes}
 use Rattle.std.specs.Str.{bytes_eq}
 use Rattle.hex.specs.Hex.{decode_of}
-use Rattle.dns_codes.specs.Decimal.{decimal_up_to}
-use Rattle.dns_codes.specs.RecordType.{type_number}
-use Rattle.dns_codes.specs.declared.record_type.RecordType.{RecordType}
+use Rattle.dns_wire.specs.codes.Decimal.{decimal_up_to}
+use Rattle.dns_wire.specs.codes.RecordType.{type_number}
+use Rattle.dns_wire.specs.declared.codes.record_type.RecordType.{RecordType}
 use Rattle.dns_text.specs.Lexer.{Lexeme, CharData}
 use Rattle.dns_formats.specs.Counted.{counted}
-use Rattle.dns_bitmaps.specs.TypeWord.{type_of_word}
+use Rattle.dns_fields.specs.bitmaps.TypeWord.{type_of_word}
 use Rattle.dns_formats.specs.Rest.{hex_outcome}
 use Rattle.dns_formats.specs.declared.fault.TokenFault.{TokenFault}
 use Rattle.dns_formats.specs.declared.fault.TokenFault.TheVariants.{NotAWord, NotAType, NotATime}

@@ -1,9 +1,9 @@
 -- A location, from its tokens (RFC 1876 section 3).
 use Rattle.std.specs.Prelude.{ℕ, List, Result, Ok, Err}
 use Rattle.dns_text.specs.Lexer.{Lexeme}
-use Rattle.dns_location.specs.Location.{location_bytes}
-use Rattle.dns_location.specs.declared.fault.LocationFault.{LocationFault}
-use Rattle.dns_location.specs.declared.fault.LocationFault.TheVariants as location
+use Rattle.dns_fields.specs.location.Location.{location_bytes}
+use Rattle.dns_fields.specs.declared.location.fault.LocationFault.{LocationFault}
+use Rattle.dns_fields.specs.declared.location.fault.LocationFault.TheVariants as location
 use Rattle.dns_formats.specs.declared.fault.TokenFault.{TokenFault}
 use Rattle.dns_formats.specs.declared.fault.TokenFault.TheVariants.{Location, Memory}
 

@@ -1,8 +1,8 @@
 -- Numbers by their mnemonics: algorithms of DNSSEC, and types of certificates.
 use Rattle.std.specs.Prelude.{ℕ, List, Option, Some, None, Result, Ok, Err, map}
-use Rattle.dns_codes.specs.CodeText.{or_else}
-use Rattle.dns_codes.specs.Decimal.{decimal_up_to}
-use Rattle.dns_bitmaps.specs.TypeWord.{number_among}
+use Rattle.dns_wire.specs.codes.CodeText.{or_else}
+use Rattle.dns_wire.specs.codes.Decimal.{decimal_up_to}
+use Rattle.dns_fields.specs.bitmaps.TypeWord.{number_among}
 use Rattle.dns_text.specs.Lexer.{Lexeme, CharData}
 use Rattle.dns_formats.specs.declared.fault.TokenFault.{TokenFault}
 use Rattle.dns_formats.specs.declared.fault.TokenFault.TheVariants.{NotAWord, NotAMnemonic}

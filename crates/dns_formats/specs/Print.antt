@@ -5,15 +5,15 @@ use Rattle.std.specs.Int.{w16, w32, from_be_bytes}
 use Rattle.base64.specs.Engines.{standard}
 use Rattle.base64.specs.GeneralPurpose.{encode_of}
 use Rattle.hex.specs.Hex.{encode_lower}
-use Rattle.dns_bitmaps.specs.TypeWord.{word_of_type}
+use Rattle.dns_fields.specs.bitmaps.TypeWord.{word_of_type}
 use Rattle.dns_names.specs.Print.{text_of_labels}
 use Rattle.dns_text.specs.CharacterString.{escaped_text}
 use Rattle.dns_text.specs.Lexer.{Lexeme, CharData, QuotedString}
 use Rattle.dns_text.specs.Tokens.{datum_text, data_text}
-use Rattle.dns_bitmaps.specs.Bitmap.{types_of}
-use Rattle.dns_bitmaps.specs.Base32.{encoded}
-use Rattle.dns_service.specs.Text.{parameter_texts}
-use Rattle.dns_location.specs.Text.{location_words, joined_words}
+use Rattle.dns_fields.specs.bitmaps.Bitmap.{types_of}
+use Rattle.dns_fields.specs.bitmaps.Base32.{encoded}
+use Rattle.dns_fields.specs.service.Text.{parameter_texts}
+use Rattle.dns_fields.specs.location.Text.{location_words, joined_words}
 use Rattle.dns_formats.specs.Field.{may_be_empty}
 use Rattle.dns_formats.specs.Wire.{counted_octets, value_size, fits}
 use Rattle.dns_formats.specs.declared.field.Field.{Field}

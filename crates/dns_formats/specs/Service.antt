@@ -3,10 +3,10 @@ use Rattle.std.specs.Prelude.{ℕ, zero, suc, ◌+◌, ◌==◌, if◌then◌els
 use Rattle.std.specs.List.{position_or_len}
 use Rattle.dns_text.specs.CharacterString.{unescaped}
 use Rattle.dns_text.specs.Lexer.{Lexeme, CharData, QuotedString}
-use Rattle.dns_service.specs.Wire.{are_parameters}
-use Rattle.dns_service.specs.Parameter.{with_parameter}
-use Rattle.dns_service.specs.declared.fault.ServiceFault.{ServiceFault}
-use Rattle.dns_service.specs.declared.fault.ServiceFault.TheVariants as service
+use Rattle.dns_fields.specs.service.Wire.{are_parameters}
+use Rattle.dns_fields.specs.service.Parameter.{with_parameter}
+use Rattle.dns_fields.specs.declared.service.fault.ServiceFault.{ServiceFault}
+use Rattle.dns_fields.specs.declared.service.fault.ServiceFault.TheVariants as service
 use Rattle.dns_formats.specs.declared.fault.TokenFault.{TokenFault}
 use Rattle.dns_formats.specs.declared.fault.TokenFault.TheVariants.{NotAWord, InvalidEscape, Parameter, NotParameters, Memory}
 

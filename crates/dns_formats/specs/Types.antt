@@ -1,12 +1,12 @@
 -- Sets of record types as one field, and hashes in base32hex.
 use Rattle.std.specs.Prelude.{ℕ, List, [], ◌∷◌, Option, Some, None, Result, Ok, Err}
-use Rattle.dns_codes.specs.RecordType.{type_number}
-use Rattle.dns_codes.specs.declared.record_type.RecordType.{RecordType}
+use Rattle.dns_wire.specs.codes.RecordType.{type_number}
+use Rattle.dns_wire.specs.declared.codes.record_type.RecordType.{RecordType}
 use Rattle.dns_text.specs.Lexer.{Lexeme, CharData}
-use Rattle.dns_bitmaps.specs.Bitmap.{bitmap_of}
-use Rattle.dns_bitmaps.specs.Base32.{decoded}
+use Rattle.dns_fields.specs.bitmaps.Bitmap.{bitmap_of}
+use Rattle.dns_fields.specs.bitmaps.Base32.{decoded}
 use Rattle.dns_formats.specs.Counted.{counted}
-use Rattle.dns_bitmaps.specs.TypeWord.{type_of_word}
+use Rattle.dns_fields.specs.bitmaps.TypeWord.{type_of_word}
 use Rattle.dns_formats.specs.declared.fault.TokenFault.{TokenFault}
 use Rattle.dns_formats.specs.declared.fault.TokenFault.TheVariants.{NotAWord, NotAType, NotBase32}
 

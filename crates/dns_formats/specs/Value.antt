@@ -1,7 +1,7 @@
 -- A token as the bytes of one field (RFC 1035 section 5.1).
 use Rattle.std.specs.Prelude.{◌≡◌, ◌≢◌, ◌%◌, ◌||◌, ◌&&◌, nat_le, nat_lt, if◌then◌else◌, Bool, true, false, ℕ, List, [], ◌∷◌, ◌++◌, length, Option, Some, None, Result, Ok, Err, MatchResult}
 use Rattle.std.specs.Int.{w16, w32, to_be_bytes}
-use Rattle.dns_codes.specs.Decimal.{decimal_up_to}
+use Rattle.dns_wire.specs.codes.Decimal.{decimal_up_to}
 use Rattle.dns_wire.specs.Writing.{whole_form}
 use Rattle.dns_names.specs.Name.{DomainName}
 use Rattle.dns_names.specs.Build.{parse_name, append_domain}

@@ -1,8 +1,8 @@
 -- The value of a field at the front of bytes.
 use Rattle.std.specs.Prelude.{ℕ, zero, suc, ◌+◌, ◌==◌, nat_le, nat_lt, if◌then◌else◌, Bool, true, false, List, [], ◌∷◌, length, take, drop, Option, Some, None, option_map, unwrap_or}
-use Rattle.dns_bitmaps.specs.Bitmap.{is_bitmap}
-use Rattle.dns_service.specs.Wire.{are_parameters}
-use Rattle.dns_location.specs.Wire.{is_location}
+use Rattle.dns_fields.specs.bitmaps.Bitmap.{is_bitmap}
+use Rattle.dns_fields.specs.service.Wire.{are_parameters}
+use Rattle.dns_fields.specs.location.Wire.{is_location}
 use Rattle.dns_formats.specs.Value.{is_tag}
 use Rattle.dns_formats.specs.declared.field.Field.{Field}
 use Rattle.dns_formats.specs.declared.field.Field.TheVariants as kind

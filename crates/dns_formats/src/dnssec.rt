@@ -11,9 +11,9 @@ ghost use Rattle.dns_formats.specs.Dnssec.{type_bytes, is_leap, leaps_before, da
 use crate::fault::TokenFault;
 use crate::rest::push_hex;
 use crate::value::push_counted;
-use dns_bitmaps::type_of_word;
-use dns_codes::parse_decimal;
+use dns_fields::bitmaps::type_of_word;
 use dns_text::Token;
+use dns_wire::codes::parse_decimal;
 use std::alloc::Global;
 
 /// Appends the number of a record type.

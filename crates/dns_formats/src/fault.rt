@@ -1,8 +1,8 @@
 //! Why the tokens of record data are refused.
 
-use dns_location::LocationFault;
+use dns_fields::location::LocationFault;
+use dns_fields::service::ServiceFault;
 use dns_names::ParseError;
-use dns_service::ServiceFault;
 use std::alloc::{AllocError, AllocFailed};
 use thiserror::Error;
 

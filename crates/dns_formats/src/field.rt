@@ -1,10 +1,10 @@
 //! The fields of record data, by its type.
 
 ghost use Rattle.std.specs.Prelude.{◌≡◌, map, option_map};
-ghost use Rattle.dns_codes.specs.RecordType.{type_number};
+ghost use Rattle.dns_wire.specs.codes.RecordType.{type_number};
 ghost use Rattle.dns_formats.specs.Field.{takes_rest, may_be_empty, fields_among, fields_of};
 
-use dns_codes::RecordType;
+use dns_wire::codes::RecordType;
 
 /// A kind of field: how a value is written in text, and which bytes it has.
 #[derive(Clone, Copy, Debug, PartialEq, Eq)]

@@ -1,8 +1,8 @@
 //! Theorems about the definitions of this crate, as functions with empty bodies.
 
 ghost use Rattle.std.specs.Prelude.{◌≡◌, ◌<◌, ◌^◌, ℕ, List, true, false, Some, length};
-ghost use Rattle.dns_codes.specs.RecordType.{type_number};
-ghost use Rattle.dns_codes.specs.declared.record_type.RecordType.{RecordType};
+ghost use Rattle.dns_wire.specs.codes.RecordType.{type_number};
+ghost use Rattle.dns_wire.specs.declared.codes.record_type.RecordType.{RecordType};
 ghost use Rattle.dns_names.specs.Print.{AreOctets};
 ghost use Rattle.dns_text.specs.Lexer.{LexerState};
 ghost use Rattle.dns_formats.specs.Field.{fields_of};

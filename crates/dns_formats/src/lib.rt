@@ -26,9 +26,9 @@ mod types;
 mod value;
 mod wire;
 
-pub use dns_bitmaps::{TypeWord, type_of_word};
-pub use dns_location::LocationFault;
-pub use dns_service::ServiceFault;
+pub use dns_fields::bitmaps::{TypeWord, type_of_word};
+pub use dns_fields::location::LocationFault;
+pub use dns_fields::service::ServiceFault;
 pub use fault::{FormatFault, TokenFault};
 pub use field::{Field, format_of};
 pub use generic::is_generic;

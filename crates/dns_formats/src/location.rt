@@ -6,7 +6,7 @@ ghost use Rattle.dns_formats.specs.Value.{Appends};
 ghost use Rattle.dns_formats.specs.Location.{token_bytes};
 
 use crate::fault::TokenFault;
-use dns_location::{LocationFault, location_bytes};
+use dns_fields::location::{LocationFault, location_bytes};
 use dns_text::Token;
 use std::alloc::Global;
 

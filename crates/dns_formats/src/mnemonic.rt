@@ -7,9 +7,9 @@ ghost use Rattle.dns_formats.specs.Value.{Appends, bytes_of_number};
 ghost use Rattle.dns_formats.specs.Mnemonic.{algorithms, certificate_types, word_number};
 
 use crate::fault::TokenFault;
-use dns_bitmaps::number_among;
-use dns_codes::parse_decimal;
+use dns_fields::bitmaps::number_among;
 use dns_text::Token;
+use dns_wire::codes::parse_decimal;
 
 /// The algorithms of DNSSEC (IANA registry of DNS security algorithm numbers). Some have several mnemonics.
 const ALGORITHMS: &[(&str, u16)] = &[

@@ -2,7 +2,7 @@
 
 ghost use Rattle.std.specs.Prelude.{◌≡◌, ◌≢◌, ◌≤◌, ◌<◌, ◌+◌, length, drop, map, None, false, Ok, Err, IfOk, IfErr, option_map};
 ghost use Rattle.dns_text.specs.Token.{lexeme};
-ghost use Rattle.dns_codes.specs.RecordType.{type_number};
+ghost use Rattle.dns_wire.specs.codes.RecordType.{type_number};
 ghost use Rattle.dns_formats.specs.Data.{is_generic, generic_bytes, of_type, short_data, data_bytes};
 ghost use Rattle.dns_formats.specs.Field.{fields_of};
 ghost use Rattle.dns_formats.specs.Value.{Appends};
@@ -14,9 +14,9 @@ use crate::generic::{is_generic, read_generic};
 use crate::rest::push_rest;
 use crate::value::push_value;
 use crate::wire::fits;
-use dns_codes::RecordType;
 use dns_names::Name;
 use dns_text::Token;
+use dns_wire::codes::RecordType;
 use std::alloc::Global;
 
 /// Reads the data of a record of a type from its tokens: the fields of the type, or the generic form. The origin completes

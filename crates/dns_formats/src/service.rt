@@ -8,7 +8,7 @@ ghost use Rattle.dns_formats.specs.Value.{Appends};
 ghost use Rattle.dns_formats.specs.Service.{key_end, quoted_value, value_text, more_tokens, with_octets, in_order, parameters_bytes};
 
 use crate::fault::TokenFault;
-use dns_service::{ServiceFault, are_parameters, with_parameter};
+use dns_fields::service::{ServiceFault, are_parameters, with_parameter};
 use dns_text::{Token, unescape};
 use std::alloc::Global;
 

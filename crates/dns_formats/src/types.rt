@@ -7,7 +7,7 @@ ghost use Rattle.dns_formats.specs.Types.{type_number_of, type_numbers, types_by
 
 use crate::fault::TokenFault;
 use crate::value::push_counted;
-use dns_bitmaps::{decode_base32, push_bitmap, type_of_word};
+use dns_fields::bitmaps::{decode_base32, push_bitmap, type_of_word};
 use dns_text::Token;
 use std::alloc::Global;
 

@@ -14,9 +14,9 @@ use crate::fault::TokenFault;
 use crate::field::Field;
 use crate::mnemonic::{push_algorithm, push_certificate_type};
 use crate::types::push_hash;
-use dns_codes::parse_decimal;
 use dns_names::Name;
 use dns_text::{Token, unescape};
+use dns_wire::codes::parse_decimal;
 use std::alloc::{AllocError, Global};
 
 /// Appends the bytes of the value of a field that a token denotes.

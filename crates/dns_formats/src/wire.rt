@@ -5,9 +5,9 @@ ghost use Rattle.dns_formats.specs.Wire.{at_least, name_end, short_name, counted
 
 use crate::field::Field;
 use crate::value::is_tag;
-use dns_bitmaps::is_bitmap;
-use dns_location::is_location;
-use dns_service::are_parameters;
+use dns_fields::bitmaps::is_bitmap;
+use dns_fields::location::is_location;
+use dns_fields::service::are_parameters;
 
 /// The greatest length of a name, in bytes (RFC 1035 section 2.3.4).
 const MAX_NAME_LENGTH: usize = 255;

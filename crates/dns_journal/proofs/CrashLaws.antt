@@ -1,9 +1,9 @@
 -- What a crash leaves of a journal to which an entry is appended.
 use Rattle.std.proofs.Common.{◌≡◌, ℕ, zero, suc, ◌+◌, ◌≤◌, ◌⊎◌, true, false, List, [], ◌∷◌, ◌++◌, length, take, drop, refl, sym, ap, subst, ◌∙◌, arith, inl, inr, ⊎_elim, length-append}
 use Rattle.std.proofs.lemmas.List.{take_at, take_all, take-append-drop}
-use Rattle.dns_journal_format.specs.declared.link.Link.{Link}
-use Rattle.dns_journal_format.specs.Format.{entry, first_link, key_in, last_link, next, IsJournal, IsShort, IsTornWrite}
-use Rattle.dns_journal_format.proofs.JournalLaws.{link_after_push}
+use Rattle.dns_journal.specs.declared.format.link.Link.{Link}
+use Rattle.dns_journal.specs.format.Format.{entry, first_link, key_in, last_link, next, IsJournal, IsShort, IsTornWrite}
+use Rattle.dns_journal.proofs.JournalLaws.{link_after_push}
 use Rattle.dns_journal.specs.declared.journal.Position.{Position}
 use Rattle.dns_journal.specs.declared.journal.State.TheVariants as states
 use Rattle.dns_journal.specs.Appending.{Appends, IsBeforeOrAfter, IsPosition, IsStored, StandsFor}

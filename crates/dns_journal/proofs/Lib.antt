@@ -1,2 +1,5 @@
 pub mod CrashLaws
 pub mod OpeningLaws
+pub mod EntryLaws
+pub mod JournalLaws
+pub mod TornLaws

@@ -1,7 +1,7 @@
 -- What a crash leaves of a journal whose end is cut off.
 use Rattle.std.proofs.Common.{◌≡◌, ℕ, ◌-◌, ◌≤◌, true, false, List, [], ◌∷◌, ◌++◌, length, take, drop, refl, sym, ap, subst, ◌∙◌, arith, ⊎_elim}
 use Rattle.std.proofs.lemmas.List.{take_all, take-append-drop, length-take}
-use Rattle.dns_journal_format.specs.Format.{digest_in, key_in, last_link, IsJournal}
+use Rattle.dns_journal.specs.format.Format.{digest_in, key_in, last_link, IsJournal}
 use Rattle.dns_journal.specs.declared.journal.Position.{Position}
 use Rattle.dns_journal.specs.declared.journal.State.TheVariants as states
 use Rattle.dns_journal.specs.Appending.{IsPosition}

@@ -1,6 +1,6 @@
 -- What an append to a journal does, and what a crash leaves of it.
 use Rattle.std.specs.Prelude.{◌≡◌, ◌≢◌, ◌≤◌, ◌+◌, ◌^◌, ◌⊎◌, ℕ, Bool, true, false, List, [], ◌∷◌, ◌++◌, length, drop, Result, Ok, Err}
-use Rattle.dns_journal_format.specs.Format.{digest_in, entry, key_in, last_link, IsJournal, IsTornWrite}
+use Rattle.dns_journal.specs.format.Format.{digest_in, entry, key_in, last_link, IsJournal, IsTornWrite}
 use Rattle.dns_journal.specs.declared.error.AppendError.{AppendError}
 use Rattle.dns_journal.specs.declared.error.AppendError.TheVariants as errors
 use Rattle.dns_journal.specs.declared.journal.Position.{Position}

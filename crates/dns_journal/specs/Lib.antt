@@ -3,3 +3,4 @@ pub mod Event
 pub mod Memory
 pub mod Opening
 pub mod Storage
+pub mod format

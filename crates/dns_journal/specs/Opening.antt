@@ -1,6 +1,6 @@
 -- What opening a journal does, and what a crash leaves of it.
 use Rattle.std.specs.Prelude.{◌≡◌, ◌-◌, ℕ, Bool, true, false, List, [], ◌∷◌, length, take, drop}
-use Rattle.dns_journal_format.specs.Format.{digest_in, IsJournal}
+use Rattle.dns_journal.specs.format.Format.{digest_in, IsJournal}
 use Rattle.dns_journal.specs.declared.journal.State.{State}
 use Rattle.dns_journal.specs.declared.journal.State.TheVariants as states
 use Rattle.dns_journal.specs.Appending.{StandsFor}

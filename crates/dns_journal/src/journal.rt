@@ -1,16 +1,16 @@
 //! A journal to which payloads are appended.
 
 ghost use Rattle.std.specs.Prelude.{◌≡◌, ◌≢◌, ◌<◌, ◌+◌, ◌^◌, List, ℕ, length, is_ok, IfOk, IfErr, IsOk};
-ghost use Rattle.dns_journal_format.specs.Format.{entry, next, IsShort};
+ghost use Rattle.dns_journal.specs.format.Format.{entry, next, IsShort};
 ghost use Rattle.dns_journal.specs.Appending.{Appends, AreCalls, IsPosition, IsRefusal, IsStored};
 ghost use Rattle.dns_journal.specs.Storage.{Performs};
 ghost use Rattle.dns_journal.specs.declared.error.AppendError.TheVariants as errors;
 ghost use Rattle.dns_journal.specs.declared.journal.State.TheVariants as states;
 
 use crate::error::AppendError;
+use crate::format::laws::{a_torn_write_is_cut_off, an_appended_entry_is_read};
+use crate::format::{Link, MAX_PAYLOAD_LEN, write_entry};
 use crate::storage::Storage;
-use dns_journal_format::laws::{a_torn_write_is_cut_off, an_appended_entry_is_read};
-use dns_journal_format::{Link, MAX_PAYLOAD_LEN, write_entry};
 use std::alloc::Global;
 
 /// Whether a journal takes entries.

@@ -6,9 +6,15 @@
 //! - `storage`: storages; `memory`: a storage in memory, which can be made to fail and to crash;
 //! - `journal`: payloads are appended; `open`: a journal is read, and its end repaired;
 //! - `error`: why a storage or a journal failed.
+//!
+//! Further modules, each with a page of its own:
+//! - [`format`]: the format of a journal: payloads, each of which is sealed, in the order in which they were appended;
+//! - [`files`]: the storage of a journal in files: the text of a zone in one, its journal in another.
 #![tactic(auto)]
 
 mod error;
+pub mod files;
+pub mod format;
 mod journal;
 mod memory;
 mod open;

@@ -1,16 +1,16 @@
 //! A journal that was read is opened: what follows its entries is cut off.
 
 ghost use Rattle.std.specs.Prelude.{◌≡◌, ◌+◌, List, ℕ, length, is_ok, IfOk};
-ghost use Rattle.dns_journal_format.specs.Format.{digest_in, last_link, IsJournal};
+ghost use Rattle.dns_journal.specs.format.Format.{digest_in, last_link, IsJournal};
 ghost use Rattle.dns_journal.specs.Appending.{IsPosition};
 ghost use Rattle.dns_journal.specs.Opening.{IsCutOff, Resumes, whole_front};
 ghost use Rattle.dns_journal.specs.Storage.{Performs};
 
 use crate::error::StorageError;
+use crate::format::JournalContent;
+use crate::format::laws::{a_journal_without_its_end_is_whole, an_end_may_be_cut_short};
 use crate::journal::{Position, State};
 use crate::storage::Storage;
-use dns_journal_format::JournalContent;
-use dns_journal_format::laws::{a_journal_without_its_end_is_whole, an_end_may_be_cut_short};
 
 /// Cuts off what follows the entries of a journal that was read, synchronizes the journal, and returns its position. Nothing is asked
 /// of the storage if nothing follows the entries.

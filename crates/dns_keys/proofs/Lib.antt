@@ -1,2 +1,3 @@
 pub mod FileLaws
 pub mod WordLaws
+pub mod GrantLaws

@@ -1,8 +1,8 @@
 -- The names of algorithms in key files.
 use Rattle.std.specs.Prelude.{ℕ, if◌then◌else◌, Bool, List, codes, Option, Some, None}
 use Rattle.std.specs.Str.{bytes_eq, str_to_ascii_lowercase}
-use Rattle.dns_hmac.specs.declared.algorithm.Algorithm.{Algorithm}
-use Rattle.dns_hmac.specs.declared.algorithm.Algorithm.TheVariants.{Md5, Sha1, Sha224, Sha256, Sha384, Sha512}
+use Rattle.dns_tsig.specs.declared.hmac.algorithm.Algorithm.{Algorithm}
+use Rattle.dns_tsig.specs.declared.hmac.algorithm.Algorithm.TheVariants.{Md5, Sha1, Sha224, Sha256, Sha384, Sha512}
 
 -- the names of the algorithms
 abbrev pub algorithm_text : Algorithm → List ℕ

@@ -6,3 +6,4 @@ pub mod Permissions
 pub mod Statement
 pub mod Word
 pub mod WordParts
+pub mod grants

@@ -3,7 +3,7 @@
 ghost use Rattle.std.specs.Prelude.{◌≡◌};
 ghost use Rattle.dns_keys.specs.Algorithm.{algorithm_in, algorithm_text, is_same_text, longer_in};
 
-use dns_hmac::Algorithm;
+use dns_tsig::hmac::Algorithm;
 
 /// Returns the name of an algorithm.
 pub fn algorithm_text(algorithm: Algorithm) -> &'static [u8]

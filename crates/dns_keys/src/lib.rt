@@ -10,12 +10,16 @@
 //! - `blanks`: blanks and comments; `word`: words and symbols; `statement`: the statement of a key; `file`: the keys of a text;
 //! - `algorithm`: the names of algorithms; `permissions`: who may use the secrets of a file; `error`: why a text is not a key file;
 //!   `laws`: theorems about the definitions.
+//!
+//! Further modules, each with a page of its own:
+//! - [`grants`]: what the holders of keys may change (RFC 2136 section 3.3).
 #![tactic(auto)]
 
 mod algorithm;
 mod blanks;
 mod error;
 mod file;
+pub mod grants;
 pub mod laws;
 mod permissions;
 mod statement;

@@ -1,7 +1,7 @@
 -- The cut of small messages, computed.
 use Rattle.std.proofs.Common.{◌≡◌, ℕ, true, false, List, [], ◌∷◌, ◌++◌, Option, Some, None, refl}
-use Rattle.dns_codes.specs.declared.record_type.RecordType.TheVariants as types
-use Rattle.dns_codes.specs.declared.dns_class.DNSClass.TheVariants as classes
+use Rattle.dns_wire.specs.declared.codes.record_type.RecordType.TheVariants as types
+use Rattle.dns_wire.specs.declared.codes.dns_class.DNSClass.TheVariants as classes
 use Rattle.dns_names.specs.Name.{DomainName}
 use Rattle.dns_data.specs.declared.rdata.RData.TheVariants as of
 use Rattle.dns_records.specs.Record.{Record}

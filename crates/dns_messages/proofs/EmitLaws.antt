@@ -2,8 +2,8 @@
 use Rattle.std.proofs.Common.{◌≡◌, ℕ, ◌+◌, ◌<◌, ◌≤◌, ◌||◌, max, Bool, true, false, cond, ltb, List, [], ◌∷◌, ◌++◌, length, Option, Some, None, Ok, refl, sym, ap, subst, ◌∙◌, append_assoc, arith, length-append}
 use Rattle.std.specs.Int.{w16, w32, to_be_bytes}
 use Rattle.std.proofs.lemmas.Bool.{ltb-true, ltb-false}
-use Rattle.dns_codes.specs.RecordType.{type_number}
-use Rattle.dns_codes.specs.DNSClass.{class_number}
+use Rattle.dns_wire.specs.codes.RecordType.{type_number}
+use Rattle.dns_wire.specs.codes.DNSClass.{class_number}
 use Rattle.dns_wire.specs.Encoder.{EncoderState, IsAtEnd, CanRollBack, put_at}
 use Rattle.dns_wire.specs.Encodable.{Piece, Plain, Domain, Position, position_of, name_form, piece_next, form, after, reach, append_pieces, AllBehind, AreWritable, Emits}
 use Rattle.dns_wire.specs.Items.{fitting_prefix, all_pieces, fitting_items, fitting_pieces, append_fitting}

@@ -1,7 +1,7 @@
 -- The OPT record of a message (RFC 6891 section 6.1).
 use Rattle.std.specs.Prelude.{◌==◌, ◌+◌, ◌*◌, ◌/◌, ◌%◌, ◌^◌, ◌<◌, ◌≤◌, Bool, true, false, List, [], ℕ}
-use Rattle.dns_codes.specs.declared.dns_class.DNSClass.TheVariants as classes
-use Rattle.dns_codes.specs.DNSClass.{class_number}
+use Rattle.dns_wire.specs.declared.codes.dns_class.DNSClass.TheVariants as classes
+use Rattle.dns_wire.specs.codes.DNSClass.{class_number}
 use Rattle.dns_wire.specs.Encodable.{Piece, Position}
 use Rattle.dns_names.specs.Name.{DomainName}
 use Rattle.dns_data.specs.Field.{OptionValue}

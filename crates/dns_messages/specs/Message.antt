@@ -1,8 +1,8 @@
 -- Messages that are made from others, and their records (RFC 1035 section 4.1).
 use Rattle.std.specs.Prelude.{◌≡◌, ◌==◌, ◌++◌, ◌||◌, not, if◌then◌else◌, Bool, true, List, [], ◌∷◌, ℕ, max, Option, Some, None, ⊤}
 use Rattle.std.specs.List.{filter}
-use Rattle.dns_codes.specs.RecordType.{type_number, is_dnssec_type}
-use Rattle.dns_codes.specs.declared.record_type.RecordType.{RecordType}
+use Rattle.dns_wire.specs.codes.RecordType.{type_number, is_dnssec_type}
+use Rattle.dns_wire.specs.declared.codes.record_type.RecordType.{RecordType}
 use Rattle.dns_data.specs.rdata.{data_type}
 use Rattle.dns_records.specs.Record.{Record}
 use Rattle.dns_messages.specs.declared.message_type.MessageType.{MessageType}

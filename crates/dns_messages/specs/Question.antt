@@ -2,9 +2,9 @@
 use Rattle.std.specs.Prelude.{◌==◌, ◌&&◌, Bool, ℕ, List, [], ◌∷◌, ◌++◌}
 use Rattle.std.specs.Int.{w16, to_be_bytes}
 use Rattle.dns_wire.specs.Encodable.{Piece, Plain, Domain}
-use Rattle.dns_codes.specs.RecordType.{type_number}
-use Rattle.dns_codes.specs.DNSClass.{class_number}
-use Rattle.dns_codes.specs.CodeText.{type_text, class_text}
+use Rattle.dns_wire.specs.codes.RecordType.{type_number}
+use Rattle.dns_wire.specs.codes.DNSClass.{class_number}
+use Rattle.dns_wire.specs.codes.CodeText.{type_text, class_text}
 use Rattle.dns_names.specs.Compare.{same_labels}
 use Rattle.dns_names.specs.Print.{text_of_name}
 use Rattle.dns_messages.specs.declared.query.Query.{Query}

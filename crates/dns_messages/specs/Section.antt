@@ -1,8 +1,8 @@
 -- Which records the sections of a message may have, and where OPT and TSIG records are.
 use Rattle.std.specs.Prelude.{◌≡◌, ◌==◌, ◌+◌, ◌++◌, ◌&&◌, ◌||◌, ◌-◌, not, if◌then◌else◌, Bool, true, false, List, [], ◌∷◌, ℕ, length, Option, Some, None, option_map}
 use Rattle.std.specs.List.{filter, find, list_any}
-use Rattle.dns_codes.specs.declared.record_type.RecordType.{RecordType}
-use Rattle.dns_codes.specs.declared.record_type.RecordType.TheVariants as types
+use Rattle.dns_wire.specs.declared.codes.record_type.RecordType.{RecordType}
+use Rattle.dns_wire.specs.declared.codes.record_type.RecordType.TheVariants as types
 use Rattle.dns_wire.specs.Decodable.{Follow}
 use Rattle.dns_wire.specs.declared.error.DecodeError.{DecodeError}
 use Rattle.dns_wire.specs.declared.error.DecodeError.TheVariants.{InvalidEmptyRecord, RecordNotInAdditionalSection, DuplicateEdns, EdnsNameNotRoot}

@@ -1,8 +1,8 @@
 -- What a message must be to be written and read as itself (RFC 1035 section 4.1, RFC 6891 section 6.1, RFC 2136 section 2).
 use Rattle.std.specs.Prelude.{◌≡◌, ◌^◌, ◌<◌, ◌/◌, Bool, true, false, not, ◌||◌, IfSome, Option, Some, None}
 use Rattle.std.specs.List.{AllByRecursion}
-use Rattle.dns_codes.specs.RecordType.{type_number, type_of}
-use Rattle.dns_codes.specs.DNSClass.{class_number, class_of}
+use Rattle.dns_wire.specs.codes.RecordType.{type_number, type_of}
+use Rattle.dns_wire.specs.codes.DNSClass.{class_number, class_of}
 use Rattle.dns_data.specs.rdata.{is_update_data}
 use Rattle.dns_records.specs.Record.{Record, IsSoundRecord}
 use Rattle.dns_messages.specs.declared.header.Metadata.{Metadata}

@@ -1,8 +1,8 @@
 //! Questions (RFC 1035 section 4.1.2).
 
 ghost use Rattle.std.specs.Prelude.{◌≡◌, ◌≢◌, ◌<◌, ◌≤◌, ◌+◌, ◌^◌, ◌↔◌, true, [], length, Ok, IfOk, IfErr, IsTrue};
-ghost use Rattle.dns_codes.specs.RecordType.{type_of, type_number};
-ghost use Rattle.dns_codes.specs.DNSClass.{class_of, class_number};
+ghost use Rattle.dns_wire.specs.codes.RecordType.{type_of, type_number};
+ghost use Rattle.dns_wire.specs.codes.DNSClass.{class_of, class_number};
 
 use dns_names::Name;
 use dns_wire::laws::{class_number_round_trips, type_number_round_trips};
@@ -28,8 +28,8 @@ pub struct Query {
 
 impl Query {
     ghost use Rattle.dns_wire.specs.Name.{name_len};
-    ghost use Rattle.dns_codes.specs.declared.dns_class.DNSClass.TheVariants.{IN};
-    ghost use Rattle.dns_codes.specs.declared.record_type.RecordType.TheVariants.{A};
+    ghost use Rattle.dns_wire.specs.declared.codes.dns_class.DNSClass.TheVariants.{IN};
+    ghost use Rattle.dns_wire.specs.declared.codes.record_type.RecordType.TheVariants.{A};
     ghost use Rattle.dns_messages.specs.Question.{same_question};
     ghost use Rattle.dns_messages.specs.Sound.{IsSoundQuery};
     ghost use Rattle.dns_messages.specs.declared.query.Query.{Query};

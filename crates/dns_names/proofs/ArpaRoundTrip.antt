@@ -3,7 +3,7 @@ use Rattle.std.proofs.Common.{◌≡◌, ℕ, ◌+◌, ◌-◌, ◌*◌, ◌/◌
 use Rattle.std.specs.Prelude.{nat_lt, nat_le, if◌then◌else◌, option_map}
 use Rattle.std.proofs.lemmas.Bool.Decides.{nat_tests}
 use Rattle.std.specs.declared.net.ip_addr.IpAddr.TheVariants.{V4, V6}
-use Rattle.dns_codes.specs.Decimal.{decimal_up_to}
+use Rattle.dns_wire.specs.codes.Decimal.{decimal_up_to}
 use Rattle.dns_names.specs.Reverse.{decimal_label, hex_label, hex_value, nibble, append_number, v4_prefix, v6_prefix, reverse_name, arpa_prefix}
 use Rattle.dns_names.proofs.RoundTrip.{digit, three_digits}
 

@@ -8,7 +8,7 @@ use Rattle.std.proofs.lemmas.Bool.Decides.{nat_tests}
 use Rattle.std.proofs.lemmas.Slice.Eq.{bytes_eq-Decides}
 use Rattle.dns_wire.specs.Name.{name_len}
 use Rattle.dns_names.specs.Name.{DomainName}
-use Rattle.dns_codes.specs.Decimal.{is_digit, decimal_up_to}
+use Rattle.dns_wire.specs.codes.Decimal.{is_digit, decimal_up_to}
 use Rattle.dns_names.specs.declared.error.ParseError.{ParseError}
 use Rattle.dns_names.specs.declared.error.ParseError.TheVariants.{LabelBytesTooLong, EmptyLabel, DomainNameTooLong, Text}
 use Rattle.dns_names.specs.Parse.{Dot, Plain, Escaped, Broken, PartialName, SymbolAt, symbols_from, escape, escape_len, is_plain_octet, push_octet, push_symbol, end_label, finish, name_of_symbols, name_of_text}

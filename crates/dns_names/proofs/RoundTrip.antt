@@ -6,7 +6,7 @@ use Rattle.std.proofs.lemmas.List.{append-nil}
 use Rattle.std.proofs.lemmas.Bool.Decides.{nat_tests}
 use Rattle.dns_wire.specs.Name.{IsLabel, AreLabels, name_len}
 use Rattle.dns_names.specs.Name.{DomainName}
-use Rattle.dns_codes.specs.Decimal.{is_digit, decimal_up_to}
+use Rattle.dns_wire.specs.codes.Decimal.{is_digit, decimal_up_to}
 use Rattle.dns_names.specs.Parse.{is_plain_octet, name_of_text}
 use Rattle.dns_names.specs.Parse.{SpellsOctets, no_octet, unescaped, by_digits, SpellsLabels, one_label, more_labels, Spells, root, no_label, relative, fully_qualified}
 use Rattle.dns_names.specs.Print.{escape_sequence, octet_text, octets_text, label_text, dotted_labels, text_of_labels, text_of_name, AreOctets}

@@ -5,7 +5,7 @@ use Rattle.std.specs.Option.{option_map_or}
 use Rattle.std.proofs.lemmas.Bool.Decides.{nat_tests}
 use Rattle.dns_wire.specs.Name.{IsLabel, name_len}
 use Rattle.dns_names.specs.Name.{DomainName}
-use Rattle.dns_codes.specs.Decimal.{is_digit, decimal_up_to}
+use Rattle.dns_wire.specs.codes.Decimal.{is_digit, decimal_up_to}
 use Rattle.dns_names.specs.declared.error.ParseError.{ParseError}
 use Rattle.dns_names.specs.Parse.{Symbol, Dot, Plain, Escaped, Broken, PartialName, symbol, more_len, symbols_from, decimal_octet, escape, escape_len, is_plain_octet, push_octet, push_symbol, end_label, finish, name_of_symbols}
 use Rattle.dns_names.proofs.TextLaws.{taken, ends_well}

@@ -4,7 +4,7 @@ use Rattle.std.specs.Option.{option_map_or}
 use Rattle.std.specs.Str.{bytes_eq}
 use Rattle.dns_wire.specs.Name.{max_name_len, name_len, IsLabel}
 use Rattle.dns_names.specs.Name.{DomainName}
-use Rattle.dns_codes.specs.Decimal.{is_digit, decimal_up_to}
+use Rattle.dns_wire.specs.codes.Decimal.{is_digit, decimal_up_to}
 use Rattle.dns_names.specs.declared.error.ParseError.{ParseError}
 use Rattle.dns_names.specs.declared.error.ParseError.TheVariants.{LabelBytesTooLong, EmptyLabel, DomainNameTooLong, Text}
 

@@ -8,7 +8,7 @@ ghost use Rattle.dns_names.specs.Compare.{same_labels};
 
 use crate::error::ParseError;
 use crate::name::Name;
-use dns_codes::parse_decimal;
+use dns_wire::codes::parse_decimal;
 use std::alloc::{AllocError, Global};
 use std::net::{IpAddr, Ipv4Addr, Ipv6Addr};
 

@@ -14,12 +14,12 @@ use Rattle.dns_messages.specs.declared.message.Message.{Message}
 use Rattle.dns_messages.specs.declared.op_code.OpCode.{OpCode}
 use Rattle.dns_messages.specs.declared.op_code.OpCode.TheVariants as ops
 use Rattle.dns_messages.specs.declared.query.Query.{Query}
-use Rattle.dns_fault_rules.specs.Fault.{on_transport}
-use Rattle.dns_fault_rules.specs.Table.{applies}
-use Rattle.dns_fault_rules.specs.declared.fault.Service.{Service}
-use Rattle.dns_fault_rules.specs.declared.fault.Service.TheVariants as services
-use Rattle.dns_fault_rules.specs.declared.fault.Transport.{Transport}
-use Rattle.dns_fault_rules.specs.declared.table.CountedRule.{CountedRule}
+use Rattle.dns_faults.specs.rules.Fault.{on_transport}
+use Rattle.dns_faults.specs.rules.Table.{applies}
+use Rattle.dns_faults.specs.declared.rules.fault.Service.{Service}
+use Rattle.dns_faults.specs.declared.rules.fault.Service.TheVariants as services
+use Rattle.dns_faults.specs.declared.rules.fault.Transport.{Transport}
+use Rattle.dns_faults.specs.declared.rules.table.CountedRule.{CountedRule}
 use Rattle.dns_faults.specs.Delivery.{Sending}
 use Rattle.dns_faults.specs.Step.{AnswersBy, AnswersFor, IsLeft, IsLeftBy, IsServedBy, Responds}
 use Rattle.dns_faults.specs.Step.Responds.{answers, ignores}

@@ -3,9 +3,9 @@ use Rattle.std.proofs.Common.{◌≡◌, ℕ, List, [], ◌∷◌, Option, Some,
 use Rattle.std.specs.List.{find}
 use Rattle.dns_messages.specs.declared.message.Message.{Message}
 use Rattle.dns_messages.specs.declared.query.Query.{Query}
-use Rattle.dns_fault_rules.specs.declared.fault.Transport.{Transport}
-use Rattle.dns_fault_rules.specs.declared.table.CountedRule.{CountedRule}
-use Rattle.dns_fault_rules.specs.Table.{applies}
+use Rattle.dns_faults.specs.declared.rules.fault.Transport.{Transport}
+use Rattle.dns_faults.specs.declared.rules.table.CountedRule.{CountedRule}
+use Rattle.dns_faults.specs.rules.Table.{applies}
 use Rattle.dns_faults.specs.Delivery.{Sending}
 use Rattle.dns_faults.specs.Step.{AnswersBy, AnswersFor, Responds}
 use Rattle.dns_faults.specs.Step.Responds.{answers, ignores}

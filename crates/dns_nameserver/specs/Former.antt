@@ -9,8 +9,8 @@ use Rattle.dns_messages.specs.declared.message.Message.{Message}
 use Rattle.dns_messages.specs.Header.{peeked_metadata}
 use Rattle.dns_zone.specs.Rows.{ZoneContent}
 use Rattle.dns_server.specs.declared.updates.Updates.TheVariants as may
-use Rattle.dns_zone_service.specs.Answering.{zones_served}
-use Rattle.dns_zone_service.specs.declared.answering.Answering.{Answering}
+use Rattle.dns_authority.specs.service.Answering.{zones_served}
+use Rattle.dns_authority.specs.declared.service.answering.Answering.{Answering}
 
 -- whether a header is that of the reply to an update that was applied (RFC 2136 section 3.8)
 abbrev pub is_applied : OpCode → ResponseCode → Bool

@@ -1,6 +1,6 @@
 -- What the log of a name server says of a request.
 use Rattle.std.specs.Prelude.{◌≡◌, ◌≢◌, ◌⊎◌, ◌∷◌, ◌+◌, ◌*◌, if◌then◌else◌, nat_le, List, [], ℕ, Option, Some, None, option_map, length, slice_index, string_bytes}
-use Rattle.dns_codes.specs.CodeText.{class_text, type_text}
+use Rattle.dns_wire.specs.codes.CodeText.{class_text, type_text}
 use Rattle.dns_names.specs.Print.{text_of_name}
 use Rattle.dns_wire.specs.declared.error.DecodeError.{DecodeError}
 use Rattle.dns_messages.specs.declared.header.Metadata.{Metadata}
@@ -9,8 +9,8 @@ use Rattle.dns_messages.specs.declared.query.Query.{Query}
 use Rattle.dns_messages.specs.Grammar.{ReadsMessage, RefusesMessage}
 use Rattle.dns_messages.specs.OpCode.{op_number}
 use Rattle.dns_messages.specs.ResponseCode.{code_number}
-use Rattle.dns_fault_rules.specs.declared.fault.Transport.{Transport}
-use Rattle.dns_fault_rules.specs.declared.fault.Transport.TheVariants as transports
+use Rattle.dns_faults.specs.declared.rules.fault.Transport.{Transport}
+use Rattle.dns_faults.specs.declared.rules.fault.Transport.TheVariants as transports
 use Rattle.dns_log.specs.declared.entry.LogTransport.{LogTransport}
 use Rattle.dns_log.specs.declared.entry.LogTransport.TheVariants as logged
 use Rattle.dns_log.specs.declared.entry.ReplyCounts.{ReplyCounts}

@@ -9,10 +9,10 @@ use Rattle.dns_zone.specs.declared.transport.Transport.TheVariants as replies
 use Rattle.dns_server.specs.Maintaining.{IsRecordableOf}
 use Rattle.dns_server.specs.declared.updates.Updates.{Updates}
 use Rattle.dns_server.specs.declared.updates.Updates.TheVariants as may
-use Rattle.dns_zone_service.specs.Answering.{IsReplyToOther, IsServiceReply, zones_served}
-use Rattle.dns_zone_service.specs.declared.answering.Answering.{Answering}
-use Rattle.dns_fault_rules.specs.declared.fault.Transport.{Transport}
-use Rattle.dns_fault_rules.specs.declared.fault.Transport.TheVariants as transports
+use Rattle.dns_authority.specs.service.Answering.{IsReplyToOther, IsServiceReply, zones_served}
+use Rattle.dns_authority.specs.declared.service.answering.Answering.{Answering}
+use Rattle.dns_faults.specs.declared.rules.fault.Transport.{Transport}
+use Rattle.dns_faults.specs.declared.rules.fault.Transport.TheVariants as transports
 use Rattle.dns_faults.specs.Delivery.{Sending, plain_sending}
 use Rattle.dns_faults.specs.Step.{Responds}
 use Rattle.std.specs.Net.Addr.{IsIpv4Mapped, ipv4_octets, ipv6_octets, ipv6_segments, low_octets}

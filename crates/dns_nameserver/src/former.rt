@@ -4,13 +4,13 @@ ghost use Rattle.std.specs.Prelude.{◌≡◌, None, IfOk, OnOk, OnErr};
 ghost use Rattle.dns_messages.specs.Sound.{IsSound};
 ghost use Rattle.dns_server.specs.Maintaining.{IsRecordableOf};
 ghost use Rattle.dns_server.specs.declared.updates.Updates.TheVariants as may;
-ghost use Rattle.dns_zone_service.specs.Answering.{IsServiceReply, zones_served};
+ghost use Rattle.dns_authority.specs.service.Answering.{IsServiceReply, zones_served};
 ghost use Rattle.dns_nameserver.specs.Former.{former_after, is_accepted};
 
+use dns_authority::service::Answering;
 use dns_messages::{Message, Metadata, OpCode, ResponseCode};
 use dns_server::{Served, Server, Updates};
 use dns_zone::Transport;
-use dns_zone_service::Answering;
 use std::alloc::{AllocError, Global};
 use std::marker::Model;
 

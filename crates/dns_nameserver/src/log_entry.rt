@@ -6,7 +6,7 @@ ghost use Rattle.dns_messages.specs.Header.{peeked_metadata};
 ghost use Rattle.dns_nameserver.specs.LogEntry.{HasCode, HasQuestion, IsLogged, IsOnly, counts_of, log_transport, number_at, op_of_header, reply_bytes};
 
 use crate::name_server::Answered;
-use dns_fault_rules::Transport;
+use dns_faults::rules::Transport;
 use dns_log::{LogEntry, LogQuestion, LogTransport, ReplyCounts};
 use dns_messages::{Message, Metadata, Query};
 use dns_wire::DecodeError;

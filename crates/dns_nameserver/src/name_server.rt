@@ -5,11 +5,11 @@ ghost use Rattle.dns_faults.specs.Delivery.{sending};
 ghost use Rattle.dns_nameserver.specs.NameServer.{AnswersRequest, LeavesZonesFrom, IsSentIf, reply_transport, updates_of};
 
 use crate::zone_server::{Context, ZoneServer};
-use dns_fault_rules::{FaultTable, Transport};
+use dns_authority::service::Answering;
+use dns_faults::rules::{FaultTable, Transport};
 use dns_faults::{Delivery, Outcome, respond};
 use dns_server::{AddressList, Updates};
 use dns_zone::{DatagramLimit, Transport as ReplyTransport};
-use dns_zone_service::Answering;
 use std::alloc::{AllocError, Global};
 use std::net::IpAddr;
 

@@ -1,11 +1,11 @@
 //! The zones of a name server, as faults are made on their replies.
 
 use crate::former::{FormerZones, is_accepted};
+use dns_authority::service::Answering;
 use dns_faults::FaultServer;
 use dns_messages::{Message, OpCode};
 use dns_server::{Served, Server, Updates, ZoneChange};
 use dns_zone::Transport;
-use dns_zone_service::Answering;
 use std::alloc::{AllocError, Global};
 
 /// What decides on the reply to a request, beside its bytes.

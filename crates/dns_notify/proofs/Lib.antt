@@ -1,2 +1,3 @@
 pub mod SecondaryLaws
 pub mod NotificationLaws
+pub mod MessageLaws

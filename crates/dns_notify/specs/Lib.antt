@@ -1,3 +1,4 @@
 pub mod Retries
 pub mod Secondary
 pub mod Notifications
+pub mod notifier

@@ -7,10 +7,14 @@
 //! - `notifications`: the secondaries of a zone; `secondary`: one of them;
 //! - `retries`: how often a notification is repeated, and after which intervals;
 //! - `laws`: theorems about the definitions of this crate.
+//!
+//! Further modules, each with a page of its own:
+//! - [`notifier`]: notifications of a change of a zone as messages, and the responses to them (RFC 1996).
 #![tactic(auto)]
 
 pub mod laws;
 mod notifications;
+pub mod notifier;
 mod retries;
 mod secondary;
 

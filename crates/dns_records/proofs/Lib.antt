@@ -6,3 +6,5 @@ mod RecordsLaws
 pub mod RefusalLaws
 pub mod Steps
 pub mod OrderLaws
+mod PlaceLaws
+mod EntryLaws

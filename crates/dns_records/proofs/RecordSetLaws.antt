@@ -2,11 +2,11 @@
 use Rattle.std.proofs.Common.{◌≡◌, ◌<◌, ◌+◌, ◌-◌, slice_get, ℕ, Bool, true, false, not, ◌||◌, List, [], ◌∷◌, ◌++◌, refl, sym, ap, subst, ◌∙◌, length, arith, Option, Some, None, suc, cond}
 use Rattle.std.specs.List.{list_any, position_or_len, IsDistinct, AllByRecursion, remove}
 use Rattle.std.specs.Prelude.{nat_lt, position, is_some}
-use Rattle.dns_codes.specs.declared.record_type.RecordType.TheVariants as types
+use Rattle.dns_wire.specs.declared.codes.record_type.RecordType.TheVariants as types
 use Rattle.std.proofs.lemmas.Bool.{ltb-true, lt-ltb, ltb_from_iff}
 use Rattle.dns_data.specs.declared.rdata.RData.{RData}
 use Rattle.dns_data.specs.rdata.{data_type, same_data}
-use Rattle.dns_codes.specs.declared.record_type.RecordType.{RecordType}
+use Rattle.dns_wire.specs.declared.codes.record_type.RecordType.{RecordType}
 use Rattle.dns_names.specs.Name.{DomainName}
 use Rattle.dns_names.specs.Compare.{same_name}
 use Rattle.dns_names.specs.internal.Compare.{same_name-equivalence}

@@ -5,8 +5,8 @@ use Rattle.dns_wire.specs.declared.error.EncodeError.{EncodeError}
 use Rattle.dns_wire.specs.declared.error.EncodeError.TheVariants.{MaxBufferSizeExceeded}
 use Rattle.dns_wire.specs.Encoder.{EncoderState, IsAtEnd}
 use Rattle.dns_wire.specs.Encodable.{Piece, Domain, Position, position_of, piece_next, after, Emits, AreWritable}
-use Rattle.dns_codes.specs.declared.record_type.RecordType.{RecordType}
-use Rattle.dns_codes.specs.declared.dns_class.DNSClass.{DNSClass}
+use Rattle.dns_wire.specs.declared.codes.record_type.RecordType.{RecordType}
+use Rattle.dns_wire.specs.declared.codes.dns_class.DNSClass.{DNSClass}
 use Rattle.dns_records.specs.Emit.{pieces_behind_owner}
 use Rattle.dns_wire.proofs.PieceLaws.{emits_then, emits_stop, emits_none, append_pieces-end, position_of-append_pieces, writable-append}
 

@@ -3,10 +3,10 @@
 use Rattle.std.specs.Prelude.{◌++◌, List, [], ◌∷◌, ℕ, length}
 use Rattle.std.specs.Int.{w16, w32, to_be_bytes}
 use Rattle.dns_wire.specs.Encodable.{Piece, Plain, Position, form, after}
-use Rattle.dns_codes.specs.RecordType.{type_number}
-use Rattle.dns_codes.specs.declared.record_type.RecordType.{RecordType}
-use Rattle.dns_codes.specs.DNSClass.{class_number}
-use Rattle.dns_codes.specs.declared.dns_class.DNSClass.{DNSClass}
+use Rattle.dns_wire.specs.codes.RecordType.{type_number}
+use Rattle.dns_wire.specs.declared.codes.record_type.RecordType.{RecordType}
+use Rattle.dns_wire.specs.codes.DNSClass.{class_number}
+use Rattle.dns_wire.specs.declared.codes.dns_class.DNSClass.{DNSClass}
 
 -- type, class and TTL (RFC 1035 section 4.1.3)
 abbrev pub fixed_pieces : RecordType → DNSClass → ℕ → List Piece

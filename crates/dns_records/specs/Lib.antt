@@ -7,3 +7,4 @@ pub mod RecordSet
 pub mod Rows
 pub mod RrsetRecords
 pub mod internal
+pub mod edits

@@ -6,10 +6,10 @@ use Rattle.std.specs.Ordering.{nat_cmp, on, eq_of_both, then_cmp}
 use Rattle.std.specs.Int.{w16, w32, to_be_bytes}
 use Rattle.dns_wire.specs.Encodable.{Piece, Plain, Domain, Position, form, after}
 use Rattle.dns_wire.specs.declared.error.DecodeError.{DecodeError}
-use Rattle.dns_codes.specs.RecordType.{type_number}
-use Rattle.dns_codes.specs.DNSClass.{class_number, same_class}
-use Rattle.dns_codes.specs.CodeText.{class_text, type_text}
-use Rattle.dns_codes.specs.declared.record_type.RecordType.{RecordType}
+use Rattle.dns_wire.specs.codes.RecordType.{type_number}
+use Rattle.dns_wire.specs.codes.DNSClass.{class_number, same_class}
+use Rattle.dns_wire.specs.codes.CodeText.{class_text, type_text}
+use Rattle.dns_wire.specs.declared.codes.record_type.RecordType.{RecordType}
 use Rattle.dns_names.specs.Compare.{same_name, name_cmp}
 use Rattle.dns_names.specs.Print.{text_of_name}
 use Rattle.dns_data.specs.declared.rdata.RData.{RData}

@@ -7,9 +7,13 @@
 //! - `row`: the rows of a zone, which contracts of updates and zones refer to;
 //! - `sequence`: lists, as contracts see them;
 //! - `laws`: theorems about the definitions.
+//!
+//! Further modules, each with a page of its own:
+//! - [`edits`]: the records of a set while updates edit it (RFC 2136 section 3.4.2).
 #![tactic(auto)]
 
 mod data_index;
+pub mod edits;
 mod emit;
 pub mod laws;
 mod record;

@@ -45,7 +45,7 @@ impl<R: RecordData + Drop> Drop for Record<R> {
 }
 
 impl<R: RecordData> Record<R> {
-    ghost use Rattle.dns_codes.specs.declared.dns_class.DNSClass.TheVariants.{IN};
+    ghost use Rattle.dns_wire.specs.declared.codes.dns_class.DNSClass.TheVariants.{IN};
     ghost use Rattle.dns_records.specs.Record.{after_seconds, record_of_rdata};
 
     /// Creates a record of the Internet class.
@@ -197,7 +197,7 @@ impl<R: RecordData + Clone> Clone for Record<R> {
 }
 
 impl Record {
-    ghost use Rattle.dns_codes.specs.declared.dns_class.DNSClass.TheVariants.{IN};
+    ghost use Rattle.dns_wire.specs.declared.codes.dns_class.DNSClass.TheVariants.{IN};
     ghost use Rattle.dns_records.specs.Record.{head_pieces, record_of_rdata, IsInlineRecord, ReadsRecord, RefusesRecord};
     ghost use Rattle.dns_records.specs.RecordRef.{borrowed_record};
 

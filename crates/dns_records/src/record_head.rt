@@ -4,9 +4,9 @@ ghost use Rattle.std.specs.Prelude.{◌≡◌, ◌≢◌, ◌<◌, [], ◌∷◌
 ghost use Rattle.dns_records.specs.RecordHead.{class_for};
 
 use crate::record::Record;
-use dns_codes::laws::{class_number_round_trips, type_number_round_trips};
 use dns_data::RData;
 use dns_names::Name;
+use dns_wire::codes::laws::{class_number_round_trips, type_number_round_trips};
 use dns_wire::{BinDecodable, BinDecoder, DNSClass, DecodeError, RecordType};
 use std::alloc::Global;
 
@@ -24,7 +24,7 @@ pub struct RecordHead {
 }
 
 impl RecordHead {
-    ghost use Rattle.dns_codes.specs.DNSClass.{class_number};
+    ghost use Rattle.dns_wire.specs.codes.DNSClass.{class_number};
     ghost use Rattle.dns_wire.specs.Element.{element_at};
     ghost use Rattle.dns_records.specs.RecordHead.{ReadsHead, RefusesHead};
     ghost use Rattle.dns_data.specs.Field.{Opaque};

@@ -63,7 +63,7 @@ impl Model for RecordSet {
 }
 
 impl RecordSet {
-    ghost use Rattle.dns_codes.specs.declared.dns_class.DNSClass.TheVariants.{IN};
+    ghost use Rattle.dns_wire.specs.declared.codes.dns_class.DNSClass.TheVariants.{IN};
     ghost use Rattle.dns_records.specs.RecordSet.{empty_set};
 
     /// Creates an empty set of the Internet class, with a TTL of 0.

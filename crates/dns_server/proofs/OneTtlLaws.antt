@@ -3,7 +3,7 @@ use Rattle.std.proofs.Common.{◌≡◌, ◌==◌, ◌∙◌, ℕ, Bool, true, f
 use Rattle.std.specs.Prelude.{IfSome}
 use Rattle.std.specs.FinMap as rows_map
 use Rattle.std.specs.List.{AllByRecursion}
-use Rattle.dns_codes.specs.RecordType.{type_number}
+use Rattle.dns_wire.specs.codes.RecordType.{type_number}
 use Rattle.dns_data.specs.rdata.{data_type}
 use Rattle.dns_messages.specs.declared.message.Message.{Message}
 use Rattle.dns_names.specs.Compare.{same_labels}

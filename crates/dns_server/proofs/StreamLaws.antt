@@ -3,7 +3,7 @@ use Rattle.std.proofs.Common.{◌≡◌, ◌≤◌, ◌+◌, ◌-◌, ◌*◌, �
 use Rattle.std.specs.Prelude.{nat_le}
 use Rattle.std.proofs.lemmas.Bool.Decides.{nat_tests}
 use Rattle.std.proofs.lemmas.List.{take-append-le, drop-append-le, take-append-drop, take_all, drop_all}
-use Rattle.dns_frames.specs.Frame.{AreShort, frame, frame_len, stream_of}
+use Rattle.dns_message_bytes.specs.frames.Frame.{AreShort, frame, frame_len, stream_of}
 use Rattle.dns_server.specs.Connection.{Stream, behind_frame, completed, first_message, max_waiting_len, next_message, reply_frame}
 use Rattle.dns_server.specs.Serving.{AreOnly, AreSplit, Happen, IsHistory, IsServed, IsServedOut, Replies, RepliesTo, ServesNext, Step, Receive, Serve, Write, empty_stream, received_in}
 

@@ -6,7 +6,7 @@ use Rattle.std.specs.declared.net.ipv4_addr.Ipv4Addr.{Ipv4Addr}
 use Rattle.std.specs.declared.net.ipv6_addr.Ipv6Addr.{Ipv6Addr}
 use Rattle.std.specs.declared.net.ip_addr.IpAddr.{IpAddr}
 use Rattle.std.specs.declared.net.ip_addr.IpAddr.TheVariants.{V4, V6}
-use Rattle.dns_codes.specs.Decimal.{decimal_up_to}
+use Rattle.dns_wire.specs.codes.Decimal.{decimal_up_to}
 use Rattle.dns_names.specs.Reverse.{addr_prefix, addr_of, prefix_len_of}
 use Rattle.dns_names.specs.declared.reverse.AddrPrefix.{AddrPrefix}
 use Rattle.dns_text.specs.Address.{IsTextOf}

@@ -1,6 +1,6 @@
 -- The state of a stream: bytes that are received and not yet served, and bytes to be written (RFC 7766 sections 6.2 and 8).
 use Rattle.std.specs.Prelude.{◌-◌, nat_le, if◌then◌else◌, List, [], ◌++◌, ℕ, Option, Some, None, length, take, drop}
-use Rattle.dns_frames.specs.Frame.{frame, frame_len}
+use Rattle.dns_message_bytes.specs.frames.Frame.{frame, frame_len}
 
 -- the greatest number of bytes that are received and not yet served: those of the longest frame
 abbrev pub max_input_len : ℕ

@@ -1,7 +1,7 @@
 -- Updates of a server that keeps what RFC 2136 leaves to it: serial numbers (section 3.6), the format of data, and one TTL a set.
 use Rattle.std.specs.Prelude.{◌≡◌, ◌||◌, not, slice_get, slice_set, if◌then◌else◌, true, Bool, List, [], ◌∷◌, ℕ, Option, Some, None}
 use Rattle.std.specs.List.{list_all}
-use Rattle.dns_codes.specs.RecordType.{type_number}
+use Rattle.dns_wire.specs.codes.RecordType.{type_number}
 use Rattle.dns_data.specs.declared.rdata.RData.{RData}
 use Rattle.dns_data.specs.declared.rdata.RData.TheVariants as of
 use Rattle.dns_formats.specs.Field.{fields_of}

@@ -1,7 +1,7 @@
 -- One TTL for the records of a set (RFC 2181 section 5.2): an update as a server completes it before it is applied.
 use Rattle.std.specs.Prelude.{◌≡◌, ◌==◌, ◌&&◌, ◌||◌, ◌++◌, map, not, if◌then◌else◌, is_none, unwrap_or, Bool, true, List, [], ◌∷◌, ℕ, Option, Some, None}
 use Rattle.std.specs.List.{filter, AllByRecursion}
-use Rattle.dns_codes.specs.RecordType.{type_number}
+use Rattle.dns_wire.specs.codes.RecordType.{type_number}
 use Rattle.dns_messages.specs.declared.message.Message.{Message}
 use Rattle.dns_names.specs.Compare.{same_labels}
 use Rattle.dns_records.specs.Record.{Record}

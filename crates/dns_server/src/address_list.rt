@@ -2,15 +2,15 @@
 
 ghost use Rattle.std.specs.Prelude.{◌≡◌, ◌≤◌, ◌<◌, ◌++◌, [], ◌∷◌, length, position, IfOk, IfSome, OnOk, OnErr};
 ghost use Rattle.std.specs.Option.{option_copied};
-ghost use Rattle.dns_codes.specs.Decimal.{decimal_up_to};
+ghost use Rattle.dns_wire.specs.codes.Decimal.{decimal_up_to};
 ghost use Rattle.std.specs.declared.net.ip_addr.IpAddr.TheVariants.{V4, V6};
 ghost use Rattle.std.specs.Net.Addr.{ipv4_octets, ipv6_octets, ipv6_segments, low_octets, IsIpv4Mapped};
 ghost use Rattle.dns_names.specs.Reverse.{addr_prefix};
 ghost use Rattle.dns_server.specs.AddressList.{ReadsParts, ReadsPrefix, covers, is_covered, is_slash, IsLoopbackList, prefix_from, prefix_with, same_bits, same_front, width_of};
 
-use dns_codes::parse_decimal;
 use dns_names::AddrPrefix;
 use dns_text::parse_ip;
+use dns_wire::codes::parse_decimal;
 use std::alloc::{AllocError, Global};
 use std::marker::Model;
 use std::net::{IpAddr, Ipv4Addr, Ipv6Addr};

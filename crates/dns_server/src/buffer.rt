@@ -1,9 +1,9 @@
 //! Bytes that wait: they are added at the end, and removed from the front.
 
 ghost use Rattle.std.specs.Prelude.{◌≡◌, ◌≤◌, ◌++◌, [], length, drop, OnOk, OnErr};
-ghost use Rattle.dns_frames.specs.Frame.{frame};
+ghost use Rattle.dns_message_bytes.specs.frames.Frame.{frame};
 
-use dns_frames::write_frame;
+use dns_message_bytes::frames::write_frame;
 use std::alloc::{AllocError, Global};
 use std::marker::Model;
 

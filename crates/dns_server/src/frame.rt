@@ -2,7 +2,7 @@
 
 ghost use Rattle.std.specs.Prelude.{◌≡◌, ◌≤◌};
 ghost use Rattle.std.specs.Option.{option_copied};
-ghost use Rattle.dns_frames.specs.Frame.{frame_len};
+ghost use Rattle.dns_message_bytes.specs.frames.Frame.{frame_len};
 ghost use Rattle.dns_server.specs.Connection.{first_message};
 
 /// Returns the number of bytes of the first frame: two, and as many as these say, if they are there.

@@ -4,7 +4,7 @@ ghost use Rattle.std.specs.Prelude.{◌≡◌, ◌++◌, List, ℕ, Some, slice_
 ghost use Rattle.dns_messages.specs.declared.message.Message.{Message};
 ghost use Rattle.dns_updates.specs.Code.{update_code};
 ghost use Rattle.dns_zone.specs.Rows.{ZoneContent, IsZone};
-ghost use Rattle.dns_frames.specs.Frame.{AreShort, stream_of};
+ghost use Rattle.dns_message_bytes.specs.frames.Frame.{AreShort, stream_of};
 ghost use Rattle.dns_server.specs.Connection.{Stream};
 ghost use Rattle.dns_server.specs.History.{Request, accepted_updates, zone_after_updates, zones_after_all};
 ghost use Rattle.dns_server.specs.SetTtls.{with_one_ttl, HaveOneTtl};

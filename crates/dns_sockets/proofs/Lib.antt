@@ -1,1 +1,2 @@
 mod StreamTableLaws
+pub mod StoreLaws

@@ -2,3 +2,4 @@ pub mod Stream
 pub mod StreamTable
 pub mod Notices
 pub mod Output
+pub mod schedule

@@ -1,6 +1,6 @@
 -- The bytes that wait to be written on a connection.
 use Rattle.std.specs.Prelude.{nat_lt, if◌then◌else◌, List, [], ℕ, Option, Some, None, length, take}
-use Rattle.dns_frames.specs.Frame.{frame}
+use Rattle.dns_message_bytes.specs.frames.Frame.{frame}
 
 -- bytes, or as many of the first ones as are wanted
 abbrev pub front : Option ℕ → List ℕ → List ℕ

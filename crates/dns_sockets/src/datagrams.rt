@@ -3,8 +3,8 @@
 use crate::clock::Milliseconds;
 use crate::handler::{Handler, Notice, Request, Transport};
 use crate::notices::is_response;
+use crate::schedule::Schedule;
 use dns_faults::Delivery;
-use dns_schedule::Schedule;
 use mio::net::UdpSocket;
 use std::alloc::{AllocError, Global};
 use std::io::ErrorKind;

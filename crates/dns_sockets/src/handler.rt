@@ -1,8 +1,8 @@
 //! What decides on the replies to requests.
 
 use crate::clock::Milliseconds;
-pub use dns_fault_rules::Transport;
 use dns_faults::Delivery;
+pub use dns_faults::rules::Transport;
 use std::alloc::AllocError;
 use std::net::SocketAddr;
 

@@ -8,6 +8,9 @@
 //! - `datagrams`: datagram sockets; `notices`: datagrams without a request; `listener`: listeners; `stream`: a connection;
 //!   `output`: what it writes; `stream_table`: at most 256 of them;
 //! - `open`: the sockets at an address; `tokens`: their tokens; `input`: the end of standard input; `clock`: time.
+//!
+//! Further modules, each with a page of its own:
+//! - [`schedule`]: items that wait for their moment.
 #![tactic(auto)]
 
 mod clock;
@@ -18,6 +21,7 @@ mod listener;
 mod notices;
 mod open;
 mod output;
+pub mod schedule;
 mod service;
 mod stream;
 mod stream_table;

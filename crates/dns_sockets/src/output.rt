@@ -1,10 +1,10 @@
 //! The bytes that wait to be written on a connection.
 
 ghost use Rattle.std.specs.Prelude.{◌≡◌, ◌≤◌, ◌<◌, ◌++◌, ◌↔◌, [], drop, length, take, IsTrue, OnErr, OnOk};
-ghost use Rattle.dns_frames.specs.Frame.{frame};
+ghost use Rattle.dns_message_bytes.specs.frames.Frame.{frame};
 ghost use Rattle.dns_sockets.specs.Output.{added};
 
-use dns_frames::write_frame;
+use dns_message_bytes::frames::write_frame;
 use dns_server::{Buffer, MAX_WAITING_LEN};
 use std::alloc::{AllocError, Global};
 use std::marker::Model;

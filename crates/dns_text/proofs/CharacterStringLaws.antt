@@ -4,7 +4,7 @@ use Rattle.std.specs.Prelude.{◌==◌, nat_le, nat_lt, if◌then◌else◌}
 use Rattle.std.proofs.Math.Seq.{drop-cons}
 use Rattle.std.proofs.lemmas.List.{drop-drop}
 use Rattle.std.proofs.lemmas.Bool.Decides.{nat_tests}
-use Rattle.dns_codes.specs.Decimal.{is_digit, decimal_up_to}
+use Rattle.dns_wire.specs.codes.Decimal.{is_digit, decimal_up_to}
 use Rattle.dns_names.specs.Parse.{Symbol, Escaped, escape, escape_len, more_len}
 use Rattle.dns_names.specs.Print.{escape_sequence, AreOctets}
 use Rattle.dns_names.proofs.RoundTrip.{digit, three_digits}

@@ -9,7 +9,7 @@ use Rattle.std.proofs.lemmas.Bool.Decides.{nat_tests}
 use Rattle.dns_text.specs.declared.ttl.TtlSum.{TtlSum}
 use Rattle.dns_names.specs.declared.error.ParseError.{ParseError}
 use Rattle.dns_names.specs.declared.error.ParseError.TheVariants.{Text}
-use Rattle.dns_codes.specs.Decimal.{is_digit, digits_from, at_most}
+use Rattle.dns_wire.specs.codes.Decimal.{is_digit, digits_from, at_most}
 use Rattle.dns_text.specs.Ttl.{unit_seconds, Run, with_digit, runs, scale, product, sum_of, seconds, time, fault_from, ttl_of_text}
 use Rattle.dns_text.specs.internal.Ttl.{add_character, total}
 

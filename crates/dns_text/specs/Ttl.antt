@@ -1,7 +1,7 @@
 -- Times in text: digits with units (RFC 1035 section 5.1 has digits; the units are those of zone files).
 use Rattle.std.specs.Prelude.{ℕ, ◌+◌, ◌*◌, ◌==◌, ◌++◌, if◌then◌else◌, List, [], ◌∷◌, length, Option, Some, None, Result, Ok, Err}
 use Rattle.std.specs.Char.{to_ascii_lowercase}
-use Rattle.dns_codes.specs.Decimal.{is_digit, decimal, at_most}
+use Rattle.dns_wire.specs.codes.Decimal.{is_digit, decimal, at_most}
 use Rattle.dns_names.specs.declared.error.ParseError.{ParseError}
 use Rattle.dns_names.specs.declared.error.ParseError.TheVariants.{Text}
 

@@ -2,3 +2,8 @@ pub mod RecordLaws
 pub mod BatchLaws
 pub mod MessageLaws
 pub mod SendingLaws
+pub mod RequestLaws
+pub mod ZoneRecordLaws
+pub mod SourceLaws
+pub mod RecordedLaws
+pub mod SignedLaws

@@ -14,7 +14,7 @@ use Rattle.dns_messages.specs.Edns.{IsSoundEdns}
 use Rattle.dns_messages.specs.Sound.{IsSound, IsSoundIn, is_update_code}
 use Rattle.dns_messages.proofs.FitLaws.{uncut}
 use Rattle.dns_records.specs.Record.{Record}
-use Rattle.dns_soundness.proofs.SizeLaws.{edns-len, query-len}
+use Rattle.dns_message_bytes.proofs.SizeLaws.{edns-len, query-len}
 use Rattle.dns_transfers.specs.Message.{edns_of, first_message, with_answers}
 use Rattle.dns_transfers.specs.Sending.{Sending, next_records, room_of}
 use Rattle.dns_transfers.proofs.RecordLaws.{front_within, room_positive}

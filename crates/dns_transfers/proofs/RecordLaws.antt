@@ -4,8 +4,8 @@ use Rattle.std.proofs.lemmas.Bool.{lt-ltb, le-ltb, ltb-false}
 use Rattle.std.proofs.lemmas.List.{append_assoc, append-nil, map-append}
 use Rattle.dns_messages.specs.Cut.{items_len, listed, record_item}
 use Rattle.dns_records.specs.Record.{Record}
-use Rattle.dns_soundness.specs.Size.{record_len}
-use Rattle.dns_soundness.proofs.SizeLaws.{record-len}
+use Rattle.dns_message_bytes.specs.soundness.Size.{record_len}
+use Rattle.dns_message_bytes.proofs.SizeLaws.{record-len}
 use Rattle.dns_transfers.specs.declared.lent_record.LentRecord.{LentRecord}
 use Rattle.dns_transfers.specs.declared.records.Records.{Records}
 use Rattle.dns_transfers.specs.Records.{lent_record, left_of, front, IsNext, IsPeeked}

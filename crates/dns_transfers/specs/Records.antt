@@ -1,10 +1,10 @@
 -- Records that are left to be sent, and those of them that have room in a message.
 use Rattle.std.specs.Prelude.{◌≡◌, ◌-◌, ◌++◌, map, nat_lt, if◌then◌else◌, List, [], ◌∷◌, ℕ, Option, Some, None, option_map}
-use Rattle.dns_codes.specs.declared.dns_class.DNSClass.TheVariants.{IN}
+use Rattle.dns_wire.specs.declared.codes.dns_class.DNSClass.TheVariants.{IN}
 use Rattle.dns_messages.specs.Cut.{listed}
 use Rattle.dns_names.specs.Name.{DomainName}
 use Rattle.dns_records.specs.Record.{Record}
-use Rattle.dns_soundness.specs.Size.{record_len}
+use Rattle.dns_message_bytes.specs.soundness.Size.{record_len}
 use Rattle.dns_transfers.specs.declared.batch.Batch.{Batch}
 use Rattle.dns_transfers.specs.declared.lent_record.LentRecord.{LentRecord}
 use Rattle.dns_transfers.specs.declared.records.Records.{Records}

@@ -1,7 +1,7 @@
 //! Records that are borrowed with an owner.
 
 ghost use Rattle.std.specs.Prelude.{◌≡◌, ◌+◌, ◌<◌, IfSome, None};
-ghost use Rattle.dns_soundness.specs.Size.{record_len};
+ghost use Rattle.dns_message_bytes.specs.soundness.Size.{record_len};
 ghost use Rattle.dns_transfers.specs.Records.{lent_record, owned_record};
 
 use dns_names::Name;

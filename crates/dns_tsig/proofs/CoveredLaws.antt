@@ -3,8 +3,8 @@ use Rattle.std.proofs.Common.{◌≡◌, ◌↔◌, ℕ, ◌++◌, Bool, List, [
 use Rattle.std.specs.Str.{bytes_eq}
 use Rattle.std.proofs.lemmas.Bool.Decides.{same_from_decides}
 use Rattle.std.proofs.lemmas.Slice.Eq.{bytes_eq-Decides}
-use Rattle.dns_hmac.specs.declared.hmac.Hmac.{Hmac}
-use Rattle.dns_hmac.specs.Hmac.{Keyed}
+use Rattle.dns_tsig.specs.declared.hmac.hmac.Hmac.{Hmac}
+use Rattle.dns_tsig.specs.hmac.Hmac.{Keyed}
 use Rattle.dns_tsig.specs.Covered.{Adds}
 
 -- nothing is added

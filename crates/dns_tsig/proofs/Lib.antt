@@ -1,3 +1,5 @@
 pub mod CoveredLaws
 pub mod SkipLaws
 pub mod VerifyLaws
+pub mod HmacLaws
+mod VerifiedLaws

@@ -1,9 +1,9 @@
 -- What a message authentication code covers (RFC 8945 sections 4.3 and 5.3.1).
 use Rattle.std.specs.Prelude.{ℕ, ◌-◌, ◌++◌, List, [], ◌∷◌, length, drop, slice_range}
 use Rattle.std.specs.Int.{w16, w64, to_be_bytes}
-use Rattle.dns_hmac.specs.declared.algorithm.Algorithm.{Algorithm}
-use Rattle.dns_hmac.specs.declared.hmac.Hmac.{Hmac}
-use Rattle.dns_hmac.specs.Hmac.{Keyed}
+use Rattle.dns_tsig.specs.declared.hmac.algorithm.Algorithm.{Algorithm}
+use Rattle.dns_tsig.specs.declared.hmac.hmac.Hmac.{Hmac}
+use Rattle.dns_tsig.specs.hmac.Hmac.{Keyed}
 use Rattle.dns_tsig.specs.Key.{algorithm_name}
 use Rattle.dns_tsig.specs.Numbers.{number_at}
 use Rattle.dns_tsig.specs.declared.key.Key.{Key}

@@ -1,9 +1,9 @@
 -- Whether a TSIG record proves that its message comes from the holder of a key (RFC 8945 section 5.2).
 use Rattle.std.specs.Prelude.{ℕ, ◌+◌, ◌/◌, ◌&&◌, ◌++◌, not, nat_le, nat_lt, if◌then◌else◌, Bool, List, length, take}
 use Rattle.std.specs.Str.{bytes_eq}
-use Rattle.dns_hmac.specs.declared.algorithm.Algorithm.{Algorithm}
-use Rattle.dns_hmac.specs.Algorithm.{code_len}
-use Rattle.dns_hmac.specs.Hmac.{hmac}
+use Rattle.dns_tsig.specs.declared.hmac.algorithm.Algorithm.{Algorithm}
+use Rattle.dns_tsig.specs.hmac.Algorithm.{code_len}
+use Rattle.dns_tsig.specs.hmac.Hmac.{hmac}
 use Rattle.dns_tsig.specs.Covered.{covered, prior_bytes, unsigned_message}
 use Rattle.dns_tsig.specs.TsigFields.{TsigFields}
 use Rattle.dns_tsig.specs.declared.key.Key.{Key}

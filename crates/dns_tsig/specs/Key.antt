@@ -1,7 +1,7 @@
 -- The names of algorithms (RFC 8945 section 6).
 use Rattle.std.specs.Prelude.{ℕ, ◌++◌, List, [], ◌∷◌, codes}
-use Rattle.dns_hmac.specs.declared.algorithm.Algorithm.{Algorithm}
-use Rattle.dns_hmac.specs.declared.algorithm.Algorithm.TheVariants as algorithms
+use Rattle.dns_tsig.specs.declared.hmac.algorithm.Algorithm.{Algorithm}
+use Rattle.dns_tsig.specs.declared.hmac.algorithm.Algorithm.TheVariants as algorithms
 
 -- the names of the algorithms in canonical form: a length before each label, and a zero byte
 abbrev pub algorithm_name : Algorithm → List ℕ

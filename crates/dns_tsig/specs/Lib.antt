@@ -13,3 +13,5 @@ pub mod Tsig
 pub mod TsigFields
 pub mod Verify
 pub mod WireName
+pub mod hmac
+pub mod signer

@@ -1,6 +1,6 @@
 -- Signing of messages (RFC 8945 sections 5.1 and 5.3).
 use Rattle.std.specs.Prelude.{◌≡◌, ℕ, ◌==◌, ◌++◌, nat_lt, if◌then◌else◌, List, length, Option, Some, None}
-use Rattle.dns_hmac.specs.Hmac.{hmac}
+use Rattle.dns_tsig.specs.hmac.Hmac.{hmac}
 use Rattle.dns_tsig.specs.Covered.{covered, prior_bytes}
 use Rattle.dns_tsig.specs.Key.{algorithm_name}
 use Rattle.dns_tsig.specs.Numbers.{number_at}

@@ -8,11 +8,11 @@ ghost use Rattle.dns_tsig.specs.Sign.{IsSigned, refusal_of};
 use crate::covered::{Coverage, Terms};
 use crate::error::SignError;
 use crate::found::{Found, Signature, find_tsig};
+use crate::hmac::Code;
 use crate::judge::{Judgement, judgement_of};
 use crate::key::Key;
 use crate::signing::sign;
 use crate::verify::is_key_of;
-use dns_hmac::Code;
 use std::alloc::{AllocError, Global};
 
 /// The fudge of signed requests, in seconds (RFC 8945 section 10).

@@ -2,13 +2,13 @@
 
 ghost use Rattle.std.specs.Prelude.{◌≡◌, ◌≤◌, ◌<◌, ◌++◌, ℕ, List, length};
 ghost use Rattle.std.specs.Int.{w16, to_be_bytes};
-ghost use Rattle.dns_hmac.specs.Hmac.{Keyed, hmac};
-ghost use Rattle.dns_hmac.specs.Algorithm.{code_len};
+ghost use Rattle.dns_tsig.specs.hmac.Hmac.{Keyed, hmac};
+ghost use Rattle.dns_tsig.specs.hmac.Algorithm.{code_len};
 ghost use Rattle.dns_tsig.specs.Covered.{Adds, covered, outcome, prior_bytes, timers, unsigned_message, variables};
 
+use crate::hmac::{Code, Hmac};
 use crate::key::{Key, algorithm_name};
 use crate::numbers::number_at;
-use dns_hmac::{Code, Hmac};
 
 /// The class ANY and the TTL 0 of a TSIG record.
 const CLASS_AND_TTL: [u8; 6] = [0, 255, 0, 0, 0, 0];

@@ -1,13 +1,13 @@
 //! Whether a TSIG record proves that its message comes from the holder of a key (RFC 8945 section 5.2).
 
 ghost use Rattle.std.specs.Prelude.{◌≡◌, ◌≤◌, ◌<◌, length, take};
-ghost use Rattle.dns_hmac.specs.Hmac.{hmac};
+ghost use Rattle.dns_tsig.specs.hmac.Hmac.{hmac};
 ghost use Rattle.dns_tsig.specs.Judge.{is_allowed_len, is_in_time, is_mac_of, judgement, received_text};
 
 use crate::covered::{Coverage, Terms, add_message, begin, finish};
 use crate::found::Signature;
+use crate::hmac::{Algorithm, Code, is_same};
 use crate::key::Key;
-use dns_hmac::{Algorithm, Code, is_same};
 
 /// The judgement of a TSIG record by its key.
 #[derive(Clone, Copy, Debug, PartialEq, Eq)]

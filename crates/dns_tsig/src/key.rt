@@ -1,12 +1,12 @@
 //! Keys that are shared with other hosts, and the names of algorithms (RFC 8945 section 6).
 
 ghost use Rattle.std.specs.Prelude.{◌≡◌};
-ghost use Rattle.dns_hmac.specs.Algorithm.{code_len};
+ghost use Rattle.dns_tsig.specs.hmac.Algorithm.{code_len};
 ghost use Rattle.dns_tsig.specs.Key.{algorithm_name};
 ghost use Rattle.dns_tsig.specs.WireName.{canonical_name};
 
+use crate::hmac::Algorithm;
 use crate::wire_name::{WireName, canonical_name};
-use dns_hmac::Algorithm;
 use dns_names::Name;
 
 /// A key that is shared with another host.

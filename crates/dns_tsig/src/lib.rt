@@ -8,17 +8,24 @@
 //! - `key`: keys, and the names of algorithms; `covered`: what a code covers; `judge`: whether a code is that of a message;
 //! - `verify`: by whom a request was signed; `tsig_record`: records that are appended; `signing`: messages that are signed; `reply`: replies
 //!   by the verdicts on their requests; `client`: the side of clients; `error`: why a message cannot be signed.
+//!
+//! Further modules, each with a page of its own:
+//! - [`hmac`]: HMAC (RFC 2104) over the hash functions that TSIG uses (RFC 8945 section 6);
+//! - [`signer`]: the requestor's side of transaction signatures: requests that are signed with a key, and replies that are
+//!   accepted only if a holder of the key signed them for the last request (RFC 8945 sections 5.1 and 5.4).
 #![tactic(auto)]
 
 mod client;
 mod covered;
 mod error;
 mod found;
+pub mod hmac;
 mod judge;
 mod key;
 mod layout;
 mod numbers;
 mod reply;
+pub mod signer;
 mod signing;
 mod skip;
 mod tsig;

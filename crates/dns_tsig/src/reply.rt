@@ -7,13 +7,13 @@ ghost use Rattle.dns_tsig.specs.Sign.{refusal_of};
 use crate::covered::{Coverage, Terms};
 use crate::error::SignError;
 use crate::found::{Found, Signature};
+use crate::hmac::Code;
 use crate::key::Key;
 use crate::numbers::number_at;
 use crate::signing::{check_room, sign};
 use crate::tsig_record::{append_record, record_for};
 use crate::verify::{Checked, Verdict};
 use arrayvec::ArrayVec;
-use dns_hmac::Code;
 use std::alloc::Global;
 
 /// The fudge of signed messages, in seconds (RFC 8945 section 10).

@@ -7,10 +7,10 @@ ghost use Rattle.dns_tsig.specs.Sign.{IsSigned, code_for, refusal_of, signed_rec
 
 use crate::covered::{Coverage, Terms, begin, finish};
 use crate::error::SignError;
+use crate::hmac::Code;
 use crate::key::{Key, algorithm_name};
 use crate::numbers::number_at;
 use crate::tsig_record::{append_record, record_for};
-use dns_hmac::Code;
 use std::alloc::Global;
 
 /// Signs a message: appends a TSIG record, and returns its code. The former code is empty for a request, and that of the request for

@@ -8,8 +8,8 @@ use Rattle.std.proofs.lemmas.Nat.{from_be_bytes-to_be_bytes_2, from_be_bytes-to_
 use Rattle.std.specs.Int.{w16, w64, to_be_bytes}
 use Rattle.std.specs.Str.{bytes_eq}
 use Rattle.std.specs.Prelude.{nat_lt, ◌==◌, option_and_then}
-use Rattle.dns_hmac.specs.declared.algorithm.Algorithm.{Algorithm}
-use Rattle.dns_hmac.specs.declared.algorithm.Algorithm.TheVariants as algorithms
+use Rattle.dns_tsig.specs.declared.hmac.algorithm.Algorithm.{Algorithm}
+use Rattle.dns_tsig.specs.declared.hmac.algorithm.Algorithm.TheVariants as algorithms
 use Rattle.dns_tsig.specs.Covered.{timers}
 use Rattle.dns_tsig.specs.Key.{algorithm_name}
 use Rattle.dns_tsig.specs.Numbers.{number_at, time_at}

@@ -5,7 +5,7 @@ use Rattle.std.proofs.lemmas.List.Elements.{All-cons, All-from_recursion, All-ni
 use Rattle.std.specs.Global.{Global, Vec}
 use denote.RawPtr.{null_ptr}
 use Rattle.md5.specs.Md5.{block_words, rounds, compress, hash_after, digest_bytes, md5}
-use Rattle.dns_hmac.specs.declared.algorithm.Algorithm.TheVariants.{Md5}
+use Rattle.dns_tsig.specs.declared.hmac.algorithm.Algorithm.TheVariants.{Md5}
 use Rattle.dns_wire.specs.Reading.{at_closing, at_label}
 use Rattle.dns_tsig.specs.Found.{IsSignature}
 use Rattle.dns_tsig.specs.Sign.{IsSigned}

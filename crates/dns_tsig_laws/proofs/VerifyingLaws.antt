@@ -14,10 +14,10 @@ use Rattle.md5.specs.Md5.{md5, digest_bytes as md5_bytes}
 use Rattle.sha1.specs.Sha1.{sha1, digest_bytes as sha1_bytes}
 use Rattle.sha2.specs.Sha256.{sha224, sha256, digest_bytes as sha256_bytes}
 use Rattle.sha2.specs.Sha512.{sha384, sha512, digest_bytes as sha512_bytes}
-use Rattle.dns_hmac.specs.Algorithm.{code_len, hash}
-use Rattle.dns_hmac.specs.Hmac.{hmac}
-use Rattle.dns_hmac.specs.declared.algorithm.Algorithm.{Algorithm}
-use Rattle.dns_hmac.specs.declared.algorithm.Algorithm.TheVariants as algorithms
+use Rattle.dns_tsig.specs.hmac.Algorithm.{code_len, hash}
+use Rattle.dns_tsig.specs.hmac.Hmac.{hmac}
+use Rattle.dns_tsig.specs.declared.hmac.algorithm.Algorithm.{Algorithm}
+use Rattle.dns_tsig.specs.declared.hmac.algorithm.Algorithm.TheVariants as algorithms
 use Rattle.dns_wire.proofs.ReadingLaws.{reads_not_refused, reads_same}
 use Rattle.dns_wire.specs.Name.{name_len}
 use Rattle.dns_wire.specs.Reading.{ReadsName, RefusesName}

@@ -1,7 +1,7 @@
 -- Messages that can be signed, and keys that can sign them.
 use Rattle.std.specs.Prelude.{◌≡◌, ◌≢◌, ◌+◌, ◌<◌, ◌≤◌, ℕ, List, [], length, drop, Some}
 use Rattle.std.specs.List.{All}
-use Rattle.dns_hmac.specs.Algorithm.{code_len}
+use Rattle.dns_tsig.specs.hmac.Algorithm.{code_len}
 use Rattle.dns_wire.specs.Name.{AreLabels}
 use Rattle.dns_tsig.specs.Numbers.{number_at}
 use Rattle.dns_tsig.specs.Skip.{after_questions, after_records}

@@ -13,3 +13,4 @@ pub mod UpdateLaws
 pub mod PutLaws
 mod UpdateRows
 mod VoidLaws
+mod PrerequisiteLaws

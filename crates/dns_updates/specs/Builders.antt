@@ -2,11 +2,11 @@
 use Rattle.std.specs.Prelude.{◌≡◌, ◌≢◌, ◌==◌, ◌&&◌, ◌||◌, ◌++◌, not, map, if◌then◌else◌, Bool, true, false, List, [], ◌∷◌, ℕ, Some, None}
 use Rattle.std.specs.List.{filter, fold, AllByRecursion}
 use Rattle.std.specs.FinMap as rows_map
-use Rattle.dns_codes.specs.RecordType.{type_number}
-use Rattle.dns_codes.specs.declared.record_type.RecordType.{RecordType}
-use Rattle.dns_codes.specs.declared.record_type.RecordType.TheVariants as types
-use Rattle.dns_codes.specs.declared.dns_class.DNSClass.{DNSClass}
-use Rattle.dns_codes.specs.declared.dns_class.DNSClass.TheVariants as classes
+use Rattle.dns_wire.specs.codes.RecordType.{type_number}
+use Rattle.dns_wire.specs.declared.codes.record_type.RecordType.{RecordType}
+use Rattle.dns_wire.specs.declared.codes.record_type.RecordType.TheVariants as types
+use Rattle.dns_wire.specs.declared.codes.dns_class.DNSClass.{DNSClass}
+use Rattle.dns_wire.specs.declared.codes.dns_class.DNSClass.TheVariants as classes
 use Rattle.dns_names.specs.Name.{DomainName}
 use Rattle.dns_names.specs.Compare.{same_labels}
 use Rattle.dns_data.specs.declared.rdata.RData.{RData}

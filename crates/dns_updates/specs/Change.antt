@@ -2,14 +2,14 @@
 use Rattle.std.specs.Prelude.{◌==◌, ◌&&◌, ◌||◌, not, if◌then◌else◌, Bool, true, false, List, [], ◌∷◌, ℕ, length}
 use Rattle.std.specs.List.{filter, fold, list_all}
 use Rattle.std.specs.FinMap as rows_map
-use Rattle.dns_codes.specs.RecordType.{type_number}
-use Rattle.dns_codes.specs.SerialNumber.{serial_order}
-use Rattle.dns_codes.specs.declared.serial_number.SerialOrder.{SerialOrder}
-use Rattle.dns_codes.specs.declared.serial_number.SerialOrder.TheVariants as order
-use Rattle.dns_codes.specs.declared.record_type.RecordType.{RecordType}
-use Rattle.dns_codes.specs.declared.record_type.RecordType.TheVariants as types
-use Rattle.dns_codes.specs.declared.dns_class.DNSClass.{DNSClass}
-use Rattle.dns_codes.specs.declared.dns_class.DNSClass.TheVariants as classes
+use Rattle.dns_wire.specs.codes.RecordType.{type_number}
+use Rattle.dns_wire.specs.codes.SerialNumber.{serial_order}
+use Rattle.dns_wire.specs.declared.codes.serial_number.SerialOrder.{SerialOrder}
+use Rattle.dns_wire.specs.declared.codes.serial_number.SerialOrder.TheVariants as order
+use Rattle.dns_wire.specs.declared.codes.record_type.RecordType.{RecordType}
+use Rattle.dns_wire.specs.declared.codes.record_type.RecordType.TheVariants as types
+use Rattle.dns_wire.specs.declared.codes.dns_class.DNSClass.{DNSClass}
+use Rattle.dns_wire.specs.declared.codes.dns_class.DNSClass.TheVariants as classes
 use Rattle.dns_names.specs.Name.{DomainName}
 use Rattle.dns_names.specs.Compare.{same_labels}
 use Rattle.dns_data.specs.declared.rdata.RData.{RData}

@@ -6,3 +6,4 @@ pub mod Keys
 pub mod Records
 pub mod Sets
 pub mod internal
+pub mod builder

@@ -5,7 +5,7 @@
 
 ghost use Rattle.std.specs.Prelude.{◌≡◌, ◌++◌, ◌∷◌, [], if◌then◌else◌, IfOk};
 ghost use Rattle.dns_records.specs.RecordSet.{each_with_ttl};
-ghost use Rattle.dns_codes.specs.declared.dns_class.DNSClass.TheVariants as classes;
+ghost use Rattle.dns_wire.specs.declared.codes.dns_class.DNSClass.TheVariants as classes;
 ghost use Rattle.dns_updates.specs.Builders.{zone_section, message_of, update_message, empty_record, as_deletions, create_message, append_message, compare_and_swap_message, delete_by_rdata_message, delete_rrset_message, delete_all_message};
 
 use dns_data::RData;

@@ -2,9 +2,9 @@
 
 ghost use Rattle.std.specs.Prelude.{◌≡◌, ◌≢◌, ◌&&◌, Bool, ℕ, [], true, false, not};
 ghost use Rattle.std.specs.List.{AllByRecursion};
-ghost use Rattle.dns_codes.specs.declared.dns_class.DNSClass.{DNSClass};
-ghost use Rattle.dns_codes.specs.declared.dns_class.DNSClass.TheVariants.{IN};
-ghost use Rattle.dns_codes.specs.declared.record_type.RecordType.TheVariants as types;
+ghost use Rattle.dns_wire.specs.declared.codes.dns_class.DNSClass.{DNSClass};
+ghost use Rattle.dns_wire.specs.declared.codes.dns_class.DNSClass.TheVariants.{IN};
+ghost use Rattle.dns_wire.specs.declared.codes.record_type.RecordType.TheVariants as types;
 ghost use Rattle.dns_names.specs.Name.{DomainName};
 ghost use Rattle.dns_names.specs.Compare.{same_labels};
 ghost use Rattle.dns_records.specs.Record.{Record};

@@ -4,8 +4,13 @@
 //! - `zone_rows`: the rows of a zone, as updates read them; `code`: the response code of an update, with `record_tests`;
 //! - `changes`: what an update changes; `keys`: the keys by which sets are found;
 //! - `laws`: theorems about updates: with which code a server replies to one, and how it changes the rows of a zone.
+//!
+//! Further modules, each with a page of its own:
+//! - [`builder`]: a builder of dynamic updates: any prerequisites and changes of one zone, in one message (RFC 2136 section
+//!   2).
 #![tactic(auto)]
 
+pub mod builder;
 mod builders;
 mod changes;
 mod code;

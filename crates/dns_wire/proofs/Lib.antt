@@ -13,3 +13,4 @@ pub mod SectionLaws
 pub mod FillLaws
 pub mod CallLaws
 pub mod DecodeErrorLaws
+pub mod DecimalLaws

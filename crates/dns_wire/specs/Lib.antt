@@ -15,3 +15,4 @@ pub mod Place
 pub mod Items
 pub mod Laws
 pub mod internal
+pub mod codes

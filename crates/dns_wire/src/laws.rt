@@ -11,7 +11,7 @@ ghost use Rattle.dns_wire.specs.declared.error.EncodeError.{EncodeError};
 ghost use Rattle.dns_wire.specs.declared.name_encoding.NameEncoding.{NameEncoding};
 ghost use Rattle.dns_wire.specs.declared.name_encoding.RDataEncoding.{RDataEncoding};
 
-pub use dns_codes::laws::{
+pub use crate::codes::laws::{
     class_number_round_trips, serials_compare_by_distance, type_number_round_trips,
 };
 

@@ -10,8 +10,12 @@
 //!   `name_encoding`, `modal_encoder`: how names are encoded; `place`: places that are filled in later; `items`: lists of
 //!   values; `numbers`: numbers as values;
 //! - `error`: the errors; `laws`: the laws of decoding and encoding. The codes are those of `dns_codes`.
+//!
+//! Further modules, each with a page of its own:
+//! - [`codes`]: the codes of DNS: types, classes and serial numbers (RFC 1035 section 3.2, RFC 1982).
 #![tactic(auto)]
 
+pub mod codes;
 mod decodable;
 mod decoder;
 mod encodable;
@@ -26,9 +30,9 @@ mod place;
 mod pointers;
 mod suffixes;
 
+pub use crate::codes::{CodeTextError, DNSClass, RecordType, SerialNumber, SerialOrder};
 pub use decodable::BinDecodable;
 pub use decoder::BinDecoder;
-pub use dns_codes::{CodeTextError, DNSClass, RecordType, SerialNumber, SerialOrder};
 pub use encodable::{BinEncodable, EncodedSize};
 pub use encoder::BinEncoder;
 pub use error::{DecodeError, EncodeError, ProtoError};

@@ -1,17 +1,17 @@
 -- Answers are alias chains of rows, and can be encoded and decoded again.
 use Rattle.std.proofs.Common.{◌≡◌, ◌==◌, ◌<◌, ◌^◌, ◌&&◌, ◌||◌, not, zero, suc, ℕ, Bool, true, false, cond, List, [], ◌∷◌, map, refl, sym, subst, ap, arith, Option, Some, None}
 use Rattle.std.specs.Prelude.{IfSome}
-use Rattle.dns_codes.specs.RecordType.{type_number}
-use Rattle.dns_codes.specs.DNSClass.{class_number}
+use Rattle.dns_wire.specs.codes.RecordType.{type_number}
+use Rattle.dns_wire.specs.codes.DNSClass.{class_number}
 use Rattle.dns_messages.specs.declared.query.Query.{Query}
 use Rattle.dns_messages.specs.declared.response_code.ResponseCode.{ResponseCode}
 use Rattle.dns_messages.specs.declared.response_code.ResponseCode.TheVariants.{NoError, NXDomain, NotImp, Refused}
 use Rattle.dns_messages.specs.Header.{code_number, code_of}
 use Rattle.dns_names.specs.Compare.{at_or_below}
 use Rattle.dns_text.specs.Usage.{is_loopback, is_nonexistent}
-use Rattle.dns_codes.specs.declared.record_type.RecordType.{RecordType}
-use Rattle.dns_codes.specs.declared.record_type.RecordType.TheVariants as types
-use Rattle.dns_codes.specs.declared.dns_class.DNSClass.TheVariants.{IN}
+use Rattle.dns_wire.specs.declared.codes.record_type.RecordType.{RecordType}
+use Rattle.dns_wire.specs.declared.codes.record_type.RecordType.TheVariants as types
+use Rattle.dns_wire.specs.declared.codes.dns_class.DNSClass.TheVariants.{IN}
 use Rattle.dns_names.specs.Name.{DomainName}
 use Rattle.dns_records.specs.declared.row.Row.{Row}
 use Rattle.dns_records.specs.Record.{Record}

@@ -4,7 +4,7 @@ use Rattle.std.proofs.lemmas.List.{append-nil}
 use Rattle.std.specs.FinMap as rows_map
 use Rattle.std.specs.List.{flat_map, IsDistinct}
 use Rattle.std.specs.Prelude.{IfSome}
-use Rattle.dns_codes.specs.declared.record_type.RecordType.{RecordType}
+use Rattle.dns_wire.specs.declared.codes.record_type.RecordType.{RecordType}
 use Rattle.dns_names.specs.Name.{DomainName}
 use Rattle.dns_differences.specs.declared.difference.Difference.{Difference}
 use Rattle.dns_messages.specs.Sound.{IsSound}

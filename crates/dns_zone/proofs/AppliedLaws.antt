@@ -3,7 +3,7 @@ use Rattle.std.proofs.Common.{◌≡◌, ◌∙◌, ℕ, Bool, true, false, cond
 use Rattle.std.specs.Prelude.{IfSome}
 use Rattle.std.specs.List as list
 use Rattle.std.specs.List.{list_any}
-use Rattle.dns_codes.specs.RecordType.{type_number, type_of}
+use Rattle.dns_wire.specs.codes.RecordType.{type_number, type_of}
 use Rattle.dns_names.specs.Name.{DomainName}
 use Rattle.dns_records.specs.RecordSet.{RecordSetValue}
 use Rattle.dns_messages.specs.declared.message.Message.{Message}

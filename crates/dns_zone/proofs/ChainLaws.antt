@@ -1,8 +1,8 @@
 -- The answer along an alias chain, link by link.
 use Rattle.std.proofs.Common.{◌≡◌, ◌+◌, ◌-◌, ◌<◌, zero, suc, ℕ, List, [], ◌∷◌, ◌++◌, length, refl, sym, ap, ◌∙◌, arith, add-one, Option, Some, None, slice_set}
 use Rattle.std.proofs.lemmas.List.{append_assoc}
-use Rattle.dns_codes.specs.declared.record_type.RecordType.{RecordType}
-use Rattle.dns_codes.specs.declared.record_type.RecordType.TheVariants as types
+use Rattle.dns_wire.specs.declared.codes.record_type.RecordType.{RecordType}
+use Rattle.dns_wire.specs.declared.codes.record_type.RecordType.TheVariants as types
 use Rattle.dns_names.specs.Name.{DomainName}
 use Rattle.dns_messages.specs.declared.response_code.ResponseCode.TheVariants.{NoError}
 use Rattle.dns_records.specs.Record.{Record}

@@ -9,7 +9,7 @@ use Rattle.std.specs.List.{filter, flat_map, list_any, AllByRecursion}
 use Rattle.std.specs.List.Sorted.{IsStrictlySortedBy}
 use Rattle.std.specs.Ordering.{eq_by_cmp, is_eq, is_gt}
 use Rattle.std.specs.Prelude.{IfSome}
-use Rattle.dns_codes.specs.RecordType.{type_number}
+use Rattle.dns_wire.specs.codes.RecordType.{type_number}
 use Rattle.dns_data.specs.rdata.{data_type}
 use Rattle.dns_differences.specs.Difference.{has_row, in_zone, is_among, same_in_zone, same_row}
 use Rattle.dns_differences.specs.declared.difference.Difference.{Difference}

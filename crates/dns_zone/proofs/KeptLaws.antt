@@ -10,9 +10,9 @@ use Rattle.std.specs.FinMap as rows_map
 use Rattle.std.specs.List as list
 use Rattle.std.specs.List.{list_any, AllByRecursion, IsDistinct}
 use Rattle.std.specs.Ordering.{eq_by_cmp, is_eq, nat_cmp, ordering_then}
-use Rattle.dns_codes.specs.RecordType.{type_number, type_of}
-use Rattle.dns_codes.specs.declared.record_type.RecordType.{RecordType}
-use Rattle.dns_codes.specs.declared.record_type.RecordType.TheVariants as types
+use Rattle.dns_wire.specs.codes.RecordType.{type_number, type_of}
+use Rattle.dns_wire.specs.declared.codes.record_type.RecordType.{RecordType}
+use Rattle.dns_wire.specs.declared.codes.record_type.RecordType.TheVariants as types
 use Rattle.dns_names.specs.Compare.{same_name}
 use Rattle.dns_names.specs.Name.{DomainName}
 use Rattle.dns_names.specs.internal.Compare.{same-lower}

@@ -8,7 +8,7 @@ use Rattle.std.specs.Map.{values_of}
 use Rattle.std.specs.BTreeMap.Range.{range_contains}
 use Rattle.std.specs.Ordering.{is_gt, is_le, nat_cmp, ordering_then, ordering_reverse}
 use Rattle.std.specs.declared.ops.Bound.TheVariants.{Included, Excluded}
-use Rattle.dns_codes.specs.declared.record_type.RecordType.{RecordType}
+use Rattle.dns_wire.specs.declared.codes.record_type.RecordType.{RecordType}
 use Rattle.dns_names.specs.Compare.{same_labels}
 use Rattle.dns_names.specs.internal.Compare.{same-lower, same_labels-equivalence}
 use Rattle.dns_records.specs.RecordSet.{RecordSetValue}

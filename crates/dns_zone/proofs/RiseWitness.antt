@@ -4,8 +4,8 @@ use Rattle.std.specs.FinMap as rows_map
 use Rattle.std.specs.List.{IsDistinct}
 use Rattle.std.specs.Ordering.{eq_by_cmp}
 use Rattle.std.specs.Prelude.{IfSome}
-use Rattle.dns_codes.specs.declared.dns_class.DNSClass.TheVariants.{IN}
-use Rattle.dns_codes.specs.declared.record_type.RecordType.TheVariants as types
+use Rattle.dns_wire.specs.declared.codes.dns_class.DNSClass.TheVariants.{IN}
+use Rattle.dns_wire.specs.declared.codes.record_type.RecordType.TheVariants as types
 use Rattle.dns_data.specs.declared.rdata.RData.TheVariants as of
 use Rattle.dns_differences.specs.Difference.{has_row, in_zone}
 use Rattle.dns_messages.specs.Header.{new_metadata}

@@ -6,8 +6,8 @@ use Rattle.std.specs.Cmp.{IsEquivalence, eq_by_cmp_equiv}
 use Rattle.std.specs.FinMap as rows_map
 use Rattle.std.specs.List.{AllByRecursion, IsDistinct}
 use Rattle.std.specs.Ordering.{eq_by_cmp}
-use Rattle.dns_codes.specs.RecordType.{type_number, type_of}
-use Rattle.dns_codes.specs.declared.record_type.RecordType.TheVariants as types
+use Rattle.dns_wire.specs.codes.RecordType.{type_number, type_of}
+use Rattle.dns_wire.specs.declared.codes.record_type.RecordType.TheVariants as types
 use Rattle.dns_data.specs.declared.rdata.RData.{RData}
 use Rattle.dns_data.specs.declared.rdata.RData.TheVariants as of
 use Rattle.dns_data.specs.declared.rdata.soa.SOA.{SOA}
@@ -24,8 +24,8 @@ use Rattle.dns_names.specs.Name.{DomainName}
 use Rattle.dns_records.specs.Record.{Record}
 use Rattle.dns_records.specs.Rows.{key_of, row_of, rows_of, with_set}
 use Rattle.dns_records.specs.declared.row.Row.{Row}
-use Rattle.dns_serials.specs.Record.{data_serial}
-use Rattle.dns_serials.specs.Serial.{next_serial}
+use Rattle.dns_differences.specs.serials.Record.{data_serial}
+use Rattle.dns_differences.specs.serials.Serial.{next_serial}
 use Rattle.dns_updates.specs.Change.{update_change}
 use Rattle.dns_updates.specs.Code.{update_code}
 use Rattle.dns_updates.specs.Records.{is_of_type}

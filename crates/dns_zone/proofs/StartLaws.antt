@@ -4,7 +4,7 @@ use Rattle.std.specs.Prelude.{IfSome}
 use Rattle.std.specs.FinMap as rows_map
 use Rattle.std.specs.List as list
 use Rattle.std.specs.Ordering.{eq_by_cmp}
-use Rattle.dns_codes.specs.declared.record_type.RecordType.TheVariants as types
+use Rattle.dns_wire.specs.declared.codes.record_type.RecordType.TheVariants as types
 use Rattle.dns_differences.proofs.RecordLaws.{same_key}
 use Rattle.dns_names.specs.Compare.{lower}
 use Rattle.dns_names.specs.Name.{DomainName}

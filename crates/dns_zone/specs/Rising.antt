@@ -1,11 +1,11 @@
 -- How the serial number of a zone rises by itself (RFC 2136 section 3.6).
 use Rattle.std.specs.Prelude.{List, [], ◌∷◌}
-use Rattle.dns_codes.specs.declared.record_type.RecordType.TheVariants as types
+use Rattle.dns_wire.specs.declared.codes.record_type.RecordType.TheVariants as types
 use Rattle.dns_data.specs.declared.rdata.RData.{RData}
 use Rattle.dns_data.specs.declared.rdata.RData.TheVariants as of
 use Rattle.dns_records.specs.Rows.{with_set}
 use Rattle.dns_records.specs.declared.row.Row.{Row}
-use Rattle.dns_serials.specs.Serial.{next_serial}
+use Rattle.dns_differences.specs.serials.Serial.{next_serial}
 use Rattle.dns_zone.specs.Rows.{Key, Rows, ZoneContent, key, rows_at}
 
 -- the data of an SOA record with the next serial number

@@ -2,8 +2,8 @@
 use Rattle.std.specs.Prelude.{◌≡◌, ◌<◌, ◌^◌, length, map, true, false, List, IfSome}
 use Rattle.std.specs.List.{AllByRecursion}
 use Rattle.std.specs.FinMap as rows_map
-use Rattle.dns_codes.specs.RecordType.{type_number, type_of}
-use Rattle.dns_codes.specs.declared.record_type.RecordType.TheVariants as types
+use Rattle.dns_wire.specs.codes.RecordType.{type_number, type_of}
+use Rattle.dns_wire.specs.declared.codes.record_type.RecordType.TheVariants as types
 use Rattle.dns_names.specs.Name.{DomainName}
 use Rattle.dns_names.specs.Compare.{at_or_below, same_labels}
 use Rattle.dns_data.specs.declared.rdata.RData.{RData}

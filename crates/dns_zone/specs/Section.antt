@@ -11,8 +11,8 @@ use Rattle.dns_zone.specs.declared.zone.section.Section.{Section}
 use Rattle.dns_zone.specs.declared.zone.section.SectionTtl.{SectionTtl}
 use Rattle.dns_zone.specs.declared.zone.section.SectionTtl.TheVariants as ttls
 use Rattle.dns_zone.specs.Rows.{ZoneContent, row_of, rows_at, rows_of}
-use Rattle.dns_codes.specs.declared.record_type.RecordType.{RecordType}
-use Rattle.dns_codes.specs.declared.record_type.RecordType.TheVariants as types
+use Rattle.dns_wire.specs.declared.codes.record_type.RecordType.{RecordType}
+use Rattle.dns_wire.specs.declared.codes.record_type.RecordType.TheVariants as types
 use Rattle.dns_zone.specs.declared.zone.chain.Link.{Link}
 use Rattle.dns_zone.specs.declared.zone.chain.Link.TheVariants.{End, Alias}
 use Rattle.dns_zone.specs.Answer.{answer_by, authority_row, direct_answer, record_of}

@@ -1,8 +1,8 @@
 -- The serial number of a zone (RFC 1035 section 3.3.13).
 use Rattle.std.specs.Prelude.{List, [], ◌∷◌, ℕ, Option, None}
-use Rattle.dns_codes.specs.declared.record_type.RecordType.TheVariants as types
+use Rattle.dns_wire.specs.declared.codes.record_type.RecordType.TheVariants as types
 use Rattle.dns_records.specs.declared.row.Row.{Row}
-use Rattle.dns_serials.specs.Record.{data_serial}
+use Rattle.dns_differences.specs.serials.Record.{data_serial}
 use Rattle.dns_zone.specs.Rows.{ZoneContent, rows_at}
 
 -- the serial number of the first row, if it is one of an SOA record

@@ -1,13 +1,13 @@
 //! Theorems about the definitions of this crate, as functions with empty bodies.
 
 ghost use Rattle.std.specs.Prelude.{◌≡◌, false, true, ℕ, List, [], None, Ok, Some};
-ghost use Rattle.dns_codes.specs.declared.record_type.RecordType.TheVariants as types;
-ghost use Rattle.dns_codes.specs.declared.dns_class.DNSClass.TheVariants.{IN};
+ghost use Rattle.dns_wire.specs.declared.codes.record_type.RecordType.TheVariants as types;
+ghost use Rattle.dns_wire.specs.declared.codes.dns_class.DNSClass.TheVariants.{IN};
 ghost use Rattle.dns_messages.specs.declared.message.Message.{Message};
 ghost use Rattle.dns_messages.specs.declared.query.Query.{Query};
 ghost use Rattle.dns_messages.specs.declared.response_code.ResponseCode.TheVariants.{NoError};
 ghost use Rattle.dns_messages.specs.Sound.{IsSound};
-ghost use Rattle.dns_serials.specs.Serial.{next_serial};
+ghost use Rattle.dns_differences.specs.serials.Serial.{next_serial};
 ghost use Rattle.dns_updates.specs.Change.{update_change};
 ghost use Rattle.dns_updates.specs.Code.{update_code};
 ghost use Rattle.std.specs.List.{AllByRecursion};

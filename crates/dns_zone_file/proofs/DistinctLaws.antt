@@ -1,8 +1,8 @@
 -- Insertions keep the data of a set distinct.
 use Rattle.std.proofs.Common.{◌≡◌, Bool, true, false, not, cond, ◌||◌, List, [], ◌∷◌, ◌++◌, refl}
 use Rattle.std.specs.List.{list_any, IsDistinct, AllByRecursion}
-use Rattle.dns_codes.specs.declared.record_type.RecordType.{RecordType}
-use Rattle.dns_codes.specs.declared.record_type.RecordType.TheVariants as types
+use Rattle.dns_wire.specs.declared.codes.record_type.RecordType.{RecordType}
+use Rattle.dns_wire.specs.declared.codes.record_type.RecordType.TheVariants as types
 use Rattle.dns_data.specs.rdata.{data_type}
 use Rattle.dns_records.specs.Record.{Record}
 use Rattle.dns_records.specs.RecordSet.{AreDistinct, record_data, has_data, is_addition, added, inserted}

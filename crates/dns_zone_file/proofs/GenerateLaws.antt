@@ -2,8 +2,8 @@
 use Rattle.std.proofs.Common.{◌≡◌, ℕ, suc, ◌+◌, ◌-◌, ◌<◌, ◌≤◌, List, [], ◌∷◌, ◌++◌, map, drop, length, get_or, Some, None, Result, Ok, Err, sym, ap, subst, ◌∙◌, append_assoc, arith}
 use Rattle.std.proofs.Math.Seq.{drop-cons}
 use Rattle.std.specs.Str.{IsUtf8}
-use Rattle.zone_generate.specs.Range.{number_at}
-use Rattle.zone_generate.specs.Template.{expanded}
+use Rattle.dns_zone_file.specs.templates.Range.{number_at}
+use Rattle.dns_zone_file.specs.templates.Template.{expanded}
 use Rattle.dns_text.specs.Lexer.{Lexeme, LexerState, NextToken}
 use Rattle.dns_text.specs.Token.{lexeme}
 use Rattle.dns_text.specs.declared.token.Token.{Token}

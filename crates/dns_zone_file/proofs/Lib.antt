@@ -18,3 +18,6 @@ pub mod SetIndexLaws
 pub mod StepLaws
 pub mod ValidLaws
 pub mod ValueLaws
+pub mod NumberLaws
+pub mod TemplateLaws
+mod PathLaws

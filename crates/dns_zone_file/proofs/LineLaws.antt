@@ -6,11 +6,11 @@ use Rattle.std.specs.Int.{IsInRange}
 use Rattle.std.proofs.lemmas.Bool.Decides.{nat_tests}
 use Rattle.std.proofs.lemmas.Fmt.{decimal_is_IsNumeral, decimal_nonempty}
 use Rattle.std.proofs.lemmas.Str.Parse.{digit_at}
-use Rattle.dns_codes.specs.CodeText.{type_text}
-use Rattle.dns_codes.specs.Decimal.{is_digit}
-use Rattle.dns_codes.specs.declared.dns_class.DNSClass.TheVariants as classes
-use Rattle.dns_codes.specs.declared.record_type.RecordType.{RecordType}
-use Rattle.dns_codes.specs.declared.record_type.RecordType.TheVariants as types
+use Rattle.dns_wire.specs.codes.CodeText.{type_text}
+use Rattle.dns_wire.specs.codes.Decimal.{is_digit}
+use Rattle.dns_wire.specs.declared.codes.dns_class.DNSClass.TheVariants as classes
+use Rattle.dns_wire.specs.declared.codes.record_type.RecordType.{RecordType}
+use Rattle.dns_wire.specs.declared.codes.record_type.RecordType.TheVariants as types
 use Rattle.dns_wire.specs.Name.{AreLabels}
 use Rattle.dns_names.specs.Name.{DomainName}
 use Rattle.dns_names.specs.Build.{complete, append_domain}

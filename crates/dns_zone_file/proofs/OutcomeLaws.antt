@@ -1,7 +1,7 @@
 -- A zone file has one outcome.
 use Rattle.std.proofs.Common.{◌≡◌, ◌<◌, ◌≤◌, ◌+◌, ℕ, Bool, true, false, List, [], ◌∷◌, drop, Option, Some, None, Result, Ok, Err, ◌⊎◌, inl, inr, refl, sym, ap, ◌∙◌, subst, arith}
 use Rattle.std.specs.Prelude.{unwrap_or}
-use Rattle.dns_codes.specs.declared.dns_class.DNSClass.{DNSClass}
+use Rattle.dns_wire.specs.declared.codes.dns_class.DNSClass.{DNSClass}
 use Rattle.dns_names.specs.Name.{DomainName}
 use Rattle.dns_text.specs.Lexer.{Lexeme, LexerState, NextToken}
 use Rattle.dns_text.specs.declared.error.LexerError.{LexerError}
@@ -17,7 +17,7 @@ use Rattle.dns_zone_file.specs.Data.{ReadsIn, RefusesIn}
 use Rattle.dns_zone_file.specs.Context.{owner_of, ttl_for, default_class, ReadsRecord, RefusesRecord, bad_owner, bad_fields, bad_data, no_ttl, other_class, after_record, AddsRecord, included, resumed}
 use Rattle.dns_zone_file.specs.Entry.{LexesEntry, line_end, text_end, one_token, RefusesTokens, at_fault, past_token, Entry, nothing, origin_directive, ttl_directive, include_directive, record_entry, entry_of, Inclusion, origin_of, ttl_of, inclusion_of}
 use Rattle.dns_zone_file.specs.Fields.{Fields, fields_in}
-use Rattle.zone_generate.specs.declared.fault.GenerateFault.{GenerateFault}
+use Rattle.dns_zone_file.specs.declared.templates.fault.GenerateFault.{GenerateFault}
 use Rattle.dns_zone_file.specs.Generate.{Generation, generate_of, generation_of, Generates, AddsFirst, AddsLine, AddsNumber, AddsEach}
 use Rattle.dns_zone_file.specs.Generate as generate
 use Rattle.dns_zone_file.specs.Parsing.{Includes, text_of, max_includes, start_in, Applies, for_nothing, for_origin, for_ttl, for_generate, for_record, IncludesText, RefusesEntry, bad_origin, bad_ttl, bad_include, bad_directive, bad_generated, bad_record, Parses, ended, bad_text, bad_entry, applied, too_deep, not_found, bad_included, past_included}

@@ -13,7 +13,7 @@ use Rattle.std.specs.Ordering.{nat_cmp, is_eq}
 use Rattle.dns_names.specs.Name.{DomainName}
 use Rattle.dns_names.specs.Compare.{same_name}
 use Rattle.dns_names.specs.internal.Compare.{same_name-equivalence}
-use Rattle.dns_codes.specs.RecordType.{type_number}
+use Rattle.dns_wire.specs.codes.RecordType.{type_number}
 use Rattle.dns_records.specs.RecordSet.{RecordSetValue}
 use Rattle.dns_zone_file.specs.declared.set_index.SetIndex.{SetIndex}
 use Rattle.dns_zone_file.specs.internal.SetIndex.{place_among, place_of, HasPlaced, has_key, is_place_of, IsIndexOf}

@@ -1,8 +1,8 @@
 -- Names that an origin completes are fully qualified, and TTLs have 32 bits.
 use Rattle.std.proofs.Common.{◌≡◌, ◌<◌, ◌^◌, ℕ, Bool, true, false, if◌then◌else◌, List, [], ◌∷◌, Option, Some, None, option_map, Result, Ok, Err, IfSome, IfOk, refl, subst, arith}
-use Rattle.dns_codes.specs.CodeText.{or_else}
-use Rattle.dns_codes.specs.declared.dns_class.DNSClass.{DNSClass}
-use Rattle.dns_codes.specs.declared.record_type.RecordType.{RecordType}
+use Rattle.dns_wire.specs.codes.CodeText.{or_else}
+use Rattle.dns_wire.specs.declared.codes.dns_class.DNSClass.{DNSClass}
+use Rattle.dns_wire.specs.declared.codes.record_type.RecordType.{RecordType}
 use Rattle.dns_names.specs.Name.{DomainName}
 use Rattle.dns_names.specs.Parse.{name_of_text}
 use Rattle.dns_names.specs.Build.{complete}

@@ -1,9 +1,9 @@
 -- What the entries of a zone file determine for those after them, and the records that they add (RFC 1035 section 5.1, RFC
 -- 2308 section 4).
 use Rattle.std.specs.Prelude.{◌≡◌, ℕ, true, false, List, [], ◌∷◌, drop, Option, Some, None, option_map, unwrap_or, Result, Ok, Err}
-use Rattle.dns_codes.specs.CodeText.{or_else}
-use Rattle.dns_codes.specs.declared.dns_class.DNSClass.{DNSClass}
-use Rattle.dns_codes.specs.declared.dns_class.DNSClass.TheVariants as classes
+use Rattle.dns_wire.specs.codes.CodeText.{or_else}
+use Rattle.dns_wire.specs.declared.codes.dns_class.DNSClass.{DNSClass}
+use Rattle.dns_wire.specs.declared.codes.dns_class.DNSClass.TheVariants as classes
 use Rattle.dns_names.specs.Name.{DomainName}
 use Rattle.dns_text.specs.Lexer.{Lexeme, Blank}
 use Rattle.dns_data.specs.declared.rdata.RData.{RData}

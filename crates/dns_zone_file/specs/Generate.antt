@@ -2,10 +2,10 @@
 use Rattle.std.specs.Prelude.{◌≡◌, ◌+◌, ◌==◌, ℕ, zero, suc, nat_lt, if◌then◌else◌, Bool, List, [], ◌∷◌, ◌++◌, codes, flat_map, length, Option, Some, None, Result, Ok, Err}
 use Rattle.std.specs.List.{list_any}
 use Rattle.std.specs.Str.{bytes_eq, IsUtf8}
-use Rattle.zone_generate.specs.Range.{range_of, number_at}
-use Rattle.zone_generate.specs.Template.{expanded}
-use Rattle.zone_generate.specs.declared.range.Range.{Range}
-use Rattle.zone_generate.specs.declared.fault.GenerateFault.{GenerateFault}
+use Rattle.dns_zone_file.specs.templates.Range.{range_of, number_at}
+use Rattle.dns_zone_file.specs.templates.Template.{expanded}
+use Rattle.dns_zone_file.specs.declared.templates.range.Range.{Range}
+use Rattle.dns_zone_file.specs.declared.templates.fault.GenerateFault.{GenerateFault}
 use Rattle.dns_text.specs.Lexer.{Lexeme, CharData, QuotedString, At, LexerState, NextToken, start_with}
 use Rattle.dns_text.specs.declared.error.LexerError.{LexerError}
 use Rattle.dns_zone_file.specs.declared.error.EntryFault.{EntryFault}

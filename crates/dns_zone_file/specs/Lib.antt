@@ -11,3 +11,6 @@ pub mod Parsing
 pub mod internal
 pub mod Parsed
 pub mod Printed
+pub mod templates
+pub mod includes
+pub mod record_texts

@@ -1,9 +1,9 @@
 -- What the records of a zone file are like, and the sets that they form (RFC 2181 section 5).
 use Rattle.std.specs.Prelude.{◌≡◌, ◌<◌, ◌^◌, Bool, true, false, List, length}
 use Rattle.std.specs.List.{AllByRecursion, IsDistinct}
-use Rattle.dns_codes.specs.DNSClass.{class_number}
-use Rattle.dns_codes.specs.declared.record_type.RecordType.{RecordType}
-use Rattle.dns_codes.specs.declared.record_type.RecordType.TheVariants as types
+use Rattle.dns_wire.specs.codes.DNSClass.{class_number}
+use Rattle.dns_wire.specs.declared.codes.record_type.RecordType.{RecordType}
+use Rattle.dns_wire.specs.declared.codes.record_type.RecordType.TheVariants as types
 use Rattle.dns_names.specs.Name.{DomainName}
 use Rattle.dns_names.specs.Compare.{same_name}
 use Rattle.dns_text.specs.Lexer.{Lexeme}

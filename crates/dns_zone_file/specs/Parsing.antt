@@ -3,7 +3,7 @@ use Rattle.std.specs.Prelude.{◌≡◌, ◌+◌, ◌<◌, ◌≤◌, ℕ, true,
 use Rattle.std.specs.Str.{bytes_eq}
 use Rattle.dns_names.specs.Name.{DomainName}
 use Rattle.dns_names.specs.Build.{root_name}
-use Rattle.dns_codes.specs.declared.dns_class.DNSClass.TheVariants as classes
+use Rattle.dns_wire.specs.declared.codes.dns_class.DNSClass.TheVariants as classes
 use Rattle.dns_text.specs.Lexer.{Lexeme, LexerState, NextToken, start_with}
 use Rattle.dns_text.specs.declared.error.LexerError.{LexerError}
 use Rattle.dns_zone_file.specs.declared.error.EntryFault.{EntryFault}

@@ -2,8 +2,8 @@
 use Rattle.std.specs.Prelude.{◌≡◌, ◌<◌, ◌^◌, ℕ, true, false, List, [], ◌∷◌, ◌++◌, codes, flat_map, Option, Some, None, option_map, IfSome}
 use Rattle.std.specs.Fmt.{decimal}
 use Rattle.std.specs.List.{AllByRecursion}
-use Rattle.dns_codes.specs.CodeText.{type_text, or_else}
-use Rattle.dns_codes.specs.declared.dns_class.DNSClass.TheVariants as classes
+use Rattle.dns_wire.specs.codes.CodeText.{type_text, or_else}
+use Rattle.dns_wire.specs.declared.codes.dns_class.DNSClass.TheVariants as classes
 use Rattle.dns_wire.specs.Name.{AreLabels}
 use Rattle.dns_names.specs.Name.{DomainName}
 use Rattle.dns_names.specs.Print.{text_of_name, AreOctets}

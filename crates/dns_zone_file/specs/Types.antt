@@ -1,9 +1,9 @@
 -- Which record types a zone file may have, and by which names.
 use Rattle.std.specs.Prelude.{ℕ, ◌==◌, if◌then◌else◌, List, [], ◌∷◌, codes, find, Option, option_map}
 use Rattle.std.specs.Str.{str_eq_ignore_ascii_case}
-use Rattle.dns_codes.specs.CodeText.{type_of_text, or_else}
-use Rattle.dns_codes.specs.RecordType.{type_of}
-use Rattle.dns_codes.specs.declared.record_type.RecordType.{RecordType}
+use Rattle.dns_wire.specs.codes.CodeText.{type_of_text, or_else}
+use Rattle.dns_wire.specs.codes.RecordType.{type_of}
+use Rattle.dns_wire.specs.declared.codes.record_type.RecordType.{RecordType}
 use Rattle.dns_text.specs.declared.quotes.Quotes.{Quotes}
 use Rattle.dns_text.specs.declared.quotes.Quotes.TheVariants.{OneLine, ManyLines}
 use Rattle.dns_zone_file.specs.declared.types.Types.{Types}

@@ -14,6 +14,7 @@ use crate::error::{EntryError, EntryFault};
 use crate::fields::{parse_fields, parse_name};
 use crate::generate::{Generation, generate_arguments, line_text, line_tokens, parse_generation};
 use crate::record_sets::RecordSets;
+use crate::templates::{GenerateFault, expand};
 use crate::types::Types;
 use dns_data::RData;
 use dns_names::Name;
@@ -22,7 +23,6 @@ use dns_text::Token;
 use dns_wire::DNSClass;
 use std::alloc::{AllocError, Global};
 use std::mem;
-use zone_generate::{GenerateFault, expand};
 
 /// The owner and the minimum of an SOA record.
 #[derive(Drop)]
@@ -245,7 +245,7 @@ impl Context {
     ghost use Rattle.dns_zone_file.specs.Generate.{AddsLine, AddsNumber, Generates};
     ghost use Rattle.dns_zone_file.specs.internal.Generate.{generation_view};
     ghost use Rattle.dns_zone_file.specs.Parsing.{Applies, IncludesText, RefusesEntry};
-    ghost use Rattle.zone_generate.specs.Range.{greatest};
+    ghost use Rattle.dns_zone_file.specs.templates.Range.{greatest};
 
     /// Keeps what a record determines for the next entries, except the record itself.
     pub fn note_record(&mut self, stated: Option<u32>, parsed: &Record) -> Result<(), AllocError>

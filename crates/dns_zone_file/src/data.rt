@@ -2,7 +2,7 @@
 //! section 5).
 
 ghost use Rattle.std.specs.Prelude.{◌≡◌, ◌<◌, ◌^◌, map, length, Ok, Err, Some, IfOk, IfErr, option_map};
-ghost use Rattle.dns_codes.specs.RecordType.{type_number};
+ghost use Rattle.dns_wire.specs.codes.RecordType.{type_number};
 ghost use Rattle.dns_text.specs.Token.{lexeme};
 ghost use Rattle.dns_data.specs.rdata.{data_type, IsParsedData};
 ghost use Rattle.dns_zone_file.specs.Data.{is_meta_type, has_bytes, bytes_of, plain_fields, is_plain, IsDataOf, RefusesBytes, IsAnyData, RefusesAny, ReadsIn, RefusesIn, RefusesValues};

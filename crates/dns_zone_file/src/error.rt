@@ -3,12 +3,12 @@
 ghost use Rattle.std.specs.Prelude.{◌≡◌};
 ghost use Rattle.dns_zone_file.specs.internal.Error.{at_line};
 
+use crate::templates::GenerateFault;
 use dns_data::RDataParseError;
 use dns_formats::FormatFault;
 use dns_text::LexerError;
 use std::alloc::{AllocError, AllocFailed};
 use thiserror::Error;
-use zone_generate::GenerateFault;
 
 /// Why an entry of a zone file cannot be parsed.
 #[derive(Debug, Drop, Error)]

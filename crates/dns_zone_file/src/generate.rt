@@ -2,7 +2,7 @@
 
 ghost use Rattle.std.specs.Prelude.{◌≡◌, ◌+◌, ◌-◌, ◌*◌, ◌≤◌, map, option_map, IfOk, IfErr, MatchResult, Ok, Err};
 ghost use Rattle.std.specs.Str.{IsUtf8};
-ghost use Rattle.zone_generate.specs.Range.{greatest};
+ghost use Rattle.dns_zone_file.specs.templates.Range.{greatest};
 ghost use Rattle.dns_text.specs.Token.{lexeme};
 ghost use Rattle.dns_zone_file.specs.Generate.{argument_text, generate_of, generation_with, generation_of, has_line_feed, template_of};
 ghost use Rattle.dns_zone_file.specs.internal.Error.{IsFault};
@@ -11,10 +11,10 @@ ghost use Rattle.dns_zone_file.specs.Parsing.{start_in};
 
 use crate::entry::next_entry;
 use crate::error::{EntryError, EntryFault, ZoneFileError};
+use crate::templates::{Range, parse_range};
 use crate::types::Types;
 use dns_text::{Lexer, Token};
 use std::alloc::{AllocError, Global};
-use zone_generate::{Range, parse_range};
 
 /// How many characters a template may have.
 const MAX_TEMPLATE: usize = 1024;

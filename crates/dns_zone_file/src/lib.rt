@@ -8,6 +8,12 @@
 //! - `record_sets`: record sets by owner and type; `set_index`: their places;
 //! - `laws`: theorems about the definitions of this crate;
 //! - `error`: why a text cannot be parsed.
+//!
+//! Further modules, each with a page of its own:
+//! - [`templates`]: the directive `$GENERATE` of zone files, an extension of BIND: the numbers of a range, and the text that a
+//!   template makes of each;
+//! - [`includes`]: the files that a zone file includes (RFC 1035 section 5.1): which are to be read, and where they are;
+//! - [`record_texts`]: the text of records, as programs print them (RFC 1035 section 5.1).
 #![tactic(auto)]
 
 mod context;
@@ -16,11 +22,14 @@ mod entry;
 mod error;
 mod fields;
 mod generate;
+pub mod includes;
 pub mod laws;
 mod listed;
 mod parser;
 mod record_sets;
+pub mod record_texts;
 mod set_index;
+pub mod templates;
 mod types;
 
 pub use context::{Context, ParsedRecord, SavedContext, StartOfAuthority};

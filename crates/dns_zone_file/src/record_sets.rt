@@ -2,7 +2,7 @@
 
 ghost use Rattle.std.specs.Prelude.{◌≡◌, ◌==◌, ◌<◌, ◌∷◌, ◌++◌, [], length, None, OnOk, OnErr, option_copied};
 ghost use Rattle.dns_data.specs.rdata.{data_type};
-ghost use Rattle.dns_codes.specs.RecordType.{type_number};
+ghost use Rattle.dns_wire.specs.codes.RecordType.{type_number};
 ghost use Rattle.dns_zone_file.specs.internal.SetIndex.{IsIndexOf, place_of};
 ghost use Rattle.dns_zone_file.specs.RecordSets.{set_of, inserted_in, has_other_class, records_count, IsNamedType};
 

@@ -1,7 +1,7 @@
 //! The place of each record set in a list, by owner and type.
 
 ghost use Rattle.std.specs.Prelude.{◌≡◌, None, OnOk, OnErr};
-ghost use Rattle.dns_codes.specs.RecordType.{type_number};
+ghost use Rattle.dns_wire.specs.codes.RecordType.{type_number};
 ghost use Rattle.dns_zone_file.specs.internal.SetIndex.{place_of, HasNoPlaces, HasPlaced, HasSamePlaces};
 
 use dns_names::Name;

@@ -4,10 +4,10 @@ use crate::update::update_of;
 use crate::{Ids, Sockets};
 use dns_messages::{Query, ResponseCode};
 use dns_names::Name;
-use dns_signer::TsigError;
 use dns_text::parse_ip;
+use dns_tsig::signer::TsigError;
 use dns_wire::RecordType;
-use lookup_answers::{
+use lookup_cli::answers::{
     Answer, ExitStatus, Item, JsonAnswer, JsonUpdate, PlainAnswer, PlainReason, Question, Status,
     item_of_line,
 };
@@ -16,8 +16,8 @@ use std::fmt;
 use std::time::Instant;
 use stub_hosts::Hosts;
 use stub_link::UpdateEvent;
+use stub_net::signed::UpdateError;
 use stub_net_sockets::{RandomIds, Stopwatch, SystemEntropy};
-use stub_signed::UpdateError;
 
 /// The program at work.
 #[derive(Drop)]

@@ -12,7 +12,7 @@ mod update;
 mod update_fault;
 
 use files::{read_conf, read_hosts, read_traced_hosts};
-use lookup_answers::ExitStatus;
+use lookup_cli::answers::ExitStatus;
 use lookup_cli::{Arguments, Ending, Session, read_arguments, settings_of};
 use lookups::Program;
 use network::ProgramNetwork;
@@ -22,7 +22,7 @@ use std::time::Instant;
 use std::{env, io};
 use stub_config::ResolverOpts;
 use stub_net_sockets::{RandomIds, SocketNetwork, Stopwatch, SystemEntropy};
-use stub_resolv_conf::SystemConf;
+use stub_servers::resolv_conf::SystemConf;
 
 /// The status if the arguments or the files are at fault, or the program ends early for another reason.
 const INVALID: u8 = 2;

@@ -1,7 +1,7 @@
 //! The network of the program.
 
 use dns_formats::TypeWord;
-use dns_message_view::MessageView;
+use dns_message_bytes::view::MessageView;
 use dns_messages::{MessageType, OpCode};
 use dns_names::Name;
 use std::alloc::Global;

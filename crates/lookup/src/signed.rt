@@ -4,9 +4,9 @@ use crate::files::read_key;
 use crate::{Ids, Sockets, open_network, read_settings, timeout_of};
 use lookup_cli::{Arguments, Ending, KeyArguments, SignedSession};
 use std::time::{Instant, SystemTime};
+use stub_net::signed::SignedNetwork;
 use stub_net_sockets::{RandomIds, SystemEntropy};
-use stub_resolv_conf::SystemConf;
-use stub_signed::SignedNetwork;
+use stub_servers::resolv_conf::SystemConf;
 
 /// Opens what sends a signed update, if the arguments name a key.
 pub(crate) fn open_signed<'a>(

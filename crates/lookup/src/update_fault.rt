@@ -2,8 +2,8 @@
 
 ghost use Rattle.std.specs.Prelude.{◌<◌, IfSome, length};
 
-use dns_codes::parse_decimal;
 use dns_names::{Name, ParseError};
+use dns_wire::codes::parse_decimal;
 use dns_zone_file::Types;
 use std::alloc::{AllocError, Global};
 use std::fmt;

@@ -1,1 +1,5 @@
 mod SessionLaws
+mod EndLaws
+mod GivenTextLaws
+mod ItemLaws
+mod RecordsLaws

@@ -1,7 +1,7 @@
 -- The key that signs updates.
 use Rattle.std.specs.Prelude.{◌≡◌, ℕ, List, map, Option, Some, None, string_bytes}
 use Rattle.dns_keys.specs.File.{IsKeyFile, IsRefused, key_value}
-use Rattle.dns_signer.specs.KeyChoice.{chosen}
+use Rattle.dns_tsig.specs.signer.KeyChoice.{chosen}
 use Rattle.dns_tsig.specs.declared.key.Key.{Key}
 use Rattle.lookup_cli.specs.declared.ending.Ending.{Ending}
 use Rattle.lookup_cli.specs.declared.ending.Ending.TheVariants.{InvalidKeys, NoKey, Memory}

@@ -2,3 +2,4 @@ pub mod Ending
 pub mod Keys
 pub mod Session
 pub mod Settings
+pub mod answers

@@ -22,10 +22,10 @@ use Rattle.stub_config.specs.declared.config.ResolverConfig.{ResolverConfig}
 use Rattle.stub_config.specs.declared.options.ResolverOpts.{ResolverOpts}
 use Rattle.stub_core.specs.ResolverBuilder.{empty_cache, used_hosts}
 use Rattle.stub_hosts.specs.Hosts.{HostsContent}
-use Rattle.stub_signed.specs.declared.error.UpdateError.{UpdateError}
-use Rattle.stub_signed.specs.declared.error.UpdateError.TheVariants.{Net}
-use Rattle.lookup_answers.specs.declared.item.Question.{Question}
-use Rattle.lookup_answers.specs.declared.item.Question.TheVariants.{Addresses, Records, Unknown}
+use Rattle.stub_net.specs.declared.signed.error.UpdateError.{UpdateError}
+use Rattle.stub_net.specs.declared.signed.error.UpdateError.TheVariants.{Net}
+use Rattle.lookup_cli.specs.declared.answers.item.Question.{Question}
+use Rattle.lookup_cli.specs.declared.answers.item.Question.TheVariants.{Addresses, Records, Unknown}
 use Rattle.lookup_cli.specs.declared.session.Session.{Session}
 
 -- A pool before it is asked, with a time-out in milliseconds in place of that of the options; it asks over streams alone if it is to.

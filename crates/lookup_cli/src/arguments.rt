@@ -1,12 +1,12 @@
 //! The arguments of the program.
 
+use crate::answers::{Item, Question};
 use crate::command::command;
 use crate::ending::Ending;
 use crate::values::{check_name, name_of, server_of, strategy_of, timeout_of, type_of};
 use clap::ArgMatches;
 use clap::error::ErrorKind;
 use dns_names::Name;
-use lookup_answers::{Item, Question};
 use std::alloc::{AllocError, Global};
 use std::net::SocketAddr;
 use stub_config::LookupIpStrategy;

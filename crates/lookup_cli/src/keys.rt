@@ -7,8 +7,8 @@ ghost use Rattle.lookup_cli.specs.Keys.{IsKeyIn, IsRefusal};
 use crate::ending::Ending;
 use dns_keys::{KeyFileError, parse_keys};
 use dns_names::Name;
-use dns_signer::choose_key;
 use dns_tsig::Key;
+use dns_tsig::signer::choose_key;
 use std::alloc::Global;
 
 /// Returns the key of a name in the text of a key file, or its first one. The path is for errors.

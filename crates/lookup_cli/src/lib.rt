@@ -4,8 +4,12 @@
 //! - `settings`: the configuration and the options of the resolver
 //! - `session`: lookups over a resolver; `signed_session`: signed updates; `keys`: the key that signs them
 //! - `ending`: why the program ends early
+//!
+//! Further modules, each with a page of its own:
+//! - [`answers`]: what the program `lookup` looks up, what it finds, and the text of both.
 #![tactic(auto)]
 
+pub mod answers;
 mod arguments;
 mod command;
 mod ending;

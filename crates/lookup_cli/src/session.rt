@@ -11,17 +11,17 @@ ghost use Rattle.stub_lookup.specs.declared.error.NetError.{NetError};
 ghost use Rattle.stub_net.specs.Network.{network_calls};
 ghost use Rattle.stub_net.specs.Pool.{Updates};
 
+use crate::answers::{Item, Question};
 use dns_messages::ResponseCode;
-use lookup_answers::{Item, Question};
 use std::alloc::Global;
 use stub_config::{ResolverConfig, ResolverOpts};
 use stub_core::Resolver;
 use stub_hosts::Hosts;
 use stub_link::UpdateEvent;
 use stub_lookup::{Lookup, LookupIp, Moment, NetError};
+use stub_net::signed::UpdateError;
 use stub_net::{IdSource, NameServerPool, Network};
 use stub_servers::ServerList;
-use stub_signed::UpdateError;
 
 /// The greatest moment of a resolver, in seconds: 2^62.
 const MAX_MOMENT: Moment = 4_611_686_018_427_387_904;

@@ -2,8 +2,8 @@
 
 ghost use Rattle.std.specs.Prelude.{◌≡◌, IfOk, map};
 ghost use Rattle.std.specs.Option.{option_copied};
-ghost use Rattle.stub_resolv_conf.specs.Conf.{IsConfOf};
-ghost use Rattle.stub_resolv_conf.specs.declared.conf.SystemConf.{SystemConf};
+ghost use Rattle.stub_servers.specs.resolv_conf.Conf.{IsConfOf};
+ghost use Rattle.stub_servers.specs.declared.resolv_conf.conf.SystemConf.{SystemConf};
 ghost use Rattle.lookup_cli.specs.Settings.{at_port, conf_path, config_by, options_by, server_at, with_search, with_servers};
 
 use crate::arguments::Arguments;
@@ -12,7 +12,7 @@ use std::net::SocketAddr;
 use stub_config::{
     ConnectionConfig, NameServerConfig, ResolverConfig, ResolverOpts, ServerOrderingStrategy,
 };
-use stub_resolv_conf::{SystemConf, parse_resolv_conf};
+use stub_servers::resolv_conf::{SystemConf, parse_resolv_conf};
 
 /// The path of the configuration of the system.
 const SYSTEM_CONF: &str = "/etc/resolv.conf";

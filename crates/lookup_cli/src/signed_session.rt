@@ -2,20 +2,20 @@
 
 ghost use Rattle.std.specs.Prelude.{◌≡◌, IfOk};
 ghost use Rattle.stub_net.specs.Network.{network_calls};
-ghost use Rattle.stub_signed.specs.Update.{IsSignedCode};
+ghost use Rattle.stub_net.specs.signed.Update.{IsSignedCode};
 ghost use Rattle.lookup_cli.specs.Session.{IsPool, request_count, servers_by};
 
 use crate::session::pool_of;
 use dns_messages::ResponseCode;
-use dns_signer::TsigError;
 use dns_tsig::Key;
+use dns_tsig::signer::TsigError;
 use std::alloc::Global;
 use stub_config::{ResolverConfig, ResolverOpts};
 use stub_link::UpdateEvent;
 use stub_lookup::NetError;
+use stub_net::signed::{SignedNetwork, UpdateError, send_signed_update};
 use stub_net::{IdSource, NameServerPool, Network};
 use stub_servers::ServerList;
-use stub_signed::{SignedNetwork, UpdateError, send_signed_update};
 
 /// Sends signed updates to the servers of a configuration.
 #[derive(Drop)]

@@ -3,11 +3,11 @@
 ghost use Rattle.std.specs.Prelude.{◌<◌, ◌≤◌, IfOk, IfSome};
 
 use crate::ending::Ending;
-use dns_codes::parse_decimal;
 use dns_formats::type_of_word;
 use dns_names::{Name, ParseError};
 use dns_text::parse_ip;
 use dns_wire::RecordType;
+use dns_wire::codes::parse_decimal;
 use std::alloc::Global;
 use std::net::SocketAddr;
 use stub_config::LookupIpStrategy;

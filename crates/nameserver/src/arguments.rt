@@ -5,14 +5,14 @@ use crate::ending::Ending;
 use clap::error::ErrorKind;
 use clap::{Arg, ArgAction, ArgMatches, Command, value_parser};
 use dns_authority::AnyAnswer;
+use dns_authority::service::Answering;
 use dns_names::{AddrPrefix, Name, ParseError};
 use dns_server::{AddressList, parse_prefix};
 use dns_sockets::Until;
 use dns_zone::{DatagramLimit, Serials};
-use dns_zone_service::Answering;
+use dns_zone_file::includes::Reach;
 use std::alloc::{AllocError, Global};
 use std::net::{Ipv4Addr, SocketAddr, SocketAddrV4};
-use zone_includes::Reach;
 
 /// The port at which the server listens, unless another one is given.
 const DEFAULT_PORT: u16 = 5300;

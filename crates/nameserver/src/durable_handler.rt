@@ -7,11 +7,11 @@ use crate::transfers::{Sources, Transfers};
 use dns_durable::{CompactError, DurableServer, Incoming, Policy, Replies, Terms, is_update};
 use dns_faults::Delivery;
 use dns_journal::State;
-use dns_journal_files::FileStorage;
+use dns_journal::files::FileStorage;
 use dns_nameserver::{Answered, is_accepted, reply_transport, updates_of};
 use dns_server::AddressList;
 use dns_sockets::{Handler, Milliseconds, Notice, Request};
-use dns_transfer_replies::Recorder;
+use dns_transfers::replies::Recorder;
 use dns_zone::DatagramLimit;
 use std::alloc::AllocError;
 

@@ -6,7 +6,7 @@ use crate::transfers::{Sources, Transfers};
 use dns_faults::Delivery;
 use dns_nameserver::{Answered, NameServer, reply_transport};
 use dns_sockets::{Handler, Milliseconds, Notice, Request};
-use dns_transfer_replies::Recorder;
+use dns_transfers::replies::Recorder;
 use std::alloc::AllocError;
 
 /// Answers requests by a name server, and logs them.

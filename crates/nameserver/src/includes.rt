@@ -3,8 +3,8 @@
 use crate::ending::Ending;
 use crate::files::{read_file, text_of};
 use dns_zone_file::Types;
+use dns_zone_file::includes::{Reach, included_path, missing_name};
 use std::alloc::{AllocError, Global};
-use zone_includes::{Reach, included_path, missing_name};
 
 /// The most files that a zone file may include.
 const MAX_FILES: usize = 1000;

@@ -43,13 +43,13 @@ use crate::source::{Source, WallClock};
 use crate::transfers::Transfers;
 use crate::unmatched::tell_unmatched;
 use crate::zones::{read_former, read_zones};
+use dns_authority::service::Answering;
 use dns_durable::DurableServer;
-use dns_fault_rules::{FaultTable, Service as FaultService};
-use dns_fault_text::{FaultTableError, parse_faults};
-use dns_journal_files::FileStorage;
+use dns_faults::rules::{FaultTable, Service as FaultService};
+use dns_faults::table::{FaultTableError, parse_faults};
+use dns_journal::files::FileStorage;
 use dns_nameserver::{NameServer, ZoneServer};
 use dns_server::AddressList;
-use dns_zone_service::Answering;
 use std::process::ExitCode;
 use std::{env, io};
 

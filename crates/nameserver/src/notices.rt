@@ -1,7 +1,7 @@
 //! Notifications of secondaries.
 
 use dns_names::Name;
-use dns_notifier::{Follower, Notifier, Retries};
+use dns_notify::notifier::{Follower, Notifier, Retries};
 use dns_sockets::{Milliseconds, Notice, Request};
 use dns_wire::RecordType;
 use dns_zone::Zone;

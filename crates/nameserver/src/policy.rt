@@ -5,7 +5,7 @@ use crate::ending::Ending;
 use crate::files::read_key_file;
 use crate::unmatched::overlaps;
 use dns_durable::{GrantError, Policy, parse_grant};
-use dns_grants::Grant;
+use dns_keys::grants::Grant;
 use dns_keys::{KeyFileError, parse_keys};
 use dns_tsig::{Key, WireName};
 use dns_zone::Zone;

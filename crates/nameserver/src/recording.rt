@@ -2,7 +2,7 @@
 
 use crate::arguments::Arguments;
 use dns_differences::Limits;
-use dns_transfer_replies::Recorder;
+use dns_transfers::replies::Recorder;
 use dns_zone::Zone;
 use std::alloc::{AllocError, Global};
 

@@ -6,7 +6,7 @@ use dns_faults::Delivery;
 use dns_nameserver::Answered;
 use dns_server::AddressList;
 use dns_sockets::{Request, Transport as RequestTransport};
-use dns_transfer_replies::{Terms, ZoneHistory, may_ask_by_datagram, transfer_reply};
+use dns_transfers::replies::{Terms, ZoneHistory, may_ask_by_datagram, transfer_reply};
 use dns_tsig::Key;
 use dns_zone::{Transport, Zone};
 use std::alloc::AllocError;

@@ -1,6 +1,6 @@
 //! What is given at the start for names that no zone has: rules of faults, and grants.
 
-use dns_fault_rules::{FaultTable, NamePattern, Rule};
+use dns_faults::rules::{FaultTable, NamePattern, Rule};
 use dns_names::Name;
 use dns_zone::Zone;
 

@@ -1,8 +1,8 @@
 -- The fault that is found of a text, from the clauses of its call.
 use Rattle.std.proofs.Common.{◌≡◌, ℕ, List, IfOk, IfErr, OnErr, Result, Ok, Err}
-use Rattle.api_buffer.specs.Buffer.{bytes_in}
-use Rattle.api_buffer.specs.declared.refusal.Refusal.{Refusal}
-use Rattle.api_zones.specs.Faults.{FindsFault, IsUnread}
+use Rattle.api.specs.buffer.Buffer.{bytes_in}
+use Rattle.api.specs.declared.buffer.refusal.Refusal.{Refusal}
+use Rattle.api.specs.zones.Faults.{FindsFault, IsUnread}
 use Rattle.rumstrait_c.specs.Zones.{IsFaultOf}
 
 pub fault_found : {V : Type 0} (items : V → List ℕ) (origin text : List ℕ) (line line' : ℕ) (found : Result V Refusal)

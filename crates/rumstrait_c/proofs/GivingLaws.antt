@@ -1,7 +1,7 @@
 -- What a call finds, from the clauses of the function that it calls.
 use Rattle.std.proofs.Common.{ℕ, List, IfOk, IfErr, Result, Ok, Err}
-use Rattle.api_buffer.specs.Buffer.{bytes_in}
-use Rattle.api_buffer.specs.declared.refusal.Refusal.{Refusal}
+use Rattle.api.specs.buffer.Buffer.{bytes_in}
+use Rattle.api.specs.declared.buffer.refusal.Refusal.{Refusal}
 use Rattle.rumstrait_c.specs.Codes.{Finds}
 
 pub finds_bytes : {V : Type 0} (items : V → List ℕ) (IsFound : List ℕ → Type 0) (IsRefused : Refusal → Type 0) (found : Result V Refusal)

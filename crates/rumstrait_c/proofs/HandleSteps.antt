@@ -44,8 +44,8 @@ use Rattle.std.specs.contracts.alloc.Global as global
 use Rattle.std.specs.contracts.boxed.Box.{the_row as box-row}
 use Rattle.std.specs.contracts.impls.GlobalAllocator.TheImpl as heap
 use Rattle.std.specs.contracts.result.Result as result
-use Rattle.api_buffer.specs.declared.refusal.Refusal.{Refusal}
-use Rattle.api_buffer.specs.declared.refusal.Refusal.TheVariants as refusal
+use Rattle.api.specs.declared.buffer.refusal.Refusal.{Refusal}
+use Rattle.api.specs.declared.buffer.refusal.Refusal.TheVariants as refusal
 use Rattle.dns_zone.proofs.zone.Zone.TheLaws as zone-laws
 use Rattle.dns_zone.specs.contracts.zone.Zone as zone
 use Rattle.dns_zone.specs.Rows.{ZoneContent}

@@ -19,8 +19,8 @@ use types.Hole.{Holey}
 use types.SemTy.{Arr, Body}
 use Rattle.std.proofs.GlobalToken.{dealloc_token-Testable}
 use Rattle.std.specs.contracts.impls.GlobalAllocator.TheImpl as heap
-use Rattle.api_lookups.specs.declared.table.LookupTable.{LookupTable}
-use Rattle.dns_update_builder.specs.Parts.{UpdateParts}
+use Rattle.api.specs.declared.lookups.table.LookupTable.{LookupTable}
+use Rattle.dns_updates.specs.builder.Parts.{UpdateParts}
 use Rattle.dns_zone.specs.Rows.{ZoneContent}
 use Rattle.rumstrait_c.specs.Lookups as lookups
 use Rattle.rumstrait_c.specs.Updates as updates

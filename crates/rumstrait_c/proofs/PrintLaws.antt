@@ -1,8 +1,8 @@
 -- The text that is found of a zone, from the clauses of its call.
 use Rattle.std.proofs.Common.{◌≡◌, ℕ, List, IfOk, IfErr, Result, Ok, Err}
-use Rattle.api_buffer.specs.Buffer.{bytes_in}
-use Rattle.api_buffer.specs.declared.refusal.Refusal.{Refusal}
-use Rattle.api_buffer.specs.declared.refusal.Refusal.TheVariants.{Memory}
+use Rattle.api.specs.buffer.Buffer.{bytes_in}
+use Rattle.api.specs.declared.buffer.refusal.Refusal.{Refusal}
+use Rattle.api.specs.declared.buffer.refusal.Refusal.TheVariants.{Memory}
 use Rattle.dns_zone.specs.Printed.{IsZoneText}
 use Rattle.dns_zone.specs.Rows.{ZoneContent}
 use Rattle.rumstrait_c.specs.Zones.{IsTextOf}

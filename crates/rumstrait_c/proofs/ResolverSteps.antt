@@ -43,11 +43,11 @@ use Rattle.std.proofs.alloc.Global.TheLaws as global-laws
 use Rattle.std.specs.contracts.boxed.Box.{the_row as box-row}
 use Rattle.std.specs.contracts.impls.GlobalAllocator.TheImpl as heap
 use Rattle.std.specs.contracts.result.Result as result
-use Rattle.api_lookups.proofs.table.LookupTable.TheLaws as table-laws
-use Rattle.api_lookups.specs.contracts.table.LookupTable as table
-use Rattle.api_lookups.specs.declared.refusal.LookupRefusal.{LookupRefusal}
-use Rattle.api_lookups.specs.declared.refusal.LookupRefusal.TheVariants as refusal
-use Rattle.api_lookups.specs.declared.table.LookupTable.{LookupTable}
+use Rattle.api.proofs.lookups.table.LookupTable.TheLaws as table-laws
+use Rattle.api.specs.contracts.lookups.table.LookupTable as table
+use Rattle.api.specs.declared.lookups.refusal.LookupRefusal.{LookupRefusal}
+use Rattle.api.specs.declared.lookups.refusal.LookupRefusal.TheVariants as refusal
+use Rattle.api.specs.declared.lookups.table.LookupTable.{LookupTable}
 use Rattle.rumstrait_c.specs.Codes.{lookup_code}
 use Rattle.rumstrait_c.specs.Lookups.{IsUnresolved, resolver_at, resolves_at}
 use Rattle.rumstrait_c.proofs.HandleSteps.{Global, GlobalArg, global_Tells, global_val, no_drop, box_val}

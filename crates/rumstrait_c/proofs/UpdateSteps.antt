@@ -40,9 +40,9 @@ use Rattle.std.proofs.alloc.Global.TheLaws as global-laws
 use Rattle.std.specs.contracts.boxed.Box.{the_row as box-row}
 use Rattle.std.specs.contracts.impls.GlobalAllocator.TheImpl as heap
 use Rattle.std.specs.contracts.result.Result as result
-use Rattle.dns_update_builder.proofs.builder.UpdateBuilder.TheLaws as update-laws
-use Rattle.dns_update_builder.specs.contracts.builder.UpdateBuilder as update
-use Rattle.dns_update_builder.specs.Parts.{UpdateParts}
+use Rattle.dns_updates.proofs.builder.builder.UpdateBuilder.TheLaws as update-laws
+use Rattle.dns_updates.specs.contracts.builder.builder.UpdateBuilder as update
+use Rattle.dns_updates.specs.builder.Parts.{UpdateParts}
 use Rattle.rumstrait_c.specs.Updates.{IsUnbegun, begun_at, update_at}
 use Rattle.rumstrait_c.proofs.HandleSteps.{Global, GlobalArg, global_Tells, global_val, no_drop, box_val, not_zero}
 use Rattle.rumstrait_c.proofs.dns_update_builder++builder++UpdateBuilder+Destruct.drop.Kinds as kinds

@@ -1,10 +1,10 @@
 -- What the functions for C return.
 use Rattle.std.specs.Prelude.{◌≡◌, ℤ, pos, List, ℕ, Result, Ok, Err}
-use Rattle.api_buffer.specs.Buffer.{Delivers}
-use Rattle.api_buffer.specs.declared.refusal.Refusal.{Refusal}
-use Rattle.api_buffer.specs.declared.refusal.Refusal.TheVariants as refusal
-use Rattle.api_lookups.specs.declared.refusal.LookupRefusal.{LookupRefusal}
-use Rattle.api_lookups.specs.declared.refusal.LookupRefusal.TheVariants as lookup
+use Rattle.api.specs.buffer.Buffer.{Delivers}
+use Rattle.api.specs.declared.buffer.refusal.Refusal.{Refusal}
+use Rattle.api.specs.declared.buffer.refusal.Refusal.TheVariants as refusal
+use Rattle.api.specs.declared.lookups.refusal.LookupRefusal.{LookupRefusal}
+use Rattle.api.specs.declared.lookups.refusal.LookupRefusal.TheVariants as lookup
 
 -- the number of a refusal
 abbrev pub code_of : Refusal → ℤ

@@ -5,14 +5,14 @@ use denote.RawPtr.{Ptr, null_ptr}
 use Rattle.std.specs.Box.Ownership.{box_owns}
 use Rattle.std.specs.Global.{Global}
 use Rattle.std.specs.contracts.impls.GlobalAllocator.TheImpl.{ghosts}
-use Rattle.api_buffer.specs.Buffer.{Writes}
-use Rattle.api_buffer.specs.declared.refusal.Refusal.{Refusal}
-use Rattle.api_lookups.specs.Servers.{AreNoServers}
-use Rattle.api_lookups.specs.Table as table
-use Rattle.api_lookups.specs.Table.{IsFirstTable}
-use Rattle.api_lookups.specs.contracts.table.LookupTable.{the_row}
-use Rattle.api_lookups.specs.declared.refusal.LookupRefusal.{LookupRefusal}
-use Rattle.api_lookups.specs.declared.table.LookupTable.{LookupTable}
+use Rattle.api.specs.buffer.Buffer.{Writes}
+use Rattle.api.specs.declared.buffer.refusal.Refusal.{Refusal}
+use Rattle.api.specs.lookups.Servers.{AreNoServers}
+use Rattle.api.specs.lookups.Table as table
+use Rattle.api.specs.lookups.Table.{IsFirstTable}
+use Rattle.api.specs.contracts.lookups.table.LookupTable.{the_row}
+use Rattle.api.specs.declared.lookups.refusal.LookupRefusal.{LookupRefusal}
+use Rattle.api.specs.declared.lookups.table.LookupTable.{LookupTable}
 use Rattle.api_resolver.specs.declared.exchange.Awaited as api
 use Rattle.rumstrait_c.specs.Codes.{IsNullCode, RefusesNull, done_code, lookup_code, result_code}
 use Rattle.rumstrait_c.specs.Waits.{wait_of}

@@ -5,12 +5,12 @@ use denote.RawPtr.{Ptr, null_ptr}
 use Rattle.std.specs.Box.Ownership.{box_owns}
 use Rattle.std.specs.Global.{Global}
 use Rattle.std.specs.contracts.impls.GlobalAllocator.TheImpl.{ghosts}
-use Rattle.api_buffer.specs.Buffer.{Delivers}
-use Rattle.api_buffer.specs.declared.refusal.Refusal.{Refusal}
-use Rattle.api_buffer.specs.declared.refusal.Refusal.TheVariants.{Memory}
-use Rattle.api_messages.specs.Updates.{AddsItem, EncodesWhole, IsUnadded, IsUnfit, message_of, update_of}
-use Rattle.dns_update_builder.specs.Parts.{UpdateParts}
-use Rattle.dns_update_builder.specs.contracts.builder.UpdateBuilder.{the_row}
+use Rattle.api.specs.buffer.Buffer.{Delivers}
+use Rattle.api.specs.declared.buffer.refusal.Refusal.{Refusal}
+use Rattle.api.specs.declared.buffer.refusal.Refusal.TheVariants.{Memory}
+use Rattle.api.specs.messages.Updates.{AddsItem, EncodesWhole, IsUnadded, IsUnfit, message_of, update_of}
+use Rattle.dns_updates.specs.builder.Parts.{UpdateParts}
+use Rattle.dns_updates.specs.contracts.builder.builder.UpdateBuilder.{the_row}
 use Rattle.rumstrait_c.specs.Codes.{Finds, IsNullCode, RefusesNull, code_of, result_code}
 
 -- an update on the heap, and the right to free it by the allocator

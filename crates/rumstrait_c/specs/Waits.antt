@@ -1,6 +1,6 @@
 -- What a lookup waits for.
 use Rattle.std.specs.Prelude.{ℕ}
-use Rattle.api_lookups.specs.Endpoint.{endpoint_bytes}
+use Rattle.api.specs.lookups.Endpoint.{endpoint_bytes}
 use Rattle.api_resolver.specs.declared.exchange.Awaited.{Awaited}
 use Rattle.stub_config.specs.declared.config.connection.Protocol.{Protocol}
 use Rattle.stub_config.specs.declared.config.connection.Protocol.TheVariants.{Tcp, Udp}

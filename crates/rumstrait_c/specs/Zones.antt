@@ -5,13 +5,13 @@ use denote.RawPtr.{Ptr, null_ptr}
 use Rattle.std.specs.Box.Ownership.{box_owns}
 use Rattle.std.specs.Global.{Global}
 use Rattle.std.specs.contracts.impls.GlobalAllocator.TheImpl.{ghosts}
-use Rattle.api_buffer.specs.Buffer.{Delivers}
-use Rattle.api_buffer.specs.declared.refusal.Refusal.{Refusal}
-use Rattle.api_buffer.specs.declared.refusal.Refusal.TheVariants as refusal
-use Rattle.api_zones.specs.Faults.{FindsFault, IsUnread}
-use Rattle.api_zones.specs.Serving.{Replies}
-use Rattle.api_zones.specs.Zones.{IsZoneOf}
-use Rattle.api_zones.specs.Zones as zones
+use Rattle.api.specs.buffer.Buffer.{Delivers}
+use Rattle.api.specs.declared.buffer.refusal.Refusal.{Refusal}
+use Rattle.api.specs.declared.buffer.refusal.Refusal.TheVariants as refusal
+use Rattle.api.specs.zones.Faults.{FindsFault, IsUnread}
+use Rattle.api.specs.zones.Serving.{Replies}
+use Rattle.api.specs.zones.Zones.{IsZoneOf}
+use Rattle.api.specs.zones.Zones as zones
 use Rattle.dns_zone.specs.Printed.{IsZoneText}
 use Rattle.dns_zone.specs.Rows.{ZoneContent}
 use Rattle.dns_zone.specs.contracts.zone.Zone.{the_row}

@@ -3,8 +3,8 @@
 ghost use Rattle.std.specs.Prelude.{◌≡◌};
 ghost use Rattle.rumstrait_c.specs.Codes.{code_of, done_code, lookup_code, result_code};
 
-use api_buffer::Refusal;
-use api_lookups::LookupRefusal;
+use api::buffer::Refusal;
+use api::lookups::LookupRefusal;
 
 /// The number of the refusal of a null handle.
 pub(crate) const NULL_HANDLE: i32 = 4;

@@ -2,14 +2,14 @@
 
 ghost use Rattle.std.specs.Prelude.{Option};
 ghost use types.Logic.{sem};
-ghost use Rattle.api_lookups.specs.declared.table.LookupTable.{LookupTable};
+ghost use Rattle.api.specs.declared.lookups.table.LookupTable.{LookupTable};
 ghost use Rattle.rumstrait_c.specs.Lookups.{Answered, Awaited, Begun, Failed, Received, Removed, TimedOut, answered_at, awaited_at, begun_at, failed_at, handle_at, received_at, removed_at, timed_out_at};
 
 use crate::codes::{NULL_HANDLE, code_of, done_code, lookup_code, result_code};
 use crate::resolver::ResolverHandle;
 use crate::wait::{Wait, wait_of};
-use api_buffer::write_bytes;
-use api_lookups::LookupTable;
+use api::buffer::write_bytes;
+use api::lookups::LookupTable;
 use std::alloc::Global;
 
 /// Begins a lookup, and writes its number to `lookup`, unless the handle is null.

@@ -1,12 +1,12 @@
 //! Messages in buffers of the caller.
 
-ghost use Rattle.api_messages.specs.Messages.{IsEncodedAgain, IsNotEncodedAgain, IsTextOf, IsUndecoded};
-ghost use Rattle.api_messages.specs.Questions.{AsksQuestion, IsUnasked};
+ghost use Rattle.api.specs.messages.Messages.{IsEncodedAgain, IsNotEncodedAgain, IsTextOf, IsUndecoded};
+ghost use Rattle.api.specs.messages.Questions.{AsksQuestion, IsUnasked};
 ghost use Rattle.rumstrait_c.specs.Codes.{Gives};
 
 use crate::codes::result_code;
-use api_buffer::deliver;
-use api_messages::{encode_again, message_text, question_bytes};
+use api::buffer::deliver;
+use api::messages::{encode_again, message_text, question_bytes};
 use std::alloc::Global;
 
 /// Writes a message in the layout of dig.

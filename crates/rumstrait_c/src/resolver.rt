@@ -2,13 +2,13 @@
 
 ghost use Rattle.std.specs.Prelude.{IfErr, IfOk, Option};
 ghost use types.Logic.{sem};
-ghost use Rattle.api_lookups.specs.Servers.{AreNoServers};
-ghost use Rattle.api_lookups.specs.Table.{IsFirstTable};
-ghost use Rattle.api_lookups.specs.declared.table.LookupTable.{LookupTable};
+ghost use Rattle.api.specs.lookups.Servers.{AreNoServers};
+ghost use Rattle.api.specs.lookups.Table.{IsFirstTable};
+ghost use Rattle.api.specs.declared.lookups.table.LookupTable.{LookupTable};
 ghost use Rattle.rumstrait_c.specs.Lookups.{IsUnresolved, handle_at, resolves_at};
 
 use crate::codes::lookup_code;
-use api_lookups::{LookupRefusal, LookupTable};
+use api::lookups::{LookupRefusal, LookupTable};
 use std::alloc::Global;
 use std::ptr::null_mut;
 

@@ -2,14 +2,14 @@
 
 ghost use Rattle.std.specs.Prelude.{◌≡◌, ◌≢◌, Err, IfErr, IfOk, Option};
 ghost use types.Logic.{sem};
-ghost use Rattle.api_messages.specs.Updates.{update_of};
-ghost use Rattle.dns_update_builder.specs.Parts.{UpdateParts};
+ghost use Rattle.api.specs.messages.Updates.{update_of};
+ghost use Rattle.dns_updates.specs.builder.Parts.{UpdateParts};
 ghost use Rattle.rumstrait_c.specs.Updates.{Encoded, Extended, IsUnbegun, IsUpdateOf, begun_at, encoded_at, extended_at, handle_at};
 
 use crate::codes::{NULL_HANDLE, code_of, result_code};
-use api_buffer::{Refusal, deliver};
-use api_messages::{add_item, new_update, update_bytes};
-use dns_update_builder::UpdateBuilder;
+use api::buffer::{Refusal, deliver};
+use api::messages::{add_item, new_update, update_bytes};
+use dns_updates::builder::UpdateBuilder;
 use std::alloc::Global;
 use std::ptr::null_mut;
 

@@ -3,7 +3,7 @@
 ghost use Rattle.std.specs.Prelude.{◌≡◌};
 ghost use Rattle.rumstrait_c.specs.Waits.{transport_of, wait_of};
 
-use api_lookups::{ENDPOINT_LEN, endpoint_bytes};
+use api::lookups::{ENDPOINT_LEN, endpoint_bytes};
 use api_resolver::Awaited;
 use stub_config::Protocol;
 

@@ -3,13 +3,13 @@
 ghost use Rattle.std.specs.Prelude.{IfErr, IfOk, Option};
 ghost use types.Logic.{sem};
 ghost use Rattle.dns_zone.specs.Rows.{ZoneContent};
-ghost use Rattle.api_zones.specs.Zones as zones;
-ghost use Rattle.api_zones.specs.Zones.{IsZoneOf};
+ghost use Rattle.api.specs.zones.Zones as zones;
+ghost use Rattle.api.specs.zones.Zones.{IsZoneOf};
 ghost use Rattle.rumstrait_c.specs.Zones.{IsRefused, Printed, Served, TellsFault, handle_at, made_at, printed_at, served_at};
 
 use crate::codes::{NULL_HANDLE, code_of, result_code};
-use api_buffer::{Refusal, deliver};
-use api_zones::{read_zone, serve_request, zone_fault, zone_text};
+use api::buffer::{Refusal, deliver};
+use api::zones::{read_zone, serve_request, zone_fault, zone_text};
 use dns_zone::Zone;
 use std::alloc::Global;
 use std::ptr::null_mut;

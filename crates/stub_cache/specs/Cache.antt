@@ -1,8 +1,8 @@
 -- The cache of responses: a list of entries, the newest last (RFC 1034 section 5.3.3, RFC 2308 section 5).
 use Rattle.std.specs.Prelude.{ℕ, Bool, true, ◌==◌, ◌&&◌, ◌+◌, ◌-◌, ◌++◌, not, nat_lt, nat_le, List, [], ◌∷◌, length, Option, Some, None, option_map, Result, Ok, Err, if◌then◌else◌}
 use Rattle.std.specs.List.{filter, find, list_any}
-use Rattle.dns_codes.specs.RecordType.{type_number}
-use Rattle.dns_codes.specs.DNSClass.{class_number}
+use Rattle.dns_wire.specs.codes.RecordType.{type_number}
+use Rattle.dns_wire.specs.codes.DNSClass.{class_number}
 use Rattle.dns_names.specs.Compare.{same_name}
 use Rattle.dns_messages.specs.declared.message.Message.{Message}
 use Rattle.dns_messages.specs.declared.query.Query.{Query}

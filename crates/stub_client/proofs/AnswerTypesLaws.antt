@@ -3,12 +3,12 @@ use Rattle.std.proofs.Common.{◌≡◌, ℕ, suc, ◌-◌, ◌==◌, ◌&&◌, 
 use Rattle.std.specs.List.{find}
 use Rattle.std.proofs.lemmas.Bool.{cond_both}
 use Rattle.std.proofs.lemmas.List.Elements.{All-nil, All-cons, All-head, All-tail, All-append, All-filter, All-map, All-weaker, filter_passes}
-use Rattle.dns_codes.specs.DNSClass.{class_number, class_of}
-use Rattle.dns_codes.specs.RecordType.{type_number, type_of}
-use Rattle.dns_codes.specs.declared.dns_class.DNSClass.{DNSClass}
-use Rattle.dns_codes.specs.declared.dns_class.DNSClass.TheVariants as classes
-use Rattle.dns_codes.specs.declared.record_type.RecordType.{RecordType}
-use Rattle.dns_codes.specs.declared.record_type.RecordType.TheVariants as types
+use Rattle.dns_wire.specs.codes.DNSClass.{class_number, class_of}
+use Rattle.dns_wire.specs.codes.RecordType.{type_number, type_of}
+use Rattle.dns_wire.specs.declared.codes.dns_class.DNSClass.{DNSClass}
+use Rattle.dns_wire.specs.declared.codes.dns_class.DNSClass.TheVariants as classes
+use Rattle.dns_wire.specs.declared.codes.record_type.RecordType.{RecordType}
+use Rattle.dns_wire.specs.declared.codes.record_type.RecordType.TheVariants as types
 use Rattle.dns_names.specs.Compare.{same_name}
 use Rattle.dns_names.specs.Name.{DomainName}
 use Rattle.dns_text.specs.Usage.{is_loopback, is_nonexistent}

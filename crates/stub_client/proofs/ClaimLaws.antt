@@ -3,8 +3,8 @@ use Rattle.std.proofs.Common.{◌≡◌, ℕ, suc, ◌+◌, ◌-◌, ◌≤◌, 
 use Rattle.std.specs.List.{find}
 use Rattle.std.proofs.lemmas.Bool.Decides.{nat_tests}
 use Rattle.std.proofs.lemmas.List.Elements.{All-nil, All-cons, All-head, All-map, All-tail}
-use Rattle.dns_codes.specs.DNSClass.{class_number}
-use Rattle.dns_codes.specs.RecordType.{type_number}
+use Rattle.dns_wire.specs.codes.DNSClass.{class_number}
+use Rattle.dns_wire.specs.codes.RecordType.{type_number}
 use Rattle.dns_names.specs.Compare.{same_name}
 use Rattle.dns_records.specs.Record.{Record, after_seconds}
 use Rattle.dns_messages.specs.Response.{has_type}
@@ -142,7 +142,7 @@ module _ (P : Query → ℕ → Record → Type 0) (outlasts : Outlasts P) where
   back now p q (Ok lookup) same f h =
       each-weaker q.query_type (P p now) (P q now) f lookup.message.answers
       (each-of-number p.query_type q.query_type (P p now) lookup.message.answers
-      (ap (λ (kind : Rattle.dns_codes.specs.declared.record_type.RecordType.RecordType). type_number kind) same) h)
+      (ap (λ (kind : Rattle.dns_wire.specs.declared.codes.record_type.RecordType.RecordType). type_number kind) same) h)
   back now p q (Err error) same f h = tt
 
   proceeds-hold : (next : Query → List Record → Reply → CacheContent → Type 0) (settings : LookupSettings) (now : ℕ) (old : CacheContent)
@@ -159,7 +159,7 @@ module _ (P : Query → ℕ → Record → Type 0) (outlasts : Outlasts P) where
   proceeds-hold next settings now old q (Stops error) asks reply new rest none holds step h =
       (subst (HoldsOfCache P now) (sym h.2) holds, subst (HoldsOfReply P q now) (sym h.1) tt)
   proceeds-hold next settings now old q (Follows target kept) asks reply new rest none holds step h =
-      let NoMinimum : Rattle.dns_codes.specs.declared.record_type.RecordType.RecordType → Type 0 = HasNoMinimum old.config in
+      let NoMinimum : Rattle.dns_wire.specs.declared.codes.record_type.RecordType.RecordType → Type 0 = HasNoMinimum old.config in
       let inner = rest target kept h.0 h.1 (subst NoMinimum (sym step.0) none) step.1 h.2 in
       let none-then : HasNoMinimum h.1.config q.query_type =
       subst (λ (config : TtlConfigContent). HasNoMinimum config q.query_type) (sym inner.0.1) none in

@@ -2,9 +2,9 @@
 use Rattle.std.proofs.Common.{◌≡◌, ℕ, ◌==◌, ◌&&◌, ◌||◌, ◌++◌, not, Bool, true, false, cond, List, [], ◌∷◌, map, filter, Ok, All, refl, sym, ap, subst, ◌∙◌, ◌⊎◌, inl, inr, slice_index_or}
 use Rattle.std.proofs.lemmas.Bool.{cond_both, not-true}
 use Rattle.std.proofs.lemmas.List.Elements.{All-nil, All-append, All-filter, All-map, filter_passes}
-use Rattle.dns_codes.specs.RecordType.{type_number}
-use Rattle.dns_codes.specs.declared.record_type.RecordType.{RecordType}
-use Rattle.dns_codes.specs.declared.record_type.RecordType.TheVariants as types
+use Rattle.dns_wire.specs.codes.RecordType.{type_number}
+use Rattle.dns_wire.specs.declared.codes.record_type.RecordType.{RecordType}
+use Rattle.dns_wire.specs.declared.codes.record_type.RecordType.TheVariants as types
 use Rattle.dns_data.specs.rdata.{data_type}
 use Rattle.dns_records.specs.Record.{Record}
 use Rattle.dns_messages.specs.Message.{all_records, is_without_dnssec, strip_for, stripped}

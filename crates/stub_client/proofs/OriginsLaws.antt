@@ -2,8 +2,8 @@
 use Rattle.std.proofs.Common.{◌≡◌, ℕ, ◌+◌, ◌-◌, ◌<◌, ◌≤◌, ◌&&◌, ◌||◌, ◌++◌, not, Bool, true, false, List, [], ◌∷◌, Ok, Err, All, Contains, refl, sym, ap, ◌∙◌, slice_index_or, arith}
 use Rattle.std.proofs.lemmas.Bool.{not-true}
 use Rattle.std.proofs.lemmas.List.Elements.{All-nil, All-cons, All-head, All-tail, All-weaker, All-contains_itself, Contains-get_or}
-use Rattle.dns_codes.specs.DNSClass.{class_number}
-use Rattle.dns_codes.specs.RecordType.{type_number}
+use Rattle.dns_wire.specs.codes.DNSClass.{class_number}
+use Rattle.dns_wire.specs.codes.RecordType.{type_number}
 use Rattle.dns_names.specs.Compare.{same_name}
 use Rattle.dns_names.specs.internal.Compare.{same_name-equivalence}
 use Rattle.dns_records.specs.Record.{Record, after_seconds}

@@ -1,6 +1,6 @@
 -- The types of answers: the type that was asked for, and aliases.
 use Rattle.std.specs.Prelude.{◌≡◌, ◌||◌, Bool, true, All, Ok, Err}
-use Rattle.dns_codes.specs.declared.record_type.RecordType.TheVariants as types
+use Rattle.dns_wire.specs.declared.codes.record_type.RecordType.TheVariants as types
 use Rattle.dns_records.specs.Record.{Record}
 use Rattle.dns_messages.specs.Response.{has_type}
 use Rattle.dns_messages.specs.declared.message.Message.{Message}

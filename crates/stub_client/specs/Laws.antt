@@ -1,6 +1,6 @@
 -- What every lookup of a client keeps: claims about the records that are returned, and how an error is passed on.
 use Rattle.std.specs.Prelude.{◌≡◌, ◌≤◌, ◌+◌, ◌-◌, ◌++◌, true, false, All, List, [], ℕ, None, Ok, Err}
-use Rattle.dns_codes.specs.declared.record_type.RecordType.{RecordType}
+use Rattle.dns_wire.specs.declared.codes.record_type.RecordType.{RecordType}
 use Rattle.dns_records.specs.Record.{Record, after_seconds}
 use Rattle.dns_messages.specs.Message.{all_records}
 use Rattle.dns_messages.specs.Response.{has_type}

@@ -1,7 +1,7 @@
 -- Attempts of names, and questions that the hosts are asked first, over any relation of one question.
 use Rattle.std.proofs.Common.{◌≡◌, ◌∷◌, [], true, false, ℕ, Some, None, List, length, refl, inl, inr, subst, sym, arith}
 use Rattle.std.specs.Prelude.{Bool, Option}
-use Rattle.dns_codes.specs.declared.record_type.RecordType.{RecordType}
+use Rattle.dns_wire.specs.declared.codes.record_type.RecordType.{RecordType}
 use Rattle.dns_names.specs.Name.{DomainName}
 use Rattle.dns_messages.specs.declared.query.Query.{Query}
 use Rattle.stub_config.specs.declared.request_options.DnsRequestOptions.{DnsRequestOptions}

@@ -1,7 +1,7 @@
 -- Lookups of a resolver: the names that are attempted, and the options of the requests.
 use Rattle.std.proofs.Common.{◌≡◌, inr, ℕ, subst}
 use Rattle.std.specs.Prelude.{List, Option, Ok}
-use Rattle.dns_codes.specs.declared.record_type.RecordType.{RecordType}
+use Rattle.dns_wire.specs.declared.codes.record_type.RecordType.{RecordType}
 use Rattle.dns_names.specs.Name.{DomainName}
 use Rattle.dns_data.specs.declared.rdata.RData.{RData}
 use Rattle.dns_messages.specs.declared.query.Query.{Query}

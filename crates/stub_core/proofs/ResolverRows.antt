@@ -1,7 +1,7 @@
 -- The definitions of a resolver, computed.
 use Rattle.std.specs.Prelude.{◌≡◌, true, false, [], ◌∷◌, ℕ, Some, None, Err}
 use Rattle.std.proofs.Common.{refl}
-use Rattle.dns_codes.specs.declared.record_type.RecordType.TheVariants as types
+use Rattle.dns_wire.specs.declared.codes.record_type.RecordType.TheVariants as types
 use Rattle.dns_names.specs.declared.error.ParseError.TheVariants as names
 use Rattle.dns_names.specs.declared.reverse.AddrPrefix.{AddrPrefix}
 use Rattle.stub_config.specs.Options.{default_options}

@@ -1,6 +1,6 @@
 -- Lookups of two types, and how their replies are joined.
 use Rattle.std.proofs.Common.{◌≡◌, true, false, ℕ, Ok, Err, refl, sym, ap, subst, ◌∙◌}
-use Rattle.dns_codes.specs.declared.record_type.RecordType.{RecordType}
+use Rattle.dns_wire.specs.declared.codes.record_type.RecordType.{RecordType}
 use Rattle.dns_names.specs.Name.{DomainName}
 use Rattle.stub_config.specs.declared.request_options.DnsRequestOptions.{DnsRequestOptions}
 use Rattle.stub_config.specs.declared.strategy.LookupIpStrategy.{LookupIpStrategy}

@@ -1,6 +1,6 @@
 -- Lookups of one name after another (RFC 1123 section 6.1.4.3).
 use Rattle.std.specs.Prelude.{◌≡◌, ◌⊎◌, not, Bool, true, false, List, [], ◌∷◌, ℕ, Option, Some, None, Ok, Err, codes}
-use Rattle.dns_codes.specs.declared.record_type.RecordType.{RecordType}
+use Rattle.dns_wire.specs.declared.codes.record_type.RecordType.{RecordType}
 use Rattle.dns_names.specs.Name.{DomainName}
 use Rattle.dns_messages.specs.Response.{is_empty}
 use Rattle.dns_messages.specs.declared.query.Query.{Query}

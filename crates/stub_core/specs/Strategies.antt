@@ -1,8 +1,8 @@
 -- Lookups of addresses, by a strategy (RFC 1035 section 3.4.1, RFC 3596 section 2.1).
 use Rattle.std.specs.Prelude.{◌≡◌, ◌+◌, ◌⊎◌, true, false, List, [], ◌∷◌, ℕ, Bool, Option, Some, None, Ok, Err, codes}
-use Rattle.dns_codes.specs.declared.dns_class.DNSClass.TheVariants.{IN}
-use Rattle.dns_codes.specs.declared.record_type.RecordType.{RecordType}
-use Rattle.dns_codes.specs.declared.record_type.RecordType.TheVariants as types
+use Rattle.dns_wire.specs.declared.codes.dns_class.DNSClass.TheVariants.{IN}
+use Rattle.dns_wire.specs.declared.codes.record_type.RecordType.{RecordType}
+use Rattle.dns_wire.specs.declared.codes.record_type.RecordType.TheVariants as types
 use Rattle.dns_names.specs.Name.{DomainName}
 use Rattle.dns_data.specs.declared.rdata.RData.{RData}
 use Rattle.dns_records.specs.Record.{Record}

@@ -1,9 +1,9 @@
 -- The types of addresses, and what is inserted for them.
 use Rattle.std.proofs.Common.{◌≡◌, ℕ, List, None, ◌⊎◌, inl, inr, refl, ap, sym, ◌∙◌}
 use Rattle.dns_names.specs.Name.{DomainName}
-use Rattle.dns_codes.specs.RecordType.{type_of}
-use Rattle.dns_codes.specs.declared.record_type.RecordType.{RecordType}
-use Rattle.dns_codes.specs.declared.record_type.RecordType.TheVariants as types
+use Rattle.dns_wire.specs.codes.RecordType.{type_of}
+use Rattle.dns_wire.specs.declared.codes.record_type.RecordType.{RecordType}
+use Rattle.dns_wire.specs.declared.codes.record_type.RecordType.TheVariants as types
 use Rattle.dns_messages.specs.declared.query.Query.{Query}
 use Rattle.stub_lookup.specs.Lookup.{LookupContent}
 use Rattle.stub_hosts.specs.Hosts.{HostsContent, qualified, fresh, with_entry, with_lookup_of, with_lookup, lookup_of_type}

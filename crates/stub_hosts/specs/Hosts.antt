@@ -6,10 +6,10 @@ use Rattle.std.specs.Net.Addr.{ipv4_octets, ipv6_segments}
 use Rattle.std.specs.declared.cmp.Ordering.TheVariants.{Less, Equal, Greater}
 use Rattle.std.specs.declared.net.ip_addr.IpAddr.{IpAddr}
 use Rattle.std.specs.declared.net.ip_addr.IpAddr.TheVariants.{V4, V6}
-use Rattle.dns_codes.specs.RecordType.{type_of, type_number}
-use Rattle.dns_codes.specs.declared.record_type.RecordType.{RecordType}
-use Rattle.dns_codes.specs.declared.record_type.RecordType.TheVariants as types
-use Rattle.dns_codes.specs.declared.dns_class.DNSClass.TheVariants.{IN}
+use Rattle.dns_wire.specs.codes.RecordType.{type_of, type_number}
+use Rattle.dns_wire.specs.declared.codes.record_type.RecordType.{RecordType}
+use Rattle.dns_wire.specs.declared.codes.record_type.RecordType.TheVariants as types
+use Rattle.dns_wire.specs.declared.codes.dns_class.DNSClass.TheVariants.{IN}
 use Rattle.dns_names.specs.Name.{DomainName}
 use Rattle.dns_names.specs.Compare.{same_labels, name_cmp}
 use Rattle.dns_names.specs.Reverse.{arpa_prefix, addr_of}

@@ -1,7 +1,7 @@
 //! Names and addresses that are known without asking.
 
 ghost use Rattle.std.specs.Prelude.{◌≡◌, ◌⊎◌, ◌+◌, ◌≤◌, ◌^◌, [], true, None, Ok, IfOk, OnOk, OnErr};
-ghost use Rattle.dns_codes.specs.RecordType.{type_number, type_of};
+ghost use Rattle.dns_wire.specs.codes.RecordType.{type_number, type_of};
 ghost use Rattle.stub_lookup.specs.Lookup.{lookup_of, max_ttl};
 
 mod address_index;

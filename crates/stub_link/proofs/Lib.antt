@@ -12,3 +12,5 @@ pub mod Requests
 pub mod SoundReplies
 pub mod SoundRequests
 pub mod Waiting
+pub mod AskLaws
+pub mod VerdictLaws

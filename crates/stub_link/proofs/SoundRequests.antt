@@ -9,7 +9,7 @@ use Rattle.dns_messages.specs.declared.response_code.ResponseCode.TheVariants as
 use Rattle.dns_messages.specs.Cut.{edns_item, items_len, listed, query_item, uncompressed_len}
 use Rattle.dns_messages.specs.Edns.{IsSoundEdns, opt_record}
 use Rattle.dns_messages.specs.Sound.{IsExtendedBy}
-use Rattle.dns_soundness.proofs.SizeLaws.{edns-len, query-len}
+use Rattle.dns_message_bytes.proofs.SizeLaws.{edns-len, query-len}
 use Rattle.stub_config.specs.declared.request_options.DnsRequestOptions.{DnsRequestOptions}
 use Rattle.stub_client.specs.Request.{edns_if_used, request_edns, request_of}
 use Rattle.stub_link.specs.Request.{IsQuestion}

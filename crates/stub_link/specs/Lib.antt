@@ -10,3 +10,4 @@ pub mod AskState
 pub mod ScriptedLink
 pub mod SoundQuestion
 pub mod WireHandle
+pub mod trace

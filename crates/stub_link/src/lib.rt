@@ -9,10 +9,14 @@
 //! - `wire_handle`: a handle that asks over any link; `wire_handle/request`: which requests can be asked, and their
 //!   datagrams; `wire_handle/reply`: which datagrams are the reply; `wire_handle/stream`: replies over a stream
 //! - `laws`: what a request over the scripted link ends in
+//!
+//! Further modules, each with a page of its own:
+//! - [`trace`]: a link that notes each of its calls, and what the notes say.
 #![tactic(auto)]
 
 pub mod laws;
 mod link;
+pub mod trace;
 mod update_event;
 mod wire_handle;
 

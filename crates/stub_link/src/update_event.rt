@@ -4,8 +4,8 @@ ghost use Rattle.std.specs.Prelude.{◌≡◌, ◌<◌, IfOk, IfErr, Err};
 ghost use Rattle.dns_messages.specs.Cut.{uncompressed_len};
 ghost use Rattle.stub_link.specs.Request.{IsSoundUpdate, IsUpdate};
 
+use dns_message_bytes::soundness::{fits_uncompressed, is_sound};
 use dns_messages::{Message, MessageType, OpCode};
-use dns_soundness::{fits_uncompressed, is_sound};
 use std::marker::Model;
 use thiserror::Error;
 

@@ -1,6 +1,6 @@
 -- What a lookup found: a response, and how long it is valid.
 use Rattle.std.specs.Prelude.{◌++◌, List, [], ◌∷◌, ℕ, min}
-use Rattle.dns_codes.specs.declared.dns_class.DNSClass.TheVariants.{IN}
+use Rattle.dns_wire.specs.declared.codes.dns_class.DNSClass.TheVariants.{IN}
 use Rattle.dns_data.specs.declared.rdata.RData.{RData}
 use Rattle.dns_records.specs.Record.{Record}
 use Rattle.dns_messages.specs.Message.{clear_metadata, empty_message}

@@ -1,7 +1,7 @@
 -- What a reply means: records, a negative answer, or an error (RFC 1034 section 5.3.3, RFC 2308 sections 2 and 5).
 use Rattle.std.specs.Prelude.{◌||◌, if◌then◌else◌, Bool, true, false, List, [], ◌∷◌, Option, Some, None, Result, Ok, Err}
-use Rattle.dns_codes.specs.declared.dns_class.DNSClass.TheVariants.{IN}
-use Rattle.dns_codes.specs.declared.record_type.RecordType.TheVariants.{A}
+use Rattle.dns_wire.specs.declared.codes.dns_class.DNSClass.TheVariants.{IN}
+use Rattle.dns_wire.specs.declared.codes.record_type.RecordType.TheVariants.{A}
 use Rattle.dns_data.specs.declared.rdata.RData.{RData}
 use Rattle.dns_data.specs.declared.rdata.RData.TheVariants as of
 use Rattle.dns_data.specs.declared.rdata.soa.SOA.{SOA}

@@ -5,3 +5,7 @@ pub mod RunLaws
 pub mod ScriptLaws
 pub mod TryLaws
 pub mod WaitLaws
+mod ArrivalLaws
+mod RepliedLaws
+mod SignedLaws
+mod SignedWitness

@@ -8,3 +8,4 @@ pub mod Verdict
 pub mod Exchange
 pub mod Pool
 pub mod Laws
+pub mod signed

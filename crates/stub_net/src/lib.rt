@@ -10,6 +10,9 @@
 //! - `requester`: one request to one server; `requester/wait`: the wait for its reply; `requester/stream`: streams
 //! - `pool`: the handle; `pool/verdict`: which replies are accepted
 //! - `laws`: what holds of every exchange
+//!
+//! Further modules, each with a page of its own:
+//! - [`signed`]: signed requests over a network, and updates that are sent signed (RFC 8945).
 #![tactic(auto)]
 
 mod ids;
@@ -17,6 +20,7 @@ pub mod laws;
 mod network;
 mod pool;
 mod requester;
+pub mod signed;
 
 pub use ids::{IdSource, ListedIds};
 pub use network::{Network, NetworkEvent, ScriptedNetwork, TimedEvent, Transmission};

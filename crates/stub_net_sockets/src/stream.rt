@@ -4,7 +4,7 @@ ghost use Rattle.std.specs.Prelude.{◌≡◌, ◌≤◌};
 
 use crate::stopwatch::Stopwatch;
 use dns_blocking::{SocketError, or_failed, read, write};
-use dns_frames::write_frame;
+use dns_message_bytes::frames::write_frame;
 use std::alloc::Global;
 use std::net::{Net, SocketAddr, TcpListener, TcpStream};
 use std::time::{Clock, Duration};

@@ -11,11 +11,11 @@ use Rattle.stub_run.specs.declared.report.EventReport.{EventReport}
 use Rattle.stub_run.specs.declared.report.Report.{Report}
 use Rattle.stub_run.proofs.RunningOver.{has-reserved, has-run-more, is-report, is-report-before}
 use Rattle.stub_play.specs.Plays.{Told}
-use Rattle.stub_report.specs.Report.{report_text, told_text}
+use Rattle.stub_play.specs.report.Report.{report_text, told_text}
 use Rattle.stub_play.specs.declared.plays.input.PlayInput.{PlayInput}
-use Rattle.stub_report.specs.declared.report.PlayFormat.{PlayFormat}
+use Rattle.stub_play.specs.declared.report.report.PlayFormat.{PlayFormat}
 use Rattle.stub_play.proofs.PlayLaws.{front_text, reports_len}
-use Rattle.stub_report.proofs.ReportLaws.{appends_nothing, appends_then}
+use Rattle.stub_play.proofs.ReportLaws.{appends_nothing, appends_then}
 
 -- ---- reports
 

@@ -4,3 +4,9 @@ pub mod OptionLaws
 pub mod OrderLaws
 pub mod PlayLaws
 pub mod WordsLaws
+pub mod CallLaws
+pub mod HostLaws
+pub mod LineLaws
+pub mod ScriptLaws
+pub mod MembersLaws
+pub mod ReportLaws

@@ -2,3 +2,6 @@ pub mod PlayFault
 pub mod Plays
 pub mod Program
 pub mod Words
+pub mod sockets
+pub mod script
+pub mod report

@@ -10,7 +10,7 @@ use Rattle.stub_play.specs.declared.program.InputFile.TheVariants as files
 use Rattle.stub_play.specs.declared.program.Ending.{Ending}
 use Rattle.stub_play.specs.declared.program.Ending.TheVariants.{Arguments, BadWords, NotUtf8, CannotRead, Fault, Memory}
 use Rattle.stub_play.specs.declared.plays.input.PlayInput.{PlayInput}
-use Rattle.stub_report.specs.declared.report.PlayFormat.TheVariants.{Text}
+use Rattle.stub_play.specs.declared.report.report.PlayFormat.TheVariants.{Text}
 use Rattle.stub_play.specs.declared.words.Words.{Words}
 use Rattle.stub_play.specs.declared.words.WordsFault.{WordsFault}
 use Rattle.stub_play.specs.declared.words.WordsFault.TheVariants as words

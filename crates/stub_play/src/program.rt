@@ -7,10 +7,10 @@ ghost use Rattle.std.specs.declared.io.ErrorKind.TheVariants.{InvalidData};
 ghost use Rattle.stub_play.specs.Program.{IsContent, Sets, ending_text, input_of, path_of, status_of, unread_arguments, unread_file};
 
 use crate::plays::{PlayFault, PlayInput};
+use crate::report::PlayFormat;
 use crate::words::{Words, WordsFault};
 use std::alloc::{AllocError, Global};
 use std::{fmt, io};
-use stub_report::PlayFormat;
 
 /// A file that the program reads.
 #[derive(Clone, Copy, Debug, PartialEq, Eq)]

@@ -5,7 +5,7 @@ use Rattle.std.specs.List.{AllByRecursion}
 use Rattle.std.proofs.lemmas.Bool.Decides.{nat_tests}
 use Rattle.dns_messages.specs.Question.{same_question}
 use Rattle.dns_messages.specs.declared.query.Query.{Query}
-use Rattle.stub_history.specs.Faithful.{HasNoReuse, is_reuse}
+use Rattle.stub_laws.specs.history.Faithful.{HasNoReuse, is_reuse}
 use Rattle.stub_run.specs.Ids.{AreDistinct}
 
 -- ---- the first ids

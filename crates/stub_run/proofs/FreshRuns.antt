@@ -1,7 +1,7 @@
 -- Every record that a run returns is fresh, and has the chain bound.
 use Rattle.std.proofs.Common.{◌≡◌, ℕ, ◌≤◌, List, [], Bool, false, refl, sym, ap, subst, ◌∙◌}
 use Rattle.std.proofs.lemmas.List.Elements.{All-nil}
-use Rattle.dns_codes.specs.RecordType.{type_number, type_of}
+use Rattle.dns_wire.specs.codes.RecordType.{type_number, type_of}
 use Rattle.dns_names.specs.Name.{DomainName}
 use Rattle.dns_records.specs.Record.{Record}
 use Rattle.dns_messages.specs.declared.message.Message.{Message}
@@ -18,12 +18,12 @@ use Rattle.stub_core.specs.ResolverBuilder.{empty_cache}
 use Rattle.stub_core.proofs.OriginsLaws.{Brings, brings-all, brings-closely, from-empty}
 use Rattle.stub_link.specs.AskState.{AskState}
 use Rattle.stub_link.specs.History.{Occasion, first_past}
-use Rattle.stub_history.specs.Answered.{IsAnsweredBy}
-use Rattle.stub_history.specs.Faithful.{HasNoReuse, IsFaithful}
-use Rattle.stub_history.proofs.CloseLaws.{closely}
-use Rattle.stub_history.proofs.EventLaws.{first-faithful}
-use Rattle.stub_history.proofs.FreshLaws.{fresh}
-use Rattle.stub_history.proofs.ServeLaws.{UpdatesKeepZones}
+use Rattle.stub_laws.specs.history.Answered.{IsAnsweredBy}
+use Rattle.stub_laws.specs.history.Faithful.{HasNoReuse, IsFaithful}
+use Rattle.stub_laws.proofs.CloseLaws.{closely}
+use Rattle.stub_laws.proofs.EventLaws.{first-faithful}
+use Rattle.stub_laws.proofs.FreshLaws.{fresh}
+use Rattle.stub_laws.proofs.ServeLaws.{UpdatesKeepZones}
 use Rattle.stub_run.specs.Headline.{AreFresh, HasChainBy, HasNoLeastTtl, HaveChainBounds, IsFreshBy, WorldContent, settings_of, ttls_of}
 use Rattle.stub_run.specs.History.{MakePasts}
 use Rattle.stub_run.specs.Run.{InOrder, RunState, Runs, asks_of}

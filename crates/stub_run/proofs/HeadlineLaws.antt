@@ -5,9 +5,9 @@ use Rattle.std.specs.declared.net.ip_addr.IpAddr.{IpAddr}
 use Rattle.std.proofs.lemmas.Bool.{true≢false}
 use Rattle.std.proofs.lemmas.List.{append-nil}
 use Rattle.std.proofs.lemmas.List.Elements.{All-append, All-cons, All-contains, All-map, All-nil, All-weaker, Contains-append_left, Contains-append_right}
-use Rattle.dns_codes.specs.RecordType.{type_number, type_of}
-use Rattle.dns_codes.specs.declared.record_type.RecordType.{RecordType}
-use Rattle.dns_codes.specs.declared.record_type.RecordType.TheVariants as types
+use Rattle.dns_wire.specs.codes.RecordType.{type_number, type_of}
+use Rattle.dns_wire.specs.declared.codes.record_type.RecordType.{RecordType}
+use Rattle.dns_wire.specs.declared.codes.record_type.RecordType.TheVariants as types
 use Rattle.dns_names.specs.Name.{DomainName}
 use Rattle.dns_names.specs.Parse.{name_of_text}
 use Rattle.dns_names.specs.declared.error.ParseError.{ParseError}
@@ -40,14 +40,14 @@ use Rattle.stub_core.proofs.OriginsLaws.{Brings, from-cleared, from-empty, from-
 use Rattle.stub_link.specs.AskState.{AskState, UpdateZone, begin, begin_with_update, end}
 use Rattle.stub_link.specs.History.{Occasion, Past, past_after_occasion, past_of}
 use Rattle.stub_link.specs.LinkState.{LinkState, Version}
-use Rattle.stub_history.specs.Answered.{AreOrdinary, AreZones, IsAnsweredBy, is_plain}
-use Rattle.stub_history.specs.Faithful.{HasNoReuse, IsFaithful, KeepsStanding, StaysFaithful, StaysFaithfulUnlessOut}
-use Rattle.stub_history.proofs.AskedTypeLaws.{asked-types}
-use Rattle.stub_history.proofs.EventLaws.{begin-faithful, begin-update-faithful, end-faithful}
-use Rattle.stub_history.proofs.FaithfulLaws.{update-stays}
-use Rattle.stub_history.proofs.LaterLaws.{answered-still}
-use Rattle.stub_history.proofs.LedLaws.{led-holds}
-use Rattle.stub_history.proofs.ServeLaws.{UpdatesKeepZones}
+use Rattle.stub_laws.specs.history.Answered.{AreOrdinary, AreZones, IsAnsweredBy, is_plain}
+use Rattle.stub_laws.specs.history.Faithful.{HasNoReuse, IsFaithful, KeepsStanding, StaysFaithful, StaysFaithfulUnlessOut}
+use Rattle.stub_laws.proofs.AskedTypeLaws.{asked-types}
+use Rattle.stub_laws.proofs.EventLaws.{begin-faithful, begin-update-faithful, end-faithful}
+use Rattle.stub_laws.proofs.FaithfulLaws.{update-stays}
+use Rattle.stub_laws.proofs.LaterLaws.{answered-still}
+use Rattle.stub_laws.proofs.LedLaws.{led-holds}
+use Rattle.stub_laws.proofs.ServeLaws.{UpdatesKeepZones}
 use Rattle.stub_link.specs.declared.link.script.Script.{Script}
 use Rattle.stub_run.specs.Event.{update_of}
 use Rattle.stub_run.specs.Headline.{HistoryClaim, HoldsOfEvent, HoldsOfEvents}

@@ -4,7 +4,7 @@ use Rattle.std.specs.Prelude.{IfOk, IfSome}
 use Rattle.dns_zone.specs.Rows.{IsZone, ZoneContent}
 use Rattle.stub_link.specs.AskState.{first_asks}
 use Rattle.stub_link.specs.History.{Occasion, first_past, history_of}
-use Rattle.stub_history.specs.Faithful.{HasNoReuse}
+use Rattle.stub_laws.specs.history.Faithful.{HasNoReuse}
 use Rattle.stub_run.specs.Headline.{AreFresh, HasNoLeastTtl, HaveChainBounds, IsMadeOf, WorldContent, report_in, reported}
 use Rattle.stub_run.specs.History.{AreOccasions, MakePasts}
 use Rattle.stub_run.specs.OneHistory.{HasOneHistory}

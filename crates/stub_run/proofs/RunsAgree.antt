@@ -12,8 +12,8 @@ use Rattle.stub_lookup.specs.declared.error.NetError.TheVariants as net
 use Rattle.stub_core.specs.Resolver.{LooksUpHost}
 use Rattle.stub_core.specs.declared.resolver.settings.Settings.{Settings}
 use Rattle.stub_link.specs.History.{Occasion, Past, first_past, past_after_occasion}
-use Rattle.stub_walk.specs.Walk.{ByWalk}
-use Rattle.stub_walk.proofs.AgreementLaws.{looks-up-agree, looks-up-host-agree}
+use Rattle.stub_laws.specs.walk.Walk.{ByWalk}
+use Rattle.stub_laws.proofs.AgreementLaws.{looks-up-agree, looks-up-host-agree}
 use Rattle.stub_run.specs.Event.{update_of}
 use Rattle.stub_run.specs.Headline.{WorldContent, settings_of}
 use Rattle.stub_run.specs.History.{AreOccasions, IsOccasion, IsUpdateOf}

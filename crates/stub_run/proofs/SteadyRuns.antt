@@ -4,8 +4,8 @@ use Rattle.std.specs.Prelude.{string_bytes}
 use Rattle.std.proofs.lemmas.Bool.{true≢false}
 use Rattle.std.proofs.lemmas.List.{append_assoc, append-nil}
 use Rattle.std.proofs.lemmas.List.Elements.{All-cons, All-nil}
-use Rattle.dns_codes.specs.RecordType.{type_number, type_of}
-use Rattle.dns_codes.specs.declared.record_type.RecordType.{RecordType}
+use Rattle.dns_wire.specs.codes.RecordType.{type_number, type_of}
+use Rattle.dns_wire.specs.declared.codes.record_type.RecordType.{RecordType}
 use Rattle.dns_names.specs.Name.{DomainName}
 use Rattle.dns_records.specs.Rows.{Rows}
 use Rattle.dns_names.specs.Parse.{name_of_text}
@@ -36,23 +36,23 @@ use Rattle.stub_core.specs.declared.resolver.settings.Settings.{Settings}
 use Rattle.stub_link.specs.AskState.{AskState, UpdateZone, begin, begin_with_update, end}
 use Rattle.stub_link.specs.History.{Occasion, Past, first_past, past_of}
 use Rattle.stub_link.specs.LinkState.{Version}
-use Rattle.stub_history.specs.Answered.{AreZones, HoldsAnswer, IsAnsweredBy, IsAnsweredSince, zone_with}
-use Rattle.stub_history.specs.Faithful.{HasNoReuse, IsCurrent, IsFaithful, StaysFaithful, StaysFaithfulUnlessOut}
-use Rattle.stub_history.specs.Stands.{Extends}
-use Rattle.stub_history.proofs.AskedTypeLaws.{asked-types}
-use Rattle.stub_history.proofs.EventLaws.{begin-faithful, begin-update-faithful, end-faithful, first-faithful}
-use Rattle.stub_history.proofs.FaithfulLaws.{update-stays}
-use Rattle.stub_history.proofs.LedLaws.{led-holds, led-since}
-use Rattle.stub_history.proofs.ServeLaws.{UpdatesKeepZones}
-use Rattle.stub_answers.specs.Claims.{HasNoNegativeMinima, longest_of}
-use Rattle.stub_answers.specs.Lookups.{ByStanding, CacheStands, Stands}
-use Rattle.stub_answers.specs.Steady.{always}
-use Rattle.stub_answers.proofs.ClaimLaws.{own-least}
-use Rattle.stub_answers.proofs.ErrorLaws.{led-no-meaning}
-use Rattle.stub_answers.proofs.ResolverLaws.{held-cleared, held-empty, held-later, host-keeps, name-keeps}
-use Rattle.stub_answers.proofs.StandingLaws.{finds-outlast, lacks-outlast, special-hold}
-use Rattle.stub_answers.proofs.SteadyLaws.{always-stand}
-use Rattle.stub_answers.proofs.StepLaws.{ask-bears}
+use Rattle.stub_laws.specs.history.Answered.{AreZones, HoldsAnswer, IsAnsweredBy, IsAnsweredSince, zone_with}
+use Rattle.stub_laws.specs.history.Faithful.{HasNoReuse, IsCurrent, IsFaithful, StaysFaithful, StaysFaithfulUnlessOut}
+use Rattle.stub_laws.specs.history.Stands.{Extends}
+use Rattle.stub_laws.proofs.AskedTypeLaws.{asked-types}
+use Rattle.stub_laws.proofs.EventLaws.{begin-faithful, begin-update-faithful, end-faithful, first-faithful}
+use Rattle.stub_laws.proofs.FaithfulLaws.{update-stays}
+use Rattle.stub_laws.proofs.LedLaws.{led-holds, led-since}
+use Rattle.stub_laws.proofs.ServeLaws.{UpdatesKeepZones}
+use Rattle.stub_laws.specs.answers.Claims.{HasNoNegativeMinima, longest_of}
+use Rattle.stub_laws.specs.answers.Lookups.{ByStanding, CacheStands, Stands}
+use Rattle.stub_laws.specs.answers.Steady.{always}
+use Rattle.stub_laws.proofs.ClaimLaws.{own-least}
+use Rattle.stub_laws.proofs.ErrorLaws.{led-no-meaning}
+use Rattle.stub_laws.proofs.AnswersResolverLaws.{held-cleared, held-empty, held-later, host-keeps, name-keeps}
+use Rattle.stub_laws.proofs.StandingLaws.{finds-outlast, lacks-outlast, special-hold}
+use Rattle.stub_laws.proofs.AnswersSteadyLaws.{always-stand}
+use Rattle.stub_laws.proofs.AnswersStepLaws.{ask-bears}
 use Rattle.stub_link.specs.declared.link.script.Script.{Script}
 use Rattle.stub_run.specs.Event.{update_of}
 use Rattle.stub_run.specs.Headline.{WorldContent, settings_of, ttls_of}

@@ -4,9 +4,9 @@ use Rattle.std.specs.Prelude.{Bool, IfOk, Option, Result, if◌then◌else◌, n
 use Rattle.std.specs.List.{AllByRecursion, list_any}
 use Rattle.std.specs.declared.net.ip_addr.IpAddr.{IpAddr}
 use Rattle.std.proofs.lemmas.Bool.Decides.{nat_tests}
-use Rattle.dns_codes.specs.RecordType.{type_number, type_of}
-use Rattle.dns_codes.specs.declared.record_type.RecordType.{RecordType}
-use Rattle.dns_codes.specs.declared.record_type.RecordType.TheVariants as types
+use Rattle.dns_wire.specs.codes.RecordType.{type_number, type_of}
+use Rattle.dns_wire.specs.declared.codes.record_type.RecordType.{RecordType}
+use Rattle.dns_wire.specs.declared.codes.record_type.RecordType.TheVariants as types
 use Rattle.dns_wire.specs.Name.{max_name_len, name_len}
 use Rattle.dns_names.specs.Build.{append_domain}
 use Rattle.dns_names.specs.Compare.{same_name}

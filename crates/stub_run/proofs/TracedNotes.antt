@@ -1,8 +1,8 @@
 -- An event begins without notes, and its end leaves the notes as they are.
 use Rattle.std.proofs.Common.{◌≡◌, false, [], Result, Ok, Err, OnOk, refl, subst, ◌∙◌}
 use Rattle.std.specs.declared.alloc.AllocError.{AllocError}
-use Rattle.stub_trace.specs.Trace.{calls_of, with_inner}
-use Rattle.stub_trace.specs.declared.traced_link.TracedLink.{TracedLink}
+use Rattle.stub_link.specs.trace.Trace.{calls_of, with_inner}
+use Rattle.stub_link.specs.declared.trace.traced_link.TracedLink.{TracedLink}
 use Rattle.stub_run.specs.Traced.{traced_begins, traced_ends}
 use Rattle.stub_run.specs.declared.event.Event.{Event}
 

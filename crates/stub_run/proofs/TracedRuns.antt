@@ -15,8 +15,8 @@ use Rattle.stub_link.specs.Ask.{Asker}
 use Rattle.stub_link.specs.WireHandle.{Asks, SendsUpdate, with_link}
 use Rattle.stub_link.specs.declared.link.LinkError.{LinkError}
 use Rattle.stub_link.specs.declared.wire_handle.WireHandle.{WireHandle}
-use Rattle.stub_trace.specs.Trace.{traced_count, traced_receives, traced_sends, traced_streams, untraced}
-use Rattle.stub_trace.specs.declared.traced_link.TracedLink.{TracedLink}
+use Rattle.stub_link.specs.trace.Trace.{traced_count, traced_receives, traced_sends, traced_streams, untraced}
+use Rattle.stub_link.specs.declared.trace.traced_link.TracedLink.{TracedLink}
 use Rattle.stub_run.specs.Alike.{AreAlike}
 use Rattle.stub_run.specs.RunOver.{BeginsOver, EndsOver, Happens, HasRunOver, IsReportBeforeOver, IsReportOver, LinkRules, RunsOutOver, RunsOver, StepOver, StopsAtOver, begun_handle, link_is_out, no_beginning, no_end, rules_of, with_sent}
 use Rattle.stub_run.specs.Stepping.{RunsAs}

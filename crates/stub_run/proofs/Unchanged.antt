@@ -15,10 +15,10 @@ use Rattle.stub_client.specs.Handle.{Ask, Led, Outcome}
 use Rattle.stub_link.specs.AskState.{AskState, AskZone}
 use Rattle.stub_link.specs.History.{Past}
 use Rattle.stub_link.specs.LinkState.{Version}
-use Rattle.stub_history.specs.Answered.{HoldsAnswer, IsAnsweredSince, zone_with}
-use Rattle.stub_history.specs.Faithful.{IsCurrent}
-use Rattle.stub_history.specs.Stands.{Extends, HoldSince}
-use Rattle.stub_walk.specs.Answered.{HaveNoFault, IsAsked, IsZoneOutcome, IsZoneReply}
+use Rattle.stub_laws.specs.history.Answered.{HoldsAnswer, IsAnsweredSince, zone_with}
+use Rattle.stub_laws.specs.history.Faithful.{IsCurrent}
+use Rattle.stub_laws.specs.history.Stands.{Extends, HoldSince}
+use Rattle.stub_laws.specs.walk.Answered.{HaveNoFault, IsAsked, IsZoneOutcome, IsZoneReply}
 use Rattle.stub_run.specs.Questions.{AsksZone, IsReplyUnlessMemory}
 use Rattle.stub_run.specs.Walked.{IsUnchanged}
 use Rattle.stub_run.proofs.SoundQuestionLaws.{led-turn}

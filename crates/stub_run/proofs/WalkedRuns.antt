@@ -4,8 +4,8 @@ use Rattle.std.specs.Prelude.{string_bytes}
 use Rattle.std.specs.declared.net.ip_addr.IpAddr.{IpAddr}
 use Rattle.std.proofs.lemmas.List.{append_assoc, append-nil}
 use Rattle.std.proofs.lemmas.List.Elements.{All-nil}
-use Rattle.dns_codes.specs.RecordType.{type_number, type_of}
-use Rattle.dns_codes.specs.declared.record_type.RecordType.{RecordType}
+use Rattle.dns_wire.specs.codes.RecordType.{type_number, type_of}
+use Rattle.dns_wire.specs.declared.codes.record_type.RecordType.{RecordType}
 use Rattle.dns_names.specs.Name.{DomainName}
 use Rattle.dns_names.specs.Parse.{Spells, name_of_text}
 use Rattle.dns_names.specs.declared.error.ParseError.{ParseError}
@@ -32,17 +32,17 @@ use Rattle.stub_link.specs.AskState.{AskState, UpdateZone, begin, begin_with_upd
 use Rattle.stub_link.specs.History.{Occasion, Past, first_past, past_of}
 use Rattle.stub_link.specs.LinkState.{Version}
 use Rattle.stub_link.specs.Request.{IsUpdate}
-use Rattle.stub_history.specs.Answered.{IsAnsweredSince}
-use Rattle.stub_history.specs.Faithful.{HasNoReuse, IsCurrent, IsFaithful, StaysFaithful, StaysFaithfulUnlessOut}
-use Rattle.stub_history.specs.Stands.{Extends}
-use Rattle.stub_history.proofs.AskLaws.{more-faithful}
-use Rattle.stub_history.proofs.EventLaws.{begin-faithful, begin-update-faithful, end-faithful, first-faithful}
-use Rattle.stub_history.proofs.FaithfulLaws.{ask-stays, update-stays}
-use Rattle.stub_history.proofs.LedLaws.{led-since, stays-then}
-use Rattle.stub_history.proofs.ServeLaws.{UpdatesKeepZones}
-use Rattle.stub_walk.specs.Answered.{ComesToWalk, HasShortAliases, IsAsked, IsWalkedLookup}
-use Rattle.stub_walk.specs.Walk.{AgreesWithWalk, ByWalk, CacheAgrees}
-use Rattle.stub_walk.proofs.ResolverLaws.{host-walks, name-walks}
+use Rattle.stub_laws.specs.history.Answered.{IsAnsweredSince}
+use Rattle.stub_laws.specs.history.Faithful.{HasNoReuse, IsCurrent, IsFaithful, StaysFaithful, StaysFaithfulUnlessOut}
+use Rattle.stub_laws.specs.history.Stands.{Extends}
+use Rattle.stub_laws.proofs.AskLaws.{more-faithful}
+use Rattle.stub_laws.proofs.EventLaws.{begin-faithful, begin-update-faithful, end-faithful, first-faithful}
+use Rattle.stub_laws.proofs.FaithfulLaws.{ask-stays, update-stays}
+use Rattle.stub_laws.proofs.LedLaws.{led-since, stays-then}
+use Rattle.stub_laws.proofs.ServeLaws.{UpdatesKeepZones}
+use Rattle.stub_laws.specs.walk.Answered.{ComesToWalk, HasShortAliases, IsAsked, IsWalkedLookup}
+use Rattle.stub_laws.specs.walk.Walk.{AgreesWithWalk, ByWalk, CacheAgrees}
+use Rattle.stub_laws.proofs.ResolverLaws.{host-walks, name-walks}
 use Rattle.stub_link.specs.declared.link.script.Script.{Script}
 use Rattle.stub_run.specs.Event.{update_of}
 use Rattle.stub_run.specs.Headline.{WorldContent, settings_of}

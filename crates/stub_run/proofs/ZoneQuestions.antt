@@ -3,7 +3,7 @@ use Rattle.std.proofs.Common.{◌≡◌, ◌<◌, ◌^◌, ℕ, List, [], ◌∷
 use Rattle.std.specs.Prelude.{◌⊎◌, string_bytes}
 use Rattle.std.proofs.lemmas.Bool.{true≢false}
 use Rattle.std.proofs.lemmas.List.Elements.{All-cons, All-nil}
-use Rattle.dns_codes.specs.RecordType.{type_number, type_of}
+use Rattle.dns_wire.specs.codes.RecordType.{type_number, type_of}
 use Rattle.dns_names.specs.Name.{DomainName}
 use Rattle.dns_names.specs.Parse.{Spells, name_of_text}
 use Rattle.stub_config.specs.declared.request_options.DnsRequestOptions.{DnsRequestOptions}
@@ -14,7 +14,7 @@ use Rattle.stub_link.specs.AskState.{AskState, AskZone}
 use Rattle.stub_link.specs.SoundQuestion.{IsReplyOrFault, IsSoundReply, RepliesSoundly}
 use Rattle.stub_link.proofs.OutcomeLaws.{zone-question-ends}
 use Rattle.stub_link.proofs.SoundReplies.{zone-replies}
-use Rattle.stub_history.proofs.OutLaws.{ask-out}
+use Rattle.stub_laws.proofs.OutLaws.{ask-out}
 use Rattle.stub_run.specs.Questions.{AsksZone, IsAskable, IsOutOfMemory, IsReplyUnlessMemory, RepliesByQuestions}
 use Rattle.stub_run.specs.Run.{RepliesByZone, RunState}
 use Rattle.stub_run.specs.declared.event.Action.{Action}

@@ -16,8 +16,8 @@ use Rattle.stub_core.specs.ResolverBuilder.{with_used_hosts}
 use Rattle.stub_core.specs.declared.resolver.settings.Settings.{Settings}
 use Rattle.stub_link.specs.History.{Occasion, Past, first_past, past_after_occasion}
 use Rattle.stub_link.specs.LinkState.{Version}
-use Rattle.stub_history.specs.Answered.{greatest_ttl, is_plain}
-use Rattle.stub_history.specs.Stands.{HasChainFor, HasShortChains, IsFreshFor}
+use Rattle.stub_laws.specs.history.Answered.{greatest_ttl, is_plain}
+use Rattle.stub_laws.specs.history.Stands.{HasChainFor, HasShortChains, IsFreshFor}
 use Rattle.stub_run.specs.Run.{RunState}
 use Rattle.stub_run.specs.World.{BeginsWith, IsFirst}
 use Rattle.stub_run.specs.declared.event.Action.{Action}

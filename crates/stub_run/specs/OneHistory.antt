@@ -1,7 +1,7 @@
 -- What is promised of a run, over one history of its zone.
 use Rattle.std.specs.Prelude.{◌≡◌, false, List}
 use Rattle.stub_link.specs.History.{Occasion, first_past}
-use Rattle.stub_history.specs.Faithful.{HasNoReuse}
+use Rattle.stub_laws.specs.history.Faithful.{HasNoReuse}
 use Rattle.stub_run.specs.Headline.{AreFresh, HasNoLeastTtl, HaveChainBounds, WorldContent}
 use Rattle.stub_run.specs.History.{AreOccasions, MakePasts}
 use Rattle.stub_run.specs.Run.{IsReportOf, RunState}

@@ -1,6 +1,6 @@
 -- Questions of a resolver to the zone's server, and what they end in.
 use Rattle.std.specs.Prelude.{◌≡◌, ◌<◌, ◌^◌, true, List, [], ◌∷◌, ℕ, Ok, Err}
-use Rattle.dns_codes.specs.RecordType.{type_number}
+use Rattle.dns_wire.specs.codes.RecordType.{type_number}
 use Rattle.stub_lookup.specs.declared.error.NetError.TheVariants as net
 use Rattle.stub_client.specs.Handle.{Outcome}
 use Rattle.stub_client.specs.declared.request.DnsRequest.{DnsRequest}

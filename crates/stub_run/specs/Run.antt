@@ -1,7 +1,7 @@
 -- Runs: what events lead to, one after another, by the definitions of the zone's server, of questions and updates over the link,
 -- and of a resolver.
 use Rattle.std.specs.Prelude.{◌≡◌, ◌≤◌, ◌⊎◌, ◌^◌, true, false, string_bytes, List, [], ◌∷◌, ℕ, slice_get, take, Option, Some, None, Result, Ok, Err}
-use Rattle.dns_codes.specs.declared.record_type.RecordType.{RecordType}
+use Rattle.dns_wire.specs.declared.codes.record_type.RecordType.{RecordType}
 use Rattle.dns_names.specs.Name.{DomainName}
 use Rattle.dns_names.specs.Parse.{name_of_text}
 use Rattle.dns_text.specs.Address.{IsTextOf}

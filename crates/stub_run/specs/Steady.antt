@@ -4,7 +4,7 @@ use Rattle.dns_names.specs.Name.{DomainName}
 use Rattle.stub_cache.specs.Ttl.{TtlConfigContent}
 use Rattle.stub_core.specs.declared.resolver.settings.Settings.{Settings}
 use Rattle.stub_link.specs.History.{Occasion, Past, first_past, past_after_occasion}
-use Rattle.stub_answers.specs.Steady.{always}
+use Rattle.stub_laws.specs.answers.Steady.{always}
 use Rattle.stub_run.specs.Headline.{WorldContent, settings_of, ttls_of}
 use Rattle.stub_run.specs.Walked.{IsUnchanged, past_since}
 use Rattle.stub_run.specs.Whole.{IsStandingReply}

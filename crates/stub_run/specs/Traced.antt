@@ -3,8 +3,8 @@ use Rattle.std.specs.Prelude.{◌≡◌, false, Bool, List, [], ℕ, Option, Res
 use Rattle.std.specs.declared.alloc.AllocError.{AllocError}
 use Rattle.stub_link.specs.declared.link.LinkError.{LinkError}
 use Rattle.stub_link.specs.declared.wire_handle.WireHandle.{WireHandle}
-use Rattle.stub_trace.specs.Trace.{calls_of, traced_count, traced_receives, traced_sends, traced_streams, untraced, with_inner}
-use Rattle.stub_trace.specs.declared.traced_link.TracedLink.{TracedLink}
+use Rattle.stub_link.specs.trace.Trace.{calls_of, traced_count, traced_receives, traced_sends, traced_streams, untraced, with_inner}
+use Rattle.stub_link.specs.declared.trace.traced_link.TracedLink.{TracedLink}
 use Rattle.stub_run.specs.RunOver.{LinkRules, rules_of}
 use Rattle.stub_run.specs.declared.event.Event.{Event}
 

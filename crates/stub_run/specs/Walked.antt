@@ -10,9 +10,9 @@ use Rattle.stub_core.specs.Resolver.{LooksUpHost, known_type}
 use Rattle.stub_core.specs.declared.resolver.settings.Settings.{Settings}
 use Rattle.stub_link.specs.History.{Occasion, Past, first_past, past_after_occasion}
 use Rattle.stub_link.specs.LinkState.{Version}
-use Rattle.stub_walk.specs.Agreement.{Agree}
-use Rattle.stub_walk.specs.Answered.{HasShortAliases, IsWalkedLookup}
-use Rattle.stub_walk.specs.Walk.{ByWalk, walks_everywhere}
+use Rattle.stub_laws.specs.walk.Agreement.{Agree}
+use Rattle.stub_laws.specs.walk.Answered.{HasShortAliases, IsWalkedLookup}
+use Rattle.stub_laws.specs.walk.Walk.{ByWalk, walks_everywhere}
 use Rattle.stub_run.specs.Headline.{WorldContent, settings_of}
 use Rattle.stub_run.specs.declared.event.Action.{Action}
 use Rattle.stub_run.specs.declared.event.Action.TheVariants as actions

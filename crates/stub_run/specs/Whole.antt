@@ -10,7 +10,7 @@ use Rattle.stub_core.specs.Resolver.{LooksUp, LooksUpHost}
 use Rattle.stub_core.specs.declared.resolver.settings.Settings.{Settings}
 use Rattle.stub_link.specs.History.{Occasion, Past, first_past, past_after_occasion}
 use Rattle.stub_link.specs.LinkState.{Version}
-use Rattle.stub_answers.specs.Lookups.{ByStanding}
+use Rattle.stub_laws.specs.answers.Lookups.{ByStanding}
 use Rattle.stub_run.specs.Headline.{WorldContent, settings_of, ttls_of}
 use Rattle.stub_run.specs.declared.event.Action.{Action}
 use Rattle.stub_run.specs.declared.event.Action.TheVariants as actions

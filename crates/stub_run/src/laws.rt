@@ -5,7 +5,7 @@
 
 ghost use Rattle.std.specs.Prelude.{◌≡◌, ◌≤◌, ◌+◌, ◌*◌, ◌++◌, ◌∷◌, [], false, length, List, ℕ, Option, Result, Err};
 ghost use Rattle.std.specs.declared.net.ip_addr.IpAddr.{IpAddr};
-ghost use Rattle.dns_codes.specs.declared.record_type.RecordType.{RecordType};
+ghost use Rattle.dns_wire.specs.declared.codes.record_type.RecordType.{RecordType};
 ghost use Rattle.dns_names.specs.Name.{DomainName};
 ghost use Rattle.dns_names.specs.declared.error.ParseError.{ParseError};
 ghost use Rattle.dns_messages.specs.declared.message.Message.{Message};

@@ -3,7 +3,7 @@
 use crate::event::Event;
 use crate::event_link::EventLink;
 use std::alloc::AllocError;
-use stub_trace::TracedLink;
+use stub_link::trace::TracedLink;
 
 /// An event happens as it does over the other link. The notes are those of the calls since it began.
 impl<L: EventLink> EventLink for TracedLink<L> {

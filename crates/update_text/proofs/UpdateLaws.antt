@@ -4,7 +4,7 @@ use Rattle.std.specs.Prelude.{codes, nat_lt}
 use Rattle.std.specs.List.{position, position_or_len, prefix_len}
 use Rattle.std.specs.Str.{bytes_eq}
 use Rattle.std.proofs.lemmas.List.{take-map, drop-map, length-map}
-use Rattle.dns_codes.specs.declared.record_type.RecordType.{RecordType}
+use Rattle.dns_wire.specs.declared.codes.record_type.RecordType.{RecordType}
 use Rattle.dns_zone_file.specs.declared.types.Types.{Types}
 use Rattle.update_text.specs.Update.{RecordText, arrow_of, only_type, text_after, text_before, text_with_ttl}
 use Rattle.update_text.specs.Words.{texts}

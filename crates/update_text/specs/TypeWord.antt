@@ -1,8 +1,8 @@
 -- The types that words name.
 use Rattle.std.specs.Prelude.{List, ℕ, Option}
-use Rattle.dns_bitmaps.specs.TypeWord.{type_of_word}
-use Rattle.dns_codes.specs.CodeText.{type_of_text}
-use Rattle.dns_codes.specs.declared.record_type.RecordType.{RecordType}
+use Rattle.dns_fields.specs.bitmaps.TypeWord.{type_of_word}
+use Rattle.dns_wire.specs.codes.CodeText.{type_of_text}
+use Rattle.dns_wire.specs.declared.codes.record_type.RecordType.{RecordType}
 use Rattle.dns_zone_file.specs.declared.types.Types.{Types}
 use Rattle.dns_zone_file.specs.declared.types.Types.TheVariants.{Nine, All}
 

@@ -5,9 +5,9 @@
 use Rattle.std.specs.Prelude.{◌≡◌, ◌==◌, ◌+◌, ◌-◌, if◌then◌else◌, false, List, [], ◌∷◌, ℕ, map, take, drop, length, codes, Option, Some, None, option_map, Result, Ok, Err}
 use Rattle.std.specs.List.{position}
 use Rattle.std.specs.Str.{bytes_eq}
-use Rattle.dns_codes.specs.Decimal.{decimal_up_to}
-use Rattle.dns_codes.specs.declared.dns_class.DNSClass.TheVariants.{IN}
-use Rattle.dns_codes.specs.declared.record_type.RecordType.{RecordType}
+use Rattle.dns_wire.specs.codes.Decimal.{decimal_up_to}
+use Rattle.dns_wire.specs.declared.codes.dns_class.DNSClass.TheVariants.{IN}
+use Rattle.dns_wire.specs.declared.codes.record_type.RecordType.{RecordType}
 use Rattle.dns_names.specs.Build.{parse_name}
 use Rattle.dns_names.specs.Compare.{at_or_below}
 use Rattle.dns_names.specs.Name.{DomainName}

@@ -2,8 +2,8 @@
 use Rattle.std.proofs.Common.{◌≡◌, ℕ, List, [], take, ap, ◌∙◌}
 use Rattle.std.specs.Str.{IsUtf8}
 use Rattle.std.specs.Str.Lossy.{utf8_valid_len}
-use Rattle.zone_findings.specs.Finding.{finding_text}
-use Rattle.zone_findings.specs.declared.format.ReportFormat.{ReportFormat}
+use Rattle.zone_check.specs.findings.Finding.{finding_text}
+use Rattle.zone_check.specs.declared.findings.format.ReportFormat.{ReportFormat}
 use Rattle.zone_check.specs.Encoding.{IsEncodingReport, encoding_said}
 
 pub bytes_refused : (format : ReportFormat) (file bytes report : List ℕ) (n : ℕ) → ¬ (IsUtf8 bytes) → n ≡ utf8_valid_len bytes

@@ -1,3 +1,5 @@
 pub mod EncodingLaws
 pub mod ReportLaws
 pub mod ScriptLaws
+pub mod AppendLaws
+pub mod ResultLaws

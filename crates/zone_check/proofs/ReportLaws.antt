@@ -13,15 +13,15 @@ use Rattle.zone_check.specs.Files.{ShownFiles, file_lines, file_name, finding_in
 use Rattle.zone_check.specs.Report.{check_said, entries_said, faults_said, file_said, or_file, outcome_said, parts_said, said_of_warning, said_of_warnings, start_of_check, warnings_said, whole_said, zone_report}
 use Rattle.zone_check.specs.declared.check.ZoneCheck.{ZoneCheck}
 use Rattle.dns_zone_file.specs.declared.types.Types.{Types}
-use Rattle.zone_findings.specs.Finding.{Said, finding_text, number_part, said_by, severity_name, word_part}
-use Rattle.zone_findings.specs.Shown.{shown}
-use Rattle.zone_findings.specs.declared.finding.Finding.{Finding}
-use Rattle.zone_findings.specs.declared.format.ReportFormat.{ReportFormat}
-use Rattle.zone_findings.specs.declared.format.ReportFormat.TheVariants.{Text, Json}
+use Rattle.zone_check.specs.findings.Finding.{Said, finding_text, number_part, said_by, severity_name, word_part}
+use Rattle.zone_check.specs.findings.Shown.{shown}
+use Rattle.zone_check.specs.declared.findings.finding.Finding.{Finding}
+use Rattle.zone_check.specs.declared.findings.format.ReportFormat.{ReportFormat}
+use Rattle.zone_check.specs.declared.findings.format.ReportFormat.TheVariants.{Text, Json}
 use Rattle.zone_lines.specs.Line.{lines_of_file}
 use Rattle.zone_lines.specs.Source.{FileText}
 use Rattle.zone_lines.specs.declared.record_line.EntryLine.{EntryLine}
-use Rattle.zone_warnings.specs.declared.kind.Warning.{Warning}
+use Rattle.zone_lines.specs.declared.warnings.kind.Warning.{Warning}
 
 -- ---- one more element
 

@@ -5,10 +5,10 @@ use Rattle.std.proofs.lemmas.List.{take-append-drop}
 use Rattle.std.proofs.lemmas.Option.{slice_get_read}
 use Rattle.std.specs.Str.Iter.{HasSubslice}
 use Rattle.std.specs.Str.Lines.{lines}
-use Rattle.zone_findings.specs.Finding.{Said, Sentences, finding_text, line_text}
+use Rattle.zone_check.specs.findings.Finding.{Said, Sentences, finding_text, line_text}
 use Rattle.zone_check.specs.Fault.{fault_said}
 use Rattle.zone_check.specs.ScriptText.{IsLineReport, is_mark_reason, is_marked}
-use Rattle.zone_findings.specs.declared.format.ReportFormat.{ReportFormat}
+use Rattle.zone_check.specs.declared.findings.format.ReportFormat.{ReportFormat}
 use Rattle.zone_check.specs.ScriptLine.{IsWordOf}
 
 pub part_whole : (text : List ℕ) → HasSubslice text text

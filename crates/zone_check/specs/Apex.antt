@@ -11,7 +11,7 @@ use Rattle.dns_data.specs.declared.rdata.RData.TheVariants as of
 use Rattle.zone_lines.specs.declared.record_line.EntryLine.{EntryLine}
 use Rattle.zone_lines.specs.declared.record_line.EntryLine.TheVariants as entry
 use Rattle.zone_lines.specs.declared.record_line.RecordLine.{RecordLine}
-use Rattle.zone_warnings.specs.Names.{doubled_origin}
+use Rattle.zone_lines.specs.warnings.Names.{doubled_origin}
 
 -- whether data is an SOA
 abbrev pub is_start_data : RData → Bool

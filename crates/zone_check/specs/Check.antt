@@ -10,8 +10,8 @@ use Rattle.zone_check.specs.Apex.{apex_of}
 use Rattle.zone_lines.specs.Line.{lines_of_file}
 use Rattle.zone_lines.specs.Source.{FileText}
 use Rattle.zone_lines.specs.declared.record_line.EntryLine.{EntryLine}
-use Rattle.zone_warnings.specs.Warning.{warnings_of}
-use Rattle.zone_warnings.specs.declared.kind.Warning.{Warning}
+use Rattle.zone_lines.specs.warnings.Warning.{warnings_of}
+use Rattle.zone_lines.specs.declared.warnings.kind.Warning.{Warning}
 
 -- the zone of a file, or its first fault by kind
 abbrev pub ReadsZoneText : FileText → Option DomainName → Result ZoneContent ZoneFault → Type 0

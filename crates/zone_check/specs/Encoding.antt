@@ -3,8 +3,8 @@ use Rattle.std.specs.Prelude.{◌≡◌, ◌==◌, ◌+◌, ℕ, List, [], take,
 use Rattle.std.specs.Str.{IsUtf8}
 use Rattle.std.specs.Str.Lossy.{utf8_valid_len}
 use Rattle.zone_check.specs.Fault.{fault_said}
-use Rattle.zone_findings.specs.Finding.{Said, finding_text}
-use Rattle.zone_findings.specs.declared.format.ReportFormat.{ReportFormat}
+use Rattle.zone_check.specs.findings.Finding.{Said, finding_text}
+use Rattle.zone_check.specs.declared.findings.format.ReportFormat.{ReportFormat}
 
 -- what is said of a byte that is not UTF-8, after these: its line, from 1
 abbrev pub encoding_said : List ℕ → Said

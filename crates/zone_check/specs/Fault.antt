@@ -1,7 +1,7 @@
 -- The faults of the entries of a zone file.
 use Rattle.std.specs.Prelude.{◌==◌, ◌&&◌, nat_lt, not, if◌then◌else◌, ℕ, Bool, true, false, List, option_copied, string_bytes, Option, Some, None, option_map}
 use Rattle.std.specs.Option.{option_map_or}
-use Rattle.dns_codes.specs.DNSClass.{class_number}
+use Rattle.dns_wire.specs.codes.DNSClass.{class_number}
 use Rattle.dns_names.specs.Compare.{at_or_below, same_labels}
 use Rattle.dns_names.specs.Name.{DomainName}
 use Rattle.dns_data.specs.rdata.{whole_len}
@@ -12,16 +12,16 @@ use Rattle.dns_zone_file.specs.declared.types.Types.{Types}
 use Rattle.zone_check.specs.Apex.{has_start, is_doubled, is_start_record}
 use Rattle.zone_check.specs.Mark.{has_mark}
 use Rattle.zone_check.specs.declared.fault.ZoneStart.{ZoneStart}
-use Rattle.zone_findings.specs.FaultText.{advice_on, fault_sentences}
-use Rattle.zone_findings.specs.Finding.{Said, Sentences}
-use Rattle.zone_findings.specs.WarningText.{warning_sentences}
-use Rattle.zone_findings.specs.declared.finding.Severity.TheVariants as severity
+use Rattle.zone_check.specs.findings.FaultText.{advice_on, fault_sentences}
+use Rattle.zone_check.specs.findings.Finding.{Said, Sentences}
+use Rattle.zone_check.specs.findings.WarningText.{warning_sentences}
+use Rattle.zone_check.specs.declared.findings.finding.Severity.TheVariants as severity
 use Rattle.zone_lines.specs.Source.{FileText}
 use Rattle.zone_lines.specs.declared.record_line.EntryLine.{EntryLine}
 use Rattle.zone_lines.specs.declared.record_line.EntryLine.TheVariants as entry
 use Rattle.zone_lines.specs.declared.record_line.FaultLine.{FaultLine}
 use Rattle.zone_lines.specs.declared.record_line.RecordLine.{RecordLine}
-use Rattle.zone_warnings.specs.declared.kind.WarningKind.TheVariants as about
+use Rattle.zone_lines.specs.declared.warnings.kind.WarningKind.TheVariants as about
 
 -- ---- what decides on the records of a file
 

@@ -2,8 +2,8 @@
 use Rattle.std.specs.Prelude.{ℕ, List, [], map, flat_map, slice_get, Some, None}
 use Rattle.std.specs.Borrow.{Bor}
 use Rattle.zone_check.specs.declared.files.Files.{Files}
-use Rattle.zone_findings.specs.Finding.{Said, finding_text}
-use Rattle.zone_findings.specs.declared.format.ReportFormat.{ReportFormat}
+use Rattle.zone_check.specs.findings.Finding.{Said, finding_text}
+use Rattle.zone_check.specs.declared.findings.format.ReportFormat.{ReportFormat}
 use Rattle.zone_lines.specs.Line.{lines_view}
 
 -- the names of files, and the lines of their texts

@@ -8,3 +8,4 @@ pub mod ScriptLine
 pub mod ScriptText
 pub mod Encoding
 pub mod Summary
+pub mod findings

@@ -1,7 +1,7 @@
 -- The byte-order mark at the start of a file.
 use Rattle.std.specs.Prelude.{nat_eq, if◌then◌else◌, ℕ, Bool, List, [], ◌∷◌, codes, drop}
 use Rattle.std.specs.List.{starts_with}
-use Rattle.zone_findings.specs.Finding.{Sentences}
+use Rattle.zone_check.specs.findings.Finding.{Sentences}
 use Rattle.zone_lines.specs.Source.{FileText}
 
 -- whether a text begins with a byte-order mark, U+FEFF in UTF-8

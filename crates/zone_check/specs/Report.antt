@@ -12,19 +12,19 @@ use Rattle.zone_check.specs.Fault.{Start, entry_said, fault_said, zone_of}
 use Rattle.zone_check.specs.Files.{report_text}
 use Rattle.zone_check.specs.Mark.{mark_said}
 use Rattle.zone_check.specs.declared.check.ZoneCheck.{ZoneCheck}
-use Rattle.zone_findings.specs.FaultText.{fault_sentences}
-use Rattle.zone_findings.specs.Finding.{Said}
-use Rattle.zone_findings.specs.declared.format.ReportFormat.{ReportFormat}
-use Rattle.zone_findings.specs.WarningText.{warning_sentences}
-use Rattle.zone_findings.specs.declared.finding.Severity.TheVariants as severity
+use Rattle.zone_check.specs.findings.FaultText.{fault_sentences}
+use Rattle.zone_check.specs.findings.Finding.{Said}
+use Rattle.zone_check.specs.declared.findings.format.ReportFormat.{ReportFormat}
+use Rattle.zone_check.specs.findings.WarningText.{warning_sentences}
+use Rattle.zone_check.specs.declared.findings.finding.Severity.TheVariants as severity
 use Rattle.zone_lines.specs.Line.{lines_of_file}
 use Rattle.zone_lines.specs.Source.{FileText}
 use Rattle.zone_lines.specs.declared.record_line.EntryLine.{EntryLine}
 use Rattle.zone_lines.specs.declared.record_line.EntryLine.TheVariants as entry
-use Rattle.zone_warnings.specs.Names.{doubled_origin, name_below}
-use Rattle.zone_warnings.specs.declared.kind.Warning.{Warning}
-use Rattle.zone_warnings.specs.declared.kind.WarningKind.{WarningKind}
-use Rattle.zone_warnings.specs.declared.kind.WarningKind.TheVariants as about
+use Rattle.zone_lines.specs.warnings.Names.{doubled_origin, name_below}
+use Rattle.zone_lines.specs.declared.warnings.kind.Warning.{Warning}
+use Rattle.zone_lines.specs.declared.warnings.kind.WarningKind.{WarningKind}
+use Rattle.zone_lines.specs.declared.warnings.kind.WarningKind.TheVariants as about
 
 -- ---- faults
 

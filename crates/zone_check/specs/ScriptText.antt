@@ -5,8 +5,8 @@ use Rattle.std.specs.Str.Lines.{lines}
 use Rattle.zone_check.specs.Fault.{fault_said}
 use Rattle.zone_check.specs.Mark.{has_mark, mark_said}
 use Rattle.zone_check.specs.ScriptLine.{IsWordOf}
-use Rattle.zone_findings.specs.Finding.{Said, Sentences, finding_text, line_text}
-use Rattle.zone_findings.specs.declared.format.ReportFormat.{ReportFormat}
+use Rattle.zone_check.specs.findings.Finding.{Said, Sentences, finding_text, line_text}
+use Rattle.zone_check.specs.declared.findings.format.ReportFormat.{ReportFormat}
 
 -- what is said of a moment that is out of order
 abbrev pub moment_said : ℕ → Said

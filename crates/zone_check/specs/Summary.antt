@@ -9,12 +9,12 @@ use Rattle.dns_zone.specs.Rows.{ZoneContent}
 use Rattle.dns_zone.specs.declared.zone.ZoneFault.{ZoneFault}
 use Rattle.zone_check.specs.Apex.{first_start}
 use Rattle.zone_check.specs.declared.check.ZoneCheck.{ZoneCheck}
-use Rattle.zone_findings.specs.Shown.{shown}
-use Rattle.zone_findings.specs.declared.format.ReportFormat.TheVariants.{Text}
+use Rattle.zone_check.specs.findings.Shown.{shown}
+use Rattle.zone_check.specs.declared.findings.format.ReportFormat.TheVariants.{Text}
 use Rattle.zone_lines.specs.declared.record_line.EntryLine.{EntryLine}
 use Rattle.zone_lines.specs.declared.record_line.EntryLine.TheVariants as entry
 use Rattle.zone_lines.specs.declared.record_line.RecordLine.{RecordLine}
-use Rattle.zone_warnings.specs.declared.kind.Warning.{Warning}
+use Rattle.zone_lines.specs.declared.warnings.kind.Warning.{Warning}
 
 -- whether an entry is a record
 unfoldable pub is_record : EntryLine → Bool

@@ -6,8 +6,8 @@ ghost use Rattle.zone_check.specs.Apex.{apex_by, apex_of, first_start, has_start
 use dns_data::RData;
 use dns_names::Name;
 use std::alloc::AllocError;
+use zone_lines::warnings::doubled_origin;
 use zone_lines::{EntryLine, RecordLine};
-use zone_warnings::doubled_origin;
 
 /// Returns the origin of a zone file: the one that is given, or else the owner of the first SOA record. If this owner lacks a
 /// dot, so that the origin stands in it twice, the origin is its last half.

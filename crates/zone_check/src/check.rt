@@ -12,8 +12,8 @@ use dns_names::Name;
 use dns_zone::{Zone, ZoneFault};
 use dns_zone_file::Types;
 use std::alloc::{AllocError, Global};
+use zone_lines::warnings::{Warning, ZoneFacts, warnings};
 use zone_lines::{EntryLine, ZoneText, lines_of_file, read_lines};
-use zone_warnings::{Warning, ZoneFacts, warnings};
 
 /// What is to be said of a zone file.
 #[derive(Drop)]

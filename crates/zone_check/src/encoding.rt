@@ -3,11 +3,11 @@
 ghost use Rattle.std.specs.Prelude.{◌≡◌, ◌==◌, ◌+◌, [], count_by, IfOk, IsOk, string_bytes};
 ghost use Rattle.std.specs.Str.{IsUtf8};
 ghost use Rattle.zone_check.specs.Encoding.{IsEncodingReport, encoding_said};
-ghost use Rattle.zone_findings.specs.Finding.{finding_text};
+ghost use Rattle.zone_check.specs.findings.Finding.{finding_text};
 
 use crate::fault::finding_on;
+use crate::findings::{Advice, ReportFormat};
 use std::alloc::{AllocError, Global};
-use zone_findings::{Advice, ReportFormat};
 
 /// Returns what is to be said of a file by its bytes: the line of the first byte that is not UTF-8, or nothing if there is
 /// none, which takes no memory.

@@ -2,19 +2,19 @@
 
 ghost use Rattle.std.specs.Prelude.{◌≡◌, IfOk, option_copied, option_map};
 ghost use Rattle.zone_check.specs.Fault.{entry_said, fault_line_said, fault_said, lacks_dot, record_advice, record_fault, record_said, start_fault, start_view, zone_of};
-ghost use Rattle.zone_findings.specs.Finding.{said_by, sentences};
+ghost use Rattle.zone_check.specs.findings.Finding.{said_by, sentences};
 ghost use Rattle.zone_lines.specs.Source.{text_view};
 
 use crate::apex::{has_start, is_doubled, is_start_record};
+use crate::findings::{Advice, Finding, Severity, advice_on, fault_advice, warning_advice};
 use crate::mark::begins_with_mark;
 use dns_names::Name;
 use dns_wire::DNSClass;
 use dns_zone::ZoneFault;
 use dns_zone_file::Types;
 use std::alloc::AllocError;
-use zone_findings::{Advice, Finding, Severity, advice_on, fault_advice, warning_advice};
+use zone_lines::warnings::WarningKind;
 use zone_lines::{EntryLine, FaultLine, RecordLine, ZoneText};
-use zone_warnings::WarningKind;
 
 /// The greatest length of data that can be encoded (RFC 1035 section 3.2.1).
 const MAX_DATA_LENGTH: u128 = 65_535;

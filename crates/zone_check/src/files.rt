@@ -2,10 +2,10 @@
 
 ghost use Rattle.std.specs.Prelude.{◌≡◌, ◌++◌, OnOk, map, string_bytes};
 ghost use Rattle.zone_check.specs.Files.{file_name, file_lines, files_view, finding_in};
-ghost use Rattle.zone_findings.specs.Finding.{said_by};
+ghost use Rattle.zone_check.specs.findings.Finding.{said_by};
 
+use crate::findings::{Finding, ReportFormat};
 use std::alloc::{AllocError, Global};
-use zone_findings::{Finding, ReportFormat};
 
 /// The files of a check, in the order of their texts.
 #[derive(Clone, Copy)]

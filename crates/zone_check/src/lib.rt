@@ -6,6 +6,9 @@
 //!   nothing to say; `origin`: what is said of the origin alone;
 //! - `script_text`: the text of the check of a script; `script_line`: the word at fault in a line of a script;
 //! - `encoding`: a file that is not UTF-8; `laws`: theorems.
+//!
+//! Further modules, each with a page of its own:
+//! - [`findings`]: what is said of a zone file or a script: the sentences, and the text of a finding.
 #![tactic(auto)]
 
 mod apex;
@@ -13,6 +16,7 @@ mod check;
 mod encoding;
 mod fault;
 mod files;
+pub mod findings;
 pub mod laws;
 mod mark;
 mod origin;
@@ -21,6 +25,7 @@ mod script_line;
 mod script_text;
 mod summary;
 
+pub use crate::findings::ReportFormat;
 pub use check::{ZoneCheck, check_zone};
 pub use encoding::encoding_report;
 pub use mark::without_mark;
@@ -28,5 +33,4 @@ pub use origin::{keep_origin_warnings, states_origin};
 pub use report::zone_report;
 pub use script_text::{moment_report, script_report};
 pub use summary::zone_summary;
-pub use zone_findings::ReportFormat;
 pub use zone_lines::ZoneText;

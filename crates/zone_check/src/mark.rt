@@ -2,10 +2,10 @@
 
 ghost use Rattle.std.specs.Prelude.{◌≡◌};
 ghost use Rattle.zone_check.specs.Mark.{has_mark, mark_said, unmarked, without_mark};
-ghost use Rattle.zone_findings.specs.Finding.{sentences};
+ghost use Rattle.zone_check.specs.findings.Finding.{sentences};
 ghost use Rattle.zone_lines.specs.Source.{text_view};
 
-use zone_findings::Advice;
+use crate::findings::Advice;
 use zone_lines::ZoneText;
 
 /// A byte-order mark, U+FEFF, which the server takes for the start of the first word.

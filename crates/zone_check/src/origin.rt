@@ -4,12 +4,12 @@ ghost use Rattle.std.specs.Prelude.{◌≡◌, IfOk};
 ghost use Rattle.std.specs.List.{filter};
 ghost use Rattle.zone_lines.specs.Line.{lines_of_file};
 ghost use Rattle.zone_lines.specs.Source.{text_view};
-ghost use Rattle.zone_warnings.specs.Text.{has_directive};
-ghost use Rattle.zone_warnings.specs.Warning.{is_about_origin};
+ghost use Rattle.zone_lines.specs.warnings.Text.{has_directive};
+ghost use Rattle.zone_lines.specs.warnings.Warning.{is_about_origin};
 
 use std::alloc::{AllocError, Global};
+use zone_lines::warnings::{Warning, has_directive};
 use zone_lines::{ZoneText, lines_of_file};
-use zone_warnings::{Warning, has_directive};
 
 /// Returns `true` if some line of a zone file begins with `$ORIGIN`.
 pub fn states_origin(alloc: Global, file: &ZoneText<'_>) -> Result<bool, AllocError>

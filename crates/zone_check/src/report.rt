@@ -4,20 +4,20 @@ ghost use Rattle.std.specs.Prelude.{◌≡◌, ◌↔◌, ◌++◌, [], IfOk, Is
 ghost use Rattle.zone_check.specs.Fault.{start_view};
 ghost use Rattle.zone_check.specs.Files.{files_view, finding_in, names_view, report_text};
 ghost use Rattle.zone_check.specs.Report.{doubled_apex, entries_said, entry_warned, file_said, marks_said, outcome_said, parts_said, said_of_warning, said_of_warnings, shown_name, warning_said, warnings_said, whole_said, word_said, zone_report};
-ghost use Rattle.zone_findings.specs.Finding.{said_by};
+ghost use Rattle.zone_check.specs.findings.Finding.{said_by};
 ghost use Rattle.zone_lines.specs.Source.{text_view};
 
 use crate::apex::some_starts;
 use crate::check::ZoneCheck;
 use crate::fault::{ZoneStart, entry_finding, finding_on, zone_start};
 use crate::files::Files;
+use crate::findings::{Finding, ReportFormat, Severity, fault_advice, warning_advice};
 use crate::mark::mark_text;
 use dns_names::Name;
 use dns_zone::ZoneFault;
 use std::alloc::{AllocError, Global};
-use zone_findings::{Finding, ReportFormat, Severity, fault_advice, warning_advice};
+use zone_lines::warnings::{Warning, WarningKind, doubled_origin, name_below};
 use zone_lines::{EntryLine, ZoneText, lines_of_file};
-use zone_warnings::{Warning, WarningKind, doubled_origin, name_below};
 
 /// Returns what is to be said of a zone file, each fault and then each warning, in the order of its lines. It is empty if there
 /// is nothing to say. The names are those of the file, and of the files of the texts to include.

@@ -5,12 +5,12 @@ ghost use Rattle.std.specs.Str.Iter.{HasSubslice};
 ghost use Rattle.zone_check.specs.ScriptLine.{IsWordOf};
 ghost use Rattle.zone_check.specs.ScriptText.{is_mark_reason};
 
-use dns_codes::parse_decimal;
+use crate::findings::Advice;
 use dns_names::{Name, ParseError};
 use dns_text::parse_ip;
 use dns_wire::RecordType;
+use dns_wire::codes::parse_decimal;
 use std::alloc::{AllocError, Global};
-use zone_findings::Advice;
 
 /// How events are written. A word in capitals denotes a value, and any other itself.
 const FORMS: [&str; 10] = [

@@ -4,13 +4,13 @@ ghost use Rattle.std.specs.Prelude.{◌≡◌, IfOk, IfSome, option_copied, stri
 ghost use Rattle.std.specs.Str.Lines.{lines};
 ghost use Rattle.zone_check.specs.ScriptLine.{IsWordOf};
 ghost use Rattle.zone_check.specs.ScriptText.{IsLineReport, is_mark_reason, is_marked, moment_said};
-ghost use Rattle.zone_findings.specs.Finding.{finding_text};
+ghost use Rattle.zone_check.specs.findings.Finding.{finding_text};
 
 use crate::fault::finding_on;
+use crate::findings::{Advice, ReportFormat, text_at};
 use crate::mark::{begins_with_mark, mark_text};
 use crate::script_line::{Mistake, mistake_in};
 use std::alloc::{AllocError, Global};
-use zone_findings::{Advice, ReportFormat, text_at};
 use zone_lines::lines_of;
 
 /// Returns what is to be said of a line of a script that cannot be read.

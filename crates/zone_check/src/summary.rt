@@ -5,10 +5,10 @@ ghost use Rattle.zone_check.specs.Summary.{count_records, counts_part, is_record
 
 use crate::apex::first_start;
 use crate::check::ZoneCheck;
+use crate::findings::{ReportFormat, push_shown};
 use dns_data::RData;
 use dns_names::Name;
 use std::alloc::{AllocError, Global};
-use zone_findings::{ReportFormat, push_shown};
 use zone_lines::{EntryLine, RecordLine};
 
 /// Returns a line with the name of the zone, the number of its records and its serial number, or nothing if the file has a

@@ -1,7 +1,7 @@
 -- The lines of a `$GENERATE`, one after another.
 use Rattle.std.proofs.Common.{◌≡◌, ℕ, suc, ◌+◌, ◌-◌, ◌<◌, ◌≤◌, List, [], ◌∷◌, ◌++◌, map, None, Ok, sym, ap, subst, ◌∙◌, append_assoc, append-nil, arith}
 use Rattle.std.specs.Str.{IsUtf8}
-use Rattle.zone_generate.specs.Range.{number_at}
+use Rattle.dns_zone_file.specs.templates.Range.{number_at}
 use Rattle.dns_text.specs.Lexer.{Lexeme, LexerState, NextToken}
 use Rattle.dns_text.specs.Token.{lexeme}
 use Rattle.dns_text.specs.declared.error.LexerError.{LexerError}

@@ -3,3 +3,7 @@ pub mod GenerateLaws
 pub mod WordLaws
 pub mod SkipLaws
 pub mod ReadingLaws
+pub mod PositionLaws
+pub mod PlacesLaws
+pub mod KindLaws
+pub mod CutLaws

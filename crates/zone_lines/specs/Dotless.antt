@@ -1,8 +1,8 @@
 -- Names without a dot in the data of entries (RFC 1035 section 5.1).
 use Rattle.std.specs.Prelude.{◌==◌, ◌&&◌, ◌||◌, not, Bool, false, List, drop, slice_get, Option, Some, Ok, Err}
 use Rattle.std.specs.List.{list_any}
-use Rattle.dns_codes.specs.declared.record_type.RecordType.{RecordType}
-use Rattle.dns_codes.specs.declared.record_type.RecordType.TheVariants as types
+use Rattle.dns_wire.specs.declared.codes.record_type.RecordType.{RecordType}
+use Rattle.dns_wire.specs.declared.codes.record_type.RecordType.TheVariants as types
 use Rattle.dns_formats.specs.Data.{is_generic}
 use Rattle.dns_text.specs.Lexer.{Lexeme, CharData}
 use Rattle.dns_zone_file.specs.Fields.{fields_in}

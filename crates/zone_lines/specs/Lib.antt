@@ -5,3 +5,4 @@ pub mod Word
 pub mod Dotless
 pub mod Reading
 pub mod internal
+pub mod warnings

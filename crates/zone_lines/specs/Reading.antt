@@ -3,8 +3,8 @@
 use Rattle.std.specs.Prelude.{◌≡◌, ◌==◌, ◌+◌, ◌<◌, ◌≤◌, not, ℕ, zero, suc, Bool, true, false, List, [], ◌∷◌, ◌++◌, length, drop, is_some, string_bytes, Option, Some, None, option_map, Ok, Err}
 use Rattle.std.specs.Option.{option_eq, option_map_or, option_to_list}
 use Rattle.std.specs.Str.{IsUtf8}
-use Rattle.dns_codes.specs.CodeText.{or_else}
-use Rattle.dns_codes.specs.declared.record_type.RecordType.{RecordType}
+use Rattle.dns_wire.specs.codes.CodeText.{or_else}
+use Rattle.dns_wire.specs.declared.codes.record_type.RecordType.{RecordType}
 use Rattle.dns_names.specs.Name.{DomainName}
 use Rattle.dns_data.specs.rdata.{data_type}
 use Rattle.dns_records.specs.Record.{Record}
@@ -25,9 +25,9 @@ use Rattle.dns_zone_file.specs.declared.error.EntryFault.TheVariants as fault
 use Rattle.dns_zone_file.specs.declared.error.ZoneFileError.{ZoneFileError}
 use Rattle.dns_zone_file.specs.declared.error.ZoneFileError.TheVariants as error
 use Rattle.dns_zone_file.specs.declared.types.Types.{Types}
-use Rattle.zone_generate.specs.Range.{number_at}
-use Rattle.zone_generate.specs.Template.{expanded}
-use Rattle.zone_generate.specs.declared.fault.GenerateFault.{GenerateFault}
+use Rattle.dns_zone_file.specs.templates.Range.{number_at}
+use Rattle.dns_zone_file.specs.templates.Template.{expanded}
+use Rattle.dns_zone_file.specs.declared.templates.fault.GenerateFault.{GenerateFault}
 use Rattle.zone_lines.specs.Dotless.{has_dotless_name}
 use Rattle.zone_lines.specs.Skip.{Resumes}
 use Rattle.zone_lines.specs.Source.{FileText, source_of}

@@ -8,8 +8,8 @@ use Rattle.dns_formats.specs.declared.fault.FormatFault.{FormatFault}
 use Rattle.dns_formats.specs.declared.fault.FormatFault.TheVariants as format
 use Rattle.dns_formats.specs.declared.fault.TokenFault.{TokenFault}
 use Rattle.dns_formats.specs.declared.fault.TokenFault.TheVariants.{NotHex, NotBase64, NotParameters, Location}
-use Rattle.dns_location.specs.declared.fault.LocationFault.{LocationFault}
-use Rattle.dns_location.specs.declared.fault.LocationFault.TheVariants.{InvalidLatitude, InvalidLongitude, InvalidAltitude}
+use Rattle.dns_fields.specs.declared.location.fault.LocationFault.{LocationFault}
+use Rattle.dns_fields.specs.declared.location.fault.LocationFault.TheVariants.{InvalidLatitude, InvalidLongitude, InvalidAltitude}
 use Rattle.dns_text.specs.Lexer.{Lexeme, Blank, CharData, QuotedString, At, Include, Origin, Ttl, EOL}
 use Rattle.dns_records.specs.Record.{Record}
 use Rattle.dns_zone_file.specs.declared.error.EntryFault.{EntryFault}

@@ -3,18 +3,18 @@
 ghost use Rattle.std.specs.Prelude.{◌≡◌, ◌+◌, ◌-◌, ◌*◌, ◌<◌, ◌≤◌, ◌^◌, IfOk, map};
 ghost use Rattle.dns_text.specs.Token.{lexeme};
 ghost use Rattle.dns_zone_file.specs.internal.Generate.{generation_view};
-ghost use Rattle.zone_generate.specs.Range.{greatest};
+ghost use Rattle.dns_zone_file.specs.templates.Range.{greatest};
 ghost use Rattle.zone_lines.specs.Reading.{AddsEntry, AddsNumber, AddsText, GeneratesLines, fault_at};
 
 use crate::context::add_record;
 use crate::fault::{fault_at, fault_line};
 use crate::record_line::{EntryLine, Position};
 use dns_text::{Lexer, Token};
+use dns_zone_file::templates::{GenerateFault, expand};
 use dns_zone_file::{
     Context, EntryError, EntryFault, Generation, ZoneFileError, line_text, next_entry,
 };
 use std::alloc::{AllocError, Global};
-use zone_generate::{GenerateFault, expand};
 
 /// Adds the records of a `$GENERATE`, and returns them. A fault comes after those before it.
 pub(crate) fn add_generated(

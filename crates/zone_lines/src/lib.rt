@@ -6,6 +6,9 @@
 //! - `line`: the lines of the texts; `fault`: the faults of entries; `word`: the token at fault in an entry; `dotless`: names
 //!   without a dot;
 //! - `record_line`: records and faults with their lines.
+//!
+//! Further modules, each with a page of its own:
+//! - [`warnings`]: what a zone file says and nobody means.
 #![tactic(auto)]
 
 mod context;
@@ -17,6 +20,7 @@ mod reading;
 mod record_line;
 mod skip;
 mod source;
+pub mod warnings;
 mod word;
 
 pub use line::{line_at, line_numbered, lines_of, lines_of_file};

@@ -2,12 +2,12 @@
 
 use crate::ending::Ending;
 use clap::{Arg, ArgAction, ArgMatches, Command, value_parser};
-use dns_codes::parse_decimal;
 use dns_names::{Name, ParseError};
+use dns_wire::codes::parse_decimal;
 use dns_zone_file::Types;
+use dns_zone_file::includes::Reach;
 use std::alloc::{AllocError, Global};
 use zone_check::ReportFormat;
-use zone_includes::Reach;
 
 /// The greatest time, in seconds since 1970, that is read.
 const MAX_TIME: u64 = 1 << 40;

@@ -4,9 +4,9 @@ use crate::arguments::Arguments;
 use crate::ending::Ending;
 use crate::read_text;
 use dns_zone_file::included_names;
+use dns_zone_file::includes::included_path;
 use std::alloc::{AllocError, Global};
 use std::fs;
-use zone_includes::included_path;
 
 /// The most files that a zone file may include.
 const MAX_FILES: usize = 1000;

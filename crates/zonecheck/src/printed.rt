@@ -4,7 +4,7 @@ use dns_records::Record;
 use dns_wire::RecordType;
 use dns_zone::Zone;
 use dns_zone_file::Types;
-use record_texts::RecordText;
+use dns_zone_file::record_texts::RecordText;
 use std::alloc::{AllocError, Global};
 
 /// Returns a zone as a zone file: one record a line, with every name fully qualified, the SOA record first.

@@ -5,7 +5,7 @@ use crate::ending::Ending;
 use crate::{Verdict, read_text, write_report};
 use dns_names::Name;
 use dns_zone_file::Types;
-use stub_script::{ScriptFault, ScriptText, read_script};
+use stub_play::script::{ScriptFault, ScriptText, read_script};
 use zone_check::{moment_report, script_report};
 
 /// The greatest moment of an event.

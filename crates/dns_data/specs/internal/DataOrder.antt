@@ -9,8 +9,8 @@ use Rattle.std.specs.Cmp.Derive.{by_total, of_values, Tied, tie, on_tied, then_t
 use Rattle.std.specs.Cmp.Lexicographic.{slice_cmp, lists_total, lists_ties, nat_list_cmp_total, texts_ties}
 use Rattle.std.specs.Net.Addr.{ipv4_octets, ipv6_segments}
 use Rattle.std.specs.Str.{bytes_eq}
-use Rattle.dns_codes.specs.RecordType.{same_type, type_number}
-use Rattle.dns_codes.specs.declared.record_type.RecordType.{RecordType}
+use Rattle.dns_wire.specs.codes.RecordType.{same_type, type_number}
+use Rattle.dns_wire.specs.declared.codes.record_type.RecordType.{RecordType}
 use Rattle.dns_names.specs.Compare.{name_cmp, same_name}
 use Rattle.dns_names.specs.internal.Compare.{name_cmp-total, names_agree}
 use Rattle.dns_data.specs.Field.{option_cmp}

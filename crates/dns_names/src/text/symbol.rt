@@ -5,7 +5,7 @@ ghost use Rattle.std.specs.Option.{option_map_or};
 ghost use Rattle.dns_names.specs.Parse.{Escaped, Broken, symbol, more_len, escape, escape_len, decimal_octet};
 ghost use Rattle.dns_names.specs.internal.Symbol.{symbol_of};
 
-use dns_codes::parse_decimal;
+use dns_wire::codes::parse_decimal;
 
 /// A symbol of a name in text.
 #[derive(Clone, Copy)]

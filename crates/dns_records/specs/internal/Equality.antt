@@ -1,7 +1,7 @@
 -- Equality of records is an equivalence.
 use Rattle.std.specs.Prelude.{Bool}
 use Rattle.std.specs.Cmp.{IsEquivalence, IsPartialEquivalence, partial_equiv_from_equiv, and_equiv, on_equiv, nat_eq_equiv, and_per, on_per}
-use Rattle.dns_codes.specs.DNSClass.{class_number}
+use Rattle.dns_wire.specs.codes.DNSClass.{class_number}
 use Rattle.dns_names.specs.internal.Compare.{same_name-equivalence}
 use Rattle.dns_records.specs.declared.record.Record.{Record}
 use Rattle.dns_records.specs.Record.{same_record}

@@ -1,9 +1,9 @@
 -- Bytes decode to one record at most, and what decodes is not refused.
 use Rattle.std.proofs.Common.{◌≡◌, ℕ, List, refl, sym, ap, subst, ◌∙◌, arith, length-drop}
 use Rattle.std.specs.Int.{w16, w32, to_be_bytes}
-use Rattle.dns_codes.specs.declared.record_type.RecordType.{RecordType}
-use Rattle.dns_codes.specs.declared.dns_class.DNSClass.{DNSClass}
-use Rattle.dns_codes.specs.RecordType.{type_number}
+use Rattle.dns_wire.specs.declared.codes.record_type.RecordType.{RecordType}
+use Rattle.dns_wire.specs.declared.codes.dns_class.DNSClass.{DNSClass}
+use Rattle.dns_wire.specs.codes.RecordType.{type_number}
 use Rattle.dns_names.specs.Name.{DomainName}
 use Rattle.dns_wire.specs.internal.NumberLaws.{same_number_2, same_number_4}
 use Rattle.dns_wire.specs.declared.error.DecodeError.{DecodeError}

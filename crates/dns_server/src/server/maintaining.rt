@@ -12,17 +12,17 @@ ghost use Rattle.dns_zone.specs.Serving.{IsReplyTo};
 ghost use Rattle.dns_zone.specs.Maintained.{IsRecordable};
 ghost use Rattle.dns_updates.specs.Code.{update_code};
 ghost use Rattle.dns_formats.specs.Field.{fields_of};
-ghost use Rattle.dns_codes.specs.RecordType.{type_number};
+ghost use Rattle.dns_wire.specs.codes.RecordType.{type_number};
 
 use crate::server::route::Route;
 use crate::server::set_ttls::completed;
 use crate::server::{Served, Server, ZoneChange};
 use crate::zone_table::ZoneTable;
-use dns_codes::DNSClass;
 use dns_data::RData;
 use dns_formats::{fits, format_of};
 use dns_messages::{Message, Query, ResponseCode};
 use dns_records::Record;
+use dns_wire::codes::DNSClass;
 use dns_zone::{Applied, Serials, Transport, Zone, bare_reply_bytes};
 use std::alloc::{AllocError, Global};
 

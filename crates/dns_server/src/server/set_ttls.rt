@@ -6,14 +6,14 @@ ghost use Rattle.dns_records.specs.Record.{Record as RecordValue};
 ghost use Rattle.dns_records.specs.Rows.{row_of, set_of};
 ghost use Rattle.dns_updates.specs.Keys.{Place};
 ghost use Rattle.dns_zone.specs.Answer.{record_of};
-ghost use Rattle.dns_codes.specs.RecordType.{type_number};
+ghost use Rattle.dns_wire.specs.codes.RecordType.{type_number};
 ghost use Rattle.dns_server.specs.SetTtls.{has_one_ttl, is_addition, last_ttl, restated, restated_rows, with_one_ttl};
 ghost use Rattle.dns_server.specs.internal.SetTtls.{is_place, kept_ttl, set_place, ttl_at, with_kept_ttl, AreLastTtls};
 
-use dns_codes::{DNSClass, RecordType};
 use dns_messages::Message;
 use dns_records::{Record, Sequence};
 use dns_updates::{SetKey, set_key};
+use dns_wire::codes::{DNSClass, RecordType};
 use dns_zone::Zone;
 use std::alloc::{AllocError, Global};
 use std::collections::BTreeMap;

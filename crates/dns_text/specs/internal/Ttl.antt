@@ -1,6 +1,6 @@
 -- How the code adds up a time, character by character.
 use Rattle.std.specs.Prelude.{ℕ, ◌+◌, ◌-◌, ◌*◌, if◌then◌else◌, Option, Some, None, unwrap_or}
-use Rattle.dns_codes.specs.Decimal.{is_digit}
+use Rattle.dns_wire.specs.codes.Decimal.{is_digit}
 use Rattle.dns_text.specs.Ttl.{unit_seconds}
 use Rattle.dns_text.specs.declared.ttl.TtlSum.{TtlSum}
 

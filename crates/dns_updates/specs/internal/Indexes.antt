@@ -5,7 +5,7 @@ use Rattle.std.specs.List.{AllByRecursion}
 use Rattle.std.specs.Map.{lookup}
 use Rattle.std.specs.Cmp.Lexicographic.{slice_cmp}
 use Rattle.std.specs.Ordering.{eq_by_cmp, nat_cmp}
-use Rattle.dns_codes.specs.declared.record_type.RecordType.{RecordType}
+use Rattle.dns_wire.specs.declared.codes.record_type.RecordType.{RecordType}
 use Rattle.dns_records.specs.Record.{Record}
 use Rattle.dns_records.specs.Rows.{Key, Rows}
 use Rattle.dns_updates.specs.Sets.{is_key_among}

@@ -2,8 +2,8 @@
 
 ghost use Rattle.std.specs.Prelude.{◌≡◌, true, false, not, [], List, if◌then◌else◌, Ok, IfOk, OnOk, ◌||◌, ◌&&◌, option_map};
 ghost use Rattle.std.specs.Option.{option_copied};
-ghost use Rattle.dns_codes.specs.declared.record_type.RecordType.TheVariants as types;
-ghost use Rattle.dns_codes.specs.SerialNumber.{serial_order};
+ghost use Rattle.dns_wire.specs.declared.codes.record_type.RecordType.TheVariants as types;
+ghost use Rattle.dns_wire.specs.codes.SerialNumber.{serial_order};
 ghost use Rattle.dns_records.specs.declared.row.Row.{Row};
 ghost use Rattle.dns_records.specs.Rows.{key_of, row_of, rows_of, set_of, with_set};
 ghost use Rattle.dns_updates.specs.Records.{has_set, is_of_type};
@@ -22,7 +22,7 @@ use crate::record_tests::is_of_type;
 use crate::zone_rows::ZoneRows;
 use dns_data::RData;
 use dns_records::Record;
-use dns_set_edits::EditedRecords;
+use dns_records::edits::EditedRecords;
 use dns_wire::{RecordType, SerialNumber, SerialOrder};
 use std::alloc::{AllocError, Global};
 

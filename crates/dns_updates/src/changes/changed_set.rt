@@ -1,7 +1,7 @@
 //! A set that an update changes.
 
 use dns_names::Name;
-use dns_set_edits::EditedRecords;
+use dns_records::edits::EditedRecords;
 use dns_wire::RecordType;
 
 /// The records of an owner and a type after an update. Without records, the set is removed.

@@ -9,7 +9,7 @@ ghost use Rattle.dns_updates.specs.internal.Indexes.{with_records};
 use crate::changes::changed_set::ChangedSet;
 use crate::keys::{SetKey, set_key};
 use dns_names::Name;
-use dns_set_edits::EditedRecords;
+use dns_records::edits::EditedRecords;
 use dns_wire::RecordType;
 use std::alloc::{AllocError, Global};
 use std::collections::BTreeMap;

@@ -2,9 +2,9 @@
 
 ghost use Rattle.std.specs.Prelude.{◌≡◌, ◌==◌, ◌&&◌, true, false, length, Ok, OnOk};
 ghost use Rattle.std.specs.List.{filter, fold};
-ghost use Rattle.dns_codes.specs.RecordType.{type_number};
-ghost use Rattle.dns_codes.specs.declared.dns_class.DNSClass.TheVariants.{ANY};
-ghost use Rattle.dns_codes.specs.declared.record_type.RecordType.TheVariants as types;
+ghost use Rattle.dns_wire.specs.codes.RecordType.{type_number};
+ghost use Rattle.dns_wire.specs.declared.codes.dns_class.DNSClass.TheVariants.{ANY};
+ghost use Rattle.dns_wire.specs.declared.codes.record_type.RecordType.TheVariants as types;
 ghost use Rattle.dns_records.specs.Rows.{Rows, set_of, type_of_record};
 ghost use Rattle.dns_updates.specs.Records.{is_of_type, is_origin};
 ghost use Rattle.dns_updates.specs.Change.{change_of_class, is_kept_set, keeps_rows, without_name, without_row, without_set};
@@ -22,7 +22,7 @@ use crate::record_tests::is_of_type;
 use crate::zone_rows::ZoneRows;
 use dns_names::Name;
 use dns_records::Record;
-use dns_set_edits::EditedRecords;
+use dns_records::edits::EditedRecords;
 use dns_wire::RecordType;
 use std::alloc::{AllocError, Global};
 

@@ -6,7 +6,7 @@ ghost use Rattle.dns_updates.specs.Change.{with_row, without_data};
 
 use dns_data::RData;
 use dns_records::Record;
-use dns_set_edits::EditedRecords;
+use dns_records::edits::EditedRecords;
 use std::alloc::AllocError;
 
 /// Puts a record in place of one with equal data, or at the end.

@@ -1,7 +1,7 @@
 //! Updates that put one record into its set.
 
 ghost use Rattle.std.specs.Prelude.{◌≡◌, ◌&&◌, ◌||◌, true, not};
-ghost use Rattle.dns_codes.specs.declared.record_type.RecordType.TheVariants as types;
+ghost use Rattle.dns_wire.specs.declared.codes.record_type.RecordType.TheVariants as types;
 ghost use Rattle.dns_names.specs.Name.{DomainName};
 ghost use Rattle.dns_records.specs.Rows.{key_of, row_of, set_of, with_set};
 ghost use Rattle.dns_updates.specs.Change.{change, is_put, with_row};

@@ -10,7 +10,7 @@ use crate::changes::changed_set::ChangedSet;
 use crate::changes::changed_sets::ChangedSets;
 use crate::zone_rows::ZoneRows;
 use dns_names::Name;
-use dns_set_edits::EditedRecords;
+use dns_records::edits::EditedRecords;
 use dns_wire::RecordType;
 use std::alloc::{AllocError, Global};
 

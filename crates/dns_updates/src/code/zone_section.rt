@@ -1,7 +1,7 @@
 //! The zone section of an update (RFC 2136 section 3.1.1).
 
 ghost use Rattle.std.specs.Prelude.{◌≡◌, ◌&&◌, not};
-ghost use Rattle.dns_codes.specs.declared.record_type.RecordType.TheVariants as types;
+ghost use Rattle.dns_wire.specs.declared.codes.record_type.RecordType.TheVariants as types;
 ghost use Rattle.dns_messages.specs.declared.response_code.ResponseCode.TheVariants.{FormErr, NotAuth};
 ghost use Rattle.dns_updates.specs.Records.{is_type, is_origin, is_in_class};
 ghost use Rattle.dns_updates.specs.Code.{first_fault, fault_if, zone_code};

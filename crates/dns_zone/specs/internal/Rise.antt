@@ -2,7 +2,7 @@
 use Rattle.std.specs.Prelude.{◌≡◌, ◌&&◌, ◌||◌, ◌++◌, map, not, true, Bool, List, [], ◌∷◌, IfSome}
 use Rattle.std.specs.FinMap as rows_map
 use Rattle.std.specs.List.{list_any}
-use Rattle.dns_codes.specs.declared.record_type.RecordType.TheVariants as types
+use Rattle.dns_wire.specs.declared.codes.record_type.RecordType.TheVariants as types
 use Rattle.dns_differences.specs.Difference.{is_empty}
 use Rattle.dns_differences.specs.declared.difference.Difference.{Difference}
 use Rattle.dns_names.specs.Compare.{lower}

@@ -8,7 +8,7 @@ ghost use Rattle.dns_zone.specs.internal.Store.{changed_at, changed_keys, one_re
 
 use crate::sets::ZoneSets;
 use dns_records::RecordSet;
-use dns_set_edits::EditedRecords;
+use dns_records::edits::EditedRecords;
 use dns_updates::ChangedSet;
 use dns_wire::laws::type_number_round_trips;
 use std::alloc::{AllocError, Global};

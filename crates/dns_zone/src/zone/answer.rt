@@ -1,7 +1,7 @@
 //! The answer of a zone to a question (RFC 1034 section 4.3.2, RFC 2308 sections 2 and 3).
 
 ghost use Rattle.std.specs.Prelude.{◌≡◌, [], ◌∷◌, length, true, IfOk, IsOk};
-ghost use Rattle.dns_codes.specs.RecordType.{type_number};
+ghost use Rattle.dns_wire.specs.codes.RecordType.{type_number};
 ghost use Rattle.dns_messages.specs.declared.query.Query.{Query};
 ghost use Rattle.dns_zone.specs.Rows.{zone_of};
 ghost use Rattle.dns_zone.specs.Answer.{answer, bare, is_no_row_type, is_refused, IsSoundAnswer};

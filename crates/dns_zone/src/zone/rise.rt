@@ -9,9 +9,9 @@ ghost use Rattle.dns_zone.specs.internal.Rise.{changes_start, has_start, is_due_
 use crate::zone::difference::copy;
 use dns_data::{RData, SOA};
 use dns_differences::Difference;
+use dns_differences::serials::next_serial;
 use dns_names::Name;
 use dns_records::Record;
-use dns_serials::next_serial;
 use dns_wire::RecordType;
 use std::alloc::{AllocError, Global};
 

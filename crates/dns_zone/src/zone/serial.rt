@@ -5,8 +5,8 @@ ghost use Rattle.dns_zone.specs.Rows.{rows_of};
 ghost use Rattle.dns_zone.specs.ZoneSerial.{rows_serial, zone_serial};
 
 use crate::zone::Zone;
+use dns_differences::serials::data_serial;
 use dns_records::Record;
-use dns_serials::data_serial;
 use dns_wire::RecordType;
 
 /// Returns the serial number of a zone: that of its SOA record.

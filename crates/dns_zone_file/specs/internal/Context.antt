@@ -1,6 +1,6 @@
 -- Contexts of zone files, as the code changes them.
 use Rattle.std.specs.Prelude.{◌≡◌, ℕ, List, Option, Some, None, option_map, unwrap_or, Ok, Err}
-use Rattle.dns_codes.specs.CodeText.{or_else}
+use Rattle.dns_wire.specs.codes.CodeText.{or_else}
 use Rattle.dns_text.specs.Lexer.{Lexeme}
 use Rattle.dns_data.specs.declared.rdata.RData.{RData}
 use Rattle.dns_records.specs.Record.{Record}

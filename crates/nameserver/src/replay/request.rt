@@ -5,7 +5,7 @@ use dns_data::{RData, SOA};
 use dns_formats::type_of_word;
 use dns_messages::{Edns, Message, Query, Record};
 use dns_names::{Name, ParseError};
-use dns_update_builder::UpdateBuilder;
+use dns_updates::builder::UpdateBuilder;
 use dns_wire::{DNSClass, EncodeError, RecordType};
 use dns_zone_file::{Parser, Types, ZoneFileError};
 use hex::FromHexError;

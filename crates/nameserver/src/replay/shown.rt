@@ -6,7 +6,7 @@ use dns_messages::{Edns, Message, Metadata, Query, Record};
 use dns_sockets::{Milliseconds, Notice};
 use dns_wire::DecodeError;
 use dns_zone_file::Types;
-use record_texts::{OwnerText, RecordText, TypeText};
+use dns_zone_file::record_texts::{OwnerText, RecordText, TypeText};
 use std::alloc::{AllocError, Global};
 use std::fmt;
 

@@ -2,7 +2,7 @@
 
 ghost use Rattle.std.specs.Prelude.{◌≡◌, ◌&&◌, ◌||◌, not, IfOk, OnOk};
 ghost use Rattle.dns_names.specs.Compare.{same_name};
-ghost use Rattle.dns_codes.specs.declared.record_type.RecordType.TheVariants as types;
+ghost use Rattle.dns_wire.specs.declared.codes.record_type.RecordType.TheVariants as types;
 ghost use Rattle.dns_messages.specs.Response.{has_type, is_empty};
 ghost use Rattle.stub_client.specs.Step.{asks_for, found, given_answers, given_message, has_class, is_at_either, is_end_found, is_found, is_given, is_kept_alias, is_selected, kept_aliases, lowered, selected_answers, with_question};
 

@@ -11,7 +11,7 @@ ghost use Rattle.stub_client.specs.Origins.{Asked, CacheIsBrought, CacheIsBrough
 ghost use Rattle.stub_client.specs.SpecialNames.{special_answer};
 ghost use Rattle.stub_client.specs.declared.special_names.SpecialAnswer.TheVariants.{Loopback};
 
-use dns_codes::laws::type_number_round_trips;
+use dns_wire::codes::laws::type_number_round_trips;
 
 /// Every record of the requested type that a lookup returns or stores comes from a response to one of the questions asked so
 /// far, or is that of the local host.

@@ -2,7 +2,7 @@
 
 ghost use Rattle.std.specs.Prelude.{◌≡◌, ◌≤◌, false, List, [], ℕ, Option, Result};
 ghost use Rattle.std.specs.declared.net.ip_addr.IpAddr.{IpAddr};
-ghost use Rattle.dns_codes.specs.declared.record_type.RecordType.{RecordType};
+ghost use Rattle.dns_wire.specs.declared.codes.record_type.RecordType.{RecordType};
 ghost use Rattle.dns_names.specs.Name.{DomainName};
 ghost use Rattle.dns_names.specs.declared.error.ParseError.{ParseError};
 ghost use Rattle.stub_cache.specs.Cache.{CacheContent};
@@ -14,7 +14,7 @@ ghost use Rattle.stub_core.specs.Resolver.{LooksUpHost, ResolvesName, asks_of, c
 ghost use Rattle.stub_core.specs.declared.resolver.Resolver.{Resolver};
 ghost use Rattle.stub_core.specs.declared.resolver.settings.Settings.{Settings};
 
-use dns_codes::laws::type_number_round_trips;
+use dns_wire::codes::laws::type_number_round_trips;
 use stub_client::DnsHandle;
 
 /// Every answer of the requested type of a lookup of a name has an origin among the questions asked, or comes from the hosts.

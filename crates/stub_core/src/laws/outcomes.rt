@@ -2,7 +2,7 @@
 
 ghost use Rattle.std.specs.Prelude.{◌≡◌, false, List, ℕ, Option, Result};
 ghost use Rattle.std.specs.declared.net.ip_addr.IpAddr.{IpAddr};
-ghost use Rattle.dns_codes.specs.declared.record_type.RecordType.{RecordType};
+ghost use Rattle.dns_wire.specs.declared.codes.record_type.RecordType.{RecordType};
 ghost use Rattle.dns_names.specs.Name.{DomainName};
 ghost use Rattle.dns_names.specs.declared.error.ParseError.{ParseError};
 ghost use Rattle.stub_cache.specs.Cache.{CacheContent};

@@ -4,7 +4,7 @@ ghost use Rattle.std.specs.Prelude.{◌≡◌, ◌≤◌, ◌<◌, ◌∷◌, �
 ghost use Rattle.std.specs.Option.{option_copied};
 ghost use Rattle.stub_link.specs.ScriptedLink.{bytes_of};
 
-use dns_frames::{FrameError, ListSource, read_frame, write_frame};
+use dns_message_bytes::frames::{FrameError, ListSource, read_frame, write_frame};
 use dns_messages::laws::messages_decode_unambiguously;
 use dns_zone::{DatagramLimit, Transport, Zone};
 use std::alloc::{AllocError, Global};

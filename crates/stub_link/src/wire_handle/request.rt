@@ -6,9 +6,9 @@ ghost use Rattle.dns_messages.specs.declared.query.Query.{Query};
 ghost use Rattle.stub_link.specs.Link.{Encodes};
 ghost use Rattle.stub_link.specs.Request.{IsQuestion, IsWhole};
 
+use dns_message_bytes::soundness::{fits_uncompressed, is_sound};
 use dns_messages::laws::messages_within_the_limit_are_not_cut;
 use dns_messages::{Message, MessageType, OpCode, Query};
-use dns_soundness::{fits_uncompressed, is_sound};
 use dns_wire::EncodeError;
 use std::alloc::{AllocError, Global};
 

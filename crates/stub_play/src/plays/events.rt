@@ -4,18 +4,18 @@ ghost use Rattle.std.specs.Prelude.{◌≡◌, length, OnOk};
 ghost use Rattle.std.specs.Io.KnownBytes.{Appends};
 ghost use Rattle.stub_run.specs.RunOver.{rules_of};
 ghost use Rattle.stub_play.specs.Plays.{AreTold, IsPlayedOver};
-ghost use Rattle.stub_report.specs.Report.{told_text};
+ghost use Rattle.stub_play.specs.report.Report.{told_text};
 
 use crate::plays::watcher::Watcher;
 use crate::plays::{PlayFault, PlayInput, line_out_of_order, new_resolver};
+use crate::report::write_told;
+use crate::script::ScriptText;
 use std::alloc::Global;
 use std::io;
 use stub_core::Resolver;
 use stub_hosts::Hosts;
 use stub_link::WireHandle;
-use stub_report::write_told;
 use stub_run::{Event, EventLink, EventReport, happen, is_in_order, reserve_for};
-use stub_script::ScriptText;
 
 /// Lets the events of a script happen to a new resolver over a link, and writes each result as it happens.
 pub(super) fn play_over_link<L: EventLink + Drop, W: io::Write, V: Watcher<L>>(

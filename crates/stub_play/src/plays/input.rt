@@ -1,8 +1,8 @@
 //! The input of a run.
 
+use crate::report::PlayFormat;
 use dns_names::Name;
 use dns_zone_file::Types;
-use stub_report::PlayFormat;
 
 /// The contents of the files, and the options of a run.
 #[derive(Drop)]

@@ -6,12 +6,12 @@ ghost use Rattle.stub_play.specs.Plays.{IsLoaded, IsPlayed, TellsOver};
 use crate::plays::events::play_over_link;
 use crate::plays::watcher::Unwatched;
 use crate::plays::{Loaded, PlayFault, PlayInput};
+use crate::sockets::SocketLink;
 use dns_zone::{DatagramLimit, Zone};
 use std::alloc::Global;
 use std::io;
 use std::net::{Net, TcpListener, TcpStream};
 use stub_link::LinkError;
-use stub_socket::SocketLink;
 
 /// Runs the events of a script in a world over sockets, and writes each result.
 pub(super) fn play_over_sockets<

@@ -5,15 +5,15 @@ use dns_names::{Name, ParseError};
 use dns_text::parse_ip;
 use dns_wire::RecordType;
 use dns_zone_file::Types;
-use record_texts::{OwnerText, TypeText};
+use dns_zone_file::record_texts::{OwnerText, TypeText};
 use std::alloc::{AllocError, Global};
 use std::{fmt, io};
 use stub_client::{SpecialAnswer, special_answer};
 use stub_core::names_to_attempt;
 use stub_hosts::Hosts;
+use stub_link::trace::{Note, RequestNote};
 use stub_lookup::NetError;
 use stub_run::{Action, Event, EventReply, EventReport};
-use stub_trace::{Note, RequestNote};
 
 /// Where the answer to a question comes from.
 #[derive(Clone, Copy, Debug, PartialEq, Eq)]

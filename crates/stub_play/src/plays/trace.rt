@@ -3,13 +3,13 @@
 use crate::plays::source::write_sources;
 use crate::plays::watcher::Watcher;
 use crate::plays::{PlayInput, read_hosts};
+use crate::report::write_event;
 use dns_zone_file::Types;
 use std::alloc::Global;
 use std::io;
 use stub_hosts::Hosts;
-use stub_report::write_event;
+use stub_link::trace::{Note, TracedLink, write_notes};
 use stub_run::{Event, EventReport};
-use stub_trace::{Note, TracedLink, write_notes};
 
 /// Writes what was sent and received during each event, and where its result comes from.
 #[derive(Drop)]

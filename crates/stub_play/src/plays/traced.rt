@@ -7,17 +7,17 @@ use crate::plays::events::play_over_link;
 use crate::plays::sockets::open_link;
 use crate::plays::trace::TraceWriter;
 use crate::plays::{Loaded, PlayFault, PlayInput, limit_of, load, scripted_link};
+use crate::sockets::SocketLink;
 use std::alloc::Global;
 use std::io;
 use std::net::{Net, TcpListener, TcpStream};
 use stub_link::ScriptedLink;
+use stub_link::trace::TracedLink;
 use stub_run::know_names;
 use stub_run::laws::{
     distinct_ids_are_not_reused, ids_are_drawn_in_order, resolvers_run_in_states,
     runs_have_one_history, traced_resolvers_run_as_others,
 };
-use stub_socket::SocketLink;
-use stub_trace::TracedLink;
 
 /// Does what [`play`](crate::play) does, and writes to `trace` what was sent and received during each event, and where its result
 /// comes from. What goes wrong there is not reported, and changes nothing else.

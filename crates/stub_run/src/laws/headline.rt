@@ -2,7 +2,7 @@
 
 ghost use Rattle.std.specs.Prelude.{◌≡◌, ◌+◌, ◌<◌, ◌^◌, false, true, EachIndex, List, ℕ, length, map, slice_index, take};
 ghost use Rattle.std.specs.List.{AllByRecursion};
-ghost use Rattle.dns_codes.specs.declared.record_type.RecordType.{RecordType};
+ghost use Rattle.dns_wire.specs.declared.codes.record_type.RecordType.{RecordType};
 ghost use Rattle.dns_names.specs.Name.{DomainName};
 ghost use Rattle.dns_messages.specs.declared.query.Query.{Query};
 ghost use Rattle.dns_zone.specs.Rows.{IsZone, ZoneContent};
@@ -10,9 +10,9 @@ ghost use Rattle.stub_client.specs.Looks.{Reply};
 ghost use Rattle.stub_core.specs.Resolver.{known_type};
 ghost use Rattle.stub_core.specs.declared.resolver.settings.Settings.{Settings};
 ghost use Rattle.stub_link.specs.History.{Occasion, first_past};
-ghost use Rattle.stub_walk.specs.Agreement.{Agree};
-ghost use Rattle.stub_walk.specs.Walk.{walks_everywhere};
-ghost use Rattle.stub_history.specs.Faithful.{HasNoReuse};
+ghost use Rattle.stub_laws.specs.walk.Agreement.{Agree};
+ghost use Rattle.stub_laws.specs.walk.Walk.{walks_everywhere};
+ghost use Rattle.stub_laws.specs.history.Faithful.{HasNoReuse};
 ghost use Rattle.stub_run.specs.Headline.{AreFresh, HasNoLeastTtl, HaveChainBounds, WorldContent, settings_of};
 ghost use Rattle.stub_run.specs.Ids.{AreDistinct};
 ghost use Rattle.stub_run.specs.Questions.{AreAskable};
@@ -30,8 +30,8 @@ ghost use Rattle.stub_run.specs.declared.report.EventReport.{EventReport};
 ghost use Rattle.stub_run.specs.declared.report.Report.{Report};
 
 use crate::laws::events_decide_the_history;
-use dns_codes::laws::type_number_round_trips;
 use dns_names::laws::parsing_follows_the_grammar;
+use dns_wire::codes::laws::type_number_round_trips;
 use dns_zone::laws::{answers_are_alias_chains, updates_keep_zones_well_formed};
 
 /// Every record of a plain type that a lookup of a run returns stood in the zone, was reached by aliases that stood there, and its TTL

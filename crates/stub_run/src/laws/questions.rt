@@ -2,8 +2,8 @@
 
 ghost use Rattle.std.specs.Prelude.{◌≡◌, ◌≢◌, ◌<◌, ◌^◌, false, All, IfOk, List, ℕ, Option, Result, Err};
 ghost use Rattle.std.specs.declared.net.ip_addr.IpAddr.{IpAddr};
-ghost use Rattle.dns_codes.specs.RecordType.{type_number};
-ghost use Rattle.dns_codes.specs.declared.record_type.RecordType.{RecordType};
+ghost use Rattle.dns_wire.specs.codes.RecordType.{type_number};
+ghost use Rattle.dns_wire.specs.declared.codes.record_type.RecordType.{RecordType};
 ghost use Rattle.dns_names.specs.Name.{DomainName};
 ghost use Rattle.dns_names.specs.Parse.{name_of_text};
 ghost use Rattle.dns_names.specs.declared.error.ParseError.{ParseError};
@@ -23,8 +23,8 @@ ghost use Rattle.stub_run.specs.Run.{RepliesByZone, RunState};
 ghost use Rattle.stub_run.specs.declared.event.Action.{Action};
 ghost use Rattle.stub_run.specs.declared.report.EventReply.{EventReply};
 
-use dns_codes::laws::type_number_round_trips;
 use dns_names::laws::parsing_follows_the_grammar;
+use dns_wire::codes::laws::type_number_round_trips;
 use stub_link::Link;
 
 /// Every request that a resolver makes for a name of at most 255 bytes is a sound question, over any link, and so it is never

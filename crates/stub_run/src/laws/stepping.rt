@@ -15,13 +15,13 @@ ghost use Rattle.stub_run.specs.RunOver.{rules_of};
 ghost use Rattle.stub_run.specs.Stepping.{RunsAs, RunsFrom};
 ghost use Rattle.stub_run.specs.Traced.{traced_rules};
 ghost use Rattle.stub_run.specs.World.{IsFirst, IsFirstOver};
-ghost use Rattle.stub_trace.specs.declared.traced_link.TracedLink.{TracedLink};
+ghost use Rattle.stub_link.specs.declared.trace.traced_link.TracedLink.{TracedLink};
 
 use crate::event_link::EventLink;
 use stub_link::laws::{
     handles_over_the_scripted_link_ask_the_zone, handles_over_the_scripted_link_update_the_zone,
 };
-use stub_trace::laws::traced_handles_ask_as_others;
+use stub_link::trace::laws::traced_handles_ask_as_others;
 
 /// A resolver that begins over a scripted link at its first state runs in the states without bytes: a report of events that happen to
 /// it, one by one, is that of a run from the first state. So is that of the events before one at which memory ran out.

@@ -8,9 +8,9 @@ ghost use Rattle.update_text.specs.Update.{arrow_of, text_after, text_before, te
 ghost use Rattle.update_text.specs.Words.{texts};
 
 use crate::type_word::parse_type;
-use dns_codes::parse_decimal;
 use dns_text::Token;
 use dns_wire::RecordType;
+use dns_wire::codes::parse_decimal;
 use dns_zone_file::Types;
 use std::alloc::{AllocError, Global};
 use std::marker::Model;

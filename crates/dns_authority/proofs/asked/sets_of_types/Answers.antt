@@ -1,5 +1,5 @@
 use Rattle.std.proofs.Common.{◌∙◌, List, ap, arith, map, take}
-use Rattle.dns_codes.specs.declared.record_type.RecordType.TheVariants as types
+use Rattle.dns_wire.specs.declared.codes.record_type.RecordType.TheVariants as types
 use Rattle.dns_records.specs.declared.row.Row.{Row}
 use Rattle.dns_zone.specs.Answer.{record_of}
 use Rattle.dns_zone.specs.Rows.{rows_at}

@@ -1,6 +1,6 @@
 use Rattle.std.proofs.Common.{◌≡◌, ◌++◌, ℕ, true, false, List, Option, length, map}
 use Rattle.std.specs.Prelude.{option_map}
-use Rattle.dns_frames.specs.Frame.{stream_of}
+use Rattle.dns_message_bytes.specs.frames.Frame.{stream_of}
 use Rattle.dns_zone.specs.Rows.{ZoneContent}
 use Rattle.dns_durable.specs.Changes.{AreChanges}
 use Rattle.dns_durable.specs.Durable.{TakesFront}

@@ -1,6 +1,6 @@
 use Rattle.std.proofs.Common.{◌≡◌, false, sym, subst, ◌∙◌, arith}
 use Rattle.std.specs.Prelude.{IfOk}
-use Rattle.dns_zone_service.specs.Answering.{IsServiceReply}
+use Rattle.dns_authority.specs.service.Answering.{IsServiceReply}
 use Rattle.dns_zone.specs.declared.transport.Transport.{Transport}
 use Rattle.dns_durable.specs.Reply.{is_unstored}
 use Rattle.dns_durable.proofs.AnsweringLaws.{is_on_disk, makes_none, plain_served}

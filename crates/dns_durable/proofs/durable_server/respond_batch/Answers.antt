@@ -1,6 +1,6 @@
 use Rattle.std.proofs.Common.{◌≡◌, ◌∙◌, Bool, ℕ, List, Err, map, sym, subst}
 use Rattle.std.specs.Prelude.{option_map}
-use Rattle.dns_frames.specs.Frame.{stream_of}
+use Rattle.dns_message_bytes.specs.frames.Frame.{stream_of}
 use Rattle.dns_journal.specs.declared.journal.Journal.{Journal}
 use Rattle.dns_journal.specs.Storage.{Led, Performs}
 use Rattle.dns_durable.specs.Durable.{Answers, TakesFront}

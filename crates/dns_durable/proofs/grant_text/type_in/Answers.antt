@@ -1,7 +1,7 @@
 use Rattle.std.proofs.Common.{◌≡◌, Option, Some, None, Result, Ok, Err, refl, ap}
 use Rattle.std.specs.Option.{ok_or}
-use Rattle.dns_codes.specs.CodeText.{type_of_text}
-use Rattle.dns_codes.specs.declared.record_type.RecordType.{RecordType}
+use Rattle.dns_wire.specs.codes.CodeText.{type_of_text}
+use Rattle.dns_wire.specs.declared.codes.record_type.RecordType.{RecordType}
 use Rattle.dns_durable.specs.declared.error.GrantError.{GrantError}
 use Rattle.dns_durable.specs.declared.error.GrantError.TheVariants as errors
 use Rattle.dns_durable.proofs.grant_text.type_in.Goals as goal

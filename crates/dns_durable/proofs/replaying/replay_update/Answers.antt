@@ -1,6 +1,6 @@
 use Rattle.std.proofs.Common.{length, ◌≡◌, arith, List, ℕ, sym, subst}
 use Rattle.std.proofs.lemmas.Bool.Decides.{nat_tests}
-use Rattle.dns_zone_service.specs.declared.answering.Answering.{Answering}
+use Rattle.dns_authority.specs.declared.service.answering.Answering.{Answering}
 use Rattle.dns_durable.specs.Durable.{IsTaken}
 use Rattle.dns_durable.specs.Rule.{rule_in, step_of, updates_in}
 use Rattle.dns_durable.proofs.ReplayLaws.{HasTaken, taken_all, taken_more, taken_none}

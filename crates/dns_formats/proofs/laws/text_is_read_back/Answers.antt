@@ -1,5 +1,5 @@
 use Rattle.std.proofs.Common.{List, Option, sym, ap, ◌∙◌}
-use Rattle.dns_codes.specs.RecordType.{type_number}
+use Rattle.dns_wire.specs.codes.RecordType.{type_number}
 use Rattle.dns_formats.specs.Print.{format_text}
 use Rattle.dns_formats.specs.declared.field.Field.{Field}
 use Rattle.dns_formats.proofs.DataLaws.{printed_fields, printed_generic}

@@ -1,6 +1,6 @@
 use Rattle.std.proofs.Common.{◌≡◌, ◌≤◌, ◌+◌, ◌-◌, ℕ, List, [], length, take, drop, ap, refl, arith, ◌∙◌}
 use Rattle.std.proofs.lemmas.List.{take_all, length-drop}
-use Rattle.dns_journal_format.specs.Format.{digest_in, key_in}
+use Rattle.dns_journal.specs.format.Format.{digest_in, key_in}
 use Rattle.std.proofs.lemmas.Bool.Decides.{nat_tests}
 use Rattle.dns_journal.proofs.OpeningLaws.{nothing, nothing_cut, cut_done, cut_torn, cut_lost, position_is}
 use Rattle.dns_journal.proofs.open.resume.Goals as goal

@@ -1,10 +1,10 @@
 use Rattle.std.proofs.Common.{◌≡◌, ℕ, List, [], ◌∷◌, ◌++◌, ◌+◌, ◌≤◌, refl, ap, subst, ◌∙◌, arith, Result, Ok}
 use Rattle.std.specs.Int.{w16, w32, to_be_bytes}
 use Rattle.std.proofs.lemmas.Result.{err_from_is_err_and}
-use Rattle.dns_codes.specs.RecordType.{type_number}
-use Rattle.dns_codes.specs.declared.record_type.RecordType.{RecordType}
-use Rattle.dns_codes.specs.DNSClass.{class_number}
-use Rattle.dns_codes.specs.declared.dns_class.DNSClass.{DNSClass}
+use Rattle.dns_wire.specs.codes.RecordType.{type_number}
+use Rattle.dns_wire.specs.declared.codes.record_type.RecordType.{RecordType}
+use Rattle.dns_wire.specs.codes.DNSClass.{class_number}
+use Rattle.dns_wire.specs.declared.codes.dns_class.DNSClass.{DNSClass}
 use Rattle.dns_wire.specs.Encoder.{state_of, EncoderState, IsAtEnd, put_at}
 use Rattle.dns_wire.specs.Encodable.{Piece, Plain, Domain, Whole, Position, position_of, piece_next, piece_reach, after, reach, Emits}
 use Rattle.dns_wire.specs.declared.error.EncodeError.{EncodeError}

@@ -1,5 +1,5 @@
 use Rattle.std.proofs.Common.{ap, ◌∙◌, ℕ}
-use Rattle.dns_codes.specs.declared.dns_class.DNSClass.{DNSClass}
+use Rattle.dns_wire.specs.declared.codes.dns_class.DNSClass.{DNSClass}
 use Rattle.dns_data.specs.declared.rdata.RData.{RData}
 use Rattle.dns_names.specs.Name.{DomainName}
 use Rattle.dns_records.proofs.laws.copies_are_identical.Goals as goal

@@ -1,5 +1,5 @@
 use Rattle.std.proofs.Common.{Some, map}
-use Rattle.dns_codes.specs.RecordType.{type_number}
+use Rattle.dns_wire.specs.codes.RecordType.{type_number}
 use Rattle.dns_text.specs.Token.{lexeme}
 use Rattle.dns_formats.specs.Field.{fields_of}
 use Rattle.dns_zone_file.proofs.DataLaws.{bytes_short}

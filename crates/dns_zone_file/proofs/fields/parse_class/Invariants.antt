@@ -1,6 +1,6 @@
 use Rattle.std.proofs.Common.{◌≡◌, drop, find}
 use Rattle.std.specs.Str.{str_eq_ignore_ascii_case}
-use Rattle.dns_codes.specs.CodeText.{class_name}
+use Rattle.dns_wire.specs.codes.CodeText.{class_name}
 use Rattle.dns_zone_file.specs.Fields.{zone_class}
 use Rattle.dns_zone_file.proofs.fields.parse_class.Given as goal
 

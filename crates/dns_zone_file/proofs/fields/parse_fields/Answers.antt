@@ -1,5 +1,5 @@
 use Rattle.std.proofs.Common.{◌+◌, ◌∙◌, sym, ap, map, drop, ℕ, Option, Some}
-use Rattle.dns_codes.specs.declared.dns_class.DNSClass.{DNSClass}
+use Rattle.dns_wire.specs.declared.codes.dns_class.DNSClass.{DNSClass}
 use Rattle.dns_text.specs.Token.{lexeme}
 use Rattle.dns_text.specs.declared.token.Token.TheVariants.{Blank}
 use Rattle.dns_zone_file.specs.Fields.{ttl_field, bad_ttl, class_field, type_field, no_field, fields_from}

@@ -1,5 +1,5 @@
 use Rattle.std.proofs.Common.{List, ℕ, Ok, refl, rules, subst}
-use Rattle.api_buffer.specs.Buffer.{Writes}
+use Rattle.api.specs.buffer.Buffer.{Writes}
 use Rattle.rumstrait_c.proofs.lookup.answer.Goals as goal
 
 pub returns-in-Ok : goal.returns-in-Ok

@@ -32,7 +32,7 @@ use types.Kit.{‵, raw, ◌⊛◌, some, later, at_ret, ◌$◌, ◌∵◌, !, 
 use types.Run.{enter, of_opd, addr, stop, no_more, and_then, first, blocks, exec, returns, bin, lit, branches, skips, returns_within}
 use types.SemTy.{Body}
 use types.Tokens.{lft_new, lft_end}
-use Rattle.api_lookups.specs.declared.table.LookupTable.{LookupTable}
+use Rattle.api.specs.declared.lookups.table.LookupTable.{LookupTable}
 use Rattle.rumstrait_c.specs.Lookups.{Begun, handle_at, resolver_at, RefusesNumber}
 use Rattle.rumstrait_c.proofs.HandleSteps.{Global, global_val, global_Tells}
 use Rattle.rumstrait_c.proofs.ResolverSteps.{Table}

@@ -33,7 +33,7 @@ use types.Part.{agg, sub, whole}
 use types.Run.{enter, of_opd, addr, from, hop, stop, fld, no_more, and_then, first, blocks, exec, returns, bin, lit, branches, skips, returns_within}
 use types.SemTy.{Body}
 use types.Tokens.{lft_new, lft_end}
-use Rattle.api_lookups.specs.declared.table.LookupTable.{LookupTable}
+use Rattle.api.specs.declared.lookups.table.LookupTable.{LookupTable}
 use Rattle.rumstrait_c.specs.Lookups.{Awaited, handle_at, resolver_at, RefusesWait}
 use Rattle.rumstrait_c.proofs.HandleSteps.{Global, global_val, global_Tells}
 use Rattle.rumstrait_c.proofs.ResolverSteps.{Table}

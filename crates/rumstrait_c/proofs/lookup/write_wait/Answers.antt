@@ -1,5 +1,5 @@
 use Rattle.std.proofs.Common.{List, ℕ, Ok, Err, refl, rules, subst}
-use Rattle.api_buffer.specs.Buffer.{Writes}
+use Rattle.api.specs.buffer.Buffer.{Writes}
 use Rattle.rumstrait_c.proofs.lookup.write_wait.Goals as goal
 
 pub returns-in-Ok-write_bytes : goal.returns-in-Ok-write_bytes

@@ -1,5 +1,5 @@
 use Rattle.std.proofs.Common.{rules}
-use Rattle.api_buffer.specs.Buffer.{bytes_in}
+use Rattle.api.specs.buffer.Buffer.{bytes_in}
 use Rattle.rumstrait_c.proofs.GivingLaws.{finds_bytes}
 use Rattle.rumstrait_c.proofs.message.rumstrait_message_encode.Goals as goal
 

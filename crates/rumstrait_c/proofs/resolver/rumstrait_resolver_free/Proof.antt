@@ -32,7 +32,7 @@ use Rattle.std.specs.contracts.boxed.Box.from_raw as make
 use Rattle.rumstrait_c.specs.Lookups.{handle_at}
 use Rattle.rumstrait_c.proofs.HandleSteps.{Global, within_global, global_val, global_Tells, box_val}
 use Rattle.rumstrait_c.proofs.ResolverSteps.{boxed, within_table, BoxGood, box_good, box_form}
-use Rattle.api_lookups.specs.declared.table.LookupTable.{LookupTable}
+use Rattle.api.specs.declared.lookups.table.LookupTable.{LookupTable}
 use Rattle.rumstrait_c.proofs.NullSteps.{resolver_cases}
 use Rattle.rumstrait_c.specs.contracts.resolver.rumstrait_resolver_free as f
 use Rattle.rumstrait_c.proofs.resolver.rumstrait_resolver_free.Statement.{statement}

@@ -37,8 +37,8 @@ use types.Tokens.{lft_new}
 use Rattle.std.proofs.boxed.Box.into_raw.Met as into-met
 use Rattle.std.proofs.impls.GlobalAllocator.TheImpl.Met.{passed}
 use Rattle.std.specs.contracts.boxed.Box.into_raw as into
-use Rattle.api_lookups.specs.declared.table.LookupTable.{LookupTable}
-use Rattle.api_lookups.specs.Table.{IsFirstTable}
+use Rattle.api.specs.declared.lookups.table.LookupTable.{LookupTable}
+use Rattle.api.specs.lookups.Table.{IsFirstTable}
 use Rattle.rumstrait_c.specs.Lookups.{IsUnresolved, resolves_at, resolver_at}
 use Rattle.rumstrait_c.proofs.HandleSteps.{Global, within_global, global_val, global_Tells, box_val}
 use Rattle.rumstrait_c.proofs.ResolverSteps.{Made, boxed, dropped, lets_go, within_table, resolver_out, box_good, made_cases, resolves_null}

@@ -32,7 +32,7 @@ use Rattle.std.specs.contracts.boxed.Box.from_raw as make
 use Rattle.rumstrait_c.specs.Updates.{handle_at}
 use Rattle.rumstrait_c.proofs.HandleSteps.{Global, within_global, global_val, global_Tells, box_val}
 use Rattle.rumstrait_c.proofs.UpdateSteps.{boxed, within_update, BoxGood, box_good, box_form}
-use Rattle.dns_update_builder.specs.Parts.{UpdateParts}
+use Rattle.dns_updates.specs.builder.Parts.{UpdateParts}
 use Rattle.rumstrait_c.proofs.NullSteps.{update_cases}
 use Rattle.rumstrait_c.specs.contracts.update.rumstrait_update_free as f
 use Rattle.rumstrait_c.proofs.update.rumstrait_update_free.Statement.{statement}

@@ -32,7 +32,7 @@ use types.Kit.{‵, raw, ◌⊛◌, some, later, at_ret, ◌$◌, ◌∵◌, !, 
 use types.Run.{enter, of_opd, addr, stop, no_more, and_then, first, blocks, exec, returns, bin, lit, branches, skips, returns_within}
 use types.SemTy.{Body}
 use types.Tokens.{lft_new, lft_end}
-use Rattle.dns_update_builder.specs.Parts.{UpdateParts}
+use Rattle.dns_updates.specs.builder.Parts.{UpdateParts}
 use Rattle.rumstrait_c.specs.Updates.{Extended, update_at, handle_at}
 use Rattle.rumstrait_c.proofs.HandleSteps.{Global, global_val, global_Tells}
 use Rattle.rumstrait_c.proofs.UpdateSteps.{Update}

@@ -36,7 +36,7 @@ use types.Tokens.{lft_new}
 use Rattle.std.proofs.boxed.Box.into_raw.Met as into-met
 use Rattle.std.proofs.impls.GlobalAllocator.TheImpl.Met.{passed}
 use Rattle.std.specs.contracts.boxed.Box.into_raw as into
-use Rattle.dns_update_builder.specs.Parts.{UpdateParts}
+use Rattle.dns_updates.specs.builder.Parts.{UpdateParts}
 use Rattle.rumstrait_c.specs.Updates.{IsUnbegun, IsUpdateOf, begun_at, update_at}
 use Rattle.rumstrait_c.proofs.HandleSteps.{Global, within_global, global_val, global_Tells, box_val}
 use Rattle.rumstrait_c.proofs.UpdateSteps.{Made, boxed, dropped, lets_go, within_update, update_out, box_good, made_cases, begun_null}

@@ -1,5 +1,5 @@
 use Rattle.std.proofs.Common.{rules}
-use Rattle.api_buffer.specs.Buffer.{bytes_in}
+use Rattle.api.specs.buffer.Buffer.{bytes_in}
 use Rattle.rumstrait_c.proofs.FaultLaws.{fault_found}
 use Rattle.rumstrait_c.proofs.zone.rumstrait_zone_fault.Goals as goal
 

@@ -36,7 +36,7 @@ use types.Tokens.{lft_new}
 use Rattle.std.proofs.boxed.Box.into_raw.Met as into-met
 use Rattle.std.proofs.impls.GlobalAllocator.TheImpl.Met.{passed}
 use Rattle.std.specs.contracts.boxed.Box.into_raw as into
-use Rattle.api_zones.specs.Zones.{IsZoneOf}
+use Rattle.api.specs.zones.Zones.{IsZoneOf}
 use Rattle.dns_zone.specs.Rows.{ZoneContent}
 use Rattle.rumstrait_c.specs.Zones.{IsRefused, made_at, zone_at}
 use Rattle.rumstrait_c.proofs.HandleSteps.{Global, Made, boxed, dropped, lets_go, within_zone, within_global, global_val, global_Tells, zone_out, box_val, box_good, made_cases, made_null}

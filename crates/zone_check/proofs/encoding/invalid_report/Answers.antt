@@ -1,6 +1,6 @@
 use Rattle.std.proofs.Common.{ℕ, List, [], ◌++◌, Some, None, ap, ◌∙◌}
 use Rattle.zone_check.specs.Encoding.{encoding_said}
-use Rattle.zone_findings.specs.Finding.{Said, finding_text, said_by}
+use Rattle.zone_check.specs.findings.Finding.{Said, finding_text, said_by}
 use Rattle.zone_check.specs.Fault.{fault_said}
 use Rattle.zone_check.proofs.encoding.invalid_report.Goals as goal
 

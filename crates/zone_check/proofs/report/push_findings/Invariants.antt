@@ -1,6 +1,6 @@
 use Rattle.std.proofs.Common.{◌≡◌, ◌++◌, map, take, string_bytes}
 use Rattle.zone_check.specs.Files.{files_view, report_text}
-use Rattle.zone_findings.specs.Finding.{said_by}
+use Rattle.zone_check.specs.findings.Finding.{said_by}
 use Rattle.zone_check.proofs.report.push_findings.Given as goal
 
 -- the report has the findings so far

@@ -3,8 +3,8 @@ use Rattle.dns_names.specs.Name.{DomainName}
 use Rattle.zone_lines.specs.Line.{lines_view}
 use Rattle.zone_lines.specs.Source.{text_view}
 use Rattle.zone_lines.specs.declared.record_line.EntryLine.{EntryLine}
-use Rattle.zone_findings.specs.Finding.{said_by}
-use Rattle.zone_findings.specs.declared.finding.Finding.{Finding}
+use Rattle.zone_check.specs.findings.Finding.{said_by}
+use Rattle.zone_check.specs.declared.findings.finding.Finding.{Finding}
 use Rattle.zone_check.specs.Fault.{start_view, zone_of}
 use Rattle.zone_check.specs.Files.{ShownFiles, names_view, report_text}
 use Rattle.zone_check.proofs.ReportLaws.{empty_report, reported}

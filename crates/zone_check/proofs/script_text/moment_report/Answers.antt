@@ -1,6 +1,6 @@
 use Rattle.std.proofs.Common.{◌++◌, ℕ, List, Bor, map, ap, ◌∙◌}
 use Rattle.std.specs.Str.Lines.{lines}
-use Rattle.zone_findings.specs.Finding.{Said, finding_text, said_by}
+use Rattle.zone_check.specs.findings.Finding.{Said, finding_text, said_by}
 use Rattle.zone_check.proofs.script_text.moment_report.Goals as goal
 
 pub returns : goal.returns

@@ -1,5 +1,5 @@
 use Rattle.std.proofs.Common.{List, ℕ, Bor, map, ap, ◌∙◌}
-use Rattle.zone_findings.specs.Finding.{sentences}
+use Rattle.zone_check.specs.findings.Finding.{sentences}
 use Rattle.zone_check.proofs.ScriptLaws.{line_reported}
 use Rattle.zone_check.proofs.script_text.script_report.Goals as goal
 

@@ -1,5 +1,5 @@
 use Rattle.std.proofs.Common.{◌∙◌, List, ap}
-use Rattle.dns_codes.specs.declared.record_type.RecordType.TheVariants as types
+use Rattle.dns_wire.specs.declared.codes.record_type.RecordType.TheVariants as types
 use Rattle.dns_records.specs.Record.{Record}
 use Rattle.dns_authority.specs.Additional.{rows_by, with_set}
 use Rattle.dns_authority.proofs.section.Section.with_host.Goals as goal

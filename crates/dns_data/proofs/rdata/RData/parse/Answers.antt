@@ -1,7 +1,7 @@
 use Rattle.std.proofs.Common.{None, Some, refl, sym, ap, ◌∙◌, rules}
 use Rattle.std.proofs.lemmas.Result.{err_from_is_err_and}
-use Rattle.dns_codes.specs.declared.record_type.RecordType.TheVariants as types
-use Rattle.dns_codes.specs.declared.record_type.RecordType.{RecordType}
+use Rattle.dns_wire.specs.declared.codes.record_type.RecordType.TheVariants as types
+use Rattle.dns_wire.specs.declared.codes.record_type.RecordType.{RecordType}
 use Rattle.dns_data.specs.Text.{has_text}
 use Rattle.dns_data.specs.rdata.{kinds_of_type, no_text}
 use Rattle.dns_data.proofs.TypeLaws.{no_form}

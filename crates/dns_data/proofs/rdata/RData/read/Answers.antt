@@ -1,6 +1,6 @@
 use Rattle.std.proofs.Common.{◌≡◌, ◌≢◌, ℕ, ◌+◌, ◌<◌, ◌^◌, List, length, drop, Some, None, refl, sym, ap, subst, ◌∙◌, arith}
 use Rattle.std.proofs.lemmas.Result.{err_from_is_err_and}
-use Rattle.dns_codes.specs.RecordType.{type_number, type_of}
+use Rattle.dns_wire.specs.codes.RecordType.{type_number, type_of}
 use Rattle.dns_wire.specs.Decoder.{Decoder}
 use Rattle.dns_wire.specs.declared.error.DecodeError.{DecodeError}
 use Rattle.dns_data.specs.declared.rdata.RData.{RData}

@@ -1,7 +1,7 @@
 use Rattle.std.proofs.Common.{ℕ, List, true, false, refl, ap, subst, ◌∙◌}
 use Rattle.std.specs.String.{string_bytes}
 use Rattle.dns_journal.specs.Appending.{IsRefusal}
-use Rattle.dns_recovery.specs.Compacting.{AsksToCompact, mark}
+use Rattle.dns_durable.specs.recovery.Compacting.{AsksToCompact, mark}
 use Rattle.dns_zone.specs.Rows.{ZoneContent}
 use Rattle.dns_durable.specs.Compaction.{IsRewritten}
 use Rattle.dns_durable.proofs.durable_server.DurableServer.compact.Goals as goal

@@ -1,5 +1,5 @@
 use Rattle.std.proofs.Common.{sym}
-use Rattle.dns_codes.specs.RecordType.{type_number}
+use Rattle.dns_wire.specs.codes.RecordType.{type_number}
 use Rattle.dns_formats.proofs.FormatLaws.{format_is}
 use Rattle.dns_formats.proofs.print.DataTextDisplay.fmt.Goals as goal
 

@@ -1,5 +1,5 @@
 use Rattle.std.proofs.Common.{◌≡◌, [], refl}
-use Rattle.dns_journal_format.specs.Format.{entry}
+use Rattle.dns_journal.specs.format.Format.{entry}
 use Rattle.dns_journal.proofs.CrashLaws.{ready_appends, torn_appends, lost_appends, nothing_appends}
 use Rattle.dns_journal.proofs.journal.Journal.append.Goals as goal
 

@@ -3,8 +3,8 @@ use Rattle.std.specs.Int.{w16, to_be_bytes}
 use Rattle.std.proofs.lemmas.Result.{err_from_is_err_and}
 use Rattle.dns_wire.specs.Encoder.{state_of}
 use Rattle.dns_wire.specs.Encodable.{Piece, Plain, Domain}
-use Rattle.dns_codes.specs.RecordType.{type_number}
-use Rattle.dns_codes.specs.DNSClass.{class_number}
+use Rattle.dns_wire.specs.codes.RecordType.{type_number}
+use Rattle.dns_wire.specs.codes.DNSClass.{class_number}
 use Rattle.dns_wire.proofs.PieceLaws.{emits_stop}
 use Rattle.dns_records.proofs.Steps.{then_emits}
 use Rattle.dns_messages.proofs.query.QueryBinEncodable.emit.Goals as goal

@@ -1,7 +1,7 @@
 use Rattle.std.proofs.Common.{◌≡◌, ◌∙◌, ℕ, List, sym, ap, subst}
 use Rattle.std.proofs.lemmas.Result.{err_from_is_err_and}
 use Rattle.std.specs.Prelude.{Result, Ok, Err, IfOk, IfErr, ◌≢◌}
-use Rattle.dns_codes.specs.declared.record_type.RecordType.{RecordType}
+use Rattle.dns_wire.specs.declared.codes.record_type.RecordType.{RecordType}
 use Rattle.dns_wire.specs.declared.error.DecodeError.{DecodeError}
 use Rattle.dns_wire.specs.declared.error.DecodeError.TheVariants.{Memory}
 use Rattle.dns_data.specs.rdata.{data_type, ReadsData}

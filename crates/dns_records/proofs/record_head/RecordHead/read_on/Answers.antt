@@ -1,8 +1,8 @@
 use Rattle.std.proofs.Common.{◌≡◌, ◌+◌, ◌<◌, ◌^◌, ◌≤◌, ◌∙◌, ℕ, true, List, length, drop, ap, sym, refl, subst, arith, length-drop}
 use Rattle.std.specs.Int.{w16, w32, to_be_bytes}
-use Rattle.dns_codes.specs.RecordType.{type_number, type_of}
-use Rattle.dns_codes.specs.declared.record_type.RecordType.{RecordType}
-use Rattle.dns_codes.specs.declared.dns_class.DNSClass.{DNSClass}
+use Rattle.dns_wire.specs.codes.RecordType.{type_number, type_of}
+use Rattle.dns_wire.specs.declared.codes.record_type.RecordType.{RecordType}
+use Rattle.dns_wire.specs.declared.codes.dns_class.DNSClass.{DNSClass}
 use Rattle.dns_wire.specs.Decodable.{BytesAt}
 use Rattle.dns_wire.specs.Reading.{ReadsName}
 use Rattle.dns_names.specs.Name.{DomainName}

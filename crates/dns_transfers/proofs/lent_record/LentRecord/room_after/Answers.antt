@@ -1,5 +1,5 @@
 use Rattle.std.proofs.Common.{refl, arith}
-use Rattle.dns_soundness.proofs.SizeLaws.{left-after, record-len}
+use Rattle.dns_message_bytes.proofs.SizeLaws.{left-after, record-len}
 use Rattle.dns_transfers.specs.Records.{lent_record}
 use Rattle.dns_transfers.proofs.lent_record.LentRecord.room_after.Goals as goal
 

@@ -1,6 +1,6 @@
 use Rattle.std.proofs.Common.{◌≡◌, take}
 use Rattle.std.specs.List.{fold}
-use Rattle.dns_codes.specs.declared.record_type.RecordType.{RecordType}
+use Rattle.dns_wire.specs.declared.codes.record_type.RecordType.{RecordType}
 use Rattle.dns_records.specs.Rows.{Rows}
 use Rattle.dns_updates.specs.Change.{without_set}
 use Rattle.dns_updates.specs.Changes.{overlay}

@@ -1,6 +1,6 @@
 use Rattle.std.proofs.Common.{rules}
-use Rattle.dns_codes.specs.RecordType.{type_number}
-use Rattle.dns_codes.specs.declared.record_type.RecordType.{RecordType}
+use Rattle.dns_wire.specs.codes.RecordType.{type_number}
+use Rattle.dns_wire.specs.declared.codes.record_type.RecordType.{RecordType}
 use Rattle.dns_wire.proofs.SuffixLaws.{filter_from_retain_by}
 use Rattle.dns_updates.specs.Change.{is_kept_set}
 use Rattle.dns_updates.proofs.changes.deletions.keep_types.Goals as goal

@@ -1,5 +1,5 @@
 use Rattle.std.proofs.Common.{◌∙◌, ◌++◌, ap, List}
-use Rattle.dns_codes.specs.declared.record_type.RecordType.{RecordType}
+use Rattle.dns_wire.specs.declared.codes.record_type.RecordType.{RecordType}
 use Rattle.dns_updates.specs.Sets.{is_key_among}
 use Rattle.dns_updates.proofs.ListingLaws.{listing_whole, listing_completed}
 use Rattle.dns_updates.proofs.changes.listings.completed.Goals as goal

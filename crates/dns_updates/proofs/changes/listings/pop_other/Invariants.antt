@@ -1,6 +1,6 @@
 use Rattle.std.proofs.Common.{◌≡◌, Bool, true, length}
 use Rattle.std.specs.List.{list_any}
-use Rattle.dns_codes.specs.declared.record_type.RecordType.{RecordType}
+use Rattle.dns_wire.specs.declared.codes.record_type.RecordType.{RecordType}
 use Rattle.dns_updates.specs.Changes.{is_other_set, overlay}
 use Rattle.dns_updates.proofs.changes.listings.pop_other.Given as goal
 

@@ -1,5 +1,5 @@
 use Rattle.std.proofs.Common.{ap, sym, ◌∙◌}
-use Rattle.dns_codes.specs.declared.dns_class.DNSClass.{DNSClass}
+use Rattle.dns_wire.specs.declared.codes.dns_class.DNSClass.{DNSClass}
 use Rattle.dns_updates.specs.Change.{is_put}
 use Rattle.dns_updates.proofs.PutLaws.{puts}
 use Rattle.dns_updates.proofs.changes.single.is_put.Goals as goal

@@ -1,5 +1,5 @@
 use Rattle.std.proofs.Common.{◌==◌, ◌∙◌, ◌&&◌, ap}
-use Rattle.dns_codes.specs.RecordType.{type_number}
+use Rattle.dns_wire.specs.codes.RecordType.{type_number}
 use Rattle.dns_names.specs.Name.{DomainName}
 use Rattle.dns_names.specs.Compare.{same_labels}
 use Rattle.dns_updates.proofs.SetLaws.{keys_tie}

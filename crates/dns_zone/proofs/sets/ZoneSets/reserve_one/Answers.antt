@@ -1,5 +1,5 @@
 use Rattle.std.proofs.Common.{◌∙◌, true, ap, sym}
-use Rattle.dns_codes.specs.declared.dns_class.DNSClass.TheVariants.{IN}
+use Rattle.dns_wire.specs.declared.codes.dns_class.DNSClass.TheVariants.{IN}
 use Rattle.dns_names.specs.Name.{DomainName}
 use Rattle.dns_records.specs.RecordSet.{empty_set}
 use Rattle.dns_zone.proofs.StoreLaws.{inserted, stands}

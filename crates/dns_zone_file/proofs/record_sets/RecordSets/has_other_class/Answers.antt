@@ -1,8 +1,8 @@
 use Rattle.std.proofs.Common.{◌≡◌, ◌==◌, ◌∙◌, ap, not, List, length, slice_get, None, Some, refl, arith, rules}
 use Rattle.std.proofs.lemmas.Option.{slice_get_read}
-use Rattle.dns_codes.specs.DNSClass.{class_number}
-use Rattle.dns_codes.specs.RecordType.{type_number}
-use Rattle.dns_codes.specs.declared.dns_class.DNSClass.{DNSClass}
+use Rattle.dns_wire.specs.codes.DNSClass.{class_number}
+use Rattle.dns_wire.specs.codes.RecordType.{type_number}
+use Rattle.dns_wire.specs.declared.codes.dns_class.DNSClass.{DNSClass}
 use Rattle.dns_data.specs.rdata.{data_type}
 use Rattle.dns_records.specs.RecordSet.{RecordSetValue}
 use Rattle.dns_zone_file.specs.RecordSets.{is_set_for, has_other_class}

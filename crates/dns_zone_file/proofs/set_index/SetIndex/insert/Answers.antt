@@ -1,7 +1,7 @@
 use Rattle.std.proofs.Common.{◌≡◌, Some, None, refl, rules}
 use Rattle.std.specs.HashMap as hash
 use Rattle.dns_wire.proofs.StoredLaws.{on_err}
-use Rattle.dns_codes.specs.RecordType.{type_number}
+use Rattle.dns_wire.specs.codes.RecordType.{type_number}
 use Rattle.dns_names.specs.Compare.{same_name}
 use Rattle.dns_zone_file.proofs.SetIndexLaws.{placed, same_places, number_placed, none_at, same_at, others_by}
 use Rattle.dns_zone_file.proofs.set_index.SetIndex.insert.Goals as goal

@@ -1,6 +1,6 @@
 use Rattle.std.proofs.Common.{◌≡◌, true, []}
 use Rattle.std.proofs.lemmas.List.Elements.{All-nil}
-use Rattle.dns_codes.specs.declared.record_type.RecordType.TheVariants as types
+use Rattle.dns_wire.specs.declared.codes.record_type.RecordType.TheVariants as types
 use Rattle.dns_messages.specs.Response.{has_type}
 use Rattle.stub_client.proofs.AnswerTypesLaws.{lookup-fits}
 use Rattle.stub_client.proofs.laws.origins.every_answer_has_an_asked_type.Goals as goal

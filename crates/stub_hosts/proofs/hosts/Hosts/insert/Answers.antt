@@ -1,8 +1,8 @@
 use Rattle.std.proofs.Common.{◌≡◌, ap, ◌∙◌}
 use Rattle.std.proofs.lemmas.Result.{on_ok_weaker}
-use Rattle.dns_codes.specs.RecordType.{type_of, type_number}
-use Rattle.dns_codes.specs.declared.record_type.RecordType.{RecordType}
-use Rattle.dns_codes.specs.declared.record_type.RecordType.TheVariants as types
+use Rattle.dns_wire.specs.codes.RecordType.{type_of, type_number}
+use Rattle.dns_wire.specs.declared.codes.record_type.RecordType.{RecordType}
+use Rattle.dns_wire.specs.declared.codes.record_type.RecordType.TheVariants as types
 use Rattle.stub_hosts.specs.Hosts.{HostsContent, with_entry, fresh, with_lookup}
 use Rattle.stub_hosts.proofs.HostsLaws.{address_type_is, inserted_a, inserted_aaaa}
 use Rattle.stub_hosts.proofs.hosts.Hosts.insert.Goals as goal

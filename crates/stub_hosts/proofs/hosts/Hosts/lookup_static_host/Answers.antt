@@ -1,5 +1,5 @@
 use Rattle.std.proofs.Common.{◌≡◌, sym, ◌∙◌}
-use Rattle.dns_codes.specs.RecordType.{type_of, type_number}
+use Rattle.dns_wire.specs.codes.RecordType.{type_of, type_number}
 use Rattle.stub_hosts.proofs.HostsLaws.{other_type_unknown}
 use Rattle.stub_hosts.proofs.hosts.Hosts.lookup_static_host.Goals as goal
 

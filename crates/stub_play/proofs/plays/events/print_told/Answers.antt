@@ -1,6 +1,6 @@
-use Rattle.stub_report.specs.Report.{told_text}
+use Rattle.stub_play.specs.report.Report.{told_text}
 use Rattle.stub_play.proofs.PlayLaws.{on_ok}
-use Rattle.stub_report.proofs.ReportLaws.{appends_kept}
+use Rattle.stub_play.proofs.ReportLaws.{appends_kept}
 use Rattle.stub_play.proofs.plays.events.print_told.Goals as goal
 
 pub returns : goal.returns

@@ -3,8 +3,8 @@ use Rattle.std.specs.Prelude.{string_bytes}
 use Rattle.std.specs.declared.net.ip_addr.IpAddr.{IpAddr}
 use Rattle.dns_names.specs.Parse.{name_of_text}
 use Rattle.stub_core.specs.Resolver.{LooksUpHost}
-use Rattle.stub_walk.specs.Walk.{ByWalk}
-use Rattle.stub_walk.proofs.AgreementLaws.{looks-up-agree, looks-up-host-agree}
+use Rattle.stub_laws.specs.walk.Walk.{ByWalk}
+use Rattle.stub_laws.proofs.AgreementLaws.{looks-up-agree, looks-up-host-agree}
 use Rattle.stub_run.proofs.RunsAgree.{one-address}
 use Rattle.stub_run.proofs.laws.headline.walked_replies_agree.Goals as goal
 

@@ -1,6 +1,6 @@
 use Rattle.std.proofs.Common.{List, map, sym, ap, ◌∙◌, subst}
 use Rattle.std.specs.List.{filter}
-use Rattle.dns_codes.specs.declared.record_type.RecordType.{RecordType}
+use Rattle.dns_wire.specs.declared.codes.record_type.RecordType.{RecordType}
 use Rattle.dns_names.specs.Compare.{same_labels}
 use Rattle.dns_records.specs.RecordSet.{RecordSetValue}
 use Rattle.dns_updates.specs.Sets.{AreTypesAt, rows_of_sets}

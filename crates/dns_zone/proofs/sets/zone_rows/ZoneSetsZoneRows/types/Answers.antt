@@ -1,5 +1,5 @@
 use Rattle.std.proofs.Common.{List, sym, subst}
-use Rattle.dns_codes.specs.declared.record_type.RecordType.{RecordType}
+use Rattle.dns_wire.specs.declared.codes.record_type.RecordType.{RecordType}
 use Rattle.dns_updates.specs.Sets.{AreTypesAt}
 use Rattle.dns_updates.proofs.ChangeLaws.{types_of_sets}
 use Rattle.dns_zone.specs.Rows.{rows_of_sets}

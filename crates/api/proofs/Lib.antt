@@ -1,0 +1,7 @@
+mod FaultLaws
+mod ServingLaws
+mod DataLaws
+mod TokenLaws
+mod UpdateLaws
+mod ServerLaws
+mod TableLaws

@@ -1,0 +1,4 @@
+pub mod buffer
+pub mod zones
+pub mod messages
+pub mod lookups

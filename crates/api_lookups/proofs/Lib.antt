@@ -1,2 +1,0 @@
-mod ServerLaws
-mod TableLaws

@@ -1,3 +1,0 @@
-mod DataLaws
-mod TokenLaws
-mod UpdateLaws

@@ -1,2 +1,0 @@
-mod FaultLaws
-mod ServingLaws

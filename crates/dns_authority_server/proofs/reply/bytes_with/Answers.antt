@@ -1,5 +1,0 @@
-use Rattle.dns_authority_server.proofs.FrontLaws.{within}
-use Rattle.dns_authority_server.proofs.reply.bytes_with.Goals as goal
-
-pub send-requires : goal.send-requires
-send-requires c = within _ c.args.limit c.reply_of.ensures.front c.requires

@@ -1,5 +1,0 @@
-use Rattle.dns_authority_server.proofs.FrontLaws.{front_fits}
-use Rattle.dns_authority_server.proofs.reply.reply_of.Goals as goal
-
-pub returns-clause-front : goal.returns-clause-front
-returns-clause-front c = front_fits c.repeated_queries.result.now c.repeated_queries.ensures.few c.repeated_queries.ensures.short

@@ -1,7 +1,0 @@
-use Rattle.std.proofs.Common.{◌≡◌, ◌-◌, ◌++◌}
-use Rattle.dns_bitmaps.specs.Bitmap.{blocks, bitmap_of}
-use Rattle.dns_bitmaps.proofs.bitmap.push_bitmap.Given as goal
-
--- the windows that are left complete the bitmap
-abbrev pub invariant-loop-window : goal.invariant-loop-window
-invariant-loop-window l = l.out.items ++ blocks l.types l.window (256 - l.window) ≡ l.fn.out.items ++ bitmap_of l.types

@@ -1,5 +1,0 @@
-use Rattle.dns_bitmaps.proofs.ReadBackLaws.{bitmap_back}
-use Rattle.dns_bitmaps.proofs.laws.bitmap_is_read_back.Goals as goal
-
-pub returns : goal.returns
-returns c = λ bytes are is. bitmap_back bytes are is

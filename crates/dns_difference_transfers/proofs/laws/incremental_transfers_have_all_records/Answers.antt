@@ -1,5 +1,0 @@
-use Rattle.dns_difference_transfers.proofs.SourceLaws.{differences_arrive}
-use Rattle.dns_difference_transfers.proofs.laws.incremental_transfers_have_all_records.Goals as goal
-
-pub returns : goal.returns
-returns c = differences_arrive

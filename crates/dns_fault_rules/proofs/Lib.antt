@@ -1,2 +1,0 @@
-pub mod EditLaws
-pub mod TableLaws

@@ -1,6 +1,0 @@
-use Rattle.std.proofs.Common.{arith}
-use Rattle.std.proofs.lemmas.Bool.Decides.{nat_tests}
-use Rattle.dns_fault_rules.proofs.laws.wrong_octets_differ.Goals as goal
-
-pub returns : goal.returns
-returns c = λ octet e. grind (arith, nat_tests, e)

@@ -1,5 +1,0 @@
-use Rattle.dns_journal_format.proofs.JournalLaws.{new_journal}
-use Rattle.dns_journal_format.proofs.laws.a_header_is_a_journal.Goals as goal
-
-pub returns : goal.returns
-returns c = new_journal

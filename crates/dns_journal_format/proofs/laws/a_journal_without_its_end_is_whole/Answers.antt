@@ -1,5 +1,0 @@
-use Rattle.dns_journal_format.proofs.JournalLaws.{without_end}
-use Rattle.dns_journal_format.proofs.laws.a_journal_without_its_end_is_whole.Goals as goal
-
-pub returns : goal.returns
-returns c = without_end

@@ -1,5 +1,0 @@
-use Rattle.dns_journal_format.proofs.TornLaws.{frame_part}
-use Rattle.dns_journal_format.proofs.laws.a_part_of_a_frame_is_a_torn_write.Goals as goal
-
-pub returns : goal.returns
-returns c key payload link place n few = frame_part key link place payload n few

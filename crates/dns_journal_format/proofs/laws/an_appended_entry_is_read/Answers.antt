@@ -1,5 +1,0 @@
-use Rattle.dns_journal_format.proofs.JournalLaws.{appended}
-use Rattle.dns_journal_format.proofs.laws.an_appended_entry_is_read.Goals as goal
-
-pub returns : goal.returns
-returns c = appended

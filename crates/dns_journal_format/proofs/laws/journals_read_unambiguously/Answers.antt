@@ -1,5 +1,0 @@
-use Rattle.dns_journal_format.proofs.JournalLaws.{one_journal}
-use Rattle.dns_journal_format.proofs.laws.journals_read_unambiguously.Goals as goal
-
-pub returns : goal.returns
-returns c = one_journal

@@ -1,0 +1,3 @@
+pub mod view
+pub mod soundness
+pub mod frames

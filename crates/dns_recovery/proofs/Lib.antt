@@ -1,6 +1,0 @@
-pub mod AskingLaws
-pub mod BeginningLaws
-pub mod CompactingLaws
-pub mod EventLaws
-pub mod OpeningLaws
-pub mod UpdatingLaws

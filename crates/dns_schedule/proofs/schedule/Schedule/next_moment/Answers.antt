@@ -1,8 +1,0 @@
-use Rattle.std.proofs.Common.{◌∙◌, ap}
-use Rattle.dns_schedule.specs.Schedule.{first_moment}
-use Rattle.dns_schedule.proofs.StoreLaws.{moment-of_first}
-use Rattle.dns_schedule.proofs.schedule.Schedule.next_moment.Goals as goal
-
-pub returns-in-Some : goal.returns-in-Some
-returns-in-Some g c =
-    moment-of_first _ _ _ c.in-Some.ensures.first ∙ ap (λ s. first_moment s.items) c.self.view_is

@@ -1,6 +1,0 @@
-//! What is known of the replies that an authoritative server sends, as theorems about their bytes.
-//!
-//! - `laws`: the theorems.
-#![tactic(auto)]
-
-pub mod laws;

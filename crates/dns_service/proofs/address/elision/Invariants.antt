@@ -1,7 +1,0 @@
-use Rattle.std.proofs.Common.{◌≡◌, drop}
-use Rattle.dns_service.specs.Address.{elision}
-use Rattle.dns_service.proofs.address.elision.Given as goal
-
--- no `::` up to here
-abbrev pub invariant-loop-place : goal.invariant-loop-place
-invariant-loop-place l = elision l.place (drop l.place l.text) ≡ elision 0 l.text

@@ -1,7 +1,0 @@
-use Rattle.std.proofs.Common.{List, ℕ, sym, subst, arith}
-use Rattle.std.specs.Fmt.{HasWritten}
-use Rattle.dns_service.proofs.PlainLaws.{plain_word, decimal_simple}
-use Rattle.dns_service.proofs.text.write_number.Goals as goal
-
-pub returns : goal.returns
-returns g c = λ plain ok. subst (λ (l : List ℕ). HasWritten g.W.Write.write_str_gives c.args.f.now l c.write_decimal.new.f) (sym (plain_word _ (decimal_simple c.args.number (omega arith)))) (c.write_decimal.ensures plain ok)

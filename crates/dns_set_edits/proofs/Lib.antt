@@ -1,2 +1,0 @@
-mod PlaceLaws
-mod EntryLaws

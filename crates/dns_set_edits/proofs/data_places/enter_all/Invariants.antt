@@ -1,6 +1,0 @@
-use Rattle.std.proofs.Common.{take}
-use Rattle.dns_set_edits.specs.Places.{HasPlaces}
-use Rattle.dns_set_edits.proofs.data_places.enter_all.Given as goal
-
-abbrev pub invariant-loop-place : goal.invariant-loop-place
-invariant-loop-place l = HasPlaces l.entries (take l.place l.places)

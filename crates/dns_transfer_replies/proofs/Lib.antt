@@ -1,2 +1,0 @@
-pub mod RecordedLaws
-pub mod SignedLaws

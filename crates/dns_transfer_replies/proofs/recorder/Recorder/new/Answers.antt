@@ -1,6 +1,0 @@
-use Rattle.std.proofs.Common.{rules}
-use Rattle.dns_transfer_replies.proofs.RecordedLaws.{new_known_if}
-use Rattle.dns_transfer_replies.proofs.recorder.Recorder.new.Goals as goal
-
-pub returns-clause-known : goal.returns-clause-known
-returns-clause-known c = new_known_if c.args.limits c.args.zones.now c.match-limits.histories.items (search rules)

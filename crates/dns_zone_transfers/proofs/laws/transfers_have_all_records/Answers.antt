@@ -1,5 +1,0 @@
-use Rattle.dns_zone_transfers.proofs.ZoneRecordLaws.{zone_arrives}
-use Rattle.dns_zone_transfers.proofs.laws.transfers_have_all_records.Goals as goal
-
-pub returns : goal.returns
-returns c = zone_arrives

@@ -1,4 +1,0 @@
-mod EndLaws
-mod GivenTextLaws
-mod ItemLaws
-mod RecordsLaws

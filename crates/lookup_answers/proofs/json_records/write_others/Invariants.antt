@@ -1,9 +1,0 @@
-use Rattle.std.proofs.Common.{flat_map, take}
-use Rattle.std.specs.Fmt.{HasWritten, IsPlainFormatter}
-use Rattle.lookup_answers.specs.JsonRecords.{other_record}
-use Rattle.lookup_answers.proofs.json_records.write_others.Given as goal
-
--- the records so far are written
-abbrev pub invariant-loop-found : goal.invariant-loop-found
-invariant-loop-found g l = IsPlainFormatter l.initial.f
-    → HasWritten g.W.Write.write_str_gives l.initial.f (flat_map other_record (take l.found-index l.records)) l.f

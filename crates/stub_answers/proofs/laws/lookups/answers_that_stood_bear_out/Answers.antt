@@ -1,6 +1,0 @@
-use Rattle.stub_answers.proofs.StepLaws.{ask-bears}
-use Rattle.stub_answers.proofs.laws.lookups.answers_that_stood_bear_out.Goals as goal
-
-pub returns : goal.returns
-returns c = λ origin history config settings now ask zones answered meaning.
-    ask-bears c.answers_are_alias_chains.ensures origin history zones config settings now ask answered meaning

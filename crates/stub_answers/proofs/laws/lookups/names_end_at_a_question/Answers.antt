@@ -1,6 +1,0 @@
-use Rattle.stub_answers.proofs.EndsLaws.{name-ends}
-use Rattle.stub_answers.proofs.laws.lookups.names_end_at_a_question.Goals as goal
-
-pub returns : goal.returns
-returns g c = λ settings now name kind reply looks.
-    name-ends g.C.WholeClaim.finds g.C.WholeClaim.lacks settings now name kind reply looks

@@ -1,5 +1,0 @@
-use Rattle.stub_answers.proofs.GrowingLaws.{set-fresh}
-use Rattle.stub_answers.proofs.laws.standing.whole_sets_are_fresh.Goals as goal
-
-pub returns : goal.returns
-returns c = λ preserves history greatest now kind from records r whole there typed. set-fresh preserves history greatest now kind from records r whole there typed

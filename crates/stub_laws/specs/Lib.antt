@@ -1,0 +1,3 @@
+pub mod history
+pub mod walk
+pub mod answers

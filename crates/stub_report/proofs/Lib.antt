@@ -1,2 +1,0 @@
-pub mod MembersLaws
-pub mod ReportLaws

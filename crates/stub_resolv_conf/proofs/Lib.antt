@@ -1,4 +1,0 @@
-pub mod LimitLaws
-pub mod LineLaws
-pub mod OptionLaws
-pub mod SettingLaws

@@ -1,8 +1,0 @@
-use Rattle.std.proofs.Common.{◌≡◌, drop, map}
-use Rattle.stub_resolv_conf.specs.Options.{options_after}
-use Rattle.stub_resolv_conf.proofs.options.ConfOptions.set_all.Given as goal
-
--- the words that are left complete the options
-abbrev pub invariant-loop-word : goal.invariant-loop-word
-invariant-loop-word l =
-    options_after l.self (map (λ word. word.now) (drop l.word-index l.words)) ≡ options_after l.fn.self (map (λ word. word.now) l.fn.words)

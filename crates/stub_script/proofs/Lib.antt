@@ -1,3 +1,0 @@
-pub mod HostLaws
-pub mod LineLaws
-pub mod ScriptLaws

@@ -1,4 +1,0 @@
-mod ArrivalLaws
-mod RepliedLaws
-mod SignedLaws
-mod SignedWitness

@@ -1,6 +1,0 @@
-use Rattle.std.specs.Prelude.{Ok}
-use Rattle.stub_signed.proofs.SignedLaws.{exchange_signed}
-use Rattle.stub_signed.proofs.laws.replies_are_signed.Goals as goal
-
-pub returns : goal.returns
-returns g c = λ m old new response e. exchange_signed _ m old (Ok response) new e

@@ -1,2 +1,0 @@
-pub mod AskLaws
-pub mod VerdictLaws

@@ -1,6 +1,0 @@
-use Rattle.stub_walk.proofs.ResolverLaws.{client-agrees}
-use Rattle.stub_walk.proofs.laws.lookups.every_lookup_agrees_with_walks.Goals as goal
-
-pub returns : goal.returns
-returns c = λ zone good short settings now old q asks reply new looks off asked agrees.
-    client-agrees zone good short settings off now old q asks reply new asked agrees looks

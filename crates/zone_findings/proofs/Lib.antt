@@ -1,2 +1,0 @@
-pub mod AppendLaws
-pub mod ResultLaws

@@ -1,4 +1,0 @@
-use Rattle.zone_generate.proofs.form.+digits_within.Given as goal
-
-abbrev pub decreases-digits_within : goal.decreases-digits_within
-decreases-digits_within l = l.more

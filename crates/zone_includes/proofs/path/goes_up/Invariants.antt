@@ -1,7 +1,0 @@
-use Rattle.std.proofs.Common.{◌≡◌, drop}
-use Rattle.zone_includes.specs.Path.{goes_up}
-use Rattle.zone_includes.proofs.path.goes_up.Given as goal
-
--- the rest decides
-abbrev pub invariant-loop-place : goal.invariant-loop-place
-invariant-loop-place l = goes_up (drop l.place l.path) ≡ goes_up l.path

@@ -1,8 +1,0 @@
-use Rattle.zone_texts.proofs.FileLaws.{lines_parse, lines_contain}
-use Rattle.zone_texts.proofs.laws.printed_records_parse_back.Goals as goal
-
-pub returns-clause-parses : goal.returns-clause-parses
-returns-clause-parses c = lines_parse
-
-pub returns-clause-contains : goal.returns-clause-contains
-returns-clause-contains c = lines_contain

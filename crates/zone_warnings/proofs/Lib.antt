@@ -1,4 +1,0 @@
-pub mod PositionLaws
-pub mod PlacesLaws
-pub mod KindLaws
-pub mod CutLaws
