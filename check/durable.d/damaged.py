@@ -8,6 +8,7 @@ import tempfile
 import threading
 from pathlib import Path
 
+from kills import Load, left_fault
 from servers import ZONE, Refused, Server
 
 # The files of a folder that a start may create or write without changing what is served.
@@ -157,8 +158,40 @@ def is_named(error, process):
     return f"process {process} has its lock file" in error or "another process has its lock file" in error
 
 
+def beside(given, folder, starts):
+    """Starts servers, one after another, beside one that takes updates and begins its journal anew after about forty of them: none
+    serves, and no update that was acknowledged is lost."""
+    (folder / "zone").write_text(ZONE)
+    server = Server(given.program, folder, "--journal-limit", "4096")
+    load = Load(0)
+    thread = threading.Thread(target=load.by_stream, args=(server,))
+    thread.start()
+    begun = set()
+    for _ in range(starts):
+        servers, errors = started_together(given, folder, 1, ["--journal-limit", "4096"])
+        for other in servers:
+            other.kill()
+            other.wait()
+            yield "a second server serves the journal of one that begins it anew"
+        if any(not is_named(error, server.process.pid) for error in errors):
+            yield f"another server says {errors}, and not that process {server.process.pid} has the lock"
+        begun.add((folder / "journal").read_bytes()[:40])
+    server.kill()
+    thread.join()
+    if load.fault or load.done == 0:
+        yield load.fault or "no update was made"
+    if len(begun) < 2:
+        yield f"the journal was seen to begin anew {len(begun)} times"
+    server = Server(given.program, folder)
+    fault, _ = left_fault(server, 0, load)
+    server.kill()
+    if fault:
+        yield fault
+
+
 def together(given):
-    """Starts two and three servers together, a quarter as often as servers are killed: on a new journal, and while one is begun anew."""
+    """Starts two and three servers together, a quarter as often as servers are killed, on a new journal; and as many one after
+    another, beside one that begins its journal anew."""
     for count in (2, 3):
         for _ in range(max(1, given.kills // 4)):
             with tempfile.TemporaryDirectory() as name:
@@ -176,6 +209,9 @@ def together(given):
                 elif any(not is_named(error, ids[0]) for error in errors):
                     yield f"another server says {errors}, and not that process {ids[0]} has the lock"
         print(f"  {max(1, given.kills // 4)} times {count} servers", flush=True)
+    with tempfile.TemporaryDirectory() as name:
+        yield from beside(given, Path(name), max(1, given.kills // 4))
+    print(f"  {max(1, given.kills // 4)} servers beside one that begins its journal anew", flush=True)
 
 
 def compacted(given):

@@ -30,6 +30,11 @@ WITHOUT_UPDATE: List[Tuple[List[str], str]] = [
     (["--key", "me.key"], MISSING_UPDATE),
     (["--key", "me.key", "--key-name", "me."], MISSING_UPDATE),
 ]
+# Options that are for lookups alone.
+WITH_UPDATE: List[List[str]] = [
+    ["--type", "A"], ["-t", "A"], ["--reverse"], ["-x"], ["--search", "t."], ["--ndots", "2"], ["--strategy", "ipv4"], ["--no-edns"],
+    ["--no-cache"],
+]  # fmt: skip
 APPEND = "the form is 'append NAME TTL TYPE DATA'"
 SWAP = "the form is 'swap NAME TTL TYPE DATA -> DATA'"
 ACTIONS = "is none of the actions create, append, swap, delete-record, delete-set and delete-name"
@@ -85,6 +90,10 @@ def try_arguments(report: Report, given: Given) -> None:
         for words, said in WITHOUT_UPDATE:
             run = resolver.run("a.test.", *words)
             report.check(f"{words}: {run.errors!r}", (2, "", True), (run.status, run.output, run.errors.startswith(said)))
+        for words in WITH_UPDATE:
+            run = resolver.run("--update", "append a 60 A 10.0.0.1", "--zone", "t.", *words)
+            said = run.errors.startswith("error: the argument '--") and "cannot be used with '--" in run.errors.splitlines()[0]
+            report.check(f"--update and {words}: {run.errors!r}", (2, "", True), (run.status, run.output, said))
         for text, reason in NO_UPDATES:
             run = resolver.run("--update", text, "--zone", "t")
             said = f"lookup: invalid value '{text}' for '--update': {reason}\n"

@@ -1,6 +1,11 @@
 """Each fault of the table over sockets, to the byte."""
+import os
+import select
 import socket
+import subprocess
+import tempfile
 import time
+from pathlib import Path
 from typing import List, Optional
 
 import faults
@@ -10,7 +15,7 @@ from nameserver import NameServer
 from relay import Exchange
 from replies import Server, read_request
 from report import Report
-from transport import connect, datagram_socket, frame, read_frame
+from transport import ask_datagram, connect, datagram_socket, frame, read_frame
 from wire import Cursor
 from zones import record_of, zone_of
 
@@ -60,9 +65,11 @@ class Tried:
 
     def note(self, request: bytes, reply: Optional[bytes], is_stream: bool, rule: Optional[int]) -> None:
         """Notes what the log has to say. Of a reply without a whole header only the size is compared."""
-        fields = logged(Exchange(is_stream, request, reply), rule)
+        is_update = len(request) > 2 and request[2] >> 3 & 15 == 5
+        fields = logged(Exchange(is_stream, request, reply), rule, is_update and self.model.has_changed)
         if reply is not None and (len(reply) < 12 or b"\xff\xff\xff\xff" in reply):
-            fields = {key: fields[key] for key in ("transport", "id", "question", "request_bytes", "reply_bytes", "fault")}
+            kept = ("transport", "id", "question", "request_bytes", "reply_bytes", "fault", "updated")
+            fields = {key: fields[key] for key in kept}
         self.logged.append(fields)
 
     def datagram(
@@ -235,6 +242,33 @@ def try_stale(report: Report, program: str) -> None:
         tried.plain(a)
 
 
+def try_stale_pipe(report: Report, program: str) -> None:
+    """A zone file is read once, as one from a pipe can be, also if a rule asks for the zone from before the last update. That is the
+    one that changed records: an update without effect changes nothing of it."""
+    with tempfile.TemporaryDirectory() as folder:
+        pipe = os.path.join(folder, "zone")
+        os.mkfifo(pipe)
+        Path(folder, "faults").write_text("n.t. A stale\n")
+        words = [program, pipe, "--faults", f"{folder}/faults", "--listen", "127.0.0.1:0"]
+        process = subprocess.Popen(words, stdin=subprocess.DEVNULL, stdout=subprocess.PIPE, stderr=subprocess.DEVNULL)
+        try:
+            Path(pipe).write_text(ZONE)
+            is_ready, _, _ = select.select([process.stdout], [], [], 10)
+            if not report.check("a zone file from a pipe, and a rule with stale: the server listens", True, bool(is_ready)):
+                return
+            address = ("127.0.0.1", int(process.stdout.readline().rsplit(b":", 1)[1]))
+            model, former = Server([zone_of(ZONE)]), Server([zone_of(ZONE)])
+            added = update("t.", [], [record_of("n.t. 60 IN A 10.9.0.1")])
+            for request in (added, added):
+                report.check("an update beside stale answers", model.reply(request), ask_datagram(address, request))
+                report.check("a stale answer", former.reply(query("n.t.")), ask_datagram(address, query("n.t.")))
+            report.check("a current answer", model.reply(query("n.t.", "TXT")), ask_datagram(address, query("n.t.", "TXT")))
+        finally:
+            process.kill()
+            process.wait()
+            process.stdout.close()
+
+
 def try_updates(report: Report, program: str) -> None:
     """Faults of updates, which have the name of the zone and the type SOA: which of them are made."""
     for table, is_made, make in (
@@ -248,7 +282,6 @@ def try_updates(report: Report, program: str) -> None:
             reply = tried.model.reply(request) if is_made else None
             wanted = make(request, reply)
             tried.datagram(request, wanted, 1)
-            tried.logged[-1].pop("updated", None)
             tried.plain(asked)
 
 
@@ -269,7 +302,7 @@ def try_tables(report: Report, program: str) -> None:
 def try_faults(report: Report, program: str, _missing: List[str]) -> None:
     for title, work in (
         ("rules that match", try_matching), ("each action", try_actions), ("delays", try_delays), ("closed streams", try_closing),
-        ("stale answers", try_stale), ("faults of updates", try_updates), ("tables that are refused", try_tables),
+        ("stale answers", try_stale), ("stale answers from a pipe", try_stale_pipe), ("faults of updates", try_updates), ("tables that are refused", try_tables),
     ):  # fmt: skip
         report.begin()
         report.attempt(title, work, program)

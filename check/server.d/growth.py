@@ -1,21 +1,25 @@
-"""How the processor time of one question grows with the records of a set, the labels of a name, and the zones, and that of the start
-with the zones.
+"""How the processor time of one question and of one update grows with the records of a set, the labels of a name, and the zones, and
+that of the start with the zones.
 
 The server answers by the whole of RFC 1034, as it does by default. Of each pair of sizes the greater is four times the less, and may
 take six times as long.
 """
 import time
 from pathlib import Path
+from struct import pack
 from typing import Callable, List, NamedTuple, Tuple, Union
 
 from messages import query
 from nameserver import NameServer
 from report import Report
+from samples import at, header, question as question_section, record, wire
 from transport import ask_datagram, connect, frame, read_frame
 
 MOST_GROWTH = 6.0
 # How often each size is measured, by turns, for how long each time, and how long a reply may take, in seconds.
 ROUNDS, TURN, WAIT = 3, 0.2, 60.0
+MOST = 65535
+ZONE_SECTION = question_section(wire("t."), 6)
 HEAD = "t. 60 IN SOA ns.t. h.t. 1 3600 600 86400 30\nt. 60 IN NS ns.t.\nns.t. 60 IN A 10.0.0.53\n"
 
 
@@ -27,6 +31,7 @@ class Series(NamedTuple):
     zone: Callable[[int], Union[str, List[str]]]
     question: Callable[[int], bytes]
     over_stream: bool = False
+    options: Tuple[str, ...] = ()
 
 
 def of_hosts(line: str) -> Callable[[int], str]:
@@ -37,6 +42,18 @@ def of_hosts(line: str) -> Callable[[int], str]:
         return HEAD + "".join(line.format(at=it) for it in range(count)) + hosts
 
     return zone
+
+
+def update_of(prerequisites: List[bytes], changes: List[bytes]) -> bytes:
+    """An update of the zone t., with as many of the records as fit."""
+    body, counts = bytearray(), [0, 0]
+    for which, records in enumerate((prerequisites, changes)):
+        for it in records:
+            if 12 + len(ZONE_SECTION) + len(body) + len(it) > MOST:
+                break
+            body += it
+            counts[which] += 1
+    return header((1, counts[0], counts[1], 0), 0x2800) + ZONE_SECTION + bytes(body)
 
 
 def of_addresses(count: int) -> str:
@@ -59,6 +76,27 @@ def labels_of_x(count: int) -> str:
     return "x." * count
 
 
+def changes_of_one_set(count: int) -> bytes:
+    """An update that adds records to a set which has them already, in at most 64 kB."""
+    owner = b"\1s" + at(12)
+    return update_of([], [record(owner, 1, pack(">I", 0x0A000000 + it)) for it in range(min(count, 4_000))])
+
+
+def required_of_one_set(count: int) -> bytes:
+    """An update whose prerequisites are records of a set, in at most 64 kB."""
+    owner = b"\1s" + at(12)
+    return update_of([record(owner, 1, pack(">I", 0x0A000000 + it), 0) for it in range(min(count, 4_000))], [])
+
+
+def required_of_labels(count: int) -> bytes:
+    """An update with 3,000 prerequisites, the names in whose data share so many labels."""
+    owner = b"\1m" + at(12)
+    first = record(owner, 2, wire("n." + labels_of_x(count) + "t."), 0)
+    shared = at(12 + len(ZONE_SECTION) + len(owner) + 10 + 2)
+    others = [record(owner, 2, bytes([len(str(it))]) + str(it).encode() + shared, 0) for it in range(3_000)]
+    return update_of([first] + others, [])
+
+
 def absent(count: int) -> bytes:
     """A question for a name of so many labels that does not exist."""
     return query(labels_of_x(count) + "t.")
@@ -75,6 +113,11 @@ SERIES = [
     Series("labels at a wildcard", (29, 116), lambda _: HEAD + "*.t. 60 IN A 10.0.0.1\n", absent),
     Series("labels in none of 1,000 zones", (31, 124), lambda _: of_zones(1_000), lambda count: query(labels_of_x(count))),
     Series("labels beside a zone of 100 labels", (31, 124), beside_a_deep_zone, lambda count: query("y." * count)),
+    Series("records of a set, an update refused", (10_000, 40_000), of_addresses, changes_of_one_set, True, ("--no-updates",)),
+    Series("records of a set, an update without effect", (10_000, 40_000), of_addresses, changes_of_one_set, True),
+    Series("records of a set, prerequisites", (10_000, 40_000), of_addresses, required_of_one_set, True),
+    Series("labels that prerequisites share", (30, 120), lambda _: HEAD, required_of_labels, True),
+    Series("labels that prerequisites share, refused", (30, 120), lambda _: HEAD, required_of_labels, True, ("--no-updates",)),
     Series("zones, an address in the last", (2_500, 10_000), of_zones, lambda count: query(f"a.z{count - 1}.")),
     Series("zones, a name of 120 labels in none", (2_500, 10_000), of_zones, lambda _: query(labels_of_x(120))),
 ]
@@ -122,7 +165,7 @@ class Measured:
     """A server that is asked one question of a series, and the least processor time that it took for one."""
 
     def __init__(self, program: str, series: Series, size: int):
-        self.server = NameServer(series.zone(size), program=program, seconds=120, log=False)
+        self.server = NameServer(series.zone(size), program=program, options=series.options, seconds=120, log=False)
         self.request, self.over_stream = series.question(size), series.over_stream
         self.least = float("inf")
 

@@ -4,6 +4,7 @@ import resource
 from connections import try_idle, try_many_connections, try_streams, try_turns
 from datagrams import try_datagrams, try_responses, try_two_servers
 from dear import try_dear, try_full_disk
+from floods import try_floods
 from growth import try_growth
 from report import Report
 
@@ -18,6 +19,7 @@ KINDS = {
     "dear": try_dear,
     "full-disk": try_full_disk,
     "growth": try_growth,
+    "floods": try_floods,
 }
 # How many files this program may have open: a socket for each connection.
 FILES = 4096

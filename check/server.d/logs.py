@@ -1,7 +1,7 @@
 """What the log says of a request and its reply, as docs/NAMESERVER.md describes its fields."""
 from relay import Exchange
 from replies import read_request
-from wire import UPDATE, Refusal
+from wire import Refusal
 from zones import IN, name_text, type_text
 
 CLASSES = {IN: "IN", 3: "CH", 4: "HS", 254: "NONE", 255: "ANY"}
@@ -25,8 +25,8 @@ def code_of(reply: bytes) -> int:
     return (reply[-6] << 4 if has_opt else 0) | reply[3] & 15
 
 
-def logged(exchange: Exchange, fault=None) -> dict:
-    """The fields of a line, but for the moment and the peer."""
+def logged(exchange: Exchange, fault=None, has_changed: bool = False) -> dict:
+    """The fields of a line, but for the moment and the peer, of a request that has changed records or not."""
     request, reply = exchange.request, exchange.reply or b""
     has_header = len(request) >= 12
     opcode = request[2] >> 3 & 15 if has_header else None
@@ -44,5 +44,5 @@ def logged(exchange: Exchange, fault=None) -> dict:
         "request_bytes": len(request),
         "reply_bytes": len(reply),
         "fault": fault,
-        "updated": opcode == UPDATE and code == 0,
+        "updated": has_changed,
     }

@@ -48,8 +48,23 @@ MISUSED = [
     (["--compact", "--compact"], "the argument '--compact' cannot be used multiple times\n"),
     (["--journal", "j", "--compact", "--compact"], "the argument '--compact' cannot be used multiple times\n"),
     (["--compact=true"], "unexpected value 'true' for '--compact' found; no more were expected\n"),
+    (["--no-updates", "--allow-update", "10.0.0.0/8"], "the argument '--no-updates' cannot be used with '--allow-update <ADDRESS/LENGTH>'\n"),
     # check/server gives --plain to every server.
     (["--minimal-any"], "the argument '--plain' cannot be used with '--minimal-any'\n"),
+    (["--allow-transfer", "10.0.0.0/8"], "the argument '--plain' cannot be used with '--allow-transfer <ADDRESS/LENGTH>'\n"),
+    (["--differences", "5"], "the argument '--plain' cannot be used with '--differences <N>'\n"),
+    (["--keep-serials"], "the argument '--plain' cannot be used with '--keep-serials'\n"),
+]
+# Scripts, how their replay is compared, the status, and the lines of standard error beside those about zones.
+REPLAYS = [
+    ("0 127.0.0.1 udp query a.t. A\n", [], 0, ""),
+    ("0 127.0.0.1 udp query a.t. A\n", ["--check"], 1, ""),
+    ("0 127.0.0.1 udp query\n", [], 1, "script:1: "),
+    ("0 127.0.0.1 udp query\n", ["--check"], 2, "script:1: "),
+    ("0 127.0.0.1 udp query a.t. A\n #> x\n", [], 0, ""),
+    ("0 127.0.0.1 udp query a.t. A\n #> x\n", ["--check"], 2, "script:2: '#> ' must be at the start of the line\n"),
+    ("0 127.0.0.1 udp query a.t. A\n\t#> x\n", ["--bless"], 1, "script:2: '#> ' must be at the start of the line\n"),
+    ("", ["--check", "--bless"], 2, "error: the argument '--check' cannot be used with '--bless'\n"),
 ]
 
 
@@ -126,6 +141,14 @@ def try_without_effect(report: Report, program: str) -> None:
         status, _, errors = run(program, files, ["zone", *more, "--listen", "127.0.0.1:0", "--until-stdin-closes"])
         lines = [it for it in errors.splitlines() if ": zone t., " not in it and "other users may read" not in it]
         report.check(f"{more}", (wanted, [line] if line else []), (status, lines))
+
+
+def try_replays(report: Report, program: str) -> None:
+    """The status of a comparison tells what differs (1) from what is not compared (2), and no indented line is an expectation."""
+    for script, words, status, said in REPLAYS:
+        done = run(program, {"zone": ZONE, "script": script}, ["zone", "--replay", "script", *words])
+        errors = "".join(it for it in done[2].splitlines(True) if ": zone t., " not in it)
+        report.check(f"{script!r} {words}: {errors!r}", (status, True), (done[0], errors.startswith(said) if said else not errors))
 
 
 def try_faulty_zones(report: Report, program: str) -> None:
@@ -225,6 +248,7 @@ LOGGED = [
     query("a.t.", id=7), query("No.T.", "TXT"), b"", b"\1\2\3", bytes(12), query("a.t.", flags=0x8000), query("a\"\\\x07.t."),
     query(".", "NS"), query("a.t.", "TYPE65280"), query("a.t.")[:-2] + b"\1\2",
     update("t.", [], [record_of("b.t. 60 IN A 10.0.0.2")]), update("t.", [record_of("b.t. 0 IN A 10.0.0.9")], []),
+    update("t.", [], [record_of("b.t. 60 IN A 10.0.0.2")]), update("t.", [], [record_of("B.t. 61 IN A 10.0.0.2")]),
     query("a.t.")[:-1],
 ]  # fmt: skip
 FIELDS = (
@@ -265,7 +289,7 @@ def ask_logged(report: Report, server: NameServer) -> list:
             if reply is not None:
                 report.check(f"log: {request.hex()}", reply, read_frame(stream) if is_stream else sender.recv(65535))
             server.wait_for_requests(number + 1)
-            fields = {"peer": f"{peer[0]}:{peer[1]}", **logged(Exchange(is_stream, request, reply))}
+            fields = {"peer": f"{peer[0]}:{peer[1]}", **logged(Exchange(is_stream, request, reply), has_changed=model.has_changed)}
             noted.append((fields, sent, time.monotonic()))
     return noted
 
@@ -342,7 +366,7 @@ def inside(program: str) -> list:
 
 def try_program(report: Report, program: str, _missing: List[str]) -> None:
     for title, work in (
-        ("arguments", try_arguments), ("what has no effect", try_without_effect), ("faulty zone files", try_faulty_zones), ("loading", try_loading), ("endings", try_endings),
+        ("arguments", try_arguments), ("what has no effect", try_without_effect), ("replays", try_replays), ("faulty zone files", try_faulty_zones), ("loading", try_loading), ("endings", try_endings),
         ("the log", try_log), ("who may update", try_permissions),
     ):  # fmt: skip
         report.begin()

@@ -357,6 +357,8 @@ class Server:
 
     def __init__(self, zones: List[Zone], limit: int = OWN_PAYLOAD, takes_updates: bool = True):
         self.zones, self.limit, self.takes_updates = zones, limit, takes_updates
+        # Whether the last request has changed records.
+        self.has_changed = False
 
     def zone_for(self, name: Name) -> Optional[Zone]:
         """The zone with the closest origin at or above a name (RFC 1034 section 4.3.2)."""
@@ -365,6 +367,7 @@ class Server:
 
     def reply(self, data: bytes, is_stream: bool = False) -> Optional[bytes]:
         """The reply to the bytes of a request, if there is one, after which its update has been made."""
+        self.has_changed = False
         try:
             request = read_request(data)
         except Refusal:
@@ -395,6 +398,9 @@ class Server:
             return FORM_ERR
         zone = self.zone_for(request.questions[0].name)
         code = update_code(zone, request) if zone else REFUSED
-        for record in request.sections[1] if code == NO_ERROR else ():
-            zone.change(record)
+        if code == NO_ERROR:
+            before = zone.records()
+            for record in request.sections[1]:
+                zone.change(record)
+            self.has_changed = zone.records() != before
         return code

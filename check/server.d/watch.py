@@ -1,6 +1,6 @@
 """A server beside the model of it: each exchange is compared to the byte."""
 import contextlib
-from typing import List, Optional
+from typing import List, Optional, Tuple
 
 from nameserver import NameServer
 from logs import logged
@@ -18,7 +18,8 @@ class Watched:
         words = [*options, "--limit", str(limit)] + ([] if takes_updates else ["--no-updates"])
         self.server = NameServer(texts, options=words, program=program, seconds=60)
         self.model = Server([zone_of(it) for it in texts], limit, takes_updates)
-        self.exchanges: List[Exchange] = []
+        # The exchanges, and whether they have changed records.
+        self.exchanges: List[Tuple[Exchange, bool]] = []
 
     def __enter__(self) -> "Watched":
         with contextlib.ExitStack() as stack:
@@ -40,11 +41,11 @@ class Watched:
         found = self.relay.take()
         for number, it in enumerate(found, 1):
             wanted = self.model.reply(it.request, it.is_stream)
+            self.exchanges.append((it, self.model.has_changed))
             report.check(f"{title}: reply {number} to {it.request.hex()}", wanted, it.reply)
             if it.request[2:3] and not it.request[2] & 0x78:
                 report.check(f"{title}: reply {number} to the same bytes", wanted, self.ask(it.request, it.is_stream))
-                self.exchanges.append(it)
-        self.exchanges += found
+                self.exchanges.append((it, False))
         return found
 
     def ask(self, request: bytes, is_stream: bool = False) -> Optional[bytes]:
@@ -63,7 +64,7 @@ class Watched:
             {key: value for key, value in it.fields.items() if key not in ("moment", "peer")}
             for it in self.server.requests()
         ]
-        for it in self.exchanges:
-            wanted = logged(it)
+        for it, has_changed in self.exchanges:
+            wanted = logged(it, has_changed=has_changed)
             if report.check(f"{title}: {wanted}", True, wanted in lines):
                 lines.remove(wanted)

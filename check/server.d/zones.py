@@ -136,6 +136,10 @@ class Zone:
     types: Dict[Name, set] = field(default_factory=dict)
     below: Dict[Name, int] = field(default_factory=dict)
 
+    def records(self) -> dict:
+        """The TTL of each record, by its set and what is compared of its data: what tells whether an update has changed the zone."""
+        return {key: {data: row.ttl for data, row in rows.items()} for key, rows in self.sets.items()}
+
     def at(self, name: Name, rtype: int) -> List[Row]:
         return list(self.sets.get((lower(name), rtype), {}).values())
 

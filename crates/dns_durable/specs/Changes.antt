@@ -1,16 +1,20 @@
 -- What requests have changed, one after another.
-use Rattle.std.specs.Prelude.{List, [], ◌∷◌, ◌++◌, Option, Some, None}
-use Rattle.dns_server.specs.Maintaining.{IsChangedAt}
+use Rattle.std.specs.Prelude.{List, [], ◌∷◌, ℕ, Option, option_map}
+use Rattle.dns_server.specs.Maintaining.{IsRecordableOf}
 use Rattle.dns_server.specs.declared.server.ZoneChange.{ZoneChange}
 use Rattle.dns_zone.specs.Rows.{ZoneContent}
+use Rattle.dns_durable.specs.declared.answering.Reply.{Reply}
 
--- Changes lead from zones to others, each by one of their zones.
-pub data AreChanges : List ZoneContent → List ZoneChange → List ZoneContent → Type 0 where
-  no_change : {zones : List ZoneContent} → AreChanges zones [] zones
-  a_change : {zones mid after : List ZoneContent} {c : ZoneChange} {more : List ZoneChange}
-      → IsChangedAt zones c mid → AreChanges mid more after → AreChanges zones (c ∷ more) after
+-- the bytes of a reply
+abbrev pub reply_bytes : Reply → Option (List ℕ)
+reply_bytes reply = option_map (λ out. out.items) reply.bytes
 
--- changes, and a further one if there is one
-abbrev pub with_change : List ZoneChange → Option ZoneChange → List ZoneChange
-with_change changes None = changes
-with_change changes (Some c) = changes ++ c ∷ []
+-- what the request of a reply has changed
+abbrev pub reply_change : Reply → Option ZoneChange
+reply_change reply = reply.change
+
+-- Requests lead from zones to others, each by what it has changed of one of them, or by nothing.
+pub data AreChanges : List ZoneContent → List (Option ZoneChange) → List ZoneContent → Type 0 where
+  no_request : {zones : List ZoneContent} → AreChanges zones [] zones
+  a_request : {zones mid after : List ZoneContent} {c : Option ZoneChange} {more : List (Option ZoneChange)}
+      → IsRecordableOf zones c mid → AreChanges mid more after → AreChanges zones (c ∷ more) after

@@ -1,5 +1,5 @@
 -- Zones whose updates outlast a crash.
-use Rattle.std.specs.Prelude.{◌≡◌, ◌≢◌, ◌≤◌, ◌⊎◌, ℕ, Bool, true, false, List, [], ◌∷◌, ◌++◌, length, map, option_map, alloc_error}
+use Rattle.std.specs.Prelude.{◌≡◌, ◌≢◌, ◌≤◌, ◌⊎◌, ℕ, Bool, true, false, List, [], ◌∷◌, ◌++◌, length, map, alloc_error}
 use Rattle.std.specs.Prelude.{Result, Ok, Err}
 use Rattle.std.specs.declared.alloc.AllocError.{AllocError}
 use Rattle.dns_message_bytes.specs.frames.Frame.{frame}
@@ -11,6 +11,7 @@ use Rattle.dns_messages.specs.declared.message.Message.{Message}
 use Rattle.dns_durable.specs.recovery.Updating.{IsOpen}
 use Rattle.dns_zone.specs.Request.{IsRequest}
 use Rattle.dns_zone.specs.Rows.{ZoneContent}
+use Rattle.dns_durable.specs.Changes.{reply_bytes}
 use Rattle.dns_durable.specs.Incoming.{AreAdmitted, changes_in}
 use Rattle.dns_durable.specs.Reply.{AnswersAll}
 use Rattle.dns_durable.specs.Rule.{entry_of, rule_in, step_of, updates_in}
@@ -110,7 +111,7 @@ abbrev pub AnswersRequests : Policy → List Arrived → List ZoneContent → Li
     → Result Replies AllocError → Type 0
 AnswersRequests policy admitted zones after (Ok r) =
     AnswersAll policy r.is_stored zones admitted
-    (map (λ reply. option_map (λ out. out.items) reply) r.replies.items) after
+    (map reply_bytes r.replies.items) after
 AnswersRequests policy admitted zones after (Err error) = Unit {0}
 
 -- what requests that are decoded and verified ask of a storage, and what their replies are

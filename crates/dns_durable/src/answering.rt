@@ -1,11 +1,11 @@
 //! Requests are answered, once their updates are on the disk.
 
-ghost use Rattle.std.specs.Prelude.{◌≡◌, ◌<◌, ◌⊎◌, true, false, None, map, option_map, IfOk, OnErr, OnOk};
+ghost use Rattle.std.specs.Prelude.{◌≡◌, ◌<◌, ◌⊎◌, true, false, None, map, IfOk, OnErr};
 ghost use Rattle.dns_message_bytes.specs.frames.Frame.{stream_of};
 ghost use Rattle.dns_messages.specs.Header.{code_number, code_of};
 ghost use Rattle.dns_messages.specs.Sound.{IsSound};
 ghost use Rattle.dns_server.specs.Maintaining.{IsRecordableOf};
-ghost use Rattle.dns_durable.specs.Changes.{AreChanges, with_change};
+ghost use Rattle.dns_durable.specs.Changes.{AreChanges, reply_bytes, reply_change};
 ghost use Rattle.dns_durable.specs.Durable.{TakesFront};
 ghost use Rattle.dns_durable.specs.Incoming.{AreJudged, IsJudged, IsJudgedIfAny, changes_in};
 ghost use Rattle.dns_durable.specs.Reply.{AnswersAll, AnswersOne, IsBareReply, IsPlainReply, IsSignedReply, zones_left};
@@ -20,22 +20,13 @@ use dns_tsig::sign_reply;
 use dns_zone::{Transport, bare_reply_bytes};
 use std::alloc::{AllocError, Global};
 
-/// How requests were answered.
-#[derive(Drop)]
-pub(crate) struct Answered {
-    /// The replies, in the order of the requests.
-    pub(crate) replies: Vec<Option<Vec<u8>>>,
-    /// What the requests have changed, in order.
-    pub(crate) changes: Vec<ZoneChange>,
-}
-
 /// How a request, or what is not one, was answered.
 #[derive(Drop)]
-struct AnsweredOne {
-    /// The reply, if there is one.
-    reply: Option<Vec<u8>>,
-    /// What the request has changed.
-    change: Option<ZoneChange>,
+pub struct Reply {
+    /// The bytes of the reply. What is not a request has none, or some that say so.
+    pub bytes: Option<Vec<u8>>,
+    /// What the request has changed, if a zone has served it.
+    pub change: Option<ZoneChange>,
 }
 
 /// Answers what has arrived, in order. If the updates of the requests are not on the disk, each of these is answered with
@@ -48,37 +39,24 @@ pub(crate) fn answer_all(
     policy: &Policy,
     is_stored: bool,
     admitted: &[Arrived<'_>],
-) -> Result<Answered, AllocError>
+) -> Result<Vec<Reply>, AllocError>
     requires { AreJudged policy.now admitted.now }
-    ensures answered { IfOk result (λ answered. AnswersAll policy.now is_stored server.old
-        admitted.now (map (λ reply. option_map (λ out. out.items) reply) answered.replies.items)
-        server.new) }
-    ensures changes { IfOk result (λ answered.
-        AreChanges server.old answered.changes.items server.new) }
+    ensures answered { IfOk result (λ replies. AnswersAll policy.now is_stored server.old
+        admitted.now (map reply_bytes replies.items) server.new) }
+    ensures changes { IfOk result (λ replies.
+        AreChanges server.old (map reply_change replies.items) server.new) }
     ensures failed { OnErr result (is_stored ≡ true → TakesFront (step_of policy.now.answering)
         server.old (stream_of (changes_in admitted.now)) server.new) }
     ensures unchanged { is_stored ≡ false → server.new ≡ server.old }
 {
     let mut replies = Vec::new(alloc);
-    let mut changes = Vec::new(alloc);
     let mut rest = admitted;
     while let [next, more @ ..] = rest {
-        let AnsweredOne { reply, change } = answer(server, alloc, policy, is_stored, next)?;
-        push_change(&mut changes, change)?;
+        let reply = answer(server, alloc, policy, is_stored, next)?;
         replies.push(reply)?;
         rest = more;
     }
-    Ok(Answered { replies, changes })
-}
-
-/// Adds a change, if there is one.
-fn push_change(changes: &mut Vec<ZoneChange>, change: Option<ZoneChange>) -> Result<(), AllocError>
-    ensures { OnOk result (changes.new.items ≡ with_change changes.old.items change) }
-{
-    if let Some(change) = change {
-        changes.push(change)?;
-    }
-    Ok(())
+    Ok(replies)
 }
 
 /// Answers a request, or bytes that are not one.
@@ -88,11 +66,11 @@ fn answer(
     policy: &Policy,
     is_stored: bool,
     arrived: &Arrived<'_>,
-) -> Result<AnsweredOne, AllocError>
+) -> Result<Reply, AllocError>
     requires { IsJudgedIfAny policy.now arrived.now }
-    ensures answered { IfOk result (λ answer. AnswersOne policy.now is_stored server.old server.new
-        arrived.now (option_map (λ out. out.items) answer.reply)) }
-    ensures change { IfOk result (λ answer. IsRecordableOf server.old answer.change server.new) }
+    ensures answered { IfOk result (λ reply. AnswersOne policy.now is_stored server.old server.new
+        arrived.now (reply_bytes reply)) }
+    ensures change { IfOk result (λ reply. IsRecordableOf server.old reply.change server.new) }
     ensures failed { OnErr result ((server.new ≡ server.old) ⊎ (server.new
         ≡ zones_left policy.now.answering is_stored server.old arrived.now)) }
 {
@@ -101,15 +79,15 @@ fn answer(
             let Served { reply, change } = signed_reply(
                 server, alloc, policy, is_stored, admitted,
             )?;
-            Ok(AnsweredOne {
-                reply: Some(reply),
+            Ok(Reply {
+                bytes: Some(reply),
                 change,
             })
         }
         Arrived::Other(incoming) => {
-            let reply = policy.answering.respond_to_other(alloc, incoming.bytes)?;
-            Ok(AnsweredOne {
-                reply,
+            let bytes = policy.answering.respond_to_other(alloc, incoming.bytes)?;
+            Ok(Reply {
+                bytes,
                 change: None,
             })
         }

@@ -1,30 +1,28 @@
 //! A server whose updates outlast a crash.
 
-ghost use Rattle.std.specs.Prelude.{◌≡◌, ◌≢◌, [], IfOk};
+ghost use Rattle.std.specs.Prelude.{◌≡◌, ◌≢◌, [], map, IfOk};
 ghost use Rattle.dns_journal.specs.Storage.{Performs};
 ghost use Rattle.dns_journal.specs.declared.journal.State.TheVariants as states;
-ghost use Rattle.dns_durable.specs.Changes.{AreChanges};
+ghost use Rattle.dns_durable.specs.Changes.{AreChanges, reply_change};
 ghost use Rattle.dns_durable.specs.Durable.{Answers, Responds};
 ghost use Rattle.dns_durable.specs.Incoming.{AreJudged, changes_in};
 ghost use Rattle.dns_durable.specs.Rule.{entry_of};
 
-use crate::answering::{Answered, answer_all};
+use crate::answering::{Reply, answer_all};
 use crate::incoming::{Batch, Incoming};
 use crate::policy::Policy;
 use crate::storing::store;
 use dns_journal::{Journal, State, Storage};
-use dns_server::{Server, ZoneChange};
+use dns_server::Server;
 use std::alloc::{AllocError, Global};
 
 /// The replies to requests that arrived together.
 #[derive(Drop)]
 pub struct Replies {
-    /// The replies, in the order of the requests. What is not a request has none, or one that says so.
-    pub replies: Vec<Option<Vec<u8>>>,
+    /// The replies, in the order of the requests, each with what its request has changed.
+    pub replies: Vec<Reply>,
     /// Whether the updates of the requests are on the disk, if there are any.
     pub is_stored: bool,
-    /// What the requests have changed, in order.
-    pub changes: Vec<ZoneChange>,
 }
 
 /// A server of zones. Updates are appended to its journal before they are served.
@@ -52,8 +50,8 @@ impl<S: Storage> DurableServer<S> {
         ensures performs { Performs S.performs self.old.journal.storage self.new.journal.storage
             (Responds policy.now requests.now result self.old.journal.position
             self.new.journal.position self.old.server self.new.server) }
-        ensures changes { IfOk result (λ replies.
-            AreChanges self.old.server replies.changes.items self.new.server) }
+        ensures changes { IfOk result (λ replies. AreChanges self.old.server
+            (map reply_change replies.replies.items) self.new.server) }
     {
         let batch = Batch::new(alloc, policy, requests)?;
         let DurableServer { server, journal } = self;
@@ -75,16 +73,12 @@ fn respond_batch<S: Storage>(
     ensures performs { Performs S.performs journal.old.storage journal.new.storage
         (Answers policy.now batch.now.admitted.items result journal.old.position
         journal.new.position server.old server.new) }
-    ensures changes { IfOk result (λ replies.
-        AreChanges server.old replies.changes.items server.new) }
+    ensures changes { IfOk result (λ replies. AreChanges server.old
+        (map reply_change replies.replies.items) server.new) }
 {
     let is_stored = store(journal, alloc, batch.entry.as_slice());
     match answer_all(server, alloc, policy, is_stored, batch.admitted.as_slice()) {
-        Ok(Answered { replies, changes }) => Ok(Replies {
-            replies,
-            is_stored,
-            changes,
-        }),
+        Ok(replies) => Ok(Replies { replies, is_stored }),
         Err(error) => {
             if is_stored {
                 suspend(journal, batch.entry.as_slice());

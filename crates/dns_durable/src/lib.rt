@@ -29,6 +29,7 @@ mod rule;
 mod storing;
 pub mod zone_texts;
 
+pub use answering::Reply;
 pub use durable_server::{DurableServer, Replies};
 pub use error::{CompactError, GrantError, ReplayError};
 pub use grant_text::parse_grant;

@@ -20,7 +20,7 @@ use Rattle.std.specs.declared.net.ip_addr.IpAddr.{IpAddr}
 use Rattle.std.specs.declared.net.ip_addr.IpAddr.TheVariants.{V4, V6}
 use Rattle.dns_names.specs.declared.reverse.AddrPrefix.{AddrPrefix}
 use Rattle.dns_server.specs.AddressList.{is_covered}
-use Rattle.dns_nameserver.specs.Former.{Former, former_after, is_accepted}
+use Rattle.dns_nameserver.specs.Former.{Former, former_after, has_changed}
 use Rattle.dns_nameserver.specs.declared.zone_server.Context.{Context}
 use Rattle.dns_nameserver.specs.declared.zone_server.ZoneServer.{ZoneServer}
 use Rattle.dns_nameserver.specs.declared.name_server.NameServer.{NameServer}
@@ -29,13 +29,12 @@ use Rattle.dns_nameserver.specs.declared.name_server.NameServer.{NameServer}
 abbrev pub formers_after : Bool → Option Former → Message → Option Former
 formers_after updated f m = option_map (λ f. former_after updated f m) f
 
--- A request is served by the zone that it is for, and remembered as an update that was applied if it was one.
+-- A request is served by the zone that it is for, and what it has changed is remembered.
 pub record Serves (old : ZoneServer) (context : Context) (m : Message) (reply : List ℕ) (new : ZoneServer) : Type 0 where
   pub replied : IsServiceReply old.answering context.updates old.server context.transport m reply
   pub zones : new.server ≡ zones_served old.answering context.updates old.server m
   pub changed : IsRecordableOf old.server new.change new.server
-  pub updated : new.has_updated ≡ is_accepted reply
-  pub formers : new.former ≡ formers_after (is_accepted reply) old.former m
+  pub formers : new.former ≡ formers_after (has_changed new.change) old.former m
   pub way : new.answering ≡ old.answering
 
 -- A request is served by these zones from before the last update. No update is allowed.
@@ -43,7 +42,6 @@ pub record ServesBy (f : Former) (old : ZoneServer) (context : Context) (m : Mes
   pub replied : IsServiceReply old.answering may.Refused f.zones context.transport m reply
   pub zones : new.server ≡ old.server
   pub changed : new.change ≡ None
-  pub updated : new.has_updated ≡ false
   pub formers : new.former ≡ Some (record f { zones = zones_served old.answering may.Refused f.zones m })
   pub way : new.answering ≡ old.answering
 
@@ -64,9 +62,9 @@ abbrev pub updates_of : Bool → Updates
 updates_of true = may.Allowed
 updates_of false = may.Refused
 
--- a server that has not remembered an update yet
+-- a server that has not remembered a change yet
 abbrev pub forgetful : ZoneServer → ZoneServer
-forgetful zones = record zones { change = None; has_updated = false }
+forgetful zones = record zones { change = None }
 
 -- Whether a list covers an address. An IPv4-mapped IPv6 address counts as its IPv4 address (RFC 4291 section 2.5.5.2).
 abbrev pub IsCoverageOf : List AddrPrefix → IpAddr → Bool → Type 0
@@ -109,8 +107,8 @@ pub record LeavesZonesFrom (old : NameServer) (address : IpAddr) (bytes : List �
   pub coverage : IsCoverageOf old.updaters address covered
   pub leaves : LeavesZones old.zones (updates_of covered) bytes new.zones
 
--- What a request leads to: a reply and how it is sent, the line of the rule that made a fault, whether an update was applied,
--- and the zones and rules after it. Only requestors whose address is covered may update.
+-- What a request leads to: a reply and how it is sent, the line of the rule that made a fault, whether records have changed, and
+-- the zones and rules after it. Only requestors whose address is covered may update.
 pub record AnswersRequest (old : NameServer) (request : List ℕ) (address : IpAddr) (transport : Transport) (sent : Sending) (line : Option ℕ) (updated : Bool) (new : NameServer) : Type 0 where
   pub covered : Bool
   pub coverage : IsCoverageOf old.updaters address covered
@@ -118,6 +116,6 @@ pub record AnswersRequest (old : NameServer) (request : List ℕ) (address : IpA
   pub responds : Responds Serves ServesStale (forgetful old.zones) old.faults request transport
       (record { transport = reply_transport transport old.limit; updates = updates_of covered }) served line new.zones new.faults
   pub sent_is : IsSentIf served.reply old.zones.answering request line served sent
-  pub updated_is : updated ≡ new.zones.has_updated
+  pub updated_is : updated ≡ has_changed new.zones.change
   pub limit_kept : new.limit ≡ old.limit
   pub updaters_kept : new.updaters ≡ old.updaters

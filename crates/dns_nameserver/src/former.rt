@@ -1,20 +1,20 @@
-//! The zones from before the last update.
+//! The zones from before the last update that changed records.
 
 ghost use Rattle.std.specs.Prelude.{◌≡◌, None, IfOk, OnOk, OnErr};
 ghost use Rattle.dns_messages.specs.Sound.{IsSound};
 ghost use Rattle.dns_server.specs.Maintaining.{IsRecordableOf};
 ghost use Rattle.dns_server.specs.declared.updates.Updates.TheVariants as may;
 ghost use Rattle.dns_authority.specs.service.Answering.{IsServiceReply, zones_served};
-ghost use Rattle.dns_nameserver.specs.Former.{former_after, is_accepted};
+ghost use Rattle.dns_nameserver.specs.Former.{former_after, has_changed};
 
 use dns_authority::service::Answering;
-use dns_messages::{Message, Metadata, OpCode, ResponseCode};
-use dns_server::{Served, Server, Updates};
+use dns_messages::Message;
+use dns_server::{Served, Server, Updates, ZoneChange};
 use dns_zone::Transport;
 use std::alloc::{AllocError, Global};
 use std::marker::Model;
 
-/// The zones of a server from before the last update that it applied. They follow one update behind.
+/// The zones of a server from before the last update that changed its records. They follow one update behind.
 #[derive(Drop)]
 pub struct FormerZones {
     /// How updates are made.
@@ -47,7 +47,7 @@ impl Model for FormerZones {
 }
 
 impl FormerZones {
-    /// Creates the zones from before the last update of a server to which none was applied, given the same zones, and how updates are
+    /// Creates the zones from before the last update of a server that none has changed, given the same zones, and how updates are
     /// made.
     pub fn new(server: Server, answering: Answering) -> FormerZones
         ensures { result ≡ record { answering = answering; zones = server; last = None } }
@@ -60,7 +60,7 @@ impl FormerZones {
         }
     }
 
-    /// Serves a request by the current zones, and follows if it is an update that is applied. An error leaves both unchanged.
+    /// Serves a request by the current zones, and follows if it changes records. An error leaves both unchanged.
     pub fn follow(
         &mut self,
         alloc: Global,
@@ -78,7 +78,7 @@ impl FormerZones {
         ensures change { IfOk result (λ served.
             IsRecordableOf current.old served.change current.new) }
         ensures former { IfOk result (λ served.
-            self.new ≡ former_after (is_accepted served.reply.items) self.old request.now) }
+            self.new ≡ former_after (has_changed served.change) self.old request.now) }
         ensures err { OnErr result (self.new ≡ self.old) }
         ensures current_err { OnErr result (current.new ≡ current.old) }
     {
@@ -94,7 +94,7 @@ impl FormerZones {
         self.missing = None;
         let update = request.clone()?;
         let served = answering.respond_to(alloc, current, request, transport, updates)?;
-        if is_accepted(served.reply.as_slice()) {
+        if has_changed(&served.change) {
             self.missing = self.last.take();
             self.last = Some(update);
         }
@@ -137,15 +137,12 @@ impl FormerZones {
     }
 }
 
-/// Returns `true` for the reply to an update that was applied (RFC 2136 section 3.8).
-pub fn is_accepted(reply: &[u8]) -> bool
-    ensures { result ≡ is_accepted reply.now }
+/// Returns `true` for a change that deletes or adds a record.
+pub fn has_changed(change: &Option<ZoneChange>) -> bool
+    ensures { result ≡ has_changed change.now }
 {
-    match Metadata::peek(reply) {
-        Some(metadata) => match (metadata.op_code, metadata.response_code) {
-            (OpCode::Update, ResponseCode::NoError) => true,
-            _ => false,
-        },
+    match change {
+        Some(change) => !change.difference.is_empty(),
         None => false,
     }
 }

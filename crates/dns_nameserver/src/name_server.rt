@@ -4,6 +4,7 @@ ghost use Rattle.std.specs.Prelude.{◌≡◌, None, IfOk, OnErr};
 ghost use Rattle.dns_faults.specs.Delivery.{sending};
 ghost use Rattle.dns_nameserver.specs.NameServer.{AnswersRequest, LeavesZonesFrom, IsSentIf, reply_transport, updates_of};
 
+use crate::former::has_changed;
 use crate::zone_server::{Context, ZoneServer};
 use dns_authority::service::Answering;
 use dns_faults::rules::{FaultTable, Transport};
@@ -33,7 +34,7 @@ pub struct Answered {
     pub delivery: Delivery,
     /// The line of the rule that made a fault, from 1, or `None` if none did.
     pub line: Option<usize>,
-    /// Whether the request was an update, and changed a zone.
+    /// Whether the request was an update that changed records.
     pub has_updated: bool,
 }
 
@@ -62,7 +63,6 @@ impl NameServer {
         };
         let answering = self.zones.answering;
         self.zones.change = None;
-        self.zones.has_updated = false;
         let Outcome { delivery, line } = respond(
             alloc,
             &mut self.zones,
@@ -75,7 +75,7 @@ impl NameServer {
         Ok(Answered {
             delivery,
             line,
-            has_updated: self.zones.has_updated,
+            has_updated: has_changed(&self.zones.change),
         })
     }
 }

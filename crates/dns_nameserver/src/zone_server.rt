@@ -1,6 +1,6 @@
 //! The zones of a name server, as faults are made on their replies.
 
-use crate::former::{FormerZones, is_accepted};
+use crate::former::FormerZones;
 use dns_authority::service::Answering;
 use dns_faults::FaultServer;
 use dns_messages::{Message, OpCode};
@@ -17,7 +17,7 @@ pub struct Context {
     pub updates: Updates,
 }
 
-/// A server of zones, which remembers whether its last reply was to an update that it applied.
+/// A server of zones, which remembers what its last request has changed.
 #[derive(Drop)]
 pub struct ZoneServer {
     /// What memory for replies is taken from.
@@ -26,12 +26,10 @@ pub struct ZoneServer {
     pub answering: Answering,
     /// The zones.
     pub server: Server,
-    /// The zones from before the last update, if they are kept.
+    /// The zones from before the last update that changed records, if they are kept.
     pub former: Option<FormerZones>,
     /// What the last request that was served has changed.
     pub change: Option<ZoneChange>,
-    /// Whether the last request that was served was an update that was answered with `NoError`.
-    pub has_updated: bool,
 }
 
 impl FaultServer for ZoneServer {
@@ -57,7 +55,6 @@ impl FaultServer for ZoneServer {
             None => answering.respond_to(alloc, server, request, transport, updates)?,
         };
         self.change = change;
-        self.has_updated = is_accepted(reply.as_slice());
         Ok(reply)
     }
 
@@ -74,7 +71,6 @@ impl FaultServer for ZoneServer {
             Some(former) => {
                 let reply = former.serve(self.alloc, self.answering, request, context.transport)?;
                 self.change = None;
-                self.has_updated = false;
                 Ok(reply)
             }
             None => self.serve_request(request, context),

@@ -12,8 +12,8 @@ pub(crate) fn command<'a>(alloc: Global) -> Result<Command<'a>, AllocError> {
         .version(VERSION)
         .about("Looks up names at name servers")
         .arg(names(alloc)?)?
-        .arg(type_option(alloc))?
-        .arg(reverse_flag(alloc))?;
+        .arg(type_option(alloc)?)?
+        .arg(reverse_flag(alloc)?)?;
     let command = with_time(alloc, with_sources(alloc, command)?)?;
     with_flags(alloc, with_key(alloc, with_update(alloc, command)?)?)
 }
@@ -32,7 +32,7 @@ fn names<'a>(alloc: Global) -> Result<Arg<'a>, AllocError> {
 }
 
 /// Returns the option of the type.
-fn type_option<'a>(alloc: Global) -> Arg<'a> {
+fn type_option<'a>(alloc: Global) -> Result<Arg<'a>, AllocError> {
     option(
         alloc,
         "type",
@@ -40,16 +40,18 @@ fn type_option<'a>(alloc: Global) -> Arg<'a> {
         "The type of the records; addresses if it is omitted",
     )
     .short('t')
+    .conflicts_with("update")
 }
 
 /// Returns the flag of reverse names.
-fn reverse_flag<'a>(alloc: Global) -> Arg<'a> {
+fn reverse_flag<'a>(alloc: Global) -> Result<Arg<'a>, AllocError> {
     flag(
         alloc,
         "reverse",
         "Look up the PTR records of addresses, by their reverse names",
     )
     .short('x')
+    .conflicts_with("update")
 }
 
 /// Adds the options of servers and of what completes names.
@@ -73,17 +75,23 @@ fn with_sources<'a>(alloc: Global, command: Command<'a>) -> Result<Command<'a>, 
             "FILE",
             "The hosts file; /etc/hosts if it is omitted",
         ))?
-        .arg(list(
-            alloc,
-            "search",
-            "NAME",
-            "A name that completes relative names, in place of those of resolv.conf",
-        ))?
-        .arg(ndots_option(alloc))
+        .arg(search_option(alloc)?)?
+        .arg(ndots_option(alloc)?)
+}
+
+/// Returns the option of the names that complete relative ones.
+fn search_option<'a>(alloc: Global) -> Result<Arg<'a>, AllocError> {
+    list(
+        alloc,
+        "search",
+        "NAME",
+        "A name that completes relative names, in place of those of resolv.conf",
+    )
+    .conflicts_with("update")
 }
 
 /// Returns the option of the number of dots.
-fn ndots_option<'a>(alloc: Global) -> Arg<'a> {
+fn ndots_option<'a>(alloc: Global) -> Result<Arg<'a>, AllocError> {
     option(
         alloc,
         "ndots",
@@ -91,17 +99,13 @@ fn ndots_option<'a>(alloc: Global) -> Arg<'a> {
         "The number of labels above which a name is looked up as it is before it is completed",
     )
     .value_parser(value_parser!(u8).range(0..=15))
+    .conflicts_with("update")
 }
 
 /// Adds the options of how servers are asked.
 fn with_time<'a>(alloc: Global, command: Command<'a>) -> Result<Command<'a>, AllocError> {
     command
-        .arg(option(
-            alloc,
-            "strategy",
-            "STRATEGY",
-            "The types of addresses: ipv4, ipv6, both, ipv4-then-ipv6 or ipv6-then-ipv4",
-        ))?
+        .arg(strategy_option(alloc)?)?
         .arg(option(
             alloc,
             "timeout",
@@ -115,6 +119,17 @@ fn with_time<'a>(alloc: Global, command: Command<'a>) -> Result<Command<'a>, All
             "How many times each server is asked",
         )
         .value_parser(value_parser!(u16).range(1..=1000)))
+}
+
+/// Returns the option of the types of addresses.
+fn strategy_option<'a>(alloc: Global) -> Result<Arg<'a>, AllocError> {
+    option(
+        alloc,
+        "strategy",
+        "STRATEGY",
+        "The types of addresses: ipv4, ipv6, both, ipv4-then-ipv6 or ipv6-then-ipv4",
+    )
+    .conflicts_with("update")
 }
 
 /// Adds the options of updates.
@@ -155,8 +170,12 @@ fn with_flags<'a>(alloc: Global, command: Command<'a>) -> Result<Command<'a>, Al
     command
         .arg(flag(alloc, "tcp", "Ask over TCP alone"))?
         .arg(flag(alloc, "rotate", "Ask the servers in turn"))?
-        .arg(flag(alloc, "no-edns", "Leave the OPT record out of requests"))?
-        .arg(flag(alloc, "no-cache", "Ask again for what was found before"))?
+        .arg(flag(alloc, "no-edns", "Leave the OPT record out of requests").conflicts_with(
+            "update",
+        )?)?
+        .arg(flag(alloc, "no-cache", "Ask again for what was found before").conflicts_with(
+            "update",
+        )?)?
         .arg(flag(alloc, "json", "Print a JSON object for each lookup"))?
         .arg(flag(
             alloc,

@@ -237,20 +237,11 @@ fn command<'a>(alloc: Global, needs_files: bool) -> Result<Command<'a>, AllocErr
             "no-updates",
             "Refuse all dynamic updates but those that a key may make",
         ))?
-        .arg(updaters_option(alloc))?
-        .arg(secondaries_option(alloc))?
+        .arg(updaters_option(alloc)?)?
+        .arg(secondaries_option(alloc)?)?
         .arg(notify_option(alloc))?
-        .arg(option(
-            alloc,
-            "differences",
-            "N",
-            "How many records of differences are kept of each zone for incremental transfers, 10000 if none is given",
-        ))?
-        .arg(flag(
-            alloc,
-            "keep-serials",
-            "Let no serial number rise but by an update that raises it",
-        ))?
+        .arg(differences_option(alloc)?)?
+        .arg(keep_serials_flag(alloc)?)?
         .arg(flag(alloc, "until-stdin-closes", "End when standard input ends"))?;
     with_durable_options(alloc, with_replay_options(alloc, command)?)
 }
@@ -308,7 +299,7 @@ fn listen_option<'a>(alloc: Global) -> Arg<'a> {
 }
 
 /// Returns the option of the addresses from which updates are taken.
-fn updaters_option<'a>(alloc: Global) -> Arg<'a> {
+fn updaters_option<'a>(alloc: Global) -> Result<Arg<'a>, AllocError> {
     option(
         alloc,
         "allow-update",
@@ -316,10 +307,11 @@ fn updaters_option<'a>(alloc: Global) -> Arg<'a> {
         "Addresses from which updates are taken, beside those of the local host",
     )
     .action(ArgAction::Append)
+    .conflicts_with("no-updates")
 }
 
 /// Returns the option of the addresses to which zones are transferred.
-fn secondaries_option<'a>(alloc: Global) -> Arg<'a> {
+fn secondaries_option<'a>(alloc: Global) -> Result<Arg<'a>, AllocError> {
     option(
         alloc,
         "allow-transfer",
@@ -327,6 +319,28 @@ fn secondaries_option<'a>(alloc: Global) -> Arg<'a> {
         "Addresses to which zones are transferred, beside those of the local host",
     )
     .action(ArgAction::Append)
+    .conflicts_with("plain")
+}
+
+/// Returns the option of how many records of differences are kept.
+fn differences_option<'a>(alloc: Global) -> Result<Arg<'a>, AllocError> {
+    option(
+        alloc,
+        "differences",
+        "N",
+        "How many records of differences are kept of each zone for incremental transfers, 10000 if none is given",
+    )
+    .conflicts_with("plain")
+}
+
+/// Returns the flag by which serial numbers do not rise by themselves.
+fn keep_serials_flag<'a>(alloc: Global) -> Result<Arg<'a>, AllocError> {
+    flag(
+        alloc,
+        "keep-serials",
+        "Let no serial number rise but by an update that raises it",
+    )
+    .conflicts_with("plain")
 }
 
 /// Returns the option of the secondaries that are notified of changes.

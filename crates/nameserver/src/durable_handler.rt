@@ -4,11 +4,11 @@ use crate::durable::{draw_key, unedited_text};
 use crate::log_file::LogFile;
 use crate::notices::Notices;
 use crate::transfers::{Sources, Transfers};
-use dns_durable::{CompactError, DurableServer, Incoming, Policy, Replies, Terms, is_update};
+use dns_durable::{CompactError, DurableServer, Incoming, Policy, Reply, Terms, is_update};
 use dns_faults::Delivery;
 use dns_journal::State;
 use dns_journal::files::FileStorage;
-use dns_nameserver::{Answered, is_accepted, reply_transport, updates_of};
+use dns_nameserver::{Answered, has_changed, reply_transport, updates_of};
 use dns_server::AddressList;
 use dns_sockets::{Handler, Milliseconds, Notice, Request};
 use dns_transfers::replies::Recorder;
@@ -42,6 +42,15 @@ pub(crate) struct DurableHandler<'a> {
     pub(crate) has_failed: bool,
 }
 
+/// The reply to a request, once its change is recorded.
+#[derive(Drop)]
+struct Recorded {
+    /// The bytes of the reply, if there is one.
+    reply: Option<Vec<u8>>,
+    /// Whether the request was an update that changed records.
+    has_updated: bool,
+}
+
 impl Handler for DurableHandler<'_> {
     /// Updates that wait one after another are written to the disk together.
     fn gathers(&self, bytes: &[u8]) -> bool {
@@ -54,6 +63,10 @@ impl Handler for DurableHandler<'_> {
             terms.push(self.terms(request))?;
         }
         let replies = self.respond(requests, terms.as_slice());
+        if replies.is_err() {
+            // Updates may have been made whose changes are not known.
+            self.recorder.forget();
+        }
         self.tend_journal();
         self.deliver(requests, replies?)
     }
@@ -91,7 +104,7 @@ impl DurableHandler<'_> {
         &mut self,
         requests: &[Request<'_>],
         terms: &[Terms],
-    ) -> Result<Vec<Option<Vec<u8>>>, AllocError> {
+    ) -> Result<Vec<Recorded>, AllocError> {
         let mut incoming = Vec::new(self.rt.alloc());
         for (request, terms) in requests.iter().zip(terms) {
             incoming.push(Incoming {
@@ -101,26 +114,24 @@ impl DurableHandler<'_> {
         }
         let responded = self
             .server
-            .respond_all(self.rt.alloc(), &self.policy, incoming.as_slice());
-        match responded {
-            Ok(
-                Replies {
-                    replies,
-                    is_stored: _is_stored,
-                    changes,
-                },
-            ) => {
-                for change in changes {
-                    // Without memory for the difference, the history of the zone begins again.
-                    let _recorded = self.recorder.record(change);
-                }
-                Ok(replies)
-            }
-            Err(AllocError) => {
-                // Updates may have been made whose changes are not known.
-                self.recorder.forget();
-                Err(AllocError) // Memory was refused for the replies.
-            }
+            .respond_all(self.rt.alloc(), &self.policy, incoming.as_slice())?;
+        let mut recorded = Vec::new(self.rt.alloc());
+        for reply in responded.replies {
+            recorded.push(self.record(reply))?;
+        }
+        Ok(recorded)
+    }
+
+    /// Records what the request of a reply has changed.
+    fn record(&mut self, reply: Reply) -> Recorded {
+        let has_updated = has_changed(&reply.change);
+        if let Some(change) = reply.change {
+            // Without memory for the difference, the history of the zone begins again.
+            let _recorded = self.recorder.record(change);
+        }
+        Recorded {
+            reply: reply.bytes,
+            has_updated,
         }
     }
 
@@ -137,14 +148,13 @@ impl DurableHandler<'_> {
     fn deliver(
         &mut self,
         requests: &[Request<'_>],
-        replies: Vec<Option<Vec<u8>>>,
+        replies: Vec<Recorded>,
     ) -> Result<Vec<Delivery>, AllocError> {
         let mut deliveries = Vec::new(self.rt.alloc());
         let mut has_updated = false;
-        for (request, reply) in requests.iter().zip(replies) {
-            let answered = self.logged(request, reply)?;
-            has_updated = has_updated || answered.has_updated;
-            deliveries.push(answered.delivery)?;
+        for (request, recorded) in requests.iter().zip(replies) {
+            has_updated = has_updated || recorded.has_updated;
+            deliveries.push(self.logged(request, recorded)?)?;
         }
         if let Some(last) = requests.last() {
             if has_updated {
@@ -155,26 +165,25 @@ impl DurableHandler<'_> {
         Ok(deliveries)
     }
 
-    /// Logs a request with its reply, and returns what it leads to.
+    /// Logs a request with its reply, and returns what is sent.
     fn logged(
         &mut self,
         request: &Request<'_>,
-        reply: Option<Vec<u8>>,
-    ) -> Result<Answered, AllocError> {
+        recorded: Recorded,
+    ) -> Result<Delivery, AllocError> {
         let reply = match self.transferred(request)? {
             Some(transferred) => Some(transferred),
-            None => reply,
+            None => recorded.reply,
         };
-        let has_updated = is_update_made(&reply);
         let answered = Answered {
             delivery: Delivery::plain(reply),
             line: None,
-            has_updated,
+            has_updated: recorded.has_updated,
         };
         if let Some(log) = &mut self.log {
             log.append_request(self.rt, request, &answered);
         }
-        Ok(answered)
+        Ok(answered.delivery)
     }
 
     /// Returns the reply to a request for an incremental transfer in a datagram.
@@ -249,13 +258,5 @@ impl DurableHandler<'_> {
                 "nameserver: journal: out of memory; updates are refused until a restart"
             ),
         };
-    }
-}
-
-/// Returns `true` for the reply to an update that was made.
-fn is_update_made(reply: &Option<Vec<u8>>) -> bool {
-    match reply {
-        Some(bytes) => is_accepted(bytes.as_slice()),
-        None => false,
     }
 }

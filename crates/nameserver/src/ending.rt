@@ -65,10 +65,13 @@ impl Ending {
         }
     }
 
-    /// Returns the exit status: 2 if the arguments are at fault, otherwise 1.
-    pub(crate) fn status(&self) -> u8 {
+    /// Returns the exit status: 2 if the arguments are at fault, otherwise 1. Of a comparison, 1 says that a script expects something
+    /// else, and 2 that it was not compared.
+    pub(crate) fn status(&self, is_comparison: bool) -> u8 {
         match self {
             Ending::Arguments(_) | Ending::InvalidValue(_) | Ending::NotUtf8 => 2,
+            Ending::Differs => 1,
+            _ if is_comparison => 2,
             _ => 1,
         }
     }

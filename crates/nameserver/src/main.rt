@@ -28,7 +28,7 @@ mod transfers;
 mod unmatched;
 mod zones;
 
-use crate::arguments::{Arguments, read_arguments};
+use crate::arguments::{Arguments, ReplayMode, read_arguments};
 use crate::durable::{compact_and_end, open_durable};
 use crate::durable_handler::DurableHandler;
 use crate::ending::Ending;
@@ -42,13 +42,13 @@ use crate::replay::{Part, Replay};
 use crate::source::{Source, WallClock};
 use crate::transfers::Transfers;
 use crate::unmatched::tell_unmatched;
-use crate::zones::{read_former, read_zones};
+use crate::zones::{read_zones, read_zones_twice};
 use dns_authority::service::Answering;
 use dns_durable::DurableServer;
 use dns_faults::rules::{FaultTable, Service as FaultService};
 use dns_faults::table::{FaultTableError, parse_faults};
 use dns_journal::files::FileStorage;
-use dns_nameserver::{NameServer, ZoneServer};
+use dns_nameserver::{FormerZones, NameServer, ZoneServer};
 use dns_server::AddressList;
 use std::process::ExitCode;
 use std::{env, io};
@@ -57,14 +57,19 @@ use std::{env, io};
 const RULES_NAME: &str = "with";
 
 fn main(rt: HostRuntime) -> ExitCode {
-    match run_program(&rt) {
+    let arguments = match given_arguments(&rt) {
+        Ok(arguments) => arguments,
+        Err(ending) => return end(&rt, &ending, false),
+    };
+    let is_comparison = matches!(arguments.replay_mode, ReplayMode::Check);
+    match run_program(&rt, arguments) {
         Ok(()) => ExitCode::SUCCESS,
-        Err(ending) => end(&rt, &ending),
+        Err(ending) => end(&rt, &ending, is_comparison),
     }
 }
 
 /// Says why the program ends, and returns its status.
-fn end(rt: &HostRuntime, ending: &Ending) -> ExitCode {
+fn end(rt: &HostRuntime, ending: &Ending, is_comparison: bool) -> ExitCode {
     if ending.is_answer() {
         return match rt.print(ending) {
             Ok(()) => ExitCode::SUCCESS,
@@ -73,12 +78,11 @@ fn end(rt: &HostRuntime, ending: &Ending) -> ExitCode {
     }
     // A failure to write to standard error can't be reported.
     let _written = rt.eprint(ending);
-    ExitCode::from(ending.status())
+    ExitCode::from(ending.status(is_comparison))
 }
 
 /// Serves the zones that the arguments name, at sockets or for scripts.
-fn run_program(rt: &HostRuntime) -> Result<(), Ending> {
-    let arguments = given_arguments(rt)?;
+fn run_program(rt: &HostRuntime, arguments: Arguments) -> Result<(), Ending> {
     if arguments.replay.is_empty() {
         serve(rt, arguments, None)?;
         return Ok(());
@@ -254,17 +258,17 @@ fn handler_of<'a>(
     })
 }
 
-/// Reads the zones, twice if a fault needs those from before the last update.
+/// Reads the zones, and makes a copy of them if a fault needs those from before the last update.
 fn zone_server(
     rt: &HostRuntime,
     arguments: &Arguments,
     faults: &FaultTable,
 ) -> Result<ZoneServer, Ending> {
-    let server = read_zones(rt, arguments)?;
-    let former = if has_stale(faults) {
-        Some(read_former(rt, arguments)?)
+    let (server, former) = if has_stale(faults) {
+        let (server, copy) = read_zones_twice(rt, arguments)?;
+        (server, Some(FormerZones::new(copy, arguments.answering)))
     } else {
-        None
+        (read_zones(rt, arguments)?, None)
     };
     Ok(ZoneServer {
         alloc: rt.alloc(),
@@ -272,7 +276,6 @@ fn zone_server(
         server,
         former,
         change: None,
-        has_updated: false,
     })
 }
 

@@ -17,7 +17,8 @@ use crate::replay::script::{Event, Script, parse_script};
 use crate::replay::shown::{show_answered, show_messages, show_notice};
 use dns_messages::{MessageType, Metadata};
 use dns_sockets::{Handler, Milliseconds, Request, Transport};
-use std::alloc::AllocError;
+use script_expectations::indented_expectation;
+use std::alloc::{AllocError, Global};
 
 /// A script that was read, and what is done with what its events lead to.
 #[derive(Drop)]
@@ -32,6 +33,9 @@ impl Replay {
     /// Reads a script.
     pub(crate) fn read(rt: &HostRuntime, path: &str, mode: ReplayMode) -> Result<Replay, Ending> {
         let text = text_of(rt.alloc(), path, read_file(rt, path)?)?;
+        if uses_expectations(mode) {
+            refuse_indented(rt.alloc(), path, text.as_str())?;
+        }
         let script = parse_script(rt.alloc(), path, text.as_str())?;
         Ok(Replay {
             path: String::from_str(rt.alloc(), path)?,
@@ -55,6 +59,27 @@ impl Replay {
             self.text.as_str(),
             printed,
         )
+    }
+}
+
+/// Returns `true` if expectations in a script are compared or replaced.
+fn uses_expectations(mode: ReplayMode) -> bool {
+    match mode {
+        ReplayMode::Check | ReplayMode::Bless => true,
+        ReplayMode::Print => false,
+    }
+}
+
+/// Refuses a script in which blanks are before `#> `: that would be a comment, and no expectation.
+fn refuse_indented(alloc: Global, path: &str, text: &str) -> Result<(), Ending> {
+    match indented_expectation(alloc, text)? {
+        Some(number) => {
+            let report = format!(in alloc;
+                "{path}:{number}: '#> ' must be at the start of the line\n"
+            )?;
+            Err(Ending::Refused(report))
+        }
+        None => Ok(()),
     }
 }
 

@@ -5,7 +5,6 @@ use crate::ending::Ending;
 use crate::files::{read_file, text_of};
 use crate::includes::read_includes;
 use dns_names::Name;
-use dns_nameserver::FormerZones;
 use dns_server::{AddZoneError, Server};
 use dns_zone::{Zone, ZoneFault};
 use dns_zone_file::Types;
@@ -15,27 +14,50 @@ use std::io;
 use std::time::Instant;
 use zone_check::{ReportFormat, ZoneText, check_zone, without_mark, zone_report};
 
+/// The text of a zone file, and those of the files that it includes.
+#[derive(Drop)]
+struct ZoneSource {
+    text: String,
+    includes: Vec<(String, String)>,
+}
+
 /// Reads the zone files, and returns a server of their zones. Standard error has a line for each.
 pub(crate) fn read_zones(rt: &HostRuntime, arguments: &Arguments) -> Result<Server, Ending> {
     let mut server = Server::new(rt.alloc());
     for path in arguments.files.as_slice() {
-        let path = path.as_str();
-        let start = Instant::now(rt);
-        let zone = read_zone(rt, path, arguments)?;
-        tell(rt, path, &zone, milliseconds_since(rt, start));
-        add_zone(rt, &mut server, path, zone)?;
+        let _source = add_file(rt, &mut server, path.as_str(), arguments)?;
     }
     Ok(server)
 }
 
-/// Reads the zone files again, for the zones from before the last update.
-pub(crate) fn read_former(rt: &HostRuntime, arguments: &Arguments) -> Result<FormerZones, Ending> {
+/// Reads the zone files once, and returns two servers of the same zones. Standard error has a line for each file.
+pub(crate) fn read_zones_twice(
+    rt: &HostRuntime,
+    arguments: &Arguments,
+) -> Result<(Server, Server), Ending> {
     let mut server = Server::new(rt.alloc());
+    let mut copy = Server::new(rt.alloc());
     for path in arguments.files.as_slice() {
-        let zone = read_zone(rt, path.as_str(), arguments)?;
-        add_zone(rt, &mut server, path.as_str(), zone)?;
+        let path = path.as_str();
+        let source = add_file(rt, &mut server, path, arguments)?;
+        add_zone(rt, &mut copy, path, source.zone(rt, path, arguments)?)?;
     }
-    Ok(FormerZones::new(server, arguments.answering))
+    Ok((server, copy))
+}
+
+/// Reads a zone file, adds its zone to a server, and returns its text. Standard error has a line for it.
+fn add_file(
+    rt: &HostRuntime,
+    server: &mut Server,
+    path: &str,
+    arguments: &Arguments,
+) -> Result<ZoneSource, Ending> {
+    let start = Instant::now(rt);
+    let source = read_source(rt, path, arguments)?;
+    let zone = source.zone(rt, path, arguments)?;
+    tell(rt, path, &zone, milliseconds_since(rt, start));
+    add_zone(rt, server, path, zone)?;
+    Ok(source)
 }
 
 /// Returns how many milliseconds have passed, or 0 if the clock fails.
@@ -75,16 +97,23 @@ pub(crate) fn add_zone(
 }
 
 /// Reads a zone file, with the files that it includes.
-fn read_zone(rt: &HostRuntime, path: &str, arguments: &Arguments) -> Result<Zone, Ending> {
+fn read_source(rt: &HostRuntime, path: &str, arguments: &Arguments) -> Result<ZoneSource, Ending> {
     let text = text_of(rt.alloc(), path, read_file(rt, path)?)?;
     let includes = read_includes(rt, path, without_mark(text.as_str()), arguments.reach)?;
-    zone_of(
-        rt,
-        path,
-        text.as_str(),
-        includes.as_slice(),
-        arguments.origin.as_ref(),
-    )
+    Ok(ZoneSource { text, includes })
+}
+
+impl ZoneSource {
+    /// Returns the zone of the text, or what is wrong in it.
+    fn zone(&self, rt: &HostRuntime, path: &str, arguments: &Arguments) -> Result<Zone, Ending> {
+        zone_of(
+            rt,
+            path,
+            self.text.as_str(),
+            self.includes.as_slice(),
+            arguments.origin.as_ref(),
+        )
+    }
 }
 
 /// Returns the zone of a zone file, or what is wrong in it.

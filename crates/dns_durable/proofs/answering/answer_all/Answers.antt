@@ -1,5 +1,5 @@
 use Rattle.std.proofs.Common.{◌≡◌, ◌⊎◌, ◌∙◌, true, false, inr, refl, subst}
-use Rattle.std.specs.Prelude.{option_map}
+use Rattle.dns_durable.specs.Changes.{reply_bytes}
 use Rattle.dns_durable.specs.Reply.{AnswersOne, zones_left}
 use Rattle.dns_durable.specs.declared.incoming.Arrived.{Arrived}
 use Rattle.dns_durable.proofs.BatchLaws.{answered_left, first_judged, front_go_on, front_stop, mapped_more, on_error, others_judged, replies_begin, replies_end, replies_go_on}
@@ -12,32 +12,25 @@ returns-in_err-reply-clause-failed c =
     c.in-len1-up.len_at_least c.loop-rest.invariant.1.0 c.loop-rest.invariant.1.1.1.0
     (subst (λ (x : Arrived). (c.answer.new.server ≡ c.loop-rest.server) ⊎ (c.answer.new.server ≡ zones_left c.args.policy.now.answering c.args.is_stored c.loop-rest.server x)) c.next-item.is c.in_err-reply.ensures.failed))
 
-pub returns-in_err-push_change-clause-failed : goal.returns-in_err-push_change-clause-failed
-returns-in_err-push_change-clause-failed c =
-    on_error c.from_residual-in_err-push_change.result _ (λ is. front_stop c.args.policy.now c.loop-rest.rest.now c.next-item.result c.args.is_stored c.args.server.now c.loop-rest.server c.answer.new.server
-    c.args.admitted.now is c.in-len1-up.len_at_least c.loop-rest.invariant.1.0 c.loop-rest.invariant.1.1.1.0
-    (inr (answered_left c.args.policy.now c.args.is_stored c.args.is_stored c.loop-rest.server c.answer.new.server _ _ refl
-    (subst (λ (x : Arrived). AnswersOne c.args.policy.now c.args.is_stored c.loop-rest.server c.answer.new.server x (option_map (λ out. out.items) c.in_ok-reply.field-0.reply)) c.next-item.is c.in_ok-reply.ensures.answered))))
-
 pub returns-in_err-push-clause-failed : goal.returns-in_err-push-clause-failed
 returns-in_err-push-clause-failed c =
     on_error c.from_residual-in_err-push.result _ (λ is. front_stop c.args.policy.now c.loop-rest.rest.now c.next-item.result c.args.is_stored c.args.server.now c.loop-rest.server c.answer.new.server
     c.args.admitted.now is c.in-len1-up.len_at_least c.loop-rest.invariant.1.0 c.loop-rest.invariant.1.1.1.0
     (inr (answered_left c.args.policy.now c.args.is_stored c.args.is_stored c.loop-rest.server c.answer.new.server _ _ refl
-    (subst (λ (x : Arrived). AnswersOne c.args.policy.now c.args.is_stored c.loop-rest.server c.answer.new.server x (option_map (λ out. out.items) c.in_ok-reply.field-0.reply)) c.next-item.is c.in_ok-reply.ensures.answered))))
+    (subst (λ (x : Arrived). AnswersOne c.args.policy.now c.args.is_stored c.loop-rest.server c.answer.new.server x (reply_bytes c.in_ok-reply.field-0)) c.next-item.is c.in_ok-reply.ensures.answered))))
 
 pub loop-rest-init : goal.loop-rest-init
 loop-rest-init c = (
-  replies_begin c.args.policy.now c.args.is_stored c.args.server.now c.args.admitted.now (λ reply. option_map (λ out. out.items) reply) c.new-replies.result.items c.new-replies.ensures.items,
-  (λ is last front. front, (λ is. refl, (c.requires, changes_none c.args.server.now c.new-changes.result.items c.new-changes.ensures.items))),
+  replies_begin c.args.policy.now c.args.is_stored c.args.server.now c.args.admitted.now reply_bytes c.new-replies.result.items c.new-replies.ensures.items,
+  (λ is last front. front, (λ is. refl, (c.requires, changes_none c.args.server.now c.new-replies.result.items c.new-replies.ensures.items))),
 )
 
 pub loop-rest-preserved : goal.loop-rest-preserved
 loop-rest-preserved c =
-    let first = subst (λ (x : Arrived). AnswersOne c.args.policy.now c.args.is_stored c.loop-rest.server c.answer.new.server x (option_map (λ out. out.items) c.in_ok-reply.field-0.reply)) c.next-item.is c.in_ok-reply.ensures.answered in (
+    let first = subst (λ (x : Arrived). AnswersOne c.args.policy.now c.args.is_stored c.loop-rest.server c.answer.new.server x (reply_bytes c.in_ok-reply.field-0)) c.next-item.is c.in_ok-reply.ensures.answered in (
       λ more end rest. replies_go_on c.args.policy.now c.args.is_stored c.loop-rest.rest.now c.next-item.result c.args.server.now c.loop-rest.server c.answer.new.server c.args.admitted.now _ _
-          (option_map (λ out. out.items) c.in_ok-reply.field-0.reply) c.in-len1-up.len_at_least c.loop-rest.invariant.0 first
-          (mapped_more (λ reply. option_map (λ out. out.items) reply) c.loop-rest.replies.items c.in_ok-reply.field-0.reply c.push.new.self.items c.in_ok-push.ensures.items) more end rest,
+          (reply_bytes c.in_ok-reply.field-0) c.in-len1-up.len_at_least c.loop-rest.invariant.0 first
+          (mapped_more reply_bytes c.loop-rest.replies.items c.in_ok-reply.field-0 c.push.new.self.items c.in_ok-push.ensures.items) more end rest,
       (
         λ is last front. front_go_on c.args.policy.now c.loop-rest.rest.now c.next-item.result c.args.server.now c.loop-rest.server c.answer.new.server last c.args.admitted.now c.in-len1-up.len_at_least
             (c.loop-rest.invariant.1.0 is) (first_judged c.args.policy.now c.loop-rest.rest.now c.next-item.result c.in-len1-up.len_at_least c.loop-rest.invariant.1.1.1.0)
@@ -46,7 +39,7 @@ loop-rest-preserved c =
           λ is. answered_left c.args.policy.now c.args.is_stored false c.loop-rest.server c.answer.new.server _ _ is first ∙ c.loop-rest.invariant.1.1.0 is,
           (
             others_judged c.args.policy.now c.loop-rest.rest.now c.in-len1-up.len_at_least c.loop-rest.invariant.1.1.1.0,
-            changes_more c.args.server.now c.loop-rest.server c.answer.new.server c.loop-rest.changes.items c.push_change.new.changes.items c.in_ok-reply.field-0.change c.in_ok-push_change.ensures
+            changes_more c.args.server.now c.loop-rest.server c.answer.new.server c.loop-rest.replies.items c.in_ok-reply.field-0 c.push.new.self.items c.in_ok-push.ensures.items
                 c.loop-rest.invariant.1.1.1.1 c.in_ok-reply.ensures.change,
           ),
         ),
