@@ -212,30 +212,3 @@ def together(given):
     with tempfile.TemporaryDirectory() as name:
         yield from beside(given, Path(name), max(1, given.kills // 4))
     print(f"  {max(1, given.kills // 4)} servers beside one that begins its journal anew", flush=True)
-
-
-def compacted(given):
-    """What a compaction keeps: the mode of the zone file, a symbolic link to it, and an edit that was made while the server ran."""
-    with tempfile.TemporaryDirectory() as name:
-        folder = Path(name)
-        (folder / "kept").mkdir()
-        (folder / "kept" / "there").write_text(ZONE)
-        (folder / "kept" / "there").chmod(0o640)
-        (folder / "zone").symlink_to("kept/there")
-        server = Server(given.program, folder, "--journal-limit", "4096")
-        for number in range(80):
-            server.add(number, f"n{number}.example.")
-        server.kill()
-        if not (folder / "zone").is_symlink() or "n20" not in (folder / "kept" / "there").read_text():
-            yield "a symbolic link is replaced, or there was no compaction"
-        if (folder / "kept" / "there").stat().st_mode & 0o777 != 0o640:
-            yield f"the mode is {oct((folder / 'kept' / 'there').stat().st_mode)}"
-        server = Server(given.program, folder, "--journal-limit", "4096")
-        edited = (folder / "zone").read_text() + "; by hand\n"
-        (folder / "zone").write_text(edited)
-        codes = {server.add(number, f"n{number}.example.") for number in range(80, 200)}
-        server.kill()
-        if codes != {0} or (folder / "zone").read_text() != edited:
-            yield f"an edit is overwritten, or updates are refused: {codes}"
-        if list(folder.glob("**/*.new")):
-            yield "a file with a new text is left"

@@ -1,10 +1,12 @@
 """The parts of check/durable."""
 from collections import namedtuple
 
-from damaged import compacted, damaged, together
+from compacted import compacted
+from damaged import damaged, together
 from keys import grants, keys, modes
 from kills import damage, disk, kills
 from mutations import mutations
+from pauses import pauses
 from speed import speed
 from torn import torn
 
@@ -24,4 +26,5 @@ PARTS = {
     "kills": kills,
     "torn": torn,
     "speed": speed,
+    "pauses": pauses,
 }

@@ -37,6 +37,13 @@ class Server:
         self.socket.settimeout(5)
         self.socket.connect(("127.0.0.1", self.port))
 
+    def another_socket(self):
+        """A socket of its own, for another thread."""
+        other = socket.socket(socket.AF_INET, socket.SOCK_DGRAM)
+        other.settimeout(10)
+        other.connect(("127.0.0.1", self.port))
+        return other
+
     def ask(self, message):
         """The reply to a message, or None if the server is gone."""
         try:

@@ -20,7 +20,7 @@ contents_after origin records =
     let c : Context = context_in All (start_origin origin) in
     λ i. record { origin = sym (origin_stays c records) i; sets = sym (sets_after c records) i; soa_owner = sym (soa_after c records) i }
 
-parses_from : (includes : Includes) (line : ℕ) (c : Context) (records : List Record) → AreStatedRecords records → AllByRecursion IsInternet c.sets → c.types ≡ All
+pub parses_from : (includes : Includes) (line : ℕ) (c : Context) (records : List Record) → AreStatedRecords records → AllByRecursion IsInternet c.sets → c.types ≡ All
     → Parses includes 0 c (line_start line (lines_of records)) (Ok (after_records c records))
 parses_from includes line c [] are sets all = ended (at_end refl)
 parses_from includes line c (r ∷ records) are sets all =

@@ -21,4 +21,6 @@ pub mod TypeLaws
 pub mod GenericLaws
 pub mod LineLaws
 pub mod FileLaws
+pub mod OriginLaws
+pub mod StatedLaws
 pub mod ZoneLaws

@@ -51,7 +51,7 @@ ends : (p : LexerState) (rest : List ℕ) → p.is_open ≡ false → p.quotes �
 ends p rest closed many = subst (λ (q : Quotes). NextToken (at p (10 ∷ rest) false) (Ok (Some EOL)) (record (line_start (p.line + 1) rest) { quotes = q })) many (at_token (rw closed refl))
 
 -- data up to the end of a line
-data_lexes : (p : LexerState) (is_front : Bool) (datum : Lexeme) (more : List Lexeme) (rest : List ℕ) → AllByRecursion IsDatum (datum ∷ more) → p.is_open ≡ false → p.quotes ≡ ManyLines
+pub data_lexes : (p : LexerState) (is_front : Bool) (datum : Lexeme) (more : List Lexeme) (rest : List ℕ) → AllByRecursion IsDatum (datum ∷ more) → p.is_open ≡ false → p.quotes ≡ ManyLines
     → LexesEntry (at p (data_text (datum ∷ more) ++ 10 ∷ rest) is_front) (datum ∷ more) (line_start (p.line + 1) rest)
 data_lexes p is_front datum [] rest are closed many =
     one_token (datum_next p is_front datum (10 ∷ rest) are.0 (by_cut (by_line_end feed))) (no_end datum are.0) (line_end (ends p rest closed many))

@@ -18,6 +18,7 @@ use Rattle.dns_wire.specs.declared.codes.record_type.RecordType.TheVariants as t
 use Rattle.dns_wire.specs.Name.{AreLabels, IsLabel, name_len}
 use Rattle.dns_names.specs.Name.{DomainName}
 use Rattle.dns_names.specs.Compare.{same_name, same_labels, at_or_below, lower}
+use Rattle.dns_names.specs.Build.{root_name}
 use Rattle.dns_names.specs.Print.{AreOctets}
 use Rattle.dns_names.specs.internal.Compare.{same_name-equivalence}
 use Rattle.dns_data.specs.declared.rdata.RData.{RData}
@@ -32,9 +33,10 @@ use Rattle.dns_zone_file.specs.RecordSets.{is_set_of}
 use Rattle.dns_zone_file.specs.Parsed.{AreDistinctSets}
 use Rattle.dns_zone_file.specs.declared.types.Types.TheVariants.{All}
 use Rattle.dns_zone_file.specs.Parsing.{HasRecords}
-use Rattle.dns_zone_file.specs.Printed.{record_line, lines_of, inserted_each, first_soa_owner, printed_records}
-use Rattle.dns_durable.specs.zone_texts.Stated.{AreStatedRecords, IsStatedRow, AreStatedAt, IsStated}
+use Rattle.dns_zone_file.specs.Printed.{record_line, lines_of, inserted_each, first_soa_owner}
+use Rattle.dns_durable.specs.zone_texts.Stated.{AreStatedRecords, IsStatedRow, AreStatedAt, IsStated, with_origin}
 use Rattle.dns_durable.proofs.FileLaws.{lines_contain}
+use Rattle.dns_durable.proofs.OriginLaws.{file_contains}
 use Rattle.dns_zone.specs.Load.{ReadsZoneIn, good_zone, is_internet, is_inside, is_soa, is_apex, has_long_data, fault_of}
 use Rattle.dns_zone.specs.Printed.{is_start, AreZoneSets, owner_lines, set_lines, zone_text, IsZoneText}
 use Rattle.dns_zone.specs.Rows.{Key, key, key_cmp, Rows, ZoneContent, set_key, rows_of, rows_of_sets, IsSoundSet, AreSoundSets, AreSoundRows}
@@ -186,10 +188,10 @@ all_parts : {A : Type 0} (P : A → Type 0) (xs ys : List A) → AllByRecursion 
 all_parts P [] ys a b = b
 all_parts P (x ∷ xs) ys a b = (a.0, all_parts P xs ys a.1 b)
 
-abbrev IsStatedSet : RecordSetValue → Type 0
-IsStatedSet s = AreStatedAt (set_key s) (rows_of s.records)
+abbrev AreStatedRowsOf : RecordSetValue → Type 0
+AreStatedRowsOf s = AreStatedAt (set_key s) (rows_of s.records)
 
-sets_stated : (sets : List RecordSetValue) → AreSoundSets sets → AllByRecursion IsStatedSet sets → AreStatedRecords (flat_map printed sets)
+sets_stated : (sets : List RecordSetValue) → AreSoundSets sets → AllByRecursion AreStatedRowsOf sets → AreStatedRecords (flat_map printed sets)
 sets_stated [] sound are = tt
 sets_stated (s ∷ sets) sound are =
     all_parts _ (printed s) (flat_map printed sets)
@@ -214,7 +216,7 @@ unfolding IsDistinct
 each_found [] sound d = tt
 each_found (s ∷ sets) sound d = (first_found s sets, later_found s sets sets sound.0.fqdn sound.1 d.0 (each_found sets sound.1 d.1))
 
-stated_found : (sets rest : List RecordSetValue) → ((k : Key) → IfSome (rows_map.get (rows_of_sets sets) k) (AreStatedAt k)) → AllByRecursion (λ t. list.find (tied (set_key t)) sets ≡ Some t) rest → AllByRecursion IsStatedSet rest
+stated_found : (sets rest : List RecordSetValue) → ((k : Key) → IfSome (rows_map.get (rows_of_sets sets) k) (AreStatedAt k)) → AllByRecursion (λ t. list.find (tied (set_key t)) sets ≡ Some t) rest → AllByRecursion AreStatedRowsOf rest
 unfolding rows_if
 stated_found sets [] are all = tt
 stated_found sets (t ∷ rest) are all = (
@@ -286,36 +288,57 @@ module _ (origin : DomainName) (s : RecordSetValue) (f : origin.is_fqdn ≡ true
 
 -- ---- zones
 
-reads_sets : (zone : ZoneContent) (s : RecordSetValue) (sets : List RecordSetValue) → zone.rows ≡ rows_of_sets (s ∷ sets) → s.name ≡ zone.origin → s.record_type ≡ types.SOA
-    → AreSoundSets (s ∷ sets) → AreDistinctSets (s ∷ sets) → AreFaultless zone.origin (s ∷ sets) → IsStated zone
-    → ReadsZoneIn All [] None (flat_map set_lines (s ∷ sets)) (Ok zone)
-reads_sets zone s sets e owner soa sound d f are =
-    let records : List Record = flat_map printed (s ∷ sets) in
-    let each : AllByRecursion IsStatedSet (s ∷ sets) =
-    stated_found (s ∷ sets) (s ∷ sets) (subst (λ (rows : Rows). (k : Key) → IfSome (rows_map.get rows k) (AreStatedAt k)) e are) (each_found (s ∷ sets) sound d) in
-    let again : inserted_each [] records ≡ map made (s ∷ sets) = sets_again (s ∷ sets) sound d in
-    let first : first_soa_owner records ≡ Some zone.origin =
-    first_owner s.name s.records (flat_map printed sets) (subst (λ (t : RecordType). AllByRecursion (λ (r : Record). data_type r.rdata ≡ t) s.records) soa sound.0.of_type) sound.0.rows sound.0.filled
-    ∙ ap Some owner in
-    let faults : fault_of (Some zone.origin) (inserted_each [] records) ≡ None =
-    ap (λ (l : List RecordSetValue). fault_of (Some zone.origin) l) again ∙ is_faultless zone.origin (map made (s ∷ sets)) (made_faultless zone.origin (s ∷ sets) sound f) in
-    let rows : rows_of_sets (inserted_each [] records) ≡ zone.rows = ap rows_of_sets again ∙ rows_made (s ∷ sets) sound ∙ sym e in
-    let has : HasRecords (record { text = lines_of records; includes = []; origin = None; types = All }) (printed_records None records) =
-    lines_contain [] None records (sets_stated (s ∷ sets) sound each) in
-    let reads : ReadsZoneIn All [] None (lines_of records) (Ok (record { origin = zone.origin; rows = rows_of_sets (inserted_each [] records) })) =
-    good_zone has first faults in
-    subst (λ (text : List ℕ). ReadsZoneIn All [] None text (Ok zone)) (lines_of_sets (s ∷ sets))
-    (subst (λ (rows : Rows). ReadsZoneIn All [] None (lines_of records) (Ok (record { origin = zone.origin; rows = rows }))) rows reads)
+-- A text has the lines of records, in front of which there may be others: then it has these records. The origin that the text
+-- states is a name.
+abbrev HasLines : DomainName → DomainName → (List ℕ → List ℕ) → Type 0
+HasLines origin found front = AreLabels origin.labels → AllByRecursion AreOctets origin.labels → (records : List Record) → AreStatedRecords records
+    → HasRecords (record { text = front (lines_of records); includes = []; origin = None; types = All })
+    (record { origin = found; sets = inserted_each [] records; soa_owner = first_soa_owner records })
 
-reads_text : (zone : ZoneContent) (sets : List RecordSetValue) → zone.origin.is_fqdn ≡ true → zone.rows ≡ rows_of_sets sets → AreSoundSets sets → AreZoneSets zone.origin sets → IsStated zone
-    → ReadsZoneIn All [] None (zone_text zone.origin sets) (Ok zone)
-reads_text zone [] f e sound kept are = absurd kept.start_first
-reads_text zone (s ∷ sets) f e sound kept are =
-    let start = kept.start_first in
-    reads_sets zone (renamed zone.origin s) sets (e ∙ sym (renamed_rows zone.origin s f sound.0 start sets)) refl (start_type zone.origin s sound.0 start)
-    (renamed_sound zone.origin s f sound.0 start, sound.1) (renamed_distinct zone.origin s f sound.0 start sets kept.distinct)
-    (renamed_faultless zone.origin s f sound.0 start sets (faultless zone.origin (s ∷ sets) kept.faultless)) are
+module _ (zone : ZoneContent) (found : DomainName) (front : List ℕ → List ℕ) (lines : HasLines zone.origin found front) where
+  reads_sets : (s : RecordSetValue) (sets : List RecordSetValue) → zone.rows ≡ rows_of_sets (s ∷ sets) → s.name ≡ zone.origin → s.record_type ≡ types.SOA
+      → AreSoundSets (s ∷ sets) → AreDistinctSets (s ∷ sets) → AreFaultless zone.origin (s ∷ sets) → AllByRecursion AreStatedRowsOf (s ∷ sets)
+      → ReadsZoneIn All [] None (front (flat_map set_lines (s ∷ sets))) (Ok zone)
+  reads_sets s sets e owner soa sound d f each =
+      let records : List Record = flat_map printed (s ∷ sets) in
+      let again : inserted_each [] records ≡ map made (s ∷ sets) = sets_again (s ∷ sets) sound d in
+      let first : first_soa_owner records ≡ Some zone.origin =
+      first_owner s.name s.records (flat_map printed sets) (subst (λ (t : RecordType). AllByRecursion (λ (r : Record). data_type r.rdata ≡ t) s.records) soa sound.0.of_type) sound.0.rows sound.0.filled
+      ∙ ap Some owner in
+      let faults : fault_of (Some zone.origin) (inserted_each [] records) ≡ None =
+      ap (λ (l : List RecordSetValue). fault_of (Some zone.origin) l) again ∙ is_faultless zone.origin (map made (s ∷ sets)) (made_faultless zone.origin (s ∷ sets) sound f) in
+      let rows : rows_of_sets (inserted_each [] records) ≡ zone.rows = ap rows_of_sets again ∙ rows_made (s ∷ sets) sound ∙ sym e in
+      let labels : AreLabels zone.origin.labels = subst (λ (n : DomainName). AreLabels n.labels) owner (labels_lower s.name.labels each.0.labels) in
+      let octets : AllByRecursion AreOctets zone.origin.labels = subst (λ (n : DomainName). AllByRecursion AreOctets n.labels) owner (all_octets_lower s.name.labels each.0.octets) in
+      let has : HasRecords (record { text = front (lines_of records); includes = []; origin = None; types = All })
+      (record { origin = found; sets = inserted_each [] records; soa_owner = first_soa_owner records }) =
+      lines labels octets records (sets_stated (s ∷ sets) sound each) in
+      let reads : ReadsZoneIn All [] None (front (lines_of records)) (Ok (record { origin = zone.origin; rows = rows_of_sets (inserted_each [] records) })) =
+      good_zone has first faults in
+      subst (λ (text : List ℕ). ReadsZoneIn All [] None (front text) (Ok zone)) (lines_of_sets (s ∷ sets))
+      (subst (λ (rows : Rows). ReadsZoneIn All [] None (front (lines_of records)) (Ok (record { origin = zone.origin; rows = rows }))) rows reads)
+
+  reads_text : (sets : List RecordSetValue) → zone.origin.is_fqdn ≡ true → zone.rows ≡ rows_of_sets sets → AreSoundSets sets → AreZoneSets zone.origin sets → IsStated zone
+      → ReadsZoneIn All [] None (front (zone_text zone.origin sets)) (Ok zone)
+  reads_text [] f e sound kept are = absurd kept.start_first
+  reads_text (s ∷ sets) f e sound kept are =
+      let start = kept.start_first in
+      let origin = zone.origin in
+      let renamed_e : zone.rows ≡ rows_of_sets (renamed origin s ∷ sets) = e ∙ sym (renamed_rows origin s f sound.0 start sets) in
+      let again : AreSoundSets (renamed origin s ∷ sets) = (renamed_sound origin s f sound.0 start, sound.1) in
+      let apart : AreDistinctSets (renamed origin s ∷ sets) = renamed_distinct origin s f sound.0 start sets kept.distinct in
+      reads_sets (renamed origin s) sets renamed_e refl (start_type origin s sound.0 start) again apart
+      (renamed_faultless origin s f sound.0 start sets (faultless origin (s ∷ sets) kept.faultless))
+      (stated_found (renamed origin s ∷ sets) (renamed origin s ∷ sets) (subst (λ (rows : Rows). (k : Key) → IfSome (rows_map.get rows k) (AreStatedAt k)) renamed_e are)
+      (each_found (renamed origin s ∷ sets) again apart))
+
+  reads_front : (text : List ℕ) → IsZoneText zone text → IsStated zone → ReadsZoneIn All [] None (front text) (Ok zone)
+  reads_front text h are =
+      subst (λ (l : List ℕ). ReadsZoneIn All [] None (front l) (Ok zone)) (sym h.text_is) (reads_text h.sets h.origin_fqdn h.rows h.sound h.kept are)
 
 pub text_reads : (zone : ZoneContent) (text : List ℕ) → IsZoneText zone text → IsStated zone → ReadsZoneIn All [] None text (Ok zone)
-text_reads zone text h are =
-    subst (λ (l : List ℕ). ReadsZoneIn All [] None l (Ok zone)) (sym h.text_is) (reads_text zone h.sets h.origin_fqdn h.rows h.sound h.kept are)
+text_reads zone = reads_front zone root_name (λ text. text) (λ labels octets. lines_contain [] None)
+
+-- behind the line of its origin, too
+pub file_reads : (zone : ZoneContent) (text : List ℕ) → IsZoneText zone text → IsStated zone → ReadsZoneIn All [] None (with_origin zone.origin text) (Ok zone)
+file_reads zone text h = reads_front zone zone.origin (with_origin zone.origin) (file_contains zone.origin h.origin_fqdn) text h

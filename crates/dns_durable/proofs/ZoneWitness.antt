@@ -28,8 +28,8 @@ use Rattle.dns_records.specs.RecordSet.{RecordSetValue}
 use Rattle.dns_records.specs.declared.row.Row.{Row}
 use Rattle.dns_zone.specs.Load.{ReadsZoneIn}
 use Rattle.dns_zone_file.specs.declared.types.Types.TheVariants.{All}
-use Rattle.dns_durable.specs.zone_texts.Stated.{AreStatedAt, IsStated}
-use Rattle.dns_durable.proofs.ZoneLaws.{text_reads}
+use Rattle.dns_durable.specs.zone_texts.Stated.{AreStatedAt, IsStated, with_origin}
+use Rattle.dns_durable.proofs.ZoneLaws.{file_reads}
 use Rattle.dns_server.specs.Server.{zones_after}
 use Rattle.dns_server.specs.declared.updates.Updates.TheVariants.{Allowed}
 use Rattle.dns_zone.proofs.KeptLaws.{tied_key}
@@ -42,7 +42,7 @@ use Rattle.dns_journal.specs.format.Format.{IsShort}
 use Rattle.dns_durable.specs.recovery.Compacting.{mark}
 use Rattle.dns_durable.specs.recovery.Updating.{update_payload}
 use Rattle.sha2.proofs.Facts256.{length-sha256}
-use Rattle.dns_durable.specs.Compaction.{IsRewritten}
+use Rattle.dns_durable.specs.Compaction.{IsFileText, IsRewritten}
 use Rattle.dns_durable.specs.Durable.{TakesEntry}
 use Rattle.dns_durable.specs.Durable.Takes.{no_frame, a_frame}
 use Rattle.dns_durable.specs.Rule.{entry_of, step_of}
@@ -80,8 +80,12 @@ grown = zone_of root (start_set ∷ note_set ∷ [])
 abbrev pub text : List ℕ
 text = zone_text root (start_set ∷ [])
 
+-- its lines, and its text with the line of the origin in front of them
+abbrev next_lines : List ℕ
+next_lines = zone_text root (start_set ∷ note_set ∷ [])
+
 abbrev pub next_text : List ℕ
-next_text = zone_text root (start_set ∷ note_set ∷ [])
+next_text = with_origin root next_lines
 
 -- ---- its updates
 
@@ -237,8 +241,11 @@ sets_kept : AreZoneSets root (start_set ∷ note_set ∷ [])
 unfolding IsDistinct
 sets_kept = record { start_first = refl; distinct = ((refl, tt), (tt, tt)); faultless = refl }
 
-is_text : IsZoneText grown next_text
-is_text = record { sets = start_set ∷ note_set ∷ []; origin_fqdn = refl; rows = refl; sound = sets_sound; kept = sets_kept; text_is = refl }
+are_lines : IsZoneText grown next_lines
+are_lines = record { sets = start_set ∷ note_set ∷ []; origin_fqdn = refl; rows = refl; sound = sets_sound; kept = sets_kept; text_is = refl }
+
+is_text : IsFileText grown next_text
+is_text = record { records = next_lines; is_text = are_lines; text_is = refl }
 
 start_stated : AreStatedAt ([], 6) (row_of start ∷ [])
 start_stated = record { labels = no_labels; octets = tt; rows = (record { valid = ((no_labels, tt), ((no_labels, tt), (tt, (tt, (tt, (tt, (tt, tt))))))); has_text = refl }, tt) }
@@ -257,7 +264,7 @@ stated k = subst (λ (o : Option (List Row)). IfSome o (AreStatedAt k)) (sym (ro
     by false false e f = tt
 
 is_read : ReadsZoneIn All [] None next_text (Ok grown)
-is_read = text_reads grown next_text is_text stated
+is_read = file_reads grown next_lines are_lines stated
 
 pub rewritten : IsRewritten (grown ∷ []) next_text grown
 rewritten = record { zone = grown; zones_are = refl; is_text = is_text; is_read = is_read; is_same_text = is_text }

@@ -1,5 +1,5 @@
 -- The text of a zone takes the place of its journal.
-use Rattle.std.specs.Prelude.{◌≡◌, ◌≢◌, ◌⊎◌, ℕ, Bool, true, false, List, [], ◌∷◌, length, None, Result, Ok, Err}
+use Rattle.std.specs.Prelude.{◌≡◌, ◌≢◌, ◌⊎◌, ℕ, Bool, true, false, List, [], ◌∷◌, length, Option, Some, None, Result, Ok, Err}
 use Rattle.dns_journal.specs.declared.error.AppendError.{AppendError}
 use Rattle.dns_journal.specs.declared.journal.Position.{Position}
 use Rattle.dns_journal.specs.declared.journal.State.TheVariants as states
@@ -12,16 +12,41 @@ use Rattle.dns_zone.specs.Rows.{ZoneContent}
 use Rattle.dns_zone.specs.declared.zone.ZoneFault.{ZoneFault}
 use Rattle.dns_zone.specs.declared.zone.ZoneFault.TheVariants as faults
 use Rattle.dns_zone_file.specs.declared.types.Types.TheVariants.{All}
+use Rattle.dns_durable.specs.zone_texts.Stated.{IsStated, with_origin}
 use Rattle.dns_durable.specs.declared.error.CompactError.{CompactError}
 use Rattle.dns_durable.specs.declared.error.CompactError.TheVariants as errors
+
+-- a text of a zone for its file: the line of its origin, and then its records
+pub record IsFileText (zone : ZoneContent) (text : List ℕ) : Type 0 where
+  pub records : List ℕ
+  pub is_text : IsZoneText zone records
+  pub text_is : text ≡ with_origin zone.origin records
 
 -- a text of the only zone, and the zone that is read from it: that is a text of this one, too
 pub record IsRewritten (zones : List ZoneContent) (text : List ℕ) (again : ZoneContent) : Type 0 where
   pub zone : ZoneContent
   pub zones_are : zones ≡ zone ∷ []
-  pub is_text : IsZoneText zone text
+  pub is_text : IsFileText zone text
   pub is_read : ReadsZoneIn All [] None text (Ok again)
-  pub is_same_text : IsZoneText again text
+  pub is_same_text : IsFileText again text
+
+-- the zones of a server after a compaction: the one that was read again, if it was, or else the same
+abbrev pub zones_again : List ZoneContent → Option ZoneContent → List ZoneContent
+zones_again zones (Some again) = again ∷ []
+zones_again zones None = zones
+
+-- a text of the only zone, and what is served once it has taken the place of a journal: the zone that is read from it
+pub record IsSuccessor (zones : List ZoneContent) (text : List ℕ) (read : Option ZoneContent) : Type 0 where
+  pub again : ZoneContent
+  pub rewritten : IsRewritten zones text again
+  pub served : zones_again zones read ≡ again ∷ []
+
+-- a text of the only zone, which can be stated
+pub record IsStatedText (zones : List ZoneContent) (text : List ℕ) : Type 0 where
+  pub zone : ZoneContent
+  pub zones_are : zones ≡ zone ∷ []
+  pub is_text : IsFileText zone text
+  pub stated : IsStated zone
 
 -- A zone's text takes the place of the text and the updates of a journal, if that is done; the zone that is read from it is
 -- served.
@@ -50,7 +75,7 @@ Rewrites text (Err other) old new zones after es = IsLeftAlone old new zones aft
 -- a zone has a text that is not this one
 pub record HasOtherText (zone : ZoneContent) (text : List ℕ) : Type 0 where
   pub other : List ℕ
-  pub is_text : IsZoneText zone other
+  pub is_text : IsFileText zone other
   pub is_other : other ≢ text
 
 -- a text from which a zone with another text is read
@@ -75,7 +100,7 @@ pub record HasNoText (zones : List ZoneContent) : Type 0 where
   pub zone : ZoneContent
   pub zones_are : zones ≡ zone ∷ []
   pub text : List ℕ
-  pub is_text : IsZoneText zone text
+  pub is_text : IsFileText zone text
   pub fails : IsNotRead text ⊎ IsReadOtherwise text
 
 -- the journal does not take the mark of the text

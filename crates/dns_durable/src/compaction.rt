@@ -1,23 +1,34 @@
 //! The text of a zone takes the place of its journal.
 
-ghost use Rattle.std.specs.Prelude.{◌≡◌, ◌<◌, ◌↔◌, ◌∷◌, [], List, ℕ, string_bytes, false, Ok, IfErr, IfOk, IsOk, IsTrue};
+ghost use Rattle.std.specs.Prelude.{◌≡◌, ◌<◌, ◌↔◌, ◌∷◌, [], List, ℕ, string_bytes, false, Ok, option_map, unwrap_or, IfErr, IfOk, IfSome, IsOk, IsTrue};
 ghost use Rattle.dns_journal.specs.Storage.{Performs};
 ghost use Rattle.dns_journal.specs.declared.journal.State.TheVariants as states;
-ghost use Rattle.dns_zone.specs.Printed.{IsZoneText};
-ghost use Rattle.dns_durable.specs.Compaction.{HasOtherText, IsCompactRefusal, IsRewritten, IsTextRefusal, Rewrites, is_want_of_memory};
+ghost use Rattle.dns_durable.specs.Compaction.{HasOtherText, IsCompactRefusal, IsFileText, IsSuccessor, IsRewritten, IsStatedText, IsTextRefusal, Rewrites, is_want_of_memory};
+ghost use Rattle.dns_durable.specs.zone_texts.Stated.{with_origin};
 
 use crate::durable_server::DurableServer;
 use crate::error::CompactError;
 use crate::recovery::compact;
+use crate::zone_texts::is_stated;
 use dns_journal::{State, Storage};
+use dns_names::Name;
 use dns_server::Server;
 use dns_zone::{Zone, ZoneFault};
 use dns_zone_file::Types;
-use std::alloc::Global;
+use std::alloc::{AllocError, Global};
 
-/// The text of a zone, and the zone that is read from it.
+/// The text of a zone for its file.
 #[derive(Drop)]
-struct Rewritten {
+pub struct Rewritten {
+    /// The text.
+    pub text: String,
+    /// The zone that was read from it, unless that is known to be the same zone.
+    pub zone: Option<Zone>,
+}
+
+/// The text of a zone, and the zone that was read from it.
+#[derive(Drop)]
+struct ReadText {
     text: String,
     zone: Zone,
 }
@@ -31,32 +42,60 @@ impl<S: Storage> DurableServer<S> {
         self.journal.position.state == State::Ready && self.journal.position.end > limit
     }
 
-    /// Replaces the text of the journal by that of the zone, and begins a new journal with this key, which has to be drawn at random.
-    /// From then on, the zone that is read from the text is served; it has the same text.
+    /// Returns the text of the zone for its file. The zone that is read from it has the same text. If a zone file can state all data of
+    /// the zone, it is the same zone, and is not read.
     ///
     /// # Errors
     ///
     /// - [`CompactError::Zones`] if there is not exactly one zone;
     /// - [`CompactError::Text`] if no zone with the same text is read from the text of the zone;
+    /// - [`CompactError::Memory`] if memory is refused.
+    pub fn rewrite(&self, alloc: Global) -> Result<Rewritten, CompactError>
+        ensures ready { IfOk result (λ r. IsSuccessor self.now.server (string_bytes r.text) r.zone) }
+        ensures refused { IfErr result (IsTextRefusal self.now.server) }
+    {
+        match stated_text(alloc, self.server.zones())? {
+            Some(text) => Ok(Rewritten { text, zone: None }),
+            None => {
+                let ReadText { text, zone } = zone_text(alloc, self.server.zones())?;
+                Ok(Rewritten {
+                    text,
+                    zone: Some(zone),
+                })
+            }
+        }
+    }
+
+    /// Replaces the text of the journal by that of the zone, and begins a new journal with this key, which has to be drawn at random.
+    /// From then on, the zone that is read from the text is served.
+    ///
+    /// # Errors
+    ///
     /// - [`CompactError::Journal`] if the journal does not take the mark of the text, as for [`Journal::append`](dns_journal::Journal::append),
     ///   or the storage fails: then the journal has to be opened again;
     /// - [`CompactError::Memory`] if memory is refused before the journal is asked.
     ///
     /// Unless the journal refuses, nothing is asked of the storage, and nothing is changed.
-    pub fn compact(&mut self, alloc: Global, key: [u8; 16]) -> Result<(), CompactError>
+    pub fn replace(
+        &mut self,
+        alloc: Global,
+        key: [u8; 16],
+        rewritten: Rewritten,
+    ) -> Result<(), CompactError>
+        requires { IsSuccessor self.old.server (string_bytes rewritten.text) rewritten.zone }
         ensures ready { IsOk result → self.old.journal.position.state ≡ states.Ready }
         ensures refused { IfErr result (IsCompactRefusal self.old.server
             self.old.journal.position self.new.journal.position) }
         ensures key { IsOk result → self.new.journal.position.key ≡ key }
         ensures performs { Performs S.performs self.old.journal.storage self.new.journal.storage
-            (λ es. (text : List ℕ) × Rewrites text result self.old.journal.position
+            (λ es. Rewrites (string_bytes rewritten.text) result self.old.journal.position
             self.new.journal.position self.old.server self.new.server es) }
     {
-        let Rewritten { text, zone } = zone_text(alloc, self.server.zones())?;
+        let Rewritten { text, zone } = rewritten;
         let server = server_of(alloc, zone)?;
         match compact(&mut self.journal, alloc, text.as_bytes(), key) {
             Ok(()) => {
-                self.server = server;
+                serve_again(&mut self.server, server);
                 Ok(())
             }
             Err(error) => Err(CompactError::Journal(error)),
@@ -64,19 +103,33 @@ impl<S: Storage> DurableServer<S> {
     }
 }
 
-/// Returns the text of the only zone, and the zone that is read from it, if that has the same text.
-fn zone_text(alloc: Global, zones: &[Zone]) -> Result<Rewritten, CompactError>
+/// Returns the text of the only zone for its file, if a zone file can state all of its data: then the zone is read from it.
+fn stated_text(alloc: Global, zones: &[Zone]) -> Result<Option<String>, AllocError>
+    ensures { IfOk result (λ found. IfSome found (λ text.
+        IsStatedText zones.now (string_bytes text))) }
+{
+    let [zone] = zones else {
+        return Ok(None);
+    };
+    if !is_stated(zone) {
+        return Ok(None);
+    }
+    Ok(Some(file_text(alloc, zone)?))
+}
+
+/// Returns the text of the only zone for its file, and the zone that is read from it, if that has the same text.
+fn zone_text(alloc: Global, zones: &[Zone]) -> Result<ReadText, CompactError>
     ensures rewritten { IfOk result (λ r. IsRewritten zones.now (string_bytes r.text) r.zone) }
     ensures refused { IfErr result (IsTextRefusal zones.now) }
 {
     let [zone] = zones else {
         return Err(CompactError::Zones);
     };
-    let text = zone.to_text()?;
+    let text = file_text(alloc, zone)?;
     match Zone::from_text_with(alloc, text.as_str(), &[], None, Types::All) {
         Ok(again) => {
-            if has_text(&again, text.as_str())? {
-                Ok(Rewritten { text, zone: again })
+            if has_text(alloc, &again, text.as_str())? {
+                Ok(ReadText { text, zone: again })
             } else {
                 Err(CompactError::Text)
             }
@@ -94,25 +147,52 @@ fn is_want_of_memory(fault: &ZoneFault) -> bool
     matches!(fault, ZoneFault::Memory)
 }
 
+/// Returns the text of a zone for its file: the line of its origin, which completes the names that are added by hand, and its records.
+fn file_text(alloc: Global, zone: &Zone) -> Result<String, AllocError>
+    ensures { IfOk result (λ text. IsFileText zone.now (string_bytes text)) }
+{
+    let records = zone.to_text()?;
+    with_origin(alloc, zone.origin(), records.as_str())
+}
+
+/// Returns a text behind the line that states an origin.
+fn with_origin(alloc: Global, origin: &Name, text: &str) -> Result<String, AllocError>
+    ensures { IfOk result (λ whole. string_bytes whole ≡ with_origin origin.now text.now) }
+{
+    format!(in alloc; "$ORIGIN {origin}\n{text}")
+}
+
 /// Returns `true` if a zone has this text.
-fn has_text(zone: &Zone, text: &str) -> Result<bool, CompactError>
-    ensures has { IfOk result (λ has. IsTrue has → IsZoneText zone.now text.now) }
+fn has_text(alloc: Global, zone: &Zone, text: &str) -> Result<bool, CompactError>
+    ensures has { IfOk result (λ has. IsTrue has → IsFileText zone.now text.now) }
     ensures lacks { result ≡ Ok false → HasOtherText zone.now text.now }
     ensures refused { IfErr result (λ error. error ≡ CompactError.Memory) }
 {
-    let other = zone.to_text()?;
+    let other = file_text(alloc, zone)?;
     Ok(other.as_str() == text)
 }
 
-/// Returns a server of a zone.
-fn server_of(alloc: Global, zone: Zone) -> Result<Server, CompactError>
-    ensures ok { IfOk result (λ server. server ≡ zone ∷ []) }
+/// Returns a server of a zone that was read again, if one was.
+fn server_of(alloc: Global, zone: Option<Zone>) -> Result<Option<Server>, CompactError>
+    ensures ok { IfOk result (λ server. server ≡ option_map (λ z. z ∷ []) zone) }
     ensures refused { IfErr result (λ error. error ≡ CompactError.Memory) }
 {
+    let Some(zone) = zone else {
+        return Ok(None);
+    };
     let mut server = Server::new(alloc);
     match server.add_zone(zone) {
-        Ok(()) => Ok(server),
+        Ok(()) => Ok(Some(server)),
         // Memory for the zone was refused: there is no other one.
         Err(_) => Err(CompactError::Memory),
+    }
+}
+
+/// Lets a server take the place of another one, if there is one.
+fn serve_again(server: &mut Server, again: Option<Server>)
+    ensures { server.new ≡ unwrap_or again server.old }
+{
+    if let Some(again) = again {
+        *server = again;
     }
 }

@@ -14,7 +14,7 @@ ghost use Rattle.dns_durable.specs.declared.incoming.Incoming.{Incoming};
 ghost use Rattle.dns_durable.specs.declared.policy.Policy.{Policy};
 
 /// Each call of [`respond_all`](crate::DurableServer::respond_all) is a call of a history, with the entry for the updates of its
-/// requests that may be made. A call of [`compact`](crate::DurableServer::compact) is one by its contract.
+/// requests that may be made. A call of [`replace`](crate::DurableServer::replace) is one by its contract.
 pub fn responses_are_calls()
     ensures { (policy : Policy) (requests : List Incoming) (outcome : Result Replies AllocError)
         (old new : Position) (zones after : List ZoneContent) (es : List Event)

@@ -30,6 +30,7 @@ mod storing;
 pub mod zone_texts;
 
 pub use answering::Reply;
+pub use compaction::Rewritten;
 pub use durable_server::{DurableServer, Replies};
 pub use error::{CompactError, GrantError, ReplayError};
 pub use grant_text::parse_grant;

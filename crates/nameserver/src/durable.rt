@@ -27,8 +27,9 @@ const START: Position = Position {
 
 /// What to do with a journal that belongs to another zone file.
 const OTHER_TEXT_HELP: &str =
-    "The zone file was edited after the journal was begun. To keep the updates, put the former zone file back,
-replace it by the zone with its updates (--compact), and then edit it. To give the updates up, remove the journal.
+    "The zone file was edited after the journal was begun. To keep the updates, put the former zone file back, replace it by the zone
+with its updates (--compact), remove the journal, which has no updates then, and edit the zone file. To give the updates up, remove
+the journal.
 ";
 
 /// What to do with a journal of the former format.
@@ -240,7 +241,72 @@ fn storage_ending(
     }
 }
 
-/// Replaces the zone file by the zone with the updates of its journal.
+/// Why a zone file is not replaced.
+#[derive(Drop)]
+pub(crate) enum Unreplaced {
+    /// It was edited since it was read, or can't be read. The zone file and the journal are unchanged.
+    Edited(&'static str),
+    /// The new text can't be written beside it, or the key of a new journal can't be drawn. The zone file and the journal are
+    /// unchanged.
+    Unwritten(io::Error),
+    /// The zone has no text, or the journal failed.
+    Refused(CompactError),
+}
+
+/// Replaces the zone file by the zone with the updates of its journal. The journal and the zone file are as they were until the new text
+/// is on the disk.
+pub(crate) fn replace_text(
+    rt: &HostRuntime,
+    server: &mut DurableServer<FileStorage<'_>>,
+) -> Result<(), Unreplaced> {
+    unedited_text(&mut server.journal)?;
+    let rewritten = match server.rewrite(rt.alloc()) {
+        Ok(rewritten) => rewritten,
+        Err(error) => return Err(Unreplaced::Refused(error)),
+    };
+    prepare(&mut server.journal, rewritten.text.as_str())?;
+    let key = match draw_key(rt) {
+        Ok(key) => key,
+        Err(error) => {
+            server.journal.storage.discard_text();
+            return Err(Unreplaced::Unwritten(error));
+        }
+    };
+    match server.replace(rt.alloc(), key, rewritten) {
+        Ok(()) => Ok(()),
+        Err(error) => {
+            server.journal.storage.discard_text();
+            Err(Unreplaced::Refused(error))
+        }
+    }
+}
+
+/// Writes a text to a file beside the zone file, which was not edited until it is there.
+fn prepare(journal: &mut Journal<FileStorage<'_>>, text: &str) -> Result<(), Unreplaced> {
+    if let Err(_) = journal.storage.prepare_text(text.as_bytes()) {
+        let error = journal.storage.take_error();
+        return Err(Unreplaced::Unwritten(error.unwrap_or(io::Error::from(io::ErrorKind::Other))));
+    }
+    match unedited_text(journal) {
+        Ok(()) => Ok(()),
+        Err(edited) => {
+            journal.storage.discard_text();
+            Err(edited)
+        }
+    }
+}
+
+/// Returns why the zone file is not to be replaced, if it was edited since it was read, or can't be read.
+fn unedited_text(journal: &mut Journal<FileStorage<'_>>) -> Result<(), Unreplaced> {
+    let Journal { storage, position } = journal;
+    match storage.is_unedited(position.digest.as_slice()) {
+        Ok(true) => Ok(()),
+        Ok(false) => Err(Unreplaced::Edited("the zone file was edited since it was read")),
+        Err(_) => Err(Unreplaced::Edited("the zone file can't be read")),
+    }
+}
+
+/// Replaces the zone file by the zone with the updates of its journal, or says why not.
 pub(crate) fn compact_and_end(
     rt: &HostRuntime,
     arguments: &Arguments,
@@ -250,27 +316,20 @@ pub(crate) fn compact_and_end(
         Some(path) => path.as_str(),
         None => "",
     };
-    if let Err(reason) = unedited_text(&mut server.journal) {
-        return Err(Ending::Refused(format!(in rt.alloc(); "{path}: {reason}\n")?));
-    }
-    let error = match server.compact(rt.alloc(), drawn_key(rt, path)?) {
-        Ok(()) => return Ok(()),
+    match replace_text(rt, server) {
+        Ok(()) => Ok(()),
+        Err(Unreplaced::Edited(reason)) => {
+            Err(Ending::Refused(format!(in rt.alloc(); "{path}: {reason}\n")?))
+        }
+        Err(Unreplaced::Unwritten(error)) => {
+            let file = arguments.files.first().map_or("", |file| file.as_str());
+            Err(Ending::Refused(format!(in rt.alloc(); "{file}.new: {error}\n")?))
+        }
         // Memory for the text or for the zone was refused.
-        Err(CompactError::Memory) => return Err(Ending::Memory),
-        Err(error) => error,
-    };
-    match server.journal.storage.take_error() {
-        Some(error) => Err(Ending::Journal(String::from_str(rt.alloc(), path)?, error)),
-        None => Err(Ending::Refused(format!(in rt.alloc(); "{path}: {error}\n")?)),
-    }
-}
-
-/// Returns why the zone file is not to be replaced, if it was edited since it was read, or can't be read.
-pub(crate) fn unedited_text(journal: &mut Journal<FileStorage<'_>>) -> Result<(), &'static str> {
-    let Journal { storage, position } = journal;
-    match storage.is_unedited(position.digest.as_slice()) {
-        Ok(true) => Ok(()),
-        Ok(false) => Err("the zone file was edited since it was read"),
-        Err(_) => Err("the zone file can't be read"),
+        Err(Unreplaced::Refused(CompactError::Memory)) => Err(Ending::Memory),
+        Err(Unreplaced::Refused(error)) => match server.journal.storage.take_error() {
+            Some(error) => Err(Ending::Journal(String::from_str(rt.alloc(), path)?, error)),
+            None => Err(Ending::Refused(format!(in rt.alloc(); "{path}: {error}\n")?)),
+        },
     }
 }

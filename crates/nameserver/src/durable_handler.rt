@@ -1,6 +1,6 @@
 //! What the program does with requests, if there are keys or a journal.
 
-use crate::durable::{draw_key, unedited_text};
+use crate::durable::{Unreplaced, replace_text};
 use crate::log_file::LogFile;
 use crate::notices::Notices;
 use crate::transfers::{Sources, Transfers};
@@ -36,8 +36,12 @@ pub(crate) struct DurableHandler<'a> {
     pub(crate) notices: Notices,
     /// The length of the journal from which on it is begun anew.
     pub(crate) journal_limit: usize,
+    /// The length of the journal from which on that is tried again, after a failure.
+    pub(crate) retry_limit: usize,
     /// The log, if there is one.
     pub(crate) log: Option<LogFile>,
+    /// Whether the journal was looked after since the last request.
+    pub(crate) is_tended: bool,
     /// Whether a failure of the journal was told.
     pub(crate) has_failed: bool,
 }
@@ -67,7 +71,8 @@ impl Handler for DurableHandler<'_> {
             // Updates may have been made whose changes are not known.
             self.recorder.forget();
         }
-        self.tend_journal();
+        self.tell_failure();
+        self.is_tended = false;
         self.deliver(requests, replies?)
     }
 
@@ -93,8 +98,14 @@ impl Handler for DurableHandler<'_> {
         self.notices.next_moment()
     }
 
+    /// Once all replies and notifications are sent, the journal is looked after.
     fn next_notice(&mut self, now: Milliseconds) -> Option<Notice> {
-        self.notices.next_notice(self.rt, now)
+        let notice = self.notices.next_notice(self.rt, now);
+        if notice.is_none() && !self.is_tended {
+            self.is_tended = true;
+            self.tend_journal();
+        }
+        notice
     }
 }
 
@@ -200,45 +211,38 @@ impl DurableHandler<'_> {
 
     /// Lets the zone file take the place of a journal that is long, and tells the first failure on standard error.
     fn tend_journal(&mut self) {
-        let is_due = self.server.journal.storage.has_files()
-            && self.server.is_due(self.journal_limit);
-        if is_due && self.may_replace_text() {
-            self.replace_text();
+        let limit = self.journal_limit.max(self.retry_limit);
+        if self.server.journal.storage.has_files() && self.server.is_due(limit) {
+            match replace_text(self.rt, &mut self.server) {
+                Ok(()) => self.retry_limit = 0,
+                Err(reason) => self.note_refusal(&reason),
+            }
         }
         self.tell_failure();
     }
 
-    /// Lets the zone file take the place of the journal. Without random bytes for the key of a new one, the journal goes on.
-    fn replace_text(&mut self) {
-        let Ok(key) = draw_key(self.rt) else {
-            return;
-        };
-        if let Err(error) = self.server.compact(self.rt.alloc(), key) {
-            self.note_refusal(&error);
-        }
-    }
-
-    /// Returns `true` if the zone file was not edited since it was read. If it was, the journal goes on, and standard error says so.
-    fn may_replace_text(&mut self) -> bool {
-        let Err(reason) = unedited_text(&mut self.server.journal) else {
-            return true;
-        };
-        self.journal_limit = usize::MAX;
+    /// Says on standard error why the journal goes on. It goes on for ever if the zone file was edited since it was read, or the zone
+    /// has no text that is read as it is, and until it has grown by as much again if the new text could not be written.
+    fn note_refusal(&mut self, reason: &Unreplaced) {
         // A failure to write to standard error can't be reported.
-        let _written = eprintln!(self.rt; "nameserver: the journal goes on: {reason}");
-        false
-    }
-
-    /// Keeps the journal of a zone whose text is not read as it is, and says so on standard error.
-    fn note_refusal(&mut self, error: &CompactError) {
-        match error {
-            CompactError::Zones | CompactError::Text => {
+        match reason {
+            Unreplaced::Edited(reason) => {
                 self.journal_limit = usize::MAX;
-                // A failure to write to standard error can't be reported.
+                let _written = eprintln!(self.rt; "nameserver: the journal goes on: {reason}");
+            }
+            Unreplaced::Refused(error) if is_lasting(error) => {
+                self.journal_limit = usize::MAX;
                 let _written = eprintln!(self.rt; "nameserver: the journal goes on: {error}");
             }
+            Unreplaced::Unwritten(error) => {
+                let end = self.server.journal.position.end;
+                self.retry_limit = end.saturating_add(self.journal_limit);
+                let _written = eprintln!(self.rt;
+                    "nameserver: the journal goes on: the zone file can't be replaced: {error}"
+                );
+            }
             // The state of the journal says so, or the next update tries again.
-            CompactError::Journal(_) | CompactError::Memory => {}
+            Unreplaced::Refused(_) => {}
         }
     }
 
@@ -258,5 +262,13 @@ impl DurableHandler<'_> {
                 "nameserver: journal: out of memory; updates are refused until a restart"
             ),
         };
+    }
+}
+
+/// Returns `true` for a refusal that comes again.
+fn is_lasting(error: &CompactError) -> bool {
+    match error {
+        CompactError::Zones | CompactError::Text => true,
+        CompactError::Journal(_) | CompactError::Memory => false,
     }
 }

@@ -253,7 +253,9 @@ fn handler_of<'a>(
         },
         notices,
         journal_limit: arguments.durable.journal_limit,
+        retry_limit: 0,
         log,
+        is_tended: true,
         has_failed: false,
     })
 }

@@ -1,21 +1,23 @@
 -- Records and zones whose texts are read back as a zone file of all types.
-use Rattle.std.specs.Prelude.{◌≡◌, ◌<◌, ◌^◌, ℕ, true, false, List, length, IfSome}
+use Rattle.std.specs.Prelude.{◌≡◌, ◌<◌, ◌^◌, ℕ, true, false, List, ◌∷◌, ◌++◌, codes, length, IfSome}
 use Rattle.std.specs.FinMap as rows_map
 use Rattle.std.specs.List.{AllByRecursion}
 use Rattle.dns_wire.specs.codes.RecordType.{type_number}
 use Rattle.dns_wire.specs.declared.codes.dns_class.DNSClass.TheVariants as classes
 use Rattle.dns_wire.specs.declared.codes.record_type.RecordType.{RecordType}
 use Rattle.dns_wire.specs.Name.{AreLabels}
-use Rattle.dns_names.specs.Print.{AreOctets}
+use Rattle.dns_names.specs.Name.{DomainName}
+use Rattle.dns_names.specs.Print.{text_of_name, AreOctets}
 use Rattle.dns_formats.specs.Field.{fields_of}
 use Rattle.dns_formats.specs.ReadBack.{AreDataOf}
 use Rattle.dns_data.specs.declared.rdata.RData.{RData}
 use Rattle.dns_data.specs.declared.rdata.RData.TheVariants as of
 use Rattle.dns_data.specs.rdata.{is_update_data, IsSoundData}
 use Rattle.dns_records.specs.Record.{Record}
+use Rattle.dns_records.specs.RecordSet.{RecordSetValue}
 use Rattle.dns_records.specs.declared.row.Row.{Row}
 use Rattle.dns_zone_file.specs.Data.{is_meta_type}
-use Rattle.dns_zone_file.specs.Printed.{HasText}
+use Rattle.dns_zone_file.specs.Printed.{HasText, IsValidName}
 use Rattle.dns_zone.specs.Rows.{Key, ZoneContent}
 
 -- ---- records
@@ -63,3 +65,14 @@ pub record AreStatedAt (k : Key) (found : List Row) : Type 0 where
 -- every row of a zone can be stated
 abbrev pub IsStated : ZoneContent → Type 0
 IsStated zone = (k : Key) → IfSome (rows_map.get zone.rows k) (AreStatedAt k)
+
+-- a set whose owner is a name, as its type ensures, and whose data can be stated
+pub record IsStatedSet (s : RecordSetValue) : Type 0 where
+  pub owner : IsValidName s.name
+  pub rdata : AllByRecursion (λ r. IsStatedData r.rdata) s.records
+
+-- ---- files
+
+-- a text behind the line that states an origin, by which relative names are completed (RFC 1035 section 5.1)
+abbrev pub with_origin : DomainName → List ℕ → List ℕ
+with_origin origin text = codes "$ORIGIN " ++ text_of_name origin ++ 10 ∷ text

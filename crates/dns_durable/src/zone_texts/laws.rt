@@ -9,7 +9,7 @@ ghost use Rattle.dns_zone_file.specs.Printed.{lines_of, after_records, printed_r
 ghost use Rattle.dns_zone.specs.Load.{ReadsZoneIn};
 ghost use Rattle.dns_zone.specs.Printed.{IsZoneText};
 ghost use Rattle.dns_zone.specs.Rows.{ZoneContent};
-ghost use Rattle.dns_durable.specs.zone_texts.Stated.{AreStatedRecords, IsStated};
+ghost use Rattle.dns_durable.specs.zone_texts.Stated.{AreStatedRecords, IsStated, with_origin};
 
 /// Printed records parse back as a zone file of all types: a file with a line for each record contains exactly these records,
 /// inserted in their order, whatever texts it could include and whatever the origin is.
@@ -33,4 +33,10 @@ pub fn printed_records_parse_back()
 pub fn printed_zones_parse_back()
     ensures { (zone : ZoneContent) (text : List ℕ) → IsZoneText zone text → IsStated zone
         → ReadsZoneIn All [] None text (Ok zone) }
+{}
+
+/// Behind the line that states the origin of a zone, each text of the zone parses back to the zone, too.
+pub fn printed_zones_parse_back_behind_their_origin()
+    ensures { (zone : ZoneContent) (text : List ℕ) → IsZoneText zone text → IsStated zone
+        → ReadsZoneIn All [] None (with_origin zone.origin text) (Ok zone) }
 {}

@@ -6,7 +6,9 @@ use crate::files::cut::{Cut, keep_cut};
 use crate::files::end::EndRecord;
 use crate::files::lock::take_lock;
 use crate::files::paths::{sync_folder, target_of};
-use crate::files::replace::replace_file;
+use crate::files::prepared::PreparedText;
+use crate::files::replace::{Replacement, replace_file};
+use crate::files::stamp::Stamp;
 use crate::format::digest_of;
 use crate::{Storage, StorageError, StoredFiles};
 use std::alloc::{AllocError, Global};
@@ -38,6 +40,10 @@ pub struct FileStorage<'a> {
     end: Option<EndRecord>,
     /// The length of the journal.
     len: usize,
+    /// The text as it was when it was read or replaced.
+    stamp: Option<Stamp>,
+    /// What is about to replace the text.
+    prepared: Option<PreparedText>,
     /// What was cut off the journal.
     cut: Option<Cut>,
     /// The error of the last call that failed.
@@ -53,6 +59,8 @@ impl Drop for FileStorage<'_> {
             file,
             end,
             len: _len,
+            stamp: _stamp,
+            prepared,
             cut,
             error,
         } = self;
@@ -60,6 +68,7 @@ impl Drop for FileStorage<'_> {
         drop(file);
         drop(end);
         drop(lock);
+        drop(prepared);
         drop(cut);
         drop(error);
     }
@@ -87,6 +96,8 @@ impl<'a> FileStorage<'a> {
             file: None,
             end: None,
             len: 0,
+            stamp: None,
+            prepared: None,
             cut: None,
             error: None,
         })
@@ -104,6 +115,8 @@ impl<'a> FileStorage<'a> {
             file: None,
             end: None,
             len: 0,
+            stamp: None,
+            prepared: None,
             cut: None,
             error: None,
         }
@@ -132,20 +145,49 @@ impl<'a> FileStorage<'a> {
         self.cut.take()
     }
 
-    /// Returns `true` if the text that is in its file has this digest: it was not edited since it was read.
+    /// Returns `true` if the text was not edited since it was read or replaced: its file is the same, or has this digest.
     pub fn is_unedited(&mut self, digest: &[u8]) -> Result<bool, StorageError> {
         let outcome = self.text_has(digest);
         self.noted(outcome)
     }
 
-    /// Returns `true` if the text has this digest, or if there are no files.
-    fn text_has(&self, digest: &[u8]) -> io::Result<bool> {
-        match &self.paths {
-            Some(paths) => {
-                let text = fs::read(self.rt, paths.text.as_str())?;
-                Ok(digest_of(text.as_slice()).as_slice() == digest)
-            }
-            None => Ok(true),
+    /// Returns `true` if the file of the text is the same, or has this digest, or if there are no files.
+    fn text_has(&mut self, digest: &[u8]) -> io::Result<bool> {
+        let Some(paths) = &self.paths else {
+            return Ok(true);
+        };
+        let stamp = Stamp::of(self.rt, paths.text.as_str())?;
+        if self.stamp == Some(stamp) {
+            return Ok(true);
+        }
+        let text = fs::read(self.rt, paths.text.as_str())?;
+        if digest_of(text.as_slice()).as_slice() != digest {
+            return Ok(false);
+        }
+        self.stamp = Some(stamp);
+        Ok(true)
+    }
+
+    /// Writes a text to a file beside that of the text. To replace the text by it, only a name is changed then, unless the text was
+    /// edited since it was read, replaced or found unedited. An error leaves no such file.
+    pub fn prepare_text(&mut self, bytes: &[u8]) -> Result<(), StorageError> {
+        self.discard_text();
+        let outcome = self.prepare(bytes);
+        self.noted(outcome)
+    }
+
+    /// Writes a text to a file beside that of the text.
+    fn prepare(&mut self, bytes: &[u8]) -> io::Result<()> {
+        if let Some(paths) = &self.paths {
+            self.prepared = Some(PreparedText::write(self.rt, paths.text.as_str(), bytes)?);
+        }
+        Ok(())
+    }
+
+    /// Removes the file of a text that was prepared.
+    pub fn discard_text(&mut self) {
+        if let Some(prepared) = self.prepared.take() {
+            prepared.into_replacement().remove(self.rt);
         }
     }
 
@@ -212,12 +254,15 @@ impl<'a> FileStorage<'a> {
             target_of(self.rt, paths.journal.as_str())?.as_str(),
         )?;
         sync_folder(self.rt, target_of(self.rt, paths.text.as_str())?.as_str())?;
+        // An edit that is made meanwhile leads to another stamp.
+        let stamp = Stamp::of(self.rt, paths.text.as_str())?;
         let text = fs::read(self.rt, paths.text.as_str())?;
         let journal = fs::read(self.rt, paths.journal.as_str())?;
         let target = target_of(self.rt, paths.journal.as_str())?;
         let end = EndRecord::open(self.rt, target.as_str(), journal.as_slice())?;
         end.check(self.rt.alloc(), journal.len())?;
         self.len = journal.len();
+        self.stamp = Some(stamp);
         self.end = Some(end);
         Ok(StoredFiles { text, journal })
     }
@@ -274,11 +319,38 @@ impl<'a> FileStorage<'a> {
         Ok(())
     }
 
-    /// Replaces the text.
-    fn write_text(&self, bytes: &[u8]) -> io::Result<()> {
+    /// Replaces the text, unless it was edited.
+    fn write_text(&mut self, bytes: &[u8]) -> io::Result<()> {
+        let replacement = self.replacement_of(bytes)?;
+        let Some(paths) = &self.paths else {
+            return Ok(());
+        };
+        if self.stamp.is_some() && self.stamp != Some(Stamp::of(self.rt, paths.text.as_str())?) {
+            if let Some(replacement) = replacement {
+                replacement.remove(self.rt);
+            }
+            let message = "the zone file was edited since it was read";
+            return Err(io::Error::new(io::ErrorKind::Other, message));
+        }
+        if let Some(replacement) = replacement {
+            replacement.take_name(self.rt)?;
+        }
+        self.stamp = Some(Stamp::of(self.rt, paths.text.as_str())?);
+        Ok(())
+    }
+
+    /// Returns the file that is about to replace the text by these bytes: the one that was prepared, if it has them, or a new one. There
+    /// is none if there are no files.
+    fn replacement_of(&mut self, bytes: &[u8]) -> io::Result<Option<Replacement>> {
+        if let Some(prepared) = self.prepared.take() {
+            if prepared.has(bytes) {
+                return Ok(Some(prepared.into_replacement()));
+            }
+            prepared.into_replacement().remove(self.rt);
+        }
         match &self.paths {
-            Some(paths) => replace_file(self.rt, paths.text.as_str(), bytes),
-            None => Ok(()),
+            Some(paths) => Ok(Some(Replacement::write(self.rt, paths.text.as_str(), bytes)?)),
+            None => Ok(None),
         }
     }
 

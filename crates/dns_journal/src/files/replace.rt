@@ -6,25 +6,57 @@ use std::io::Write;
 use std::os::unix::fs::{MetadataExt, OpenOptionsExt, PermissionsExt, fchown};
 use std::{fs, io};
 
-/// Replaces a file, or the file that a symbolic link leads to: the bytes are written to another file in the same folder and
-/// synchronized, that file takes the name, and the folder is synchronized. A crash leaves the file as it was before or with all of
-/// the bytes. The mode of the file is kept, and so are its owner and its group as far as this process may give files away. After a
-/// failure, the other file is removed.
-pub(crate) fn replace_file(rt: &HostRuntime, path: &str, bytes: &[u8]) -> io::Result<()> {
-    let target = target_of(rt, path)?;
-    let other = format!(in rt.alloc(); "{target}.new")?;
-    match rename_written(rt, other.as_str(), target.as_str(), bytes) {
-        Ok(()) => sync_folder(rt, target.as_str()),
-        Err(error) => {
-            // The failure that is reported is the first one.
-            let _removed = fs::remove_file(rt, other.as_str());
-            Err(error)
+/// A file that is about to take the name of another one in the same folder. Its bytes are on the disk.
+#[derive(Drop)]
+pub(crate) struct Replacement {
+    /// Its path, until it takes the name.
+    path: String,
+    /// The path of the file that it replaces.
+    target: String,
+}
+
+impl Replacement {
+    /// Writes bytes to a file that is about to replace the one at a path, or the one that a symbolic link leads to. It has the mode of
+    /// that file, and its owner and its group as far as this process may give files away. After a failure it is removed.
+    pub(crate) fn write(rt: &HostRuntime, path: &str, bytes: &[u8]) -> io::Result<Replacement> {
+        let target = target_of(rt, path)?;
+        let path = format!(in rt.alloc(); "{target}.new")?;
+        match write_like(rt, path.as_str(), target.as_str(), bytes) {
+            Ok(()) => Ok(Replacement { path, target }),
+            Err(error) => {
+                // The failure that is reported is the first one.
+                let _removed = fs::remove_file(rt, path.as_str());
+                Err(error)
+            }
         }
+    }
+
+    /// Gives the file the name of the other one. A crash leaves the other file as it was before, or this one. After a failure this file
+    /// is removed.
+    pub(crate) fn take_name(self, rt: &HostRuntime) -> io::Result<()> {
+        match fs::rename(rt, self.path.as_str(), self.target.as_str()) {
+            Ok(()) => sync_folder(rt, self.target.as_str()),
+            Err(error) => {
+                self.remove(rt);
+                Err(error)
+            }
+        }
+    }
+
+    /// Removes the file.
+    pub(crate) fn remove(self, rt: &HostRuntime) {
+        // It is written anew before it is used.
+        let _removed = fs::remove_file(rt, self.path.as_str());
     }
 }
 
-/// Writes bytes to a file, which takes the name of another one.
-fn rename_written(rt: &HostRuntime, path: &str, target: &str, bytes: &[u8]) -> io::Result<()> {
+/// Replaces a file, as [`Replacement`] does.
+pub(crate) fn replace_file(rt: &HostRuntime, path: &str, bytes: &[u8]) -> io::Result<()> {
+    Replacement::write(rt, path, bytes)?.take_name(rt)
+}
+
+/// Writes bytes to a file with the mode, the owner and the group of another one, and synchronizes it.
+fn write_like(rt: &HostRuntime, path: &str, target: &str, bytes: &[u8]) -> io::Result<()> {
     let mut file = match fs::metadata(rt, target) {
         Ok(metadata) => {
             let file = create_private(rt, path)?;
@@ -39,8 +71,7 @@ fn rename_written(rt: &HostRuntime, path: &str, target: &str, bytes: &[u8]) -> i
         Err(error) => return Err(error),
     };
     file.write_all(bytes)?;
-    file.sync_all()?;
-    fs::rename(rt, path, target)
+    file.sync_all()
 }
 
 /// Creates a file that no other user may read.
