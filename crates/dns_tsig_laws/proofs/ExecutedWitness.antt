@@ -201,6 +201,7 @@ decodes_apart : DecodesApart request update
 unfolding reads_update
 decodes_apart = record {
   reads = reads_update;
+  whole = refl;
   queries = (19, reads_question 64 64 64 64 64 64 64 64 64 64 64 64 [], refl);
   answers = refl;
   authorities = (37, reads_alias 64 64 64 64 64 64 64 64 64 64 64 64 [], refl);
@@ -260,7 +261,7 @@ of_a_holder alloc = of_holder (key alloc ∷ []) (signed_with 9) signature 10002
 
 -- what is executed is the update that was signed
 pub execution : (alloc : Global) → IsExecutionOf update executed
-execution alloc = executed_is (key alloc) [] request 1000000 300 0 [] (signed_with 9) signature update executed found_signature refl refl decodes_apart reads_executed
+execution alloc = executed_is (key alloc) [] request 1000000 300 0 [] (signed_with 9) signature update executed found_signature refl decodes_apart reads_executed
 
 -- its TSIG record is the last that is decoded
 pub decoded : IsDecodedAs (signed_with 9) signature executed

@@ -89,7 +89,7 @@ question_passed buffer place q end r =
     ap (option_and_then (after_bytes 4)) (name_passed t.1)
     ∙ bytes_passed buffer t.0 4 end (omega (arith, t.2.1.ends, t.2.2.1.ends, t.2.2.2)) (omega (arith, t.2.2.1.within, t.2.2.2))
 
-questions_passed : (buffer : List ℕ) (place : ℕ) (queries : List Query) (end : ℕ) → Follow (ReadsQuestion buffer) place queries end → after_questions (length queries) (drop place buffer) ≡ Some (drop end buffer)
+pub questions_passed : (buffer : List ℕ) (place : ℕ) (queries : List Query) (end : ℕ) → Follow (ReadsQuestion buffer) place queries end → after_questions (length queries) (drop place buffer) ≡ Some (drop end buffer)
 questions_passed buffer place [] end f = ap (λ (n : ℕ). Some (drop n buffer)) f
 questions_passed buffer place (q ∷ queries) end f = ap (option_and_then (after_questions (length queries))) (question_passed buffer place q f.0 f.1) ∙ questions_passed buffer f.0 queries end f.2
 
@@ -170,11 +170,11 @@ unsigned_record : (r : Record) → (type_number (data_type r.rdata) == 250) ≡ 
 unsigned_record r e = ap (λ (b : Bool). b && not (is_update_data r.rdata)) (other_type (data_type r.rdata) e)
 
 -- records that are skipped, of which none is a signature, before so many others
-record ArePassed (buffer rest : List ℕ) (records : List Record) (more end : ℕ) : Type 0 where
-  left : after_records more (drop end buffer) ≡ Some rest
-  unsigned : find is_signature records ≡ None
+pub record ArePassed (buffer rest : List ℕ) (records : List Record) (more end : ℕ) : Type 0 where
+  pub left : after_records more (drop end buffer) ≡ Some rest
+  pub unsigned : find is_signature records ≡ None
 
-records_passed : (buffer : List ℕ) (place : ℕ) (records : List Record) (end : ℕ) → Follow (ReadsRecord buffer) place records end → (count more : ℕ) (rest : List ℕ) → count ≡ length records + more → after_records count (drop place buffer) ≡ Some rest → ArePassed buffer rest records more end
+pub records_passed : (buffer : List ℕ) (place : ℕ) (records : List Record) (end : ℕ) → Follow (ReadsRecord buffer) place records end → (count more : ℕ) (rest : List ℕ) → count ≡ length records + more → after_records count (drop place buffer) ≡ Some rest → ArePassed buffer rest records more end
 records_passed buffer place [] end f count more rest n e = record {
   left = ap (λ (k : ℕ). after_records more (drop k buffer)) (sym f) ∙ ap (λ (k : ℕ). after_records k (drop place buffer)) (omega (arith, n)) ∙ e;
   unsigned = refl;
@@ -246,6 +246,10 @@ follow_last R place (x ∷ xs) y end f = let l = follow_last R f.0 xs y end f.2 
 
 -- ---- the TSIG record
 
+-- how many records are before the last
+abbrev pub records_before : List ℕ → ℕ
+records_before message = number_at message 6 + number_at message 8 + (number_at message 10 - 1)
+
 -- the record at a place is the last that the decoder reads, and its type is TSIG
 pub record ReadsLast (message : List ℕ) (m : Message) (r : ReadsMessage message m) (place : ℕ) : Type 0 where
   pub front : List Record
@@ -255,6 +259,8 @@ pub record ReadsLast (message : List ℕ) (m : Message) (r : ReadsMessage messag
   pub there : ReadsRecord message place tsig r.end
   pub unsigned : find is_signature front ≡ None
   pub kind : data_type tsig.rdata ≡ types.TSIG
+  pub counted : 0 < number_at message 10
+  pub skipped : option_and_then (after_records (records_before message)) (after_questions (number_at message 4) (drop 12 message)) ≡ Some (drop place message)
 
 after_some : (bytes fields : List ℕ) → after_name bytes ≡ Some fields → 0 < length bytes
 after_some [] fields e = absurd (cc)
@@ -303,6 +309,8 @@ reads_last message m r place e =
       there = subst (λ (n : ℕ). ReadsRecord message n l.item r.end) place_is d;
       unsigned = front.unsigned;
       kind = sym d.head.type_named ∙ ap type_of (sym f.kind ∙ number);
+      counted = some;
+      skipped = ap (option_and_then (after_records (records_before message))) passed ∙ t.skipped ∙ ap (λ (l : List ℕ). Some l) (sym left ∙ ap (λ (n : ℕ). drop n message) place_is);
     }
 
 -- ---- the data of the record

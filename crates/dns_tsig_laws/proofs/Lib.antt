@@ -1,3 +1,4 @@
+mod BeforeLaws
 mod CodeLaws
 mod ExecutedLaws
 mod ExecutedWitness

@@ -23,10 +23,11 @@ signed_text key prior message time fudge error other =
 abbrev pub without_header : List ℕ → List ℕ
 without_header bytes = replicate 12 64 ++ drop 12 bytes
 
--- Bytes decode to a message, and no pointer of its names leads into its header. Pointers lead to prior names (RFC 1035 section 4.1.4), and
--- a header has none.
+-- Bytes decode to a message, and end with its last record, and no pointer of its names leads into its header. Pointers lead to prior names
+-- (RFC 1035 section 4.1.4), and a header has none.
 pub record DecodesApart (bytes : List ℕ) (m : Message) : Type 0 where
   pub reads : ReadsMessage bytes m
+  pub whole : reads.end ≡ length bytes
   pub queries : Follow (ReadsQuestion (without_header bytes)) 12 m.queries reads.queries_end
   pub answers : Follow (ReadsRecord (without_header bytes)) reads.queries_end m.answers reads.answers_end
   pub authorities : Follow (ReadsRecord (without_header bytes)) reads.answers_end m.authorities reads.authorities_end

@@ -61,13 +61,12 @@ pub fn found_records_are_decoded_last()
 {}
 
 /// What is executed is what was signed: if the code of a received message covers the text that the code of a signed message covers, then
-/// the received message decodes to the signed one, but for the id and the TSIG record. No pointer of the signed message leads into its
-/// header: a name there would be read from the id, which changes on the way, and from ARCOUNT, which counts the TSIG record. Both messages
-/// have as many bytes of other data: a request has none, and a reply none or six (RFC 8945 section 5.2.3).
+/// the received message decodes to the signed one, but for the id and the TSIG record. The signed message ends with its last record, and no
+/// pointer leads into its header: a name there would be read from the id, which may change on the way, and from ARCOUNT, which counts the
+/// TSIG record.
 pub fn what_is_executed_was_signed()
     ensures { (key : Key) (prior message : List ℕ) (time fudge error : ℕ) (other received : List ℕ)
         (found : Signature) (signed executed : Message) → IsSignature received found
-        → length found.tsig.other ≡ length other
         → received_text key prior received found.place found.tsig Coverage.Variables
         ≡ signed_text key prior message time fudge error other
         → DecodesApart message signed → ReadsMessage received executed → IsExecutionOf signed executed }
