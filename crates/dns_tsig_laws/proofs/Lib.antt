@@ -1,5 +1,13 @@
+mod BeforeLaws
+mod CodeLaws
+mod ExecutedLaws
+mod ExecutedWitness
+mod FoundLaws
+mod HeaderWitness
+mod HeaderlessLaws
 mod MoreLaws
 mod NameLaws
+mod PassedLaws
 mod RecordLaws
 mod RequestWitness
 mod SameLaws

@@ -12,7 +12,7 @@ abbrev pub GoesOn : (List ℕ → Option (List ℕ)) → Type 0
 GoesOn skip = (bytes more rest : List ℕ) → skip bytes ≡ Some rest → skip (bytes ++ more) ≡ Some (rest ++ more)
 
 -- two parts, one after another
-then_more : (first second : List ℕ → Option (List ℕ)) → GoesOn first → GoesOn second → GoesOn (λ bytes. option_and_then second (first bytes))
+pub then_more : (first second : List ℕ → Option (List ℕ)) → GoesOn first → GoesOn second → GoesOn (λ bytes. option_and_then second (first bytes))
 then_more first second f s bytes more rest e = by (first bytes) refl e
   where
     by : (left : Option (List ℕ)) → first bytes ≡ left → option_and_then second left ≡ Some rest → option_and_then second (first (bytes ++ more)) ≡ Some (rest ++ more)
@@ -74,7 +74,7 @@ pub questions_more : (count : ℕ) → GoesOn (after_questions count)
 questions_more zero bytes more rest e = cc
 questions_more (suc count) bytes more rest e = then_more after_question (after_questions count) question_more (questions_more count) bytes more rest e
 
-number_more : (bytes more : List ℕ) (place : ℕ) → place + 2 ≤ length bytes → number_at (bytes ++ more) place ≡ number_at bytes place
+pub number_more : (bytes more : List ℕ) (place : ℕ) → place + 2 ≤ length bytes → number_at (bytes ++ more) place ≡ number_at bytes place
 number_more bytes more place h =
     let high = get_or_append_left bytes more 0 place (omega arith) in
     let low = get_or_append_left bytes more 0 (place + 1) (omega arith) in
@@ -89,7 +89,7 @@ fields_more fields more rest h e =
     ∙ ap (after_bytes (number_at fields 8)) (drop-append-le 10 fields more h)
     ∙ bytes_more (number_at fields 8) (drop 10 fields) more rest e
 
-tsig_more : (fields more : List ℕ) → 2 ≤ length fields → is_tsig (fields ++ more) ≡ is_tsig fields
+pub tsig_more : (fields more : List ℕ) → 2 ≤ length fields → is_tsig (fields ++ more) ≡ is_tsig fields
 tsig_more fields more h =
     let short : nat_le 2 (length fields) ≡ true = grind (arith, nat_tests) in
     let longer : nat_le 2 (length (fields ++ more)) ≡ true = grind (arith, nat_tests, length-append fields more) in

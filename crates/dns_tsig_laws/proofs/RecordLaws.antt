@@ -21,7 +21,7 @@ use Rattle.dns_tsig.specs.TsigFields.{TsigFields}
 -- ---- numbers
 
 -- a number of 16 bits in two bytes, before others
-number_first : (n : ℕ) (rest : List ℕ) → n < 2 ^ 16 → number_at (to_be_bytes w16 n ++ rest) 0 ≡ n
+pub number_first : (n : ℕ) (rest : List ℕ) → n < 2 ^ 16 → number_at (to_be_bytes w16 n ++ rest) 0 ≡ n
 number_first n rest h = omega (arith, from_be_bytes-to_be_bytes_2 n h)
 
 -- the 48 bits of a time, before other bytes

@@ -24,7 +24,7 @@ use Rattle.dns_tsig_laws.specs.Whole.{HaveOtherNames, IsUsable, IsWholeUnsigned}
 abbrev vec : Global → (items : List ℕ) → length items < 2 ^ 63 → Vec ℕ
 vec alloc items short = record { ptr = null_ptr; len = length items; cap = length items; alloc = alloc; items = items; ok = (refl, omega arith); small = short }
 
-abbrev key : Global → Key
+abbrev pub key : Global → Key
 key alloc = record { name = record { items = 1 ∷ 107 ∷ 0 ∷ [] }; algorithm = Md5; secret = vec alloc (1 ∷ 2 ∷ 3 ∷ 4 ∷ []) (omega arith); least_mac = 16 }
 
 -- another key, the first of two

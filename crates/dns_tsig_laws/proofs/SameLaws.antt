@@ -15,11 +15,11 @@ use Rattle.dns_tsig.specs.declared.key.Key.{Key}
 use Rattle.dns_tsig_laws.specs.Same.{DoFieldsFit, HasRecordAt, IsSameSigned}
 
 -- two lists are equal in two parts
-record AreSame (a b c d : List ℕ) : Type 0 where
-  front : a ≡ c
-  rest : b ≡ d
+pub record AreSame (a b c d : List ℕ) : Type 0 where
+  pub front : a ≡ c
+  pub rest : b ≡ d
 
-same_front : (a b c d : List ℕ) → length a ≡ length c → a ++ b ≡ c ++ d → AreSame a b c d
+pub same_front : (a b c d : List ℕ) → length a ≡ length c → a ++ b ≡ c ++ d → AreSame a b c d
 same_front [] b [] d l e = record { front = refl; rest = e }
 same_front [] b (y ∷ c) d l e = absurd (omega arith)
 same_front (x ∷ a) b [] d l e = absurd (omega arith)
@@ -29,7 +29,7 @@ same_front (x ∷ a) b (y ∷ c) d l e =
     let heads : x ≡ y = cc in
     record { front = cc (r.front); rest = r.rest }
 
-same_back : (a b c d : List ℕ) → length b ≡ length d → a ++ b ≡ c ++ d → AreSame a b c d
+pub same_back : (a b c d : List ℕ) → length b ≡ length d → a ++ b ≡ c ++ d → AreSame a b c d
 same_back a b c d l e =
     let sum : length (a ++ b) ≡ length (c ++ d) = ap length e in
     same_front a b c d (omega (arith, length-append a b, length-append c d)) e
@@ -51,7 +51,7 @@ same_time x y h k e =
     sym (from_be_bytes-to_be_bytes_8 x (omega arith)) ∙ ap (from_be_bytes w64) bytes ∙ from_be_bytes-to_be_bytes_8 y (omega arith)
 
 -- a longer list has the same length after the same front
-same_length : (a x y : List ℕ) → length x ≡ length y → length (a ++ x) ≡ length (a ++ y)
+pub same_length : (a x y : List ℕ) → length x ≡ length y → length (a ++ x) ≡ length (a ++ y)
 same_length a x y e = omega (arith, length-append a x, length-append a y)
 
 -- the flags and three counts of a header

@@ -1,2 +1,4 @@
+pub mod Code
+pub mod Executed
 pub mod Same
 pub mod Whole
