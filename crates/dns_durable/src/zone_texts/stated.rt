@@ -1,9 +1,9 @@
 //! Whether a zone file of all types can state the data of a zone.
 
-ghost use Rattle.std.specs.Prelude.{◌≡◌, ◌<◌, ◌&&◌, not, length, IsTrue};
+ghost use Rattle.std.specs.Prelude.{◌≡◌, ◌<◌, ◌^◌, ℕ, true, length, slice_index, IsTrue};
+ghost use Rattle.std.specs.Net.Addr.{IsIpv4Addr, IsIpv6Addr};
 ghost use Rattle.std.specs.List.{AllByRecursion};
 ghost use Rattle.dns_wire.specs.codes.RecordType.{type_number};
-ghost use Rattle.dns_data.specs.Text.{AreValidValues};
 ghost use Rattle.dns_formats.specs.Field.{fields_of};
 ghost use Rattle.dns_formats.specs.ReadBack.{AreDataOf};
 ghost use Rattle.dns_names.specs.Print.{AreOctets};
@@ -17,6 +17,7 @@ use dns_names::Name;
 use dns_records::{Record, RecordSet};
 use dns_wire::codes::RecordType;
 use dns_zone::Zone;
+use std::net::{Ipv4Addr, Ipv6Addr};
 
 /// Returns `true` if a zone file of all types can state the data of each record of a zone. Then each text of the zone is read back as the
 /// zone ([`printed_zones_parse_back`](crate::zone_texts::laws::printed_zones_parse_back)). Data that was taken as bytes may not have the format of
@@ -57,7 +58,8 @@ fn is_stated_data(rdata: &RData) -> bool
     ensures { IsTrue result → IsStatedData rdata.now }
 {
     match rdata {
-        RData::A(_) | RData::AAAA(_) => true,
+        RData::A(data) => is_ipv4_address(&data.0),
+        RData::AAAA(data) => is_ipv6_address(&data.0),
         RData::CNAME(data) => is_valid(&data.0),
         RData::NS(data) => is_valid(&data.0),
         RData::PTR(data) => is_valid(&data.0),
@@ -93,6 +95,42 @@ fn is_meta_type(number: u16) -> bool
     ensures { result ≡ is_meta_type number }
 {
     matches!(number, 0 | 41 | 128..=255)
+}
+
+/// Returns `true`: an IPv4 address has four octets.
+fn is_ipv4_address(address: &Ipv4Addr) -> bool
+    ensures valid { IsIpv4Addr address.now }
+    ensures always { result ≡ true }
+{
+    let _octets = octets_of(address.octets());
+    true
+}
+
+/// Returns the octets of an IPv4 address.
+fn octets_of(octets: [u8; 4]) -> [u8; 4]
+    ensures same { result ≡ octets }
+    ensures count { length result ≡ 4 }
+    ensures fit { (k : ℕ) → slice_index result k < 2 ^ 8 }
+{
+    octets
+}
+
+/// Returns `true`: an IPv6 address has eight segments.
+fn is_ipv6_address(address: &Ipv6Addr) -> bool
+    ensures valid { IsIpv6Addr address.now }
+    ensures always { result ≡ true }
+{
+    let _segments = segments_of(address.segments());
+    true
+}
+
+/// Returns the segments of an IPv6 address.
+fn segments_of(segments: [u16; 8]) -> [u16; 8]
+    ensures same { result ≡ segments }
+    ensures count { length result ≡ 8 }
+    ensures fit { (k : ℕ) → slice_index result k < 2 ^ 16 }
+{
+    segments
 }
 
 /// Returns `true`: a name is valid.
