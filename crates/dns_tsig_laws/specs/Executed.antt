@@ -18,13 +18,13 @@ abbrev pub signed_text : Key → List ℕ → List ℕ → ℕ → ℕ → ℕ �
 signed_text key prior message time fudge error other =
     prior_bytes prior ++ message ++ covered Variables key time fudge error other
 
--- The bytes of a message with 64 in place of each byte of its header: no label begins with it, no pointer, and no name ends with it
--- (RFC 1035 section 4.1.4).
+-- The bytes of a message with 64 in place of each byte of its header. It begins no label and no pointer, and ends no name (RFC 1035
+-- section 4.1.4), so a pointer that leads there is refused.
 abbrev pub without_header : List ℕ → List ℕ
 without_header bytes = replicate 12 64 ++ drop 12 bytes
 
--- Bytes decode to a message, and end with its last record, and no pointer of its names leads into its header. Pointers lead to prior names
--- (RFC 1035 section 4.1.4), and a header has none.
+-- Bytes decode to a message and end with its last record, and no pointer leads into the header, which has no prior name that it could
+-- refer to (RFC 1035 section 4.1.4).
 pub record DecodesApart (bytes : List ℕ) (m : Message) : Type 0 where
   pub reads : ReadsMessage bytes m
   pub whole : reads.end ≡ length bytes
