@@ -17,7 +17,7 @@ returns-in_err-push-clause-failed c =
     on_error c.from_residual-in_err-push.result _ (λ is. front_stop c.args.policy.now c.loop-rest.rest.now c.next-item.result c.args.is_stored c.args.server.now c.loop-rest.server c.answer.new.server
     c.args.admitted.now is c.in-len1-up.len_at_least c.loop-rest.invariant.1.0 c.loop-rest.invariant.1.1.1.0
     (inr (answered_left c.args.policy.now c.args.is_stored c.args.is_stored c.loop-rest.server c.answer.new.server _ _ refl
-    (subst (λ (x : Arrived). AnswersOne c.args.policy.now c.args.is_stored c.loop-rest.server c.answer.new.server x (reply_bytes c.in_ok-reply.field-0)) c.next-item.is c.in_ok-reply.ensures.answered))))
+    (subst (λ (x : Arrived). AnswersOne c.args.policy.now c.args.is_stored c.loop-rest.server c.answer.new.server x (reply_bytes c.in_ok-reply.reply)) c.next-item.is c.in_ok-reply.ensures.answered))))
 
 pub loop-rest-init : goal.loop-rest-init
 loop-rest-init c = (
@@ -27,10 +27,10 @@ loop-rest-init c = (
 
 pub loop-rest-preserved : goal.loop-rest-preserved
 loop-rest-preserved c =
-    let first = subst (λ (x : Arrived). AnswersOne c.args.policy.now c.args.is_stored c.loop-rest.server c.answer.new.server x (reply_bytes c.in_ok-reply.field-0)) c.next-item.is c.in_ok-reply.ensures.answered in (
+    let first = subst (λ (x : Arrived). AnswersOne c.args.policy.now c.args.is_stored c.loop-rest.server c.answer.new.server x (reply_bytes c.in_ok-reply.reply)) c.next-item.is c.in_ok-reply.ensures.answered in (
       λ more end rest. replies_go_on c.args.policy.now c.args.is_stored c.loop-rest.rest.now c.next-item.result c.args.server.now c.loop-rest.server c.answer.new.server c.args.admitted.now _ _
-          (reply_bytes c.in_ok-reply.field-0) c.in-len1-up.len_at_least c.loop-rest.invariant.0 first
-          (mapped_more reply_bytes c.loop-rest.replies.items c.in_ok-reply.field-0 c.push.new.self.items c.in_ok-push.ensures.items) more end rest,
+          (reply_bytes c.in_ok-reply.reply) c.in-len1-up.len_at_least c.loop-rest.invariant.0 first
+          (mapped_more reply_bytes c.loop-rest.replies.items c.in_ok-reply.reply c.push.new.self.items c.in_ok-push.ensures.items) more end rest,
       (
         λ is last front. front_go_on c.args.policy.now c.loop-rest.rest.now c.next-item.result c.args.server.now c.loop-rest.server c.answer.new.server last c.args.admitted.now c.in-len1-up.len_at_least
             (c.loop-rest.invariant.1.0 is) (first_judged c.args.policy.now c.loop-rest.rest.now c.next-item.result c.in-len1-up.len_at_least c.loop-rest.invariant.1.1.1.0)
@@ -39,7 +39,7 @@ loop-rest-preserved c =
           λ is. answered_left c.args.policy.now c.args.is_stored false c.loop-rest.server c.answer.new.server _ _ is first ∙ c.loop-rest.invariant.1.1.0 is,
           (
             others_judged c.args.policy.now c.loop-rest.rest.now c.in-len1-up.len_at_least c.loop-rest.invariant.1.1.1.0,
-            changes_more c.args.server.now c.loop-rest.server c.answer.new.server c.loop-rest.replies.items c.in_ok-reply.field-0 c.push.new.self.items c.in_ok-push.ensures.items
+            changes_more c.args.server.now c.loop-rest.server c.answer.new.server c.loop-rest.replies.items c.in_ok-reply.reply c.push.new.self.items c.in_ok-push.ensures.items
                 c.loop-rest.invariant.1.1.1.1 c.in_ok-reply.ensures.change,
           ),
         ),

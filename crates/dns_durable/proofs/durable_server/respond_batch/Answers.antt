@@ -26,15 +26,15 @@ returns-in-Ok-clause-performs g c =
     let entry_is : c.as_slice.result.now ≡ entry = c.as_slice.ensures.value ∙ c.requires.entry in
     let asks = subst (λ (l : List ℕ). Asks l c.store-is_stored.result p q es) entry_is c.store-is_stored.ensures.holds in
     let answered = subst (λ (l : List Arrived). AnswersAll policy c.store-is_stored.result c.args.server.now l
-    (map reply_bytes c.in-Ok.field-0.items) after) c.as_slice-2.ensures.value c.in-Ok.ensures.answered in
+    (map reply_bytes c.in-Ok.replies.items) after) c.as_slice-2.ensures.value c.in-Ok.ensures.answered in
     record {
       events = es;
       led = c.store-is_stored.ensures.led;
       holds = record {
-        keeps = keeps_answered entry (record { replies = c.in-Ok.field-0; is_stored = c.store-is_stored.result }) p q c.args.server.now after es asks
-            (λ is. entry_takes policy.answering c.args.server.now after (changes_in c.args.batch.now.admitted.items) (answers_take policy c.args.server.now after c.args.batch.now.admitted.items (map reply_bytes c.in-Ok.field-0.items) c.requires.judged
+        keeps = keeps_answered entry (record { replies = c.in-Ok.replies; is_stored = c.store-is_stored.result }) p q c.args.server.now after es asks
+            (λ is. entry_takes policy.answering c.args.server.now after (changes_in c.args.batch.now.admitted.items) (answers_take policy c.args.server.now after c.args.batch.now.admitted.items (map reply_bytes c.in-Ok.replies.items) c.requires.judged
             (subst (λ (b : Bool). AnswersAll policy b c.args.server.now c.args.batch.now.admitted.items
-            (map reply_bytes c.in-Ok.field-0.items) after) is answered)))
+            (map reply_bytes c.in-Ok.replies.items) after) is answered)))
             c.in-Ok.ensures.unchanged;
         answered = answered;
       };
