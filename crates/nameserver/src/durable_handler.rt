@@ -135,13 +135,14 @@ impl DurableHandler<'_> {
 
     /// Records what the request of a reply has changed.
     fn record(&mut self, reply: Reply) -> Recorded {
-        let has_updated = has_changed(&reply.change);
-        if let Some(change) = reply.change {
+        let Reply { bytes, change } = reply;
+        let has_updated = has_changed(&change);
+        if let Some(change) = change {
             // Without memory for the difference, the history of the zone begins again.
             let _recorded = self.recorder.record(change);
         }
         Recorded {
-            reply: reply.bytes,
+            reply: bytes,
             has_updated,
         }
     }
@@ -182,14 +183,15 @@ impl DurableHandler<'_> {
         request: &Request<'_>,
         recorded: Recorded,
     ) -> Result<Delivery, AllocError> {
+        let Recorded { reply, has_updated } = recorded;
         let reply = match self.transferred(request)? {
             Some(transferred) => Some(transferred),
-            None => recorded.reply,
+            None => reply,
         };
         let answered = Answered {
             delivery: Delivery::plain(reply),
             line: None,
-            has_updated: recorded.has_updated,
+            has_updated,
         };
         if let Some(log) = &mut self.log {
             log.append_request(self.rt, request, &answered);
