@@ -51,10 +51,10 @@ use Rattle.api.specs.declared.lookups.table.LookupTable.{LookupTable}
 use Rattle.rumstrait_c.specs.Codes.{lookup_code}
 use Rattle.rumstrait_c.specs.Lookups.{IsUnresolved, resolver_at, resolves_at}
 use Rattle.rumstrait_c.proofs.HandleSteps.{Global, GlobalArg, global_Tells, global_val, no_drop, box_val}
-use Rattle.rumstrait_c.proofs.api_lookups++table++LookupTable+Destruct.drop.Kinds as kinds
-use Rattle.rumstrait_c.proofs.api_lookups++table++LookupTable+Destruct.drop.Met as drop-met
-use Rattle.rumstrait_c.proofs.api_lookups++table++LookupTable+Destruct.drop.Reads as reads
-use Rattle.rumstrait_c.proofs.api_lookups++table++LookupTable+Destruct.drop.Symbol as symbol
+use Rattle.rumstrait_c.proofs.api++lookups++table++LookupTable+Destruct.drop.Kinds as kinds
+use Rattle.rumstrait_c.proofs.api++lookups++table++LookupTable+Destruct.drop.Met as drop-met
+use Rattle.rumstrait_c.proofs.api++lookups++table++LookupTable+Destruct.drop.Reads as reads
+use Rattle.rumstrait_c.proofs.api++lookups++table++LookupTable+Destruct.drop.Symbol as symbol
 
 abbrev pub Table : RattleType
 Table = table.the_row
@@ -102,7 +102,7 @@ module _ {M : Type 1} {𝓤 : Ura M} {𝓛 : Logic 𝓤} {K : Type 0} {Γ : List
 
 -- the drop of a resolver, as Rattle compiles it here
 abbrev pub dropped : Dict
-dropped = impl ("rumstrait_c::api_lookups++table++LookupTable+Destruct::drop" ∷ []) tnil dnil
+dropped = impl ("rumstrait_c::api++lookups++table++LookupTable+Destruct::drop" ∷ []) tnil dnil
 
 -- that drop is good for a resolver in a box
 pub lets_go : {M : Type 1} (𝓤 : Ura M) (𝓛 : Logic 𝓤) (𝓜 : Model 𝓤 𝓛.H) (𝓡 : Running 𝓤 𝓛.H 𝓜) → Wired 𝓡.env symbol.code → glue.Met 𝓛 𝓜 𝓡 𝓡.env TableArg dropped

@@ -45,10 +45,10 @@ use Rattle.dns_updates.specs.contracts.builder.builder.UpdateBuilder as update
 use Rattle.dns_updates.specs.builder.Parts.{UpdateParts}
 use Rattle.rumstrait_c.specs.Updates.{IsUnbegun, begun_at, update_at}
 use Rattle.rumstrait_c.proofs.HandleSteps.{Global, GlobalArg, global_Tells, global_val, no_drop, box_val, not_zero}
-use Rattle.rumstrait_c.proofs.dns_update_builder++builder++UpdateBuilder+Destruct.drop.Kinds as kinds
-use Rattle.rumstrait_c.proofs.dns_update_builder++builder++UpdateBuilder+Destruct.drop.Met as drop-met
-use Rattle.rumstrait_c.proofs.dns_update_builder++builder++UpdateBuilder+Destruct.drop.Reads as reads
-use Rattle.rumstrait_c.proofs.dns_update_builder++builder++UpdateBuilder+Destruct.drop.Symbol as symbol
+use Rattle.rumstrait_c.proofs.dns_updates++builder++builder++UpdateBuilder+Destruct.drop.Kinds as kinds
+use Rattle.rumstrait_c.proofs.dns_updates++builder++builder++UpdateBuilder+Destruct.drop.Met as drop-met
+use Rattle.rumstrait_c.proofs.dns_updates++builder++builder++UpdateBuilder+Destruct.drop.Reads as reads
+use Rattle.rumstrait_c.proofs.dns_updates++builder++builder++UpdateBuilder+Destruct.drop.Symbol as symbol
 
 abbrev pub Update : RattleType
 Update = update.the_row
@@ -96,7 +96,7 @@ module _ {M : Type 1} {𝓤 : Ura M} {𝓛 : Logic 𝓤} {K : Type 0} {Γ : List
 
 -- the drop of an update, as Rattle compiles it here
 abbrev pub dropped : Dict
-dropped = impl ("rumstrait_c::dns_update_builder++builder++UpdateBuilder+Destruct::drop" ∷ []) tnil dnil
+dropped = impl ("rumstrait_c::dns_updates++builder++builder++UpdateBuilder+Destruct::drop" ∷ []) tnil dnil
 
 -- that drop is good for an update in a box
 pub lets_go : {M : Type 1} (𝓤 : Ura M) (𝓛 : Logic 𝓤) (𝓜 : Model 𝓤 𝓛.H) (𝓡 : Running 𝓤 𝓛.H 𝓜) → Wired 𝓡.env symbol.code → glue.Met 𝓛 𝓜 𝓡 𝓡.env UpdateArg dropped

@@ -98,7 +98,7 @@ rumstrait_update_new_spec {M} 𝓤 𝓛 𝓜 𝓡 wired =
           (into-met.met 𝓤 𝓛 𝓜 𝓡 (code.calls-std_alloc::boxed::Box::into_raw 𝓡.env wired) E.row al.row E.laws al.laws al.g al.d al.drops dropped
           (passed 𝓡.env (code.calls-std_heap::GlobalAllocator::allocate 𝓡.env wired) (code.calls-std_heap::GlobalAllocator::deallocate 𝓡.env wired) (code.calls-std_heap::GlobalAllocator::grow 𝓡.env wired) (code.calls-std_heap::GlobalAllocator::shrink 𝓡.env wired) M 𝓤 𝓛 𝓜 𝓡)
           (glues "rumstrait_c::Destruct++none::drop" 𝓡.env (code.calls-rumstrait_c::Destruct++none::drop 𝓡.env wired) al.row al.laws M 𝓤 𝓛 𝓜 𝓡)
-          (lets_go 𝓤 𝓛 𝓜 𝓡 (code.calls-rumstrait_c::dns_update_builder++builder++UpdateBuilder+Destruct::drop 𝓡.env wired)))
+          (lets_go 𝓤 𝓛 𝓜 𝓡 (code.calls-rumstrait_c::dns_updates++builder++builder++UpdateBuilder+Destruct::drop 𝓡.env wired)))
           y (and_then ! (get ! refl) (no_more !)) (λ u.
           use1 𝓛 (later (some (λ (p : Ptr). ((‵ (flft (α ∷ []) full_share) ⊛ ‵ (flft (β ∷ []) full_share) ⊛ ‵ ftrue) ⊛ ‵ (RawPtr.own_val p (u ∷ []))) ⊛ some (λ (ls : Lasts (into.ended E.row al.row al.g al.d al.drops dropped) y.0.0 y.0.3).
           ‵ (lasts (into.ended E.row al.row al.g al.d al.drops dropped) y.0.0 y.0.3 ls) ⊛ ‵ (update_at a.0 p d.value))))) (id⊢ 𝓤 _) $
