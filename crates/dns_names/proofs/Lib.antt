@@ -14,6 +14,7 @@ pub mod InlineLaws
 pub mod InlineText
 pub mod IterLaws
 pub mod Leading
+pub mod OffsetLaws
 pub mod PartsLaws
 pub mod PrintingLaws
 pub mod ReverseLaws

@@ -54,6 +54,9 @@ impl Name {
     /// The maximum length of an encoded name in bytes (RFC 1035 section 2.3.4).
     pub const MAX_LENGTH: usize = 255;
 
+    /// The maximum number of labels, each of which takes at least two bytes of the encoding.
+    pub const MAX_LABELS: usize = 127;
+
     /// Creates the relative name without labels.
     pub fn new(alloc: Global) -> Self
         ensures { result ≡ record { is_fqdn = false; labels = [] } }

@@ -166,8 +166,9 @@ impl Name {
         ensures { result ≡ same_labels (map (λ label. label.now) labels.now)
             (drop skipped self.now.labels) }
     {
+        let offsets = self.label_offsets();
         for index in skipped..self.label_count() {
-            if !labels[index - skipped].eq_ignore_ascii_case(self.label(index)) {
+            if !labels[index - skipped].eq_ignore_ascii_case(self.label_at(&offsets, index)) {
                 return false;
             }
         }

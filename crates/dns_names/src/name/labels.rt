@@ -1,9 +1,11 @@
 //! The labels of a name: an iterator, counts, wildcards and `localhost` (RFC 1035 section 3.1,
 //! RFC 4592 section 2.1.1, RFC 6761 section 6.3).
 
-ghost use Rattle.std.specs.Prelude.{◌≡◌, false, List, ℕ, length};
+ghost use Rattle.std.specs.Prelude.{◌≡◌, ◌<◌, ◌≤◌, false, List, ℕ, drop, length, take, Some, slice_get};
+ghost use Rattle.dns_wire.specs.Writing.{labels_form};
 ghost use Rattle.std.specs.Iterator.{YieldsFirstBy, YieldsLastBy, item_count};
 ghost use Rattle.dns_names.specs.Labels.{begins_with_star, num_labels, labels_len, ends_in_localhost};
+ghost use Rattle.dns_names.specs.internal.Name.{AreOffsets};
 
 use crate::name::Name;
 use std::marker::Model;
@@ -14,6 +16,8 @@ pub struct LabelIter<'a> {
     name: &'a Name,
     start: usize,
     end: usize,
+    /// The offset of each label in the encoding.
+    offsets: [u8; Name::MAX_LABELS],
 }
 
 impl<'a> Model for LabelIter<'a> {
@@ -23,7 +27,10 @@ impl<'a> Model for LabelIter<'a> {
 
     ghost view = { λ it. slice_range it.name.now.labels it.start it.end };
 
-    ghost invariant = { λ it. (it.start ≤ it.end) × (it.end ≤ length it.name.now.labels) };
+    ghost use Rattle.dns_names.specs.internal.Name.{AreOffsets};
+
+    ghost invariant = { λ it. (it.start ≤ it.end) × (it.end ≤ length it.name.now.labels)
+        × AreOffsets it.name.now.labels it.offsets };
 }
 
 impl<'a> Iterator for LabelIter<'a> {
@@ -39,7 +46,7 @@ impl<'a> Iterator for LabelIter<'a> {
         }
         let index = self.start;
         self.start = index + 1;
-        Some(self.name.label(index))
+        Some(self.name.label_at(&self.offsets, index))
     }
 
     fn size_hint(&self) -> (usize, Option<usize>) {
@@ -55,7 +62,7 @@ impl<'a> DoubleEndedIterator for LabelIter<'a> {
             return None;
         }
         self.end -= 1;
-        Some(self.name.label(self.end))
+        Some(self.name.label_at(&self.offsets, self.end))
     }
 }
 
@@ -74,7 +81,52 @@ impl Name {
             name: self,
             start: 0,
             end: self.label_count(),
+            offsets: self.label_offsets(),
         }
+    }
+
+    /// Returns the offset of each label in the encoding.
+    pub(crate) fn label_offsets(&self) -> [u8; Name::MAX_LABELS]
+        ensures { AreOffsets self.now.labels result }
+    {
+        let mut offsets = [0; Name::MAX_LABELS];
+        let wire = self.wire();
+        let mut offset = 0;
+        for index in 0..self.label_count() {
+            offsets[index] = offset as u8;
+            offset += wire[offset] as usize + 1;
+        }
+        offsets
+    }
+
+    /// Returns the label at an index, from the left, by the offsets of the labels.
+    pub(crate) fn label_at(&self, offsets: &[u8; Name::MAX_LABELS], index: usize) -> &[u8]
+        requires within { index < length self.now.labels }
+        requires offsets { AreOffsets self.now.labels offsets.now }
+        ensures { slice_get self.now.labels index ≡ Some result.now }
+    {
+        let rest = self.wire_from(offsets, index);
+        &rest[1..rest[0] as usize + 1]
+    }
+
+    /// Returns the labels from an index on, each after its length.
+    fn wire_from(&self, offsets: &[u8; Name::MAX_LABELS], index: usize) -> &[u8]
+        requires within { index < length self.now.labels }
+        requires offsets { AreOffsets self.now.labels offsets.now }
+        ensures { result.now ≡ labels_form (drop index self.now.labels) }
+    {
+        &self.wire()[self.offset_at(offsets, index)..]
+    }
+
+    /// Returns the offset of the label at an index.
+    fn offset_at(&self, offsets: &[u8; Name::MAX_LABELS], index: usize) -> usize
+        requires within { index < length self.now.labels }
+        requires offsets { AreOffsets self.now.labels offsets.now }
+        ensures value { result ≡ length (labels_form (take index self.now.labels)) }
+        ensures within { result ≤ length (labels_form self.now.labels) }
+    {
+        prove!(self.label_count() <= Name::MAX_LABELS);
+        offsets[index] as usize
     }
 
     /// Returns the number of labels, not counting a leading `*` (RFC 4034 section 3.1.3).

@@ -105,8 +105,9 @@ fn write_dotted_labels<W: fmt::Write>(name: &Name, f: &mut fmt::Formatter<W>) ->
     ensures { WritesOnOk W.write_str_gives f.old result
         (dotted_labels (drop 1 name.now.labels)) f.new }
 {
+    let offsets = name.label_offsets();
     for index in 1..name.label_count() {
-        write_after_dot(name.label(index), f)?;
+        write_after_dot(name.label_at(&offsets, index), f)?;
     }
     Ok(())
 }
@@ -177,8 +178,9 @@ fn push_dotted_labels(name: &Name, text: &mut String) -> Result<(), AllocError>
         ++ dotted_labels (drop 1 name.now.labels)) }
     ensures octets { OnOk result (AllByRecursion AreOctets (drop 1 name.now.labels)) }
 {
+    let offsets = name.label_offsets();
     for index in 1..name.label_count() {
-        push_after_dot(name.label(index), text)?;
+        push_after_dot(name.label_at(&offsets, index), text)?;
     }
     Ok(())
 }

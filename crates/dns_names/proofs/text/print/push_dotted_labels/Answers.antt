@@ -8,10 +8,10 @@ use Rattle.dns_names.proofs.text.print.push_dotted_labels.Goals as goal
 pub loop-index-preserved : goal.loop-index-preserved
 loop-index-preserved c =
     let labels = c.args.name.now.labels in
-    let label = c.label.result.now in
+    let label = c.label_at.result.now in
     let next : c.loop-index.index + 1 ≡ suc c.loop-index.index = omega arith in (
       rw c.in_ok-push_after_dot.ensures.text
-          (label_behind labels c.loop-index.index label (string_bytes c.loop-index.text) _ c.label.ensures.value c.loop-index.invariant.0),
-      λ octets. c.loop-index.invariant.1 (rw (drop-at labels c.loop-index.index label c.label.ensures.value)
+          (label_behind labels c.loop-index.index label (string_bytes c.loop-index.text) _ c.label_at.ensures c.loop-index.invariant.0),
+      λ octets. c.loop-index.invariant.1 (rw (drop-at labels c.loop-index.index label c.label_at.ensures)
           (c.in_ok-push_after_dot.ensures.octets, subst (λ (n : ℕ). AllByRecursion AreOctets (drop n labels)) next octets)),
     )

@@ -7,7 +7,7 @@ use Rattle.dns_names.proofs.text.print.write_dotted_labels.Goals as goal
 pub loop-index-preserved : goal.loop-index-preserved
 loop-index-preserved g c = λ plain.
     let so_far = c.loop-index.invariant plain in (
-      so_far.0 ++ (46 ∷ label_text c.label.result.now),
+      so_far.0 ++ (46 ∷ label_text c.label_at.result.now),
       has_written_append _ _ _ _ _ _ so_far.1 (search rules),
-      label_behind c.args.name.now.labels c.loop-index.index c.label.result.now so_far.0 _ c.label.ensures.value so_far.2,
+      label_behind c.args.name.now.labels c.loop-index.index c.label_at.result.now so_far.0 _ c.label_at.ensures so_far.2,
     )
