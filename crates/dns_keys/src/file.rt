@@ -125,6 +125,7 @@ fn name_at(alloc: Global, line: usize, text: &[u8]) -> Result<Name, KeyFileError
     ensures ok { IfOk result (λ name. name_at line text.now ≡ Ok name) }
     ensures refused { IfErr result (λ error. error ≢ KeyFileError.Memory
         → name_at line text.now ≡ Err error) }
+    ensures short { length text.now ≤ 32 → result ≡ name_at line text.now }
 {
     match Name::from_ascii_bytes(alloc, text) {
         Ok(name) => Ok(name),

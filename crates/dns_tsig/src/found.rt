@@ -1,6 +1,9 @@
 //! The TSIG record of a message (RFC 8945 section 5.1).
 
-ghost use Rattle.std.specs.Prelude.{◌≡◌, ◌≤◌, length, IfOk, IfSome};
+ghost use Rattle.std.specs.Prelude.{◌≡◌, ◌≤◌, List, ℕ, None, Ok, Err, length, IfOk, IfSome, IsOk};
+ghost use Rattle.dns_wire.specs.Element.{element_at};
+ghost use Rattle.dns_wire.specs.Reading.{ReadsName};
+ghost use Rattle.dns_names.specs.Name.{IsInline};
 ghost use Rattle.dns_tsig.specs.Found.{Finds, FindsOwner};
 ghost use Rattle.dns_tsig.specs.Layout.{layout_of};
 
@@ -71,10 +74,15 @@ struct Owner {
     end: usize,
 }
 
-/// Reads the owner of a record. It is `None` if the bytes are no name.
+/// Reads the owner of a record. It is `None` if the bytes are no name. A fault of its first element is found, and a name that is stored
+/// inline is read, without memory.
 fn read_owner(alloc: Global, message: &[u8], place: usize) -> Result<Option<Owner>, AllocError>
     requires { place ≤ length message.now }
     ensures owner { IfOk result (λ owner. FindsOwner message.now place owner) }
+    ensures fault { (error : DecodeError) → element_at message.now place ≡ Err error
+        → result ≡ Ok None }
+    ensures inline { (labels : List (List ℕ)) (end : ℕ)
+        → ReadsName message.now place labels end → IsInline labels → IsOk result }
     ensures within { IfOk result (λ owner. IfSome owner (λ found. found.end ≤ length message.now)) }
 {
     let mut decoder = BinDecoder::new(message).clone(place);

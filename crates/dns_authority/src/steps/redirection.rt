@@ -1,6 +1,6 @@
 //! Redirection by DNAME records (RFC 6672).
 
-ghost use Rattle.std.specs.Prelude.{◌≡◌, ◌≢◌, IfOk, List, [], ℕ, Option, None, false, option_map, take};
+ghost use Rattle.std.specs.Prelude.{◌≡◌, ◌≢◌, IfOk, Ok, List, [], ℕ, Option, None, false, option_map, take};
 ghost use Rattle.dns_names.specs.Name.{DomainName};
 ghost use Rattle.dns_authority.specs.steps.Redirection.{dname_target, name_of_bytes, split_label, with_label, with_target};
 
@@ -86,7 +86,8 @@ pub fn with_target(
 
 /// Returns `None` for an error that is not want of memory.
 fn refused(error: ParseError) -> Result<Option<Name>, AllocError>
-    ensures { IfOk result (λ name. (error ≢ ParseError.Memory) × (name ≡ None)) }
+    ensures ok { IfOk result (λ name. (error ≢ ParseError.Memory) × (name ≡ None)) }
+    ensures decided { error ≢ ParseError.Memory → result ≡ Ok None }
 {
     match error {
         // The memory for the name was refused.

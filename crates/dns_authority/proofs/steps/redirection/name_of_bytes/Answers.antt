@@ -17,7 +17,7 @@ returns-then-is_empty c =
 
 pub returns-in-Err : goal.returns-in-Err
 returns-in-Err c =
-    if_ok c.refused.result c.refused.ensures
+    if_ok c.refused.result c.refused.ensures.ok
     (λ name p.
     p.1
     ∙ sym (reads_label c.loop.counter c.loop.name c.loop.rest.now (Some (c.in-Some.label.now, c.in-Some.left.now)) (omega arith) c.in-Some.ensures
