@@ -2,7 +2,7 @@
 that of the start with the zones.
 
 The server answers by the whole of RFC 1034, as it does by default. Of each pair of sizes the greater is four times the less, and may
-take six times as long.
+take six times as long, but for names of many labels that exist: each name above such a name is looked up by a key as long as it.
 """
 import time
 from pathlib import Path
@@ -16,6 +16,8 @@ from samples import at, header, question as question_section, record, wire
 from transport import ask_datagram, connect, frame, read_frame
 
 MOST_GROWTH = 6.0
+# Four times as many keys that are four times as long take less than 16 times as long, since much of a question does not grow.
+GROWTH_OF_KEYS = 10.0
 # How often each size is measured, by turns, for how long each time, and how long a reply may take, in seconds.
 ROUNDS, TURN, WAIT = 3, 0.2, 60.0
 MOST = 65535
@@ -32,6 +34,7 @@ class Series(NamedTuple):
     question: Callable[[int], bytes]
     over_stream: bool = False
     options: Tuple[str, ...] = ()
+    most: float = MOST_GROWTH
 
 
 def of_hosts(line: str) -> Callable[[int], str]:
@@ -102,6 +105,33 @@ def absent(count: int) -> bytes:
     return query(labels_of_x(count) + "t.")
 
 
+def of_deep_name(count: int) -> str:
+    """A zone with a name of so many labels below the origin."""
+    return HEAD + labels_of_x(count) + "t. 60 IN A 10.0.0.1\n"
+
+
+def of_deep_aliases(count: int) -> str:
+    """A zone with a chain of seven aliases, each with so many labels below the origin."""
+    deep = [f"{it}." + labels_of_x(count - 1) + "t." for it in range(8)]
+    aliases = "".join(f"{one} 60 IN CNAME {other}\n" for one, other in zip(deep, deep[1:]))
+    return HEAD + aliases + deep[-1] + " 60 IN A 10.0.0.1\n"
+
+
+def first_alias(count: int) -> bytes:
+    """A question for the first of these aliases."""
+    return query("0." + labels_of_x(count - 1) + "t.")
+
+
+def additions_that_share(count: int) -> bytes:
+    """An update that adds records whose owners share so many labels, in at most 64 kB."""
+    first = record(wire("n." + labels_of_x(count) + "t."), 1, pack(">I", 0x0A000000))
+    shared = at(12 + len(ZONE_SECTION) + 2)
+    others = [
+        record(bytes([len(str(it))]) + str(it).encode() + shared, 1, pack(">I", 0x0A000001 + it)) for it in range(2_900)
+    ]
+    return update_of([], [first] + others)
+
+
 SERIES = [
     Series("SRV records", (4_000, 16_000), of_hosts("s.t. 60 IN SRV 1 {at} 80 h{at}.t.\n"), lambda _: query("s.t.", "SRV")),
     Series("MX records", (4_000, 16_000), of_hosts("s.t. 60 IN MX {at} h{at}.t.\n"), lambda _: query("s.t.", "MX")),
@@ -110,6 +140,8 @@ SERIES = [
     Series("MX records, TCP", (250, 1_000), of_hosts("s.t. 60 IN MX {at} h{at}.t.\n"), lambda _: query("s.t.", "MX"), True),
     Series("addresses", (10_000, 40_000), of_addresses, lambda _: query("s.t.")),
     Series("labels that do not exist", (29, 116), lambda _: HEAD, absent),
+    Series("labels that exist", (29, 116), of_deep_name, absent, most=GROWTH_OF_KEYS),
+    Series("labels of seven aliases", (29, 116), of_deep_aliases, first_alias, most=GROWTH_OF_KEYS),
     Series("labels at a wildcard", (29, 116), lambda _: HEAD + "*.t. 60 IN A 10.0.0.1\n", absent),
     Series("labels in none of 1,000 zones", (31, 124), lambda _: of_zones(1_000), lambda count: query(labels_of_x(count))),
     Series("labels beside a zone of 100 labels", (31, 124), beside_a_deep_zone, lambda count: query("y." * count)),
@@ -118,6 +150,7 @@ SERIES = [
     Series("records of a set, prerequisites", (10_000, 40_000), of_addresses, required_of_one_set, True),
     Series("labels that prerequisites share", (30, 120), lambda _: HEAD, required_of_labels, True),
     Series("labels that prerequisites share, refused", (30, 120), lambda _: HEAD, required_of_labels, True, ("--no-updates",)),
+    Series("labels that additions share", (29, 116), lambda _: HEAD, additions_that_share, True),
     Series("zones, an address in the last", (2_500, 10_000), of_zones, lambda count: query(f"a.z{count - 1}.")),
     Series("zones, a name of 120 labels in none", (2_500, 10_000), of_zones, lambda _: query(labels_of_x(120))),
 ]
@@ -143,7 +176,7 @@ def try_questions(report: Report, given) -> None:
         growth = large.least / small.least
         title = f"{series.title}, {series.sizes[0]:,} and {series.sizes[1]:,}"
         times = f"{small.least * 1e6:,.0f} and {large.least * 1e6:,.0f} microseconds"
-        report.check(f"{title}: {times}", True, growth <= MOST_GROWTH)
+        report.check(f"{title}: {times}", True, growth <= series.most)
         report.end(title, f", {times}")
 
 
