@@ -2,6 +2,7 @@
 from typing import Callable, NamedTuple, Sequence
 
 from agreement import try_servers
+from answering import try_answers
 from command import try_program
 from given import Given
 from schedules import try_faults
@@ -22,6 +23,7 @@ class Part(NamedTuple):
 PARTS = {
     "servers": Part(try_servers, ["named", "knotd", "nsd", "unbound", "dnsmasq"]),
     "faults": Part(try_faults),
+    "answers": Part(try_answers),
     "spoofer": Part(try_spoofer),
     "times": Part(try_times),
     "program": Part(try_program),

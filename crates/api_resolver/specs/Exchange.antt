@@ -1,11 +1,12 @@
 -- The exchange for one question.
 use Rattle.std.specs.Prelude.{◌≡◌, ◌==◌, ◌++◌, if◌then◌else◌, max, false, List, [], ◌∷◌, ℕ, Option, Some, None}
-use Rattle.stub_client.specs.Handle.{Outcome}
+use Rattle.stub_client.specs.Handle.{Behavior, Outcome, request_for}
 use Rattle.stub_client.specs.Request.{request_of}
 use Rattle.stub_servers.specs.Servers.{Servers}
 use Rattle.stub_net.specs.Ids.{DrawsFirst}
 use Rattle.stub_net.specs.Network.{NetworkCalls, network_calls}
 use Rattle.stub_net.specs.Pool.{Gives}
+use Rattle.stub_net.specs.scrub.Scrub.{GivesScrubbed}
 use Rattle.stub_net.specs.declared.pool.NameServerPool.{NameServerPool}
 use Rattle.api_resolver.specs.Replay.{ReadsClock, Receives, ReplayState, Sends, Streams, first_replay}
 use Rattle.api_resolver.specs.declared.event.Event.{Event}
@@ -50,12 +51,18 @@ replay_calls = network_calls (λ old server bytes result new. Sends old server b
     (λ old server bytes deadline result new. Streams old server bytes deadline result new)
     (λ old now new. ReadsClock old now new)
 
--- The exchange for a question, over the events that have come so far: the pool is asked the question, with this outcome, and is in
--- this state afterwards.
+-- what the pool does with a request, as a handle
+abbrev pub pool_gives : Behavior Pool
+pool_gives old request now outcome new =
+    Gives replay_calls (λ old id new. DrawsFirst old id new) old request.message outcome new
+
+-- The exchange for a question, over the events that have come so far: the pool is asked the question, with this outcome, of which
+-- remains what the question leads to, and is in this state afterwards.
 pub record Asks (settings : ExchangeSettings) (start : Start) (events : List Event) (outcome : Outcome) (new : Pool) : Type 0 where
   pub pool : Pool
   pub is_pool : IsPool settings start events pool
-  pub gives : Gives replay_calls (λ old id new. DrawsFirst old id new) pool (request_of start.question settings.request) outcome new
+  pub gives : GivesScrubbed pool_gives pool (request_for start.question settings.request) 0
+      (request_of start.question settings.request).queries outcome new
 
 -- an exchange waits for the reply to the message that the pool sent last
 pub record IsWaiting (settings : ExchangeSettings) (start : Start) (events : List Event) (awaited : Awaited) : Type 0 where

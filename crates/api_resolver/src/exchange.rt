@@ -10,6 +10,7 @@ use std::alloc::{AllocError, Global};
 use stub_client::{DnsHandle, DnsRequest};
 use stub_config::{DnsRequestOptions, ResolverOpts};
 use stub_lookup::NetError;
+use stub_net::scrub::Scrubber;
 use stub_net::{ListedIds, NameServerPool};
 use stub_servers::ServerList;
 
@@ -178,9 +179,11 @@ pub fn run_exchange(
 ) -> Result<ExchangeStep, AllocError>
     ensures { IfOk result (λ step. ComesTo settings.now start.now events.now step) }
 {
-    let mut pool = pool_over(alloc, settings, start, events.clone()?)?;
+    let pool = pool_over(alloc, settings, start, events.clone()?)?;
+    let mut handle = Scrubber::new(alloc, pool);
     let request = DnsRequest::from_query(alloc, start.question.clone()?, settings.request)?;
-    let outcome = pool.send(request, 0);
+    let outcome = handle.send(request, 0);
+    let pool = &handle.handle;
     match awaited_of(pool.network())? {
         Some(awaited) => {
             drop(outcome);

@@ -1,3 +1,4 @@
 pub mod FileLaws
 pub mod WordLaws
 pub mod GrantLaws
+mod NameTextLaws

@@ -16,6 +16,7 @@ use Rattle.stub_hosts.specs.Hosts.{HostsContent}
 use Rattle.stub_lookup.specs.declared.error.NetError.{NetError}
 use Rattle.stub_lookup.specs.declared.error.NetError.TheVariants.{Unsupported}
 use Rattle.stub_net.specs.declared.pool.NameServerPool.{NameServerPool}
+use Rattle.stub_net.specs.declared.scrub.Scrubber.{Scrubber}
 use Rattle.stub_servers.specs.Servers.{Servers}
 use Rattle.lookup_cli.specs.Session.{IsNewSession, IsPool, servers_by}
 
@@ -65,16 +66,17 @@ module _ {H : Type 0} (config : ResolverConfig) (options : ResolverOpts) (hosts 
 
 -- a resolver that is built over a pool makes a new session
 pub new_session : {N I : Type 0} (network : N) (ids : I) (config : ResolverConfig) (options : ResolverOpts) (timeout : ℕ) (alone : Bool) (hosts : HostsContent)
-    (builder : ResolverBuilder (NameServerPool N I)) (pool : NameServerPool N I) (servers : Servers) (resolver : Resolver (NameServerPool N I))
-    → builder.settings ≡ settings_of config options hosts → builder.handle ≡ pool → servers ≡ servers_by config options
+    (builder : ResolverBuilder (Scrubber (NameServerPool N I))) (handle : Scrubber (NameServerPool N I)) (pool : NameServerPool N I) (servers : Servers)
+    (resolver : Resolver (Scrubber (NameServerPool N I)))
+    → builder.settings ≡ settings_of config options hosts → builder.handle ≡ handle → handle.handle ≡ pool → servers ≡ servers_by config options
     → IsPool network ids servers options timeout alone pool → Builds builder resolver
     → IsNewSession network ids config options timeout alone hosts (record { resolver = resolver })
-new_session network ids config options timeout alone hosts builder pool servers resolver settings handle same is built = record {
+new_session {N} {I} network ids config options timeout alone hosts builder handle pool servers resolver settings is_handle is_pool same is built = record {
   config_is = ap (λ (s : Settings). s.config) (built.settings ∙ ap with_used_hosts settings);
   options_are = ap (λ (s : Settings). s.options) (built.settings ∙ ap with_used_hosts settings);
   hosts_are = ap (λ (s : Settings). s.hosts) (built.settings ∙ ap with_used_hosts settings);
   cache = built.cache ∙ ap (λ (s : Settings). empty_cache s.options) settings;
   aliases = built.aliases ∙ ap (λ (s : Settings). s.options.preserve_intermediates) settings;
-  pool = subst (IsPool network ids (servers_by config options) options timeout alone) (sym (built.handle ∙ handle))
+  pool = subst (IsPool network ids (servers_by config options) options timeout alone) (sym (ap (λ (h : Scrubber (NameServerPool N I)). h.handle) (built.handle ∙ is_handle) ∙ is_pool))
       (subst (λ (ss : Servers). IsPool network ids ss options timeout alone pool) same is);
 }

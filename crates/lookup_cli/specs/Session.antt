@@ -13,6 +13,8 @@ use Rattle.stub_lookup.specs.declared.error.NetError.TheVariants.{Unsupported}
 use Rattle.stub_net.specs.Network.{NetworkCalls}
 use Rattle.stub_net.specs.Pool.{Gives}
 use Rattle.stub_net.specs.Try.{first_counts}
+use Rattle.stub_net.specs.scrub.Scrub.{GivesScrubbed}
+use Rattle.stub_net.specs.declared.scrub.Scrubber.{Scrubber}
 use Rattle.stub_net.specs.declared.pool.NameServerPool.{NameServerPool}
 use Rattle.stub_net.specs.declared.requester.NetCounts.{NetCounts}
 use Rattle.stub_servers.specs.Server.{server_of}
@@ -53,11 +55,13 @@ pub record IsNewSession {N I : Type 0} (network : N) (ids : I) (config : Resolve
   pub hosts_are : session.resolver.settings.hosts ≡ used_hosts options.use_hosts_file hosts
   pub cache : session.resolver.client.cache ≡ empty_cache options
   pub aliases : session.resolver.client.preserve_intermediates ≡ options.preserve_intermediates
-  pub pool : IsPool network ids (servers_by config options) options timeout alone session.resolver.client.handle
+  pub pool : IsPool network ids (servers_by config options) options timeout alone session.resolver.client.handle.handle
 
--- what a pool over a network does with a request, as a handle
-abbrev pub pool_gives : {N I : Type 0} → NetworkCalls N → (I → Option ℕ → I → Type 0) → Behavior (NameServerPool N I)
-pool_gives calls draws old request now outcome new = Gives calls draws old request.message outcome new
+-- what a pool over a network does with a request, as a handle of whose replies only what the question leads to remains
+abbrev pub pool_gives : {N I : Type 0} → NetworkCalls N → (I → Option ℕ → I → Type 0) → Behavior (Scrubber (NameServerPool N I))
+pool_gives calls draws old request now outcome new =
+    GivesScrubbed (λ old request now outcome new. Gives calls draws old request.message outcome new) old.handle request now
+    request.message.queries outcome new.handle
 
 -- A lookup of what is asked about a name: its addresses, its records of a type, or nothing, for which the resolver is left as it is.
 abbrev pub LooksUpItem : {H : Type 0} → Behavior H → ℕ → (Option IpAddr → Type 0) → Result DomainName ParseError → Question

@@ -19,6 +19,7 @@ use stub_core::Resolver;
 use stub_hosts::Hosts;
 use stub_link::UpdateEvent;
 use stub_lookup::{Lookup, LookupIp, Moment, NetError};
+use stub_net::scrub::Scrubber;
 use stub_net::signed::UpdateError;
 use stub_net::{IdSource, NameServerPool, Network};
 use stub_servers::ServerList;
@@ -34,10 +35,10 @@ pub fn moment_of(milliseconds: u64) -> Moment
     (milliseconds / 1_000).min(MAX_MOMENT)
 }
 
-/// A resolver over a network, and its cache.
+/// A resolver over a network, and its cache. Of each reply it takes what the question leads to.
 #[derive(Drop)]
 pub struct Session<N, I> {
-    resolver: Resolver<NameServerPool<N, I>>,
+    resolver: Resolver<Scrubber<NameServerPool<N, I>>>,
 }
 
 impl<N: Network + Drop, I: IdSource + Drop> Session<N, I> {
@@ -70,7 +71,8 @@ impl<N: Network + Drop, I: IdSource + Drop> Session<N, I> {
             timeout,
             streams_alone,
         );
-        let builder = Resolver::builder_with_config(alloc, config, pool)
+        let handle = Scrubber::new(alloc, pool);
+        let builder = Resolver::builder_with_config(alloc, config, handle)
             .with_options(options)
             .with_hosts(hosts);
         match builder.build() {
@@ -110,10 +112,11 @@ impl<N: Network + Drop, I: IdSource + Drop> Session<N, I> {
     pub fn send_update(&mut self, update: &UpdateEvent) -> Result<ResponseCode, UpdateError>
         ensures { (reply : Result ResponseCode NetError)
             × Updates (network_calls N.sends N.receives N.streams N.reads_clock)
-            self.old.resolver.client.handle update.now reply self.new.resolver.client.handle
+            self.old.resolver.client.handle.handle update.now reply
+            self.new.resolver.client.handle.handle
             × (result ≡ update_result reply) }
     {
-        match self.resolver.handle_mut().send_update(update) {
+        match self.resolver.handle_mut().handle.send_update(update) {
             Ok(code) => Ok(code),
             Err(error) => Err(UpdateError::Net(error)),
         }
@@ -121,9 +124,9 @@ impl<N: Network + Drop, I: IdSource + Drop> Session<N, I> {
 
     /// Returns the number of requests that were sent to servers, or were to be.
     pub fn questions(&self) -> u64
-        ensures { result ≡ request_count self.now.resolver.client.handle.requester.counts }
+        ensures { result ≡ request_count self.now.resolver.client.handle.handle.requester.counts }
     {
-        let counts = self.resolver.handle().counts();
+        let counts = self.resolver.handle().handle.counts();
         counts.datagrams.saturating_add(counts.streams)
     }
 }

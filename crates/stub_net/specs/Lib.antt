@@ -8,4 +8,5 @@ pub mod Verdict
 pub mod Exchange
 pub mod Pool
 pub mod Laws
+pub mod scrub
 pub mod signed

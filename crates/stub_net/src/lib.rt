@@ -12,6 +12,7 @@
 //! - `laws`: what holds of every exchange
 //!
 //! Further modules, each with a page of its own:
+//! - [`scrub`]: replies with what their questions lead to, and nothing else;
 //! - [`signed`]: signed requests over a network, and updates that are sent signed (RFC 8945).
 #![tactic(auto)]
 
@@ -20,6 +21,7 @@ pub mod laws;
 mod network;
 mod pool;
 mod requester;
+pub mod scrub;
 pub mod signed;
 
 pub use ids::{IdSource, ListedIds};

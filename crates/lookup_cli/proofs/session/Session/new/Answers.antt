@@ -9,10 +9,11 @@ returns-in-Ok-clause-session g c =
     let builder = c.with_hosts-builder.result in
     let one = c.builder_with_config.result in
     let two = c.with_options.result in
-    new_session c.args.network c.args.ids c.args.config c.args.options c.args.timeout c.args.streams_alone c.args.hosts builder c.pool_of-pool.result
+    new_session c.args.network c.args.ids c.args.config c.args.options c.args.timeout c.args.streams_alone c.args.hosts builder c.new-handle.result c.pool_of-pool.result
     c.in_ok-servers.servers c.in-Ok.resolver
     (built_settings c.args.config c.args.options c.args.hosts one two builder c.with_options.ensures c.with_hosts-builder.ensures c.builder_with_config.ensures.settings)
-    (built_handle c.args.config c.args.options c.args.hosts one two builder c.with_options.ensures c.with_hosts-builder.ensures c.pool_of-pool.result c.builder_with_config.ensures.handle)
+    (built_handle c.args.config c.args.options c.args.hosts one two builder c.with_options.ensures c.with_hosts-builder.ensures c.new-handle.result c.builder_with_config.ensures.handle)
+    c.new-handle.ensures
     c.in_ok-servers.ensures c.pool_of-pool.ensures
     (what_is_built (Builds builder) (is_unsupported builder.settings.options) c.build.result c.in-Ok.resolver c.build.ensures.unsupported c.build.ensures.supported c.in-Ok.is)
 

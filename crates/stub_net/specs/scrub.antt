@@ -1,0 +1,2 @@
+-- Replies with what their questions lead to.
+pub mod Scrub
