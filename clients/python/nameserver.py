@@ -13,6 +13,7 @@
         look_up("www.example.com", server.address, server.port)
         first, second = server.wait_for_requests(2)
         assert first.fault == 1 and second.code_name == "NOERROR"
+        server.update("swap www.example.com. 60 A 10.0.0.1 -> 10.0.0.2")
 
 Plain Python 3.8 without dependencies: copy this file beside your tests. `pytest_nameserver.py` has a fixture for pytest.
 
@@ -24,7 +25,10 @@ import functools
 import json
 import os
 import select
+import shlex
 import shutil
+import socket
+import struct
 import subprocess
 import sys
 import tempfile
@@ -39,6 +43,8 @@ END_LIMIT = 5
 # The names of the codes that have four bits (RFC 6895 section 2.3).
 NAMES = "NOERROR FORMERR SERVFAIL NXDOMAIN NOTIMP REFUSED YXDOMAIN YXRRSET NXRRSET NOTAUTH NOTZONE"
 CODES = dict(enumerate(NAMES.split()))
+# The types whose data `update` encodes; that of others is written as `\\# LENGTH HEX` (RFC 3597 section 5).
+TYPES = {"A": 1, "NS": 2, "CNAME": 5, "PTR": 12, "MX": 15, "TXT": 16, "AAAA": 28, "SRV": 33, "DNAME": 39}
 
 
 class NameServerError(Exception):
@@ -198,6 +204,51 @@ class NameServer:
                 raise NameServerError(f"{len(found)} requests of {count} within {seconds} seconds{self.complaint()}")
             time.sleep(0.01)
 
+    def wait_for(self, seconds=5, **fields):
+        """The first request whose fields are these, such as `name="www.example.com.", type="A"`, as soon as there is one."""
+        end = time.monotonic() + seconds
+        while True:
+            for request in self.requests():
+                if all(getattr(request, name) == value for name, value in fields.items()):
+                    return request
+            if time.monotonic() > end or self.process.poll() is not None:
+                raise NameServerError(f"no request with {fields} within {seconds} seconds{self.complaint()}")
+            time.sleep(0.01)
+
+    def unused_faults(self):
+        """The rules of the fault table that were not applied yet, each as its line and its text."""
+        used = {request.fault for request in self.requests()}
+        lines = enumerate(self.faults.splitlines(), 1)
+        return [(at, text.strip()) for at, text in lines if at not in used and text.strip() and not text.lstrip().startswith("#")]
+
+    def update(self, change, zone=None, seconds=5):
+        """Sends a dynamic update (RFC 2136), and returns the name of the code of its reply, such as "NOERROR".
+
+        The change is in the words of `lookup --update`, with whole names: `create NAME TTL TYPE DATA`, if there is none of this name
+        and type; `append NAME TTL TYPE DATA`; `swap NAME TTL TYPE DATA -> DATA`, if there is no other; `delete-record NAME TYPE DATA`,
+        `delete-set NAME TYPE` or `delete-name NAME`. The zone is that of the first zone file unless it is given.
+        """
+        prerequisites, changes = records_of_change(change)
+        zone = zone or self.origin()
+        header = struct.pack(">6H", 0x5555, 0x2800, 1, len(prerequisites), len(changes), 0)
+        message = header + encode_name(zone) + struct.pack(">2H", 6, 1) + b"".join(prerequisites + changes)
+        with socket.create_connection((self.address, self.port), seconds) as connection:
+            connection.sendall(struct.pack(">H", len(message)) + message)
+            with connection.makefile("rb") as stream:
+                reply = stream.read(2 + 12)
+        if len(reply) < 14:
+            raise NameServerError(f"no reply to the update {change!r}{self.complaint()}")
+        code = reply[5] & 15
+        return CODES.get(code, str(code))
+
+    def origin(self):
+        """The origin of the first zone, as the server told it when it read the zone."""
+        for line in self.standard_error().splitlines():
+            words = line.split(": zone ", 1)
+            if len(words) == 2 and words[0] == self.path("zone0"):
+                return words[1].split(",", 1)[0]
+        raise NameServerError(f"the server told no zone{self.complaint()}")
+
     def standard_error(self):
         """What the server has printed on standard error."""
         return Path(self.path("stderr")).read_text(encoding="utf-8", errors="replace")
@@ -206,6 +257,57 @@ class NameServer:
         """What the server has printed on standard error, as the end of a message."""
         said = self.standard_error().strip()
         return f":\n{said}" if said else ""
+
+
+def encode_name(text):
+    """A name as it is encoded (RFC 1035 section 3.1). Each dot ends a label."""
+    labels = [it.encode("ascii") for it in text.rstrip(".").split(".") if it]
+    if any(len(it) > 63 for it in labels) or sum(len(it) + 1 for it in labels) > 254:
+        raise ValueError(f"{text!r} is no name")
+    return b"".join(bytes([len(it)]) + it for it in labels) + b"\0"
+
+
+def encode_data(kind, words):
+    """The data of a record, from the words of its text."""
+    if words[:1] == ["\\#"]:
+        return bytes.fromhex("".join(words[2:]))
+    if kind in ("A", "AAAA"):
+        return socket.inet_pton(socket.AF_INET if kind == "A" else socket.AF_INET6, words[0])
+    if kind in ("NS", "CNAME", "PTR", "DNAME"):
+        return encode_name(words[0])
+    if kind in ("MX", "SRV"):
+        *numbers, host = words
+        return struct.pack(f">{len(numbers)}H", *map(int, numbers)) + encode_name(host)
+    if kind == "TXT":
+        return b"".join(bytes([len(it)]) + it for it in (word.strip('"').encode() for word in words))
+    raise ValueError(f"data of type {kind} is written as \\# LENGTH HEX")
+
+
+def encode_record(name, kind, rclass, ttl, words=()):
+    """A record, or one without data that names a set."""
+    number = TYPES[kind] if kind in TYPES else 255 if kind == "ANY" else int(kind[4:])
+    data = encode_data(kind, list(words)) if words else b""
+    return encode_name(name) + struct.pack(">2HIH", number, rclass, ttl, len(data)) + data
+
+
+def records_of_change(text):
+    """The prerequisites and the changes of an update (RFC 2136 sections 2.4 and 2.5)."""
+    action, *words = shlex.split(text, posix=False)
+    in_class, none, every = 1, 254, 255
+    if action in ("create", "append", "swap"):
+        name, ttl, kind, *data = words
+        old, new = (data[: data.index("->")], data[data.index("->") + 1 :]) if action == "swap" else ([], data)
+        added = encode_record(name, kind, in_class, int(ttl), new)
+        if action == "create":
+            return [encode_record(name, kind, none, 0)], [added]
+        if action == "swap":
+            return [encode_record(name, kind, in_class, 0, old)], [encode_record(name, kind, none, 0, old), added]
+        return [], [added]
+    if action == "delete-record":
+        return [], [encode_record(words[0], words[1], none, 0, words[2:])]
+    if action in ("delete-set", "delete-name"):
+        return [], [encode_record(words[0], words[1] if action == "delete-set" else "ANY", every, 0)]
+    raise ValueError(f"{action!r} is none of create, append, swap, delete-record, delete-set and delete-name")
 
 
 def find_program(given=None):

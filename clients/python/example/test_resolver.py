@@ -4,7 +4,7 @@ To run them: `NAMESERVER=.. PYTHONPATH=clients/python pytest clients/python/exam
 """
 import pytest
 
-from pytest_nameserver import nameserver  # noqa: F401
+from pytest_nameserver import nameserver, nameserver_of_session  # noqa: F401
 from resolver import LookupFailed, look_up
 
 ZONE = """
@@ -90,3 +90,34 @@ def test_restart(nameserver):
     server.restart(zone=ZONE.replace("10.0.0.1\n", "10.0.0.2\n"))
     assert server.port == port
     assert look_up("www.example.com", server.address, port) == ["10.0.0.2"]
+
+
+def test_update(nameserver):
+    """A record that changes while the server runs."""
+    server = nameserver(ZONE)
+    assert server.update("swap www.example.com. 60 A 10.0.0.1 -> 10.0.0.2") == "NOERROR"
+    assert look_up("www.example.com", server.address, server.port) == ["10.0.0.2"]
+    assert server.update("swap www.example.com. 60 A 10.0.0.1 -> 10.0.0.3") == "NXRRSET"
+    assert server.update("append mail.example.com. 60 MX 10 www.example.com.") == "NOERROR"
+    assert server.update("delete-name www.example.com.") == "NOERROR"
+    with pytest.raises(LookupFailed, match="code 3"):
+        look_up("www.example.com", server.address, server.port)
+
+
+def test_unused_faults(nameserver):
+    """A test of a fault can say that the fault came."""
+    server = nameserver(ZONE, faults="www.example.com. A drop times 1\nwww.example.com. AAAA drop")
+    assert look_up("www.example.com", server.address, server.port) == ["10.0.0.1"]
+    assert server.wait_for(name="www.example.com.", code_name="NOERROR").fault is None
+    assert server.unused_faults() == [(2, "www.example.com. AAAA drop")]
+
+
+@pytest.fixture(scope="session")
+def shared(nameserver_of_session):  # noqa: F811
+    return nameserver_of_session(ZONE)
+
+
+@pytest.mark.parametrize("name", ["www", "web"])
+def test_server_of_session(shared, name):
+    """One server for several tests."""
+    assert look_up(f"{name}.example.com", shared.address, shared.port) == ["10.0.0.1"]
