@@ -12,6 +12,7 @@ use Rattle.dns_messages.specs.Response.{has_type}
 use Rattle.dns_messages.specs.declared.query.Query.{Query}
 use Rattle.dns_messages.specs.declared.response.DnsResponse.{DnsResponse}
 use Rattle.stub_config.specs.declared.request_options.DnsRequestOptions.{DnsRequestOptions}
+use Rattle.stub_lookup.specs.declared.error.NetError.{NetError}
 use Rattle.stub_lookup.specs.declared.error.NoRecords.{NoRecords}
 use Rattle.stub_cache.specs.Cache.{CacheContent}
 use Rattle.stub_cache.specs.Ttl.{TtlConfigContent}
@@ -51,7 +52,9 @@ none-kept settings q =
 
 module _ {H : Type 0} (gives : Behavior H) (options : DnsRequestOptions) (now : ℕ) (config : TtlConfigContent) (aliases : Bool)
     (low short : Type 0) (longest : Query → ℕ) (finds : Query → ℕ → List Record → Type 0) (misses lacks : Query → ℕ → NoRecords → Type 0)
-    (answers : AnswersOutlast low finds) (absences : AbsencesOutlast short longest misses lacks) (special : HoldOfSpecialNames finds lacks) (none : HasNoLeast low short longest config)
+    (fails : List Ask → Query → ℕ → NetError → Type 0) (deep : ℕ → Query → Type 0)
+    (answers : AnswersOutlast low finds) (absences : AbsencesOutlast short longest misses lacks) (special : HoldOfSpecialNames finds lacks)
+    (start : (q : Query) → deep 0 q) (none : HasNoLeast low short longest config)
     (round : (number : ℕ) → type_number (type_of number) ≡ number) where
   abbrev told : LookupSettings
   told = record { preserve_intermediates = aliases; dnssec_ok = options.edns_set_dnssec_ok }
@@ -67,11 +70,11 @@ module _ {H : Type 0} (gives : Behavior H) (options : DnsRequestOptions) (now : 
   abbrev IsTyped : Ask → Type 0
   IsTyped ask = (response : DnsResponse) → meaning ask.outcome ≡ Ok response → HasAskedTypes ask.question response.message
 
-  abbrev Fits : List Ask → Unit {0} → Type 0
-  Fits asks all = All (BearOut finds misses lacks told config now) asks × All IsTyped asks
+  abbrev Fits : List Ask → List Ask → Type 0
+  Fits asks all = All (BearOut finds misses lacks (fails all) deep told config now) asks × All IsTyped asks
 
   -- the claims hold of what a client has
-  abbrev Good : Unit {0} → CachingClient H → Type 0
+  abbrev Good : List Ask → CachingClient H → Type 0
   Good all client =
       (client.preserve_intermediates ≡ aliases) × (client.cache.config ≡ config) × IsHeldCache low short longest finds misses now client.cache
 
@@ -86,17 +89,17 @@ module _ {H : Type 0} (gives : Behavior H) (options : DnsRequestOptions) (now : 
   path-both : (old mid new : CachingClient H) (asks more : List Ask) → Path old asks mid → Path mid more new → Path old (asks ++ more) new
   path-both old mid new asks more h k = (led-both old.handle mid.handle new.handle asks more h.0 k.0, k.1 ∙ h.1, k.2 ∙ h.2)
 
-  fits-front : (asks more : List Ask) (all : Unit {0}) → Fits (asks ++ more) all → Fits asks all
-  fits-front asks more all h = (all-front (BearOut finds misses lacks told config now) asks more h.0, all-front IsTyped asks more h.1)
+  fits-front : (asks more : List Ask) (all : List Ask) → Fits (asks ++ more) all → Fits asks all
+  fits-front asks more all h = (all-front (BearOut finds misses lacks (fails all) deep told config now) asks more h.0, all-front IsTyped asks more h.1)
 
-  fits-back : (asks more : List Ask) (all : Unit {0}) → Fits (asks ++ more) all → Fits more all
-  fits-back asks more all h = (all-back (BearOut finds misses lacks told config now) asks more h.0, all-back IsTyped asks more h.1)
+  fits-back : (asks more : List Ask) (all : List Ask) → Fits (asks ++ more) all → Fits more all
+  fits-back asks more all h = (all-back (BearOut finds misses lacks (fails all) deep told config now) asks more h.0, all-back IsTyped asks more h.1)
 
   abbrev AsksClient : Lookups (CachingClient H) Query
   AsksClient old q reply new = Answers gives options now old q reply new
 
-  question-by : EachExplained {All = Unit {0}} Path Fits Good path-none path-both fits-front fits-back AsksClient
-      (λ all. ByClaims finds lacks now)
+  question-by : EachExplained {All = List Ask} Path Fits Good path-none path-both fits-front fits-back AsksClient
+      (λ all. ByClaims finds lacks (fails all) now)
   question-by old new q reply h =
       let bounds = settings-stay (lookup_settings old options) now 0 [] old.cache q h.asks reply new.cache h.looks in (
         h.asks,
@@ -105,9 +108,9 @@ module _ {H : Type 0} (gives : Behavior H) (options : DnsRequestOptions) (now : 
             let looks : Looks told now 0 [] old.cache q h.asks reply new.cache =
             subst (λ (b : Bool). Looks (record { preserve_intermediates = b; dnssec_ok = options.edns_set_dnssec_ok }) now 0 []
             old.cache q h.asks reply new.cache) good.0 h.looks in
-            let kept = lookup-keeps low short longest finds misses lacks answers absences special told now 0 [] old.cache q h.asks reply new.cache
-            (subst (HasNoLeast low short longest) (sym good.1) none) (none-kept told q) good.2.holds
-            (subst (λ (c : TtlConfigContent). All (BearOut finds misses lacks told c now) h.asks) (sym good.1) fits.0) looks in
+            let kept = lookup-keeps low short longest finds misses lacks (fails all) deep answers absences special told now 0 [] old.cache q h.asks reply new.cache
+            (subst (HasNoLeast low short longest) (sym good.1) none) (none-kept told q) (start q) good.2.holds
+            (subst (λ (c : TtlConfigContent). All (BearOut finds misses lacks (fails all) deep told c now) h.asks) (sym good.1) fits.0) looks in
             let fit = lookup-fits round told now 0 [] old.cache q h.asks reply new.cache (All-nil (λ r. has_type types.CNAME r ≡ true))
             good.2.typed fits.1 looks in (
               (h.settings ∙ good.0, bounds.1 ∙ good.1, record { holds = kept.0; typed = fit.0 }),
@@ -119,7 +122,9 @@ module _ {H : Type 0} (gives : Behavior H) (options : DnsRequestOptions) (now : 
 
 module _ {H : Type 0} (gives : Behavior H) (now : ℕ) (old new : Resolver H)
     (low short : Type 0) (longest : Query → ℕ) (finds : Query → ℕ → List Record → Type 0) (misses lacks : Query → ℕ → NoRecords → Type 0)
+    (fails : List Ask → Query → ℕ → NetError → Type 0) (deep : ℕ → Query → Type 0)
     (answers : AnswersOutlast low finds) (absences : AbsencesOutlast short longest misses lacks) (special : HoldOfSpecialNames finds lacks)
+    (start : (q : Query) → deep 0 q)
     (none : HasNoLeast low short longest old.client.cache.config)
     (round : (number : ℕ) → type_number (type_of number) ≡ number) where
   abbrev options : DnsRequestOptions
@@ -132,55 +137,55 @@ module _ {H : Type 0} (gives : Behavior H) (now : ℕ) (old new : Resolver H)
   aliases = old.client.preserve_intermediates
 
   abbrev P : CachingClient H → List Ask → CachingClient H → Type 0
-  P = Path gives options now config aliases low short longest finds misses lacks answers absences special none round
+  P = Path gives options now config aliases low short longest finds misses lacks fails deep answers absences special start none round
 
-  abbrev F : List Ask → Unit {0} → Type 0
-  F = Fits gives options now config aliases low short longest finds misses lacks answers absences special none round
+  abbrev F : List Ask → List Ask → Type 0
+  F = Fits gives options now config aliases low short longest finds misses lacks fails deep answers absences special start none round
 
-  abbrev G : Unit {0} → CachingClient H → Type 0
-  G = Good gives options now config aliases low short longest finds misses lacks answers absences special none round
+  abbrev G : List Ask → CachingClient H → Type 0
+  G = Good gives options now config aliases low short longest finds misses lacks fails deep answers absences special start none round
 
   abbrev first : (client : CachingClient H) → P client [] client
-  first = path-none gives options now config aliases low short longest finds misses lacks answers absences special none round
+  first = path-none gives options now config aliases low short longest finds misses lacks fails deep answers absences special start none round
 
   abbrev both : (s t u : CachingClient H) (asks more : List Ask) → P s asks t → P t more u → P s (asks ++ more) u
-  both = path-both gives options now config aliases low short longest finds misses lacks answers absences special none round
+  both = path-both gives options now config aliases low short longest finds misses lacks fails deep answers absences special start none round
 
-  abbrev front : (asks more : List Ask) (all : Unit {0}) → F (asks ++ more) all → F asks all
-  front = fits-front gives options now config aliases low short longest finds misses lacks answers absences special none round
+  abbrev front : (asks more : List Ask) (all : List Ask) → F (asks ++ more) all → F asks all
+  front = fits-front gives options now config aliases low short longest finds misses lacks fails deep answers absences special start none round
 
-  abbrev back : (asks more : List Ask) (all : Unit {0}) → F (asks ++ more) all → F more all
-  back = fits-back gives options now config aliases low short longest finds misses lacks answers absences special none round
+  abbrev back : (asks more : List Ask) (all : List Ask) → F (asks ++ more) all → F more all
+  back = fits-back gives options now config aliases low short longest finds misses lacks fails deep answers absences special start none round
 
   explained : (leads : Lookups (Unit {0}) Query → Type 0)
-      → Explained P F G first both front back old.client new.client (λ all. leads (ByClaims finds lacks now))
-      → KeepsClaims low short longest finds misses lacks gives now old new leads
+      → Explained P F G first both front back old.client new.client (λ all. leads (ByClaims finds lacks (fails all) now))
+      → KeepsClaims low short longest finds misses lacks fails deep gives now old new leads
   explained leads h = record {
     asks = h.0;
     led = h.1.0;
     aliases = h.1.1;
     config = h.1.2;
     keeps = λ support holds.
-        let whole = h.2 tt (support.bear, support.typed) (refl, refl, holds) in
+        let whole = h.2 h.0 (support.bear, support.typed) (refl, refl, holds) in
         (whole.0.2, whole.1);
   }
 
   pub name-keeps : (name : Result DomainName ParseError) (kind : RecordType) (reply : Reply)
       → LooksUp old.settings now (asks_of gives now old) name kind old.client reply new.client
-      → KeepsClaims low short longest finds misses lacks gives now old new (λ asks. LooksUp old.settings now asks name kind tt reply tt)
+      → KeepsClaims low short longest finds misses lacks fails deep gives now old new (λ asks. LooksUp old.settings now asks name kind tt reply tt)
   name-keeps name kind reply h =
       explained (λ asks. LooksUp old.settings now asks name kind tt reply tt)
-      (looks_up-by P F G first both front back now (asks_of gives now old) (λ all. ByClaims finds lacks now)
-      (question-by gives options now config aliases low short longest finds misses lacks answers absences special none round)
+      (looks_up-by P F G first both front back now (asks_of gives now old) (λ all. ByClaims finds lacks (fails all) now)
+      (question-by gives options now config aliases low short longest finds misses lacks fails deep answers absences special start none round)
       old.settings name kind old.client new.client reply h)
 
   pub host-keeps : (address : Option IpAddr) (name : Result DomainName ParseError) (reply : Reply)
       → LooksUpHost old.settings now (asks_of gives now old) address name old.client reply new.client
-      → KeepsClaims low short longest finds misses lacks gives now old new (λ asks. LooksUpHost old.settings now asks address name tt reply tt)
+      → KeepsClaims low short longest finds misses lacks fails deep gives now old new (λ asks. LooksUpHost old.settings now asks address name tt reply tt)
   host-keeps address name reply h =
       explained (λ asks. LooksUpHost old.settings now asks address name tt reply tt)
-      (looks_up_host-by P F G first both front back now (asks_of gives now old) (λ all. ByClaims finds lacks now)
-      (question-by gives options now config aliases low short longest finds misses lacks answers absences special none round)
+      (looks_up_host-by P F G first both front back now (asks_of gives now old) (λ all. ByClaims finds lacks (fails all) now)
+      (question-by gives options now config aliases low short longest finds misses lacks fails deep answers absences special start none round)
       old.settings address name old.client new.client reply h)
 
 -- ---- between lookups

@@ -1,12 +1,14 @@
 -- A response that holds the answer of a zone by rows that stand leads to a step of which the claims on whole answers hold.
-use Rattle.std.proofs.Common.{◌≡◌, ◌≢◌, ℕ, ◌+◌, ◌*◌, ◌<◌, ◌≤◌, ◌==◌, ◌&&◌, ◌||◌, ◌++◌, min, nat_lt, Bool, true, false, cond, not, List, [], ◌∷◌, map, filter, length, Option, Some, None, Ok, Err, unwrap_or, is_some, All, refl, sym, ap, subst, ◌∙◌, slice_index_or, inl, inr, arith}
-use Rattle.std.specs.Prelude.{◌⊎◌, Contains, IsSomeAnd}
+use Rattle.std.proofs.Common.{◌≡◌, ◌≢◌, ℕ, suc, ◌+◌, ◌*◌, ◌<◌, ◌≤◌, ◌==◌, ◌&&◌, ◌||◌, ◌++◌, min, nat_lt, Bool, true, false, cond, not, List, [], ◌∷◌, map, filter, length, Option, Some, None, Ok, Err, unwrap_or, is_some, All, refl, sym, ap, subst, ◌∙◌, slice_index_or, inl, inr, arith}
+use Rattle.std.specs.Prelude.{◌⊎◌, Contains, IfSome, IsSomeAnd}
 use Rattle.std.specs.FinMap as rows_map
 use Rattle.std.specs.Bool.{beq}
 use Rattle.std.specs.List.{list_any}
 use Rattle.std.specs.Ordering.{on}
 use Rattle.std.proofs.lemmas.Bool.{cond_both, true≢false}
+use Rattle.std.proofs.lemmas.Bool.Decides.{nat_tests}
 use Rattle.std.proofs.lemmas.List.{append-nil}
+use Rattle.std.proofs.lemmas.List.Folds.{list_any-append}
 use Rattle.std.proofs.lemmas.List.Elements.{All-append, All-head, All-map, All-nil, All-tail, Contains-append_right, filter_passes}
 use Rattle.dns_wire.specs.codes.DNSClass.{class_number}
 use Rattle.dns_wire.specs.codes.RecordType.{type_number}
@@ -16,12 +18,13 @@ use Rattle.dns_wire.specs.declared.codes.record_type.RecordType.TheVariants as t
 use Rattle.dns_names.specs.Compare.{at_or_below, lower, same_labels, same_name}
 use Rattle.dns_names.specs.Name.{DomainName}
 use Rattle.dns_names.specs.internal.Compare.{same_name-equivalence}
+use Rattle.dns_names.proofs.ComparisonLaws.{at_or_below-lower}
 use Rattle.dns_data.specs.declared.rdata.RData.{RData}
 use Rattle.dns_data.specs.declared.rdata.RData.TheVariants as of
 use Rattle.dns_data.specs.declared.rdata.soa.SOA.{SOA}
 use Rattle.dns_data.specs.rdata.{data_type}
 use Rattle.dns_records.specs.Record.{Record}
-use Rattle.dns_records.specs.Rows.{rows_at}
+use Rattle.dns_records.specs.Rows.{key, rows_at}
 use Rattle.dns_records.specs.declared.record.Record as generic
 use Rattle.dns_records.specs.declared.row.Row.{Row}
 use Rattle.dns_messages.specs.Message.{all_records}
@@ -31,10 +34,12 @@ use Rattle.dns_messages.specs.declared.query.Query.{Query}
 use Rattle.dns_messages.specs.declared.response.DnsResponse.{DnsResponse}
 use Rattle.dns_messages.specs.declared.response_code.ResponseCode.{ResponseCode}
 use Rattle.dns_messages.specs.declared.response_code.ResponseCode.TheVariants.{NoError, NotImp, NXDomain, Refused}
-use Rattle.dns_zone.specs.Answer.{IsChain, answer, authority, authority_row, is_no_row_type, negative, record_of}
+use Rattle.dns_zone.specs.Answer.{IsChain, answer, authority, authority_row, is_no_row_type, is_refused, negative, record_of}
 use Rattle.dns_zone.specs.Answer.{negative_ttl as zone_negative_ttl}
-use Rattle.dns_zone.specs.Rows.{IsSoundRow, IsZone, ZoneContent, some_row_below}
+use Rattle.dns_zone.specs.Rows.{AreRowsAt, IsSoundRow, IsZone, ZoneContent, some_row_below}
+use Rattle.dns_zone.proofs.RowLaws.{same_lower}
 use Rattle.dns_zone.specs.declared.zone.answer.Answer.{Answer}
+use Rattle.stub_config.specs.declared.request_options.DnsRequestOptions.{DnsRequestOptions}
 use Rattle.stub_lookup.specs.Outcome.{as_soa, error_by_code, error_in, error_without_answer, no_records_in, unless_error}
 use Rattle.stub_lookup.specs.declared.error.DnsError.{DnsError}
 use Rattle.stub_lookup.specs.declared.error.DnsError.TheVariants as dns
@@ -56,18 +61,26 @@ use Rattle.stub_laws.specs.history.Answered.{AreZones, HoldsAnswerAt, IsAnswered
 use Rattle.stub_laws.proofs.AnswerRowLaws.{IsAnswerRow, Typed, answer-rows, equal-numbers, number_of, owner-full, sound-at, typed-at, zone-of-rows}
 use Rattle.stub_laws.proofs.ChainLaws.{soa-data}
 use Rattle.stub_laws.proofs.FreshLaws.{range_at}
-use Rattle.stub_laws.proofs.StandLaws.{contains-head, names-lower}
-use Rattle.stub_laws.specs.answers.Claims.{AreKeptAliases, BearOut, IsNoMeaning, HoldOfStep, longest_absence}
-use Rattle.stub_laws.specs.answers.Standing.{FindsWhole, HasBeenAbsent, HasRows, HaveStood, IsSoaOf, LacksIndeed, LeadsOn, MissesIndeed}
+use Rattle.stub_laws.proofs.StandLaws.{contains-head, labels-lower, names-lower}
+use Rattle.stub_laws.specs.answers.Claims.{AreKeptAliases, BearOut, HoldOfStep, longest_absence}
+use Rattle.stub_laws.specs.answers.Failing.{FailsIndeed, HasReason}
+use Rattle.stub_laws.specs.answers.Standing.{FindsWhole, HasBeenAbsent, HasRows, HaveStood, IsDeep, IsLed, IsSoaOf, LacksIndeed, LeadsOn, MissesIndeed}
 use Rattle.stub_laws.specs.answers.Standing.HasBeenAbsent.{as_absence, as_link}
 use Rattle.stub_laws.specs.answers.Standing.HaveStood.{as_set}
 use Rattle.stub_laws.specs.answers.Standing.IsLed.{here}
-use Rattle.stub_laws.proofs.EndedLaws.{Answered, Ended, HasAliasAt, HasAliases, IsAliasRecord, answered-by, ended, finds, lacks, not_implemented, refused, stops}
+use Rattle.stub_laws.proofs.EndedLaws.{Answered, Ended, GoesAlong, Halts, HasAliasAt, HasAliases, IsAliasRecord, answered-by, ended, finds, lacks, not_implemented, refused, stops}
 use Rattle.stub_laws.proofs.LeadingLaws.{IsService, Leads, LeadsTo, chain-leads, lead, services-lead}
 use Rattle.stub_laws.proofs.SelectingLaws.{Selects, selects-after, selects-clamped, selects-filter, selects-lowered, selects-rows, selects-some, selects-stripped}
-use Rattle.stub_laws.proofs.StandingLaws.{lacking-through, stood-through}
+use Rattle.stub_laws.proofs.StandingLaws.{IsLast, deep-through, fails-through, lacking-through, leads-here, stood-through}
 
 -- ---- tests
+
+not-less : (m n : ℕ) → nat_lt m n ≡ false → n ≤ m
+not-less m n h = grind (arith, nat_tests)
+
+second-off : (a b : Bool) → a ≡ true → a && b ≡ false → b ≡ false
+second-off true b e h = h
+second-off false b e h = absurd (true≢false (sym e))
 
 other-test : (m n : ℕ) → (m ≡ n → ⊥) → (m == n) ≡ false
 other-test m n h = by (m == n) refl
@@ -138,6 +151,22 @@ no-links c owner (row ∷ rows) n typed no_alias no_service =
     ap (λ (o : Option DomainName). chain_over (extended c row.ttl o) (map (record_of owner) rows))
     (no-next c.name (record_of owner row) row.rdata n (All-head (Typed n) row rows typed) no_alias no_service)
     ∙ no-links c owner rows n (All-tail (Typed n) row rows typed) no_alias no_service
+
+-- records along which a chain goes on are some
+goes-some : (q : Query) (rs : List Record) → GoesAlong q.name rs → is_empty rs ≡ false
+goes-some q [] goes = absurd (true≢false (sym (goes (chain_start q) [] refl)))
+goes-some q (r ∷ rs) goes = refl
+
+-- the SOA record of a zone is at its origin
+soa-at-origin : (zone : ZoneContent) → IsZone zone → (labels : List (List ℕ)) (t : RecordType) → type_number t ≡ 6
+    → rows_at zone.rows labels t ≢ [] → same_labels zone.origin.labels labels ≡ true
+soa-at-origin zone good labels t soa some =
+    sym (same_lower zone.origin.labels labels) ∙ by (rows_map.get zone.rows (key labels t)) (good.rows (key labels t)) some
+  where
+    by : (o : Option (List Row)) → IfSome o (AreRowsAt zone.origin (key labels t)) → unwrap_or o [] ≢ []
+        → same_labels zone.origin.labels (lower labels) ≡ true
+    by None h there = absurd (there refl)
+    by (Some rows) h there = h.soa_at_origin soa
 
 -- ---- kept aliases
 
@@ -217,16 +246,21 @@ authority-soa zone good =
 -- ---- a response
 
 module _ (chains : (zone : ZoneContent) (q : Query) → IsChain zone.rows q.query_type q.name (answer zone q).answers)
-    (origin : DomainName) (history : List Version) (zones : AreZones origin history) (config : TtlConfigContent)
-    (settings : LookupSettings) (now : ℕ) (q : Query) where
-  abbrev pub Bears : Step → Type 0
-  Bears step =
+    (origin : DomainName) (options : DnsRequestOptions) (history : List Version) (failed : List Query) (zones : AreZones origin history)
+    (config : TtlConfigContent) (settings : LookupSettings) (now : ℕ) (q : Query) where
+  abbrev pub Bears : ℕ → Step → Type 0
+  Bears depth step =
       HoldOfStep (λ q at rs. FindsWhole config settings.preserve_intermediates history q at rs)
       (λ q at answer. MissesIndeed config settings.preserve_intermediates origin history q at answer)
-      (λ q at answer. LacksIndeed config settings.preserve_intermediates origin history q at answer) settings config now q step
+      (λ q at answer. LacksIndeed config settings.preserve_intermediates origin history q at answer)
+      (λ q at error. FailsIndeed settings.preserve_intermediates origin options history failed q at error)
+      (λ depth q. IsDeep settings.preserve_intermediates history now depth q) settings config now depth q step
 
   module _ (response : DnsResponse) (held : HoldsAnswerAt origin history now q response.message) (kept : List Record)
-      (are : AreKeptAliases settings q kept) (depth : ℕ) where
+      (are : AreKeptAliases settings q kept) (depth : ℕ) (deep : IsDeep settings.preserve_intermediates history now depth q) where
+    abbrev Bear : Step → Type 0
+    Bear step = Bears depth step
+
     abbrev m : Message
     m = response.message
 
@@ -242,17 +276,30 @@ module _ (chains : (zone : ZoneContent) (q : Query) → IsChain zone.rows q.quer
     abbrev LeadsHere : DomainName → Type 0
     LeadsHere name = Leads preserves history now kind q.name held.rows held.stand name
 
+    -- along so many links
+    abbrev LeadsBy : ℕ → DomainName → Type 0
+    LeadsBy links name = IsLed preserves history now kind q.name links name
+
     good : IsZone zone
     good = zone-of-rows origin history now held.rows zones held.stand
 
     -- the step after a response, by the error that it means
-    step-by : (o : Option DnsError) → error_in m ≡ o → Bears (step_on settings q kept depth (unless_error response o))
-        → Bears (step_of settings q kept depth (Ok response))
-    step-by o e h = subst (λ (x : Option DnsError). Bears (step_on settings q kept depth (unless_error response x))) (sym e) h
+    step-by : (o : Option DnsError) → error_in m ≡ o → Bear (step_on settings q kept depth (unless_error response o))
+        → Bear (step_of settings q kept depth (Ok response))
+    step-by o e h = subst (λ (x : Option DnsError). Bear (step_on settings q kept depth (unless_error response x))) (sym e) h
 
-    coded : (code : ResponseCode) → (answer zone q).code ≡ code → error_by_code code m ≡ Some (dns.ResponseCode code)
-        → Bears (step_of settings q kept depth (Ok response))
-    coded code is e = step-by (Some (dns.ResponseCode code)) (ap (λ (c : ResponseCode). error_by_code c m) (held.holds.code ∙ is) ∙ e) tt
+    coded : (code : ResponseCode) → is_refused zone q ≡ true → (answer zone q).code ≡ code → error_by_code code m ≡ Some (dns.ResponseCode code)
+        → Bear (step_of settings q kept depth (Ok response))
+    coded code refuses is e =
+        step-by (Some (dns.ResponseCode code)) (ap (λ (c : ResponseCode). error_by_code c m) (held.holds.code ∙ is) ∙ e)
+        (record {
+          question = q;
+          leads = leads-here preserves history now q;
+          rows = held.rows;
+          stand = held.stand;
+          refused = refuses;
+          code_is = sym is;
+        })
 
     -- ---- links that are followed
 
@@ -282,19 +329,22 @@ module _ (chains : (zone : ZoneContent) (q : Query) → IsChain zone.rows q.quer
         start))
 
     follow : MayLead → (chain_of q m).is_alias ≡ true
-        → Bears (Follows (next_question q (chain_of q m)) (kept_aliases settings q (chain_of q m) kept m))
+        → Bear (Follows (next_question q (chain_of q m)) (kept_aliases settings q (chain_of q m) kept m))
     follow may alias =
         let target : Query = next_question q (chain_of q m) in
         let to = links may in (
           refl,
           kept-next settings q kept m alias are,
+          deep-through preserves history now depth to.links q target refl (to.some alias) to.led deep,
           λ rs h none. stood-through preserves history (greatest_ttl config kind) now to.links q target refl to.led (h none),
           λ answer h. lacking-through config preserves origin history now to.links q target answer refl (to.some alias) to.led h,
+          λ error h. fails-through preserves origin options history failed now to.links q target error refl refl to.led h,
         )
 
     -- ---- where the type has rows, in the class of the Internet
 
-    module _ (has_rows : is_no_row_type (type_number kind) ≡ false) (in_internet : class_number q.query_class ≡ 1) where
+    module _ (has_rows : is_no_row_type (type_number kind) ≡ false) (in_internet : class_number q.query_class ≡ 1)
+        (inside : at_or_below origin.labels q.name.labels ≡ true) where
       abbrev Off : Record → Type 0
       Off r = has_type kind r ≡ false
 
@@ -340,7 +390,13 @@ module _ (chains : (zone : ZoneContent) (q : Query) → IsChain zone.rows q.quer
 
       -- ---- nothing is found
 
-      module _ (lacking : (answer : NoRecords) → answer.response_code ≡ m.metadata.response_code → answer.soa ≡ as_soa (soa_in m.authorities)
+      -- why a lookup goes no further: aliases end in a negative answer, too many were followed, or the response is none to the question
+      abbrev GoesNoFurther : Type 0
+      GoesNoFurther =
+          (is_negative_end q (chain_of q m) m ≡ true)
+          ⊎ (((chain_of q m).is_alias && nat_lt depth max_depth ≡ false) ⊎ (contains_answer m || m.metadata.truncation ≡ false))
+
+      module _ (lacking : GoesNoFurther → (answer : NoRecords) → answer.response_code ≡ m.metadata.response_code → answer.soa ≡ as_soa (soa_in m.authorities)
           → answer.negative_ttl ≡ negative_ttl (soa_in m.authorities) → (age : ℕ) → HasBeenAbsent config preserves origin history age now q answer)
           (nowhere : All NotFound (all_records m)) (no_rows : rows_at held.rows q.name.labels kind ≡ []) where
         not-found : found q (chain_of q m) m ≡ []
@@ -349,24 +405,24 @@ module _ (chains : (zone : ZoneContent) (q : Query) → IsChain zone.rows q.quer
         not-given : is_given q (chain_of q m) kept m ≡ false
         not-given = ap (λ (rs : List Record). not (is_empty rs) && (not (chain_of q m).is_alias || is_empty kept)) not-found
 
-        along : Bears (step_along settings q (chain_of q m) kept depth m)
+        along : Bear (step_along settings q (chain_of q m) kept depth m)
         along =
-            cond_both (is_given q (chain_of q m) kept m) (Gives (given_message settings q (chain_of q m) kept m)) _ Bears
+            cond_both (is_given q (chain_of q m) kept m) (Gives (given_message settings q (chain_of q m) kept m)) _ Bear
             (λ given. absurd (true≢false (sym given ∙ not-given)))
-            (λ no-answer. cond_both (is_negative_end q (chain_of q m) m) (Misses (nothing_found q m)) _ Bears
-            (λ ends. lacking (nothing_found q m) refl refl refl 0)
+            (λ no-answer. cond_both (is_negative_end q (chain_of q m) m) (Misses (nothing_found q m)) _ Bear
+            (λ ends. lacking (inl ends) (nothing_found q m) refl refl refl 0)
             (λ no-end. cond_both ((chain_of q m).is_alias && nat_lt depth max_depth)
             (Follows (next_question q (chain_of q m)) (kept_aliases settings q (chain_of q m) kept m))
-            (Stops (errors.Dns (dns.NoRecordsFound (nothing_found q m)))) Bears
+            (Stops (errors.Dns (dns.NoRecordsFound (nothing_found q m)))) Bear
             (λ both. follow (inr no_rows) (both-true (chain_of q m).is_alias (nat_lt depth max_depth) both).0)
-            (λ neither. lacking (nothing_found q m) refl refl refl (longest_absence config kind))))
+            (λ neither. lacking (inr (inl neither)) (nothing_found q m) refl refl refl (longest_absence config kind))))
 
-        without-answer : error_in m ≡ error_without_answer m → Bears (step_of settings q kept depth (Ok response))
+        without-answer : error_in m ≡ error_without_answer m → Bear (step_of settings q kept depth (Ok response))
         without-answer e =
             step-by (error_without_answer m) e
             (cond_both (contains_answer m || m.metadata.truncation) None (Some (dns.NoRecordsFound (no_records_in m)))
-            (λ (x : Option DnsError). Bears (step_on settings q kept depth (unless_error response x)))
-            (λ some. along) (λ missing. lacking (no_records_in m) refl refl refl 0))
+            (λ (x : Option DnsError). Bear (step_on settings q kept depth (unless_error response x)))
+            (λ some. along) (λ missing. lacking (inr (inr missing)) (no_records_in m) refl refl refl 0))
 
       error-by-existence : (exists : Bool) → error_by_code (cond exists NoError NXDomain) m ≡ error_without_answer m
       error-by-existence true = refl
@@ -424,8 +480,8 @@ module _ (chains : (zone : ZoneContent) (q : Query) → IsChain zone.rows q.quer
           → rows_at held.rows end.labels types.CNAME ≡ [] → ((c : Chain) → c.name ≡ q.name → (chain_over c aliases).name ≡ end)
           → HasAliasesTo aliases end
           → answer zone q ≡ record { code = (negative zone end.labels).code; answers = aliases; authorities = authority zone }
-          → Bears (step_of settings q kept depth (Ok response))
-      lacks-step aliases end all led inside first no_row no_alias chain has is =
+          → Bear (step_of settings q kept depth (Ok response))
+      lacks-step aliases end all led below first no_row no_alias chain has is =
           let code : m.metadata.response_code ≡ (negative zone end.labels).code = held.holds.code ∙ ap (λ (a : Answer). a.code) is in
           let answers : m.answers ≡ aliases = held.holds.answers ∙ ap (λ (a : Answer). a.answers) is in
           let authorities : m.authorities ≡ authority zone = held.holds.authorities ∙ ap (λ (a : Answer). a.authorities) is in
@@ -434,7 +490,7 @@ module _ (chains : (zone : ZoneContent) (q : Query) → IsChain zone.rows q.quer
           subst (IsRead origin soa.row.ttl soa.row.rdata) (sym authorities) soa.read in
           let soa-rows : List Row = rows_at held.rows origin.labels types.SOA in
           without-answer
-          (λ answer code_is soa_is ttl_is age. as_absence (record {
+          (λ reason answer code_is soa_is ttl_is age. as_absence (record {
             owner = end;
             links = led.0;
             led = led.1;
@@ -443,7 +499,7 @@ module _ (chains : (zone : ZoneContent) (q : Query) → IsChain zone.rows q.quer
             stand = held.stand;
             past = omega arith;
             recent = not-past now (led.0 * longest_absence config kind + age);
-            inside = inside;
+            inside = below;
             no_row = no_row;
             no_alias = no_alias;
             code = code_is ∙ code;
@@ -466,35 +522,39 @@ module _ (chains : (zone : ZoneContent) (q : Query) → IsChain zone.rows q.quer
       no-soa : m.authorities ≡ [] → negative_ttl (soa_in m.authorities) ≡ None
       no-soa is = ap (λ (rs : List Record). negative_ttl (soa_in rs)) is
 
-      linked : LeadsOn held.rows kind q.name → m.metadata.response_code ≡ NoError → m.authorities ≡ [] → (answer : NoRecords)
+      -- a link at a name that the question leads to, which is not followed
+      linked : (owner : DomainName) (links : ℕ) → IsLed preserves history now kind q.name links owner → LeadsOn held.rows kind owner
+          → IsLast preserves origin history now kind owner → m.metadata.response_code ≡ NoError → m.authorities ≡ [] → (answer : NoRecords)
           → answer.response_code ≡ m.metadata.response_code → answer.negative_ttl ≡ negative_ttl (soa_in m.authorities) → (age : ℕ)
           → HasBeenAbsent config preserves origin history age now q answer
-      linked there code none answer code_is ttl_is age =
+      linked owner links led there last code none answer code_is ttl_is age =
           as_link (record {
-            owner = q.name;
-            links = 0;
-            led = here q.name refl;
+            owner = owner;
+            links = links;
+            led = led;
             moment = now;
             rows = held.rows;
             stand = held.stand;
             past = omega arith;
-            recent = not-past now (0 * longest_absence config kind + age);
+            recent = not-past now (links * longest_absence config kind + age);
             there = there;
+            last = last;
             lasts = λ none. omega arith;
           }) (code_is ∙ code) (ttl_is ∙ no-soa none)
 
-      stops-step : (aliases : List Record) → All IsAliasRecord aliases → HasAliasAt zone q.name → type_number kind ≢ 5
-          → rows_at held.rows q.name.labels kind ≡ []
-          → answer zone q ≡ record { code = NoError; answers = aliases; authorities = [] } → Bears (step_of settings q kept depth (Ok response))
-      stops-step aliases all has other no_rows is =
-          let code : m.metadata.response_code ≡ NoError = held.holds.code ∙ ap (λ (a : Answer). a.code) is in
-          let authorities : m.authorities ≡ [] = held.holds.authorities ∙ ap (λ (a : Answer). a.authorities) is in
-          without-answer (λ answer code_is soa_is ttl_is age. linked (inl (other, has)) code authorities answer code_is ttl_is age)
-          (in-no-section aliases (held.holds.answers ∙ ap (λ (a : Answer). a.answers) is)
-          (each-not-found aliases (aliases-off aliases q.name all (inr (has, other, no_rows)))) (no-authorities authorities)) no_rows
-          (ap (λ (c : ResponseCode). error_by_code c m) code)
+      -- one at the name itself, where too many were followed
+      too-deep : (chain_of q m).is_alias ≡ true → (chain_of q m).is_alias && nat_lt depth max_depth ≡ false → IsLast preserves origin history now kind q.name
+      too-deep alias off =
+          let far : 7 ≤ depth = not-less depth 7 (second-off (chain_of q m).is_alias (nat_lt depth max_depth) alias off) in
+          inl (record { first = deep.first; before = deep.before; many = (let at : depth ≤ deep.before = deep.far in omega arith); led = deep.led })
 
-      -- ---- an answer with the type
+      -- no negative answer without an SOA record
+      no-negative-end : m.authorities ≡ [] → is_negative_end q (chain_of q m) m ≡ true → ⊥
+      no-negative-end none ends =
+          let rest : Bool = is_empty (found q (chain_of q m) m) && is_some (soa_in m.authorities) in
+          let soa = (both-true (is_empty (found q (chain_of q m) m)) (is_some (soa_in m.authorities))
+          (both-true (chain_of q m).is_alias rest ends).1).1 in
+          true≢false (sym soa ∙ ap (λ (rs : List Record). is_some (soa_in rs)) none)
 
       answers-by : (t : RecordType) → type_number t ≢ 255 → is_empty m.answers ≡ false
           → (type_number t ≡ 6 → in_sections (is_soa_above q) m ≡ true) → is_answer_of_type t q m ≡ true
@@ -507,6 +567,69 @@ module _ (chains : (zone : ZoneContent) (q : Query) → IsChain zone.rows q.quer
           ap (list_any (answers_question m)) held.holds.queries
           ∙ or-left (answers_question m q) (list_any (answers_question m) [])
           (answers-by kind (has-rows (type_number kind) 255 has_rows refl) some above)
+
+      -- the chain along aliases
+      alias-chain : (aliases more : List Record) → type_number kind ≢ 5 → m.answers ≡ aliases ++ more → GoesAlong q.name aliases
+          → (chain_of q m).is_alias ≡ true
+      alias-chain aliases more other answers goes =
+          ap (λ (c : Chain). c.is_alias) (chain-along other)
+          ∙ ap (λ (rs : List Record). (chain_over (chain_start q) rs).is_alias) answers
+          ∙ goes (chain_start q) more refl
+
+      -- ---- an answer of aliases alone
+
+      -- where it halts, a lookup of an SOA record ends
+      halted : type_number kind ≡ 6 → HasAliasAt zone q.name → type_number kind ≢ 5 → Halts zone LeadsBy → m.metadata.response_code ≡ NoError
+          → m.authorities ≡ [] → (answer : NoRecords) → answer.response_code ≡ m.metadata.response_code
+          → answer.negative_ttl ≡ negative_ttl (soa_in m.authorities) → (age : ℕ) → HasBeenAbsent config preserves origin history age now q answer
+      halted soa has other (inl eighth) code none answer code_is ttl_is age =
+          linked eighth.1 eighth.0 eighth.3 (inl (other, eighth.4))
+          (inl (record { first = q.name; before = eighth.0; many = eighth.2; led = eighth.3 })) code none answer code_is ttl_is age
+      halted soa has other (inr away) code none answer code_is ttl_is age =
+          linked q.name 0 (here q.name refl) (inl (other, has))
+          (inr (record { soa = soa; end = away.1; links = suc away.0; some = omega arith; led = away.2; away = away.3 })) code none answer code_is
+          ttl_is age
+
+      stops-step : (aliases : List Record) → All IsAliasRecord aliases → HasAliasAt zone q.name → type_number kind ≢ 5
+          → rows_at held.rows q.name.labels kind ≡ [] → GoesAlong q.name aliases → Halts zone LeadsBy
+          → answer zone q ≡ record { code = NoError; answers = aliases; authorities = [] } → Bear (step_of settings q kept depth (Ok response))
+      stops-step aliases all has other no_rows goes halts is =
+          without-answer lacking
+          (in-no-section aliases answers
+          (each-not-found aliases (aliases-off aliases q.name all (inr (has, other, no_rows, goes)))) (no-authorities authorities)) no_rows
+          (ap (λ (c : ResponseCode). error_by_code c m) code)
+        where
+          code : m.metadata.response_code ≡ NoError
+          code = held.holds.code ∙ ap (λ (a : Answer). a.code) is
+
+          answers : m.answers ≡ aliases
+          answers = held.holds.answers ∙ ap (λ (a : Answer). a.answers) is
+
+          authorities : m.authorities ≡ []
+          authorities = held.holds.authorities ∙ ap (λ (a : Answer). a.authorities) is
+
+          some : is_empty m.answers ≡ false
+          some = ap (λ (rs : List Record). is_empty rs) answers ∙ goes-some q aliases goes
+
+          -- only for an SOA record aliases are no answer
+          by : (b : Bool) → (type_number kind == 6) ≡ b → contains_answer m || m.metadata.truncation ≡ false → type_number kind ≡ 6
+          by true same missing = equal-numbers (type_number kind) 6 same
+          by false differs missing =
+              absurd (true≢false
+              (sym (has-answer some (λ soa. absurd (test-other (type_number kind) 6 differs soa)))
+              ∙ first-off (contains_answer m) m.metadata.truncation missing))
+
+          lacking : GoesNoFurther → (answer : NoRecords) → answer.response_code ≡ m.metadata.response_code
+              → answer.soa ≡ as_soa (soa_in m.authorities) → answer.negative_ttl ≡ negative_ttl (soa_in m.authorities) → (age : ℕ)
+              → HasBeenAbsent config preserves origin history age now q answer
+          lacking (inl ends) answer code_is soa_is ttl_is age = absurd (no-negative-end authorities ends)
+          lacking (inr (inl off)) answer code_is soa_is ttl_is age =
+              linked q.name 0 (here q.name refl) (inl (other, has))
+              (too-deep (alias-chain aliases [] other (answers ∙ sym (append-nil aliases)) goes) off) code authorities answer code_is ttl_is age
+          lacking (inr (inr missing)) answer code_is soa_is ttl_is age =
+              halted (by (type_number kind == 6) refl missing) has other halts code authorities answer code_is ttl_is age
+
+      -- ---- an answer with the type
 
       module _ (aliases : List Record) (end : DomainName) (row : Row) (more : List Row) (all : All IsAliasRecord aliases) (led : LeadsHere end)
           (there : rows_at held.rows end.labels kind ≡ row ∷ more) (has : HasAliasesTo aliases end)
@@ -549,6 +672,27 @@ module _ (chains : (zone : ZoneContent) (q : Query) → IsChain zone.rows q.quer
             let all-is : all_records m ≡ m.answers =
             (λ i. m.answers ++ (authorities i ++ held.holds.additionals i)) ∙ append-nil m.answers in
             subst Has (sym all-is) in-answers
+
+        -- ---- such rows are an answer: an SOA record is that of the zone, which has the name of the question
+
+        soa-above : type_number kind ≡ 6 → is_soa_above q (record_of end row) ≡ true
+        soa-above soa =
+            let some : rows_at held.rows end.labels kind ≢ [] =
+            λ none. (let clash : ◌≡◌ {A = List Row} (row ∷ more) [] = sym there ∙ none in cc) in
+            let origin-is : lower origin.labels ≡ lower end.labels =
+            labels-lower origin.labels end.labels (soa-at-origin zone good end.labels kind soa some) in
+            let above : at_or_below end.labels q.name.labels ≡ true =
+            sym (at_or_below-lower origin.labels end.labels q.name.labels q.name.labels origin-is refl) ∙ inside in
+            λ i. numbers-equal (number_of (record_of end row)) 6 (typed 0 row (omega arith) ∙ soa) i && above i
+
+        answered : contains_answer m ≡ true
+        answered =
+            has-answer (selects-some kind end in-answers)
+            (λ soa. or-left (list_any (is_soa_above q) m.answers) _
+            (ap (list_any (is_soa_above q)) answers
+            ∙ list_any-append (is_soa_above q) aliases (map (record_of end) (row ∷ more))
+            ∙ or-right (list_any (is_soa_above q) aliases) (list_any (is_soa_above q) (map (record_of end) (row ∷ more)))
+            (or-left (is_soa_above q (record_of end row)) (list_any (is_soa_above q) (map (record_of end) more)) (soa-above soa))))
 
         -- ---- whether the rows are at the end of the links, or at the name that is asked for
 
@@ -593,16 +737,26 @@ module _ (chains : (zone : ZoneContent) (q : Query) → IsChain zone.rows q.quer
         -- ---- at neither: nothing is found
 
         module _ (elsewhere : at_either ≡ false) where
-          leads-away : LeadsOn held.rows kind q.name × (rows_at held.rows q.name.labels kind ≡ [])
+          leads-away : LeadsOn held.rows kind q.name × (rows_at held.rows q.name.labels kind ≡ []) × ((chain_of q m).is_alias ≡ true)
           leads-away = by has
             where
-              by : HasAliasesTo aliases end → LeadsOn held.rows kind q.name × (rows_at held.rows q.name.labels kind ≡ [])
+              by : HasAliasesTo aliases end
+                  → LeadsOn held.rows kind q.name × (rows_at held.rows q.name.labels kind ≡ []) × ((chain_of q m).is_alias ≡ true)
               by (inl none) = absurd (true≢false (sym (at-name none.1) ∙ elsewhere))
-              by (inr some) = (inl (some.1, some.0), some.2)
+              by (inr some) =
+                  (inl (some.1, some.0), some.2, alias-chain aliases (map (record_of end) (row ∷ more)) some.1 answers some.3)
 
-          away-step : Bears (step_of settings q kept depth (Ok response))
+          lacking-away : GoesNoFurther → (answer : NoRecords) → answer.response_code ≡ m.metadata.response_code
+              → answer.negative_ttl ≡ negative_ttl (soa_in m.authorities) → (age : ℕ) → HasBeenAbsent config preserves origin history age now q answer
+          lacking-away (inl ends) answer code_is ttl_is age = absurd (no-negative-end authorities ends)
+          lacking-away (inr (inl off)) answer code_is ttl_is age =
+              linked q.name 0 (here q.name refl) leads-away.0 (too-deep leads-away.2 off) code authorities answer code_is ttl_is age
+          lacking-away (inr (inr missing)) answer code_is ttl_is age =
+              absurd (true≢false (sym answered ∙ first-off (contains_answer m) m.metadata.truncation missing))
+
+          away-step : Bear (step_of settings q kept depth (Ok response))
           away-step =
-              without-answer (λ answer code_is soa_is ttl_is age. linked leads-away.0 code authorities answer code_is ttl_is age)
+              without-answer (λ reason answer code_is soa_is ttl_is age. lacking-away reason answer code_is ttl_is age)
               (in-no-section (aliases ++ map (record_of end) (row ∷ more)) answers
               (All-append NotFound aliases (map (record_of end) (row ∷ more)) (each-not-found aliases (aliases-off aliases end all has))
               (All-map NotFound (record_of end) (row ∷ more)
@@ -673,110 +827,95 @@ module _ (chains : (zone : ZoneContent) (q : Query) → IsChain zone.rows q.quer
                   ∙ or-right (not (chain_of q m).is_alias) true refl in
                   true≢false (sym given-is ∙ off))
 
-          lacking : is_given q (chain_of q m) kept m ≡ false → (answer : NoRecords) → answer.response_code ≡ m.metadata.response_code
-              → answer.negative_ttl ≡ negative_ttl (soa_in m.authorities) → (age : ℕ) → HasBeenAbsent config preserves origin history age now q answer
-          lacking off answer code_is ttl_is age =
-              linked (leads-on (held-back (chain_of q m).is_alias refl off)) code authorities answer code_is ttl_is age
+          lacking : is_given q (chain_of q m) kept m ≡ false → (chain_of q m).is_alias && nat_lt depth max_depth ≡ false → (answer : NoRecords)
+              → answer.response_code ≡ m.metadata.response_code → answer.negative_ttl ≡ negative_ttl (soa_in m.authorities) → (age : ℕ) → HasBeenAbsent config preserves origin history age now q answer
+          lacking off neither answer code_is ttl_is age =
+              let alias = held-back (chain_of q m).is_alias refl off in
+              linked q.name 0 (here q.name refl) (leads-on alias) (too-deep alias neither) code authorities answer code_is ttl_is age
 
-          no-negative-end : is_negative_end q (chain_of q m) m ≡ true → ⊥
-          no-negative-end ends =
-              let rest : Bool = is_empty (found q (chain_of q m) m) && is_some (soa_in m.authorities) in
-              let soa = (both-true (is_empty (found q (chain_of q m) m)) (is_some (soa_in m.authorities))
-              (both-true (chain_of q m).is_alias rest ends).1).1 in
-              true≢false (sym soa ∙ ap (λ (rs : List Record). is_some (soa_in rs)) authorities)
-
-          along-found : Bears (step_along settings q (chain_of q m) kept depth m)
+          along-found : Bear (step_along settings q (chain_of q m) kept depth m)
           along-found =
-              cond_both (is_given q (chain_of q m) kept m) (Gives (given_message settings q (chain_of q m) kept m)) _ Bears
+              cond_both (is_given q (chain_of q m) kept m) (Gives (given_message settings q (chain_of q m) kept m)) _ Bear
               (λ is-given none. gives (none kind))
-              (λ no-answer. cond_both (is_negative_end q (chain_of q m) m) (Misses (nothing_found q m)) _ Bears
-              (λ ends. absurd (no-negative-end ends))
+              (λ no-answer. cond_both (is_negative_end q (chain_of q m) m) (Misses (nothing_found q m)) _ Bear
+              (λ ends. absurd (no-negative-end authorities ends))
               (λ no-end. cond_both ((chain_of q m).is_alias && nat_lt depth max_depth)
               (Follows (next_question q (chain_of q m)) (kept_aliases settings q (chain_of q m) kept m))
-              (Stops (errors.Dns (dns.NoRecordsFound (nothing_found q m)))) Bears
+              (Stops (errors.Dns (dns.NoRecordsFound (nothing_found q m)))) Bear
               (λ both. follow (inl (preserved no-answer)) (both-true (chain_of q m).is_alias (nat_lt depth max_depth) both).0)
-              (λ neither. lacking no-answer (nothing_found q m) refl refl (longest_absence config kind))))
+              (λ neither. lacking no-answer neither (nothing_found q m) refl refl (longest_absence config kind))))
 
-          -- a set at the name itself is an answer
-          answered : q.name ≡ end → aliases ≡ [] → contains_answer m ≡ true
-          answered same none =
-              has-answer (selects-some kind end in-answers)
-              (λ soa. or-left (list_any (is_soa_above q) m.answers) _
-              (ap (list_any (is_soa_above q)) (answers ∙ ap (λ (rs : List Record). rs ++ map (record_of end) (row ∷ more)) none)
-              ∙ or-left (is_soa_above q (record_of end row)) (list_any (is_soa_above q) (map (record_of end) more))
-              (λ i. numbers-equal (number_of (record_of end row)) 6 (typed 0 row (omega arith) ∙ soa) i
-              && subst (λ (name : DomainName). at_or_below end.labels name.labels ≡ true) (sym same) (at-self end.labels) i)))
-
-          unanswered : (contains_answer m || m.metadata.truncation) ≡ false → (age : ℕ) → HasBeenAbsent config preserves origin history age now q (no_records_in m)
-          unanswered missing age = by has
-            where
-              by : HasAliasesTo aliases end → HasBeenAbsent config preserves origin history age now q (no_records_in m)
-              by (inl none) =
-                  absurd (true≢false (sym (answered none.1 none.0) ∙ first-off (contains_answer m) m.metadata.truncation missing))
-              by (inr some) = linked (inl (some.1, some.0)) code authorities (no_records_in m) refl refl age
-
-          found-step : Bears (step_of settings q kept depth (Ok response))
+          found-step : Bear (step_of settings q kept depth (Ok response))
           found-step =
               step-by (error_without_answer m) meant
               (cond_both (contains_answer m || m.metadata.truncation) None (Some (dns.NoRecordsFound (no_records_in m)))
-              (λ (x : Option DnsError). Bears (step_on settings q kept depth (unless_error response x)))
-              (λ some. along-found) (λ missing. unanswered missing 0))
+              (λ (x : Option DnsError). Bear (step_on settings q kept depth (unless_error response x)))
+              (λ some. along-found)
+              (λ missing. absurd (true≢false (sym answered ∙ first-off (contains_answer m) m.metadata.truncation missing))))
 
-        finds-step : Bears (step_of settings q kept depth (Ok response))
+        finds-step : Bear (step_of settings q kept depth (Ok response))
         finds-step = by at_either refl
           where
-            by : (b : Bool) → at_either ≡ b → Bears (step_of settings q kept depth (Ok response))
+            by : (b : Bool) → at_either ≡ b → Bear (step_of settings q kept depth (Ok response))
             by true at = found-step at
             by false elsewhere = away-step elsewhere
 
       -- ---- each answer
 
-      ended-step : {a : Answer} → Ended zone kind LeadsHere q.name a → answer zone q ≡ a → Bears (step_of settings q kept depth (Ok response))
-      ended-step (finds aliases end row more all led there has) is = finds-step aliases end row more all led there has is
-      ended-step (lacks aliases end all led inside first no_row no_alias chain has) is =
-          lacks-step aliases end all led inside first no_row no_alias chain has is
-      ended-step (stops aliases all has other no_rows) is = stops-step aliases all has other no_rows is
+      ended-step : {a : Answer} → Ended zone kind LeadsBy 0 q.name a → answer zone q ≡ a → Bear (step_of settings q kept depth (Ok response))
+      ended-step (finds aliases end row more all links led there has) is = finds-step aliases end row more all (links, led) there has is
+      ended-step (lacks aliases end all links led below first no_row no_alias chain has) is =
+          lacks-step aliases end all (links, led) below first no_row no_alias chain has is
+      ended-step (stops aliases all has other no_rows (inl seven) halts) is = absurd (omega (arith, seven))
+      ended-step (stops aliases all has other no_rows (inr goes) halts) is = stops-step aliases all has other no_rows goes halts is
 
-    answered-step : {a : Answer} → Answered zone q LeadsHere a → answer zone q ≡ a → Bears (step_of settings q kept depth (Ok response))
-    answered-step not_implemented is = coded NotImp (ap (λ (a : Answer). a.code) is) refl
-    answered-step refused is = coded Refused (ap (λ (a : Answer). a.code) is) refl
-    answered-step (ended a has_rows internet h) is = ended-step has_rows internet h is
+    answered-step : {a : Answer} → Answered zone q LeadsBy a → answer zone q ≡ a → Bear (step_of settings q kept depth (Ok response))
+    answered-step (not_implemented refuses) is = coded NotImp refuses (ap (λ (a : Answer). a.code) is) refl
+    answered-step (refused refuses) is = coded Refused refuses (ap (λ (a : Answer). a.code) is) refl
+    answered-step (ended a has_rows internet inside h) is = ended-step has_rows internet inside h is
 
-    pub response-step : Bears (step_of settings q kept depth (Ok response))
+    pub response-step : Bear (step_of settings q kept depth (Ok response))
     response-step =
         answered-step
-        (answered-by zone good q LeadsHere
-        (λ owner name row more alias other l e is same.
-        lead preserves history now kind q.name held.rows held.stand owner name row more alias other l e is same)
-        (0, here q.name refl) equal-numbers)
+        (answered-by zone good q LeadsBy
+        (λ links owner name row more alias other l e is same.
+        (lead preserves history now kind q.name held.rows held.stand owner name row more alias other (links, l) e is same).1)
+        (here q.name refl) equal-numbers)
         refl
 
 -- ---- each outcome
 
 module _ (chains : (zone : ZoneContent) (q : Query) → IsChain zone.rows q.query_type q.name (answer zone q).answers)
-    (origin : DomainName) (history : List Version) (zones : AreZones origin history) (config : TtlConfigContent)
-    (settings : LookupSettings) (now : ℕ) where
-  -- an outcome that is answered by rows that stand, or an error that no response means
-  pub ask-bears : (ask : Ask) → IsAnsweredBy origin history (record { moment = now; ask = ask }) → IsNoMeaning ask.outcome
+    (origin : DomainName) (options : DnsRequestOptions) (history : List Version) (failed : List Query) (zones : AreZones origin history)
+    (config : TtlConfigContent) (settings : LookupSettings) (now : ℕ) where
+  -- an outcome that is answered by rows that stand, or an error for a reason
+  pub ask-bears : (ask : Ask) → IsAnsweredBy origin history (record { moment = now; ask = ask }) → HasReason options failed ask.question ask.outcome
       → BearOut (λ q at rs. FindsWhole config settings.preserve_intermediates history q at rs)
       (λ q at answer. MissesIndeed config settings.preserve_intermediates origin history q at answer)
-      (λ q at answer. LacksIndeed config settings.preserve_intermediates origin history q at answer) settings config now ask
-  ask-bears ask answered no_meaning = λ kept depth are. by ask.outcome refl kept depth are
+      (λ q at answer. LacksIndeed config settings.preserve_intermediates origin history q at answer)
+      (λ q at error. FailsIndeed settings.preserve_intermediates origin options history failed q at error)
+      (λ depth q. IsDeep settings.preserve_intermediates history now depth q) settings config now ask
+  ask-bears ask answered reason = λ kept depth are deep. by ask.outcome refl kept depth are deep
     where
       q : Query
       q = ask.question
 
-      failed : (error : NetError) → IsNoMeaning (Err error) → (kept : List Record) (depth : ℕ)
-          → Bears chains origin history zones config settings now q (step_of settings q kept depth (Err error))
-      failed (errors.Dns error) h kept depth = absurd h
-      failed (errors.Proto error) h kept depth = tt
-      failed (errors.Message text) h kept depth = tt
-      failed (errors.Link fault) h kept depth = tt
-      failed errors.Unsupported h kept depth = tt
-      failed errors.Memory h kept depth = tt
+      preserves : Bool
+      preserves = settings.preserve_intermediates
+
+      failing : (error : NetError) → HasReason options failed q (Err error) → (kept : List Record) (depth : ℕ)
+          → Bears chains origin options history failed zones config settings now q depth (step_of settings q kept depth (Err error))
+      failing (errors.Dns error) h kept depth = absurd h
+      failing (errors.Proto error) h kept depth = absurd h
+      failing (errors.Message text) h kept depth = absurd h
+      failing (errors.Link fault) h kept depth = record { question = q; leads = leads-here preserves history now q; fails = h }
+      failing errors.Unsupported h kept depth = record { question = q; leads = leads-here preserves history now q; no_question = h }
+      failing errors.Memory h kept depth = tt
 
       by : (outcome : Outcome) → ask.outcome ≡ outcome → (kept : List Record) (depth : ℕ)
-          → AreKeptAliases settings q kept → Bears chains origin history zones config settings now q (step_of settings q kept depth outcome)
-      by (Ok response) e kept depth are =
-          response-step chains origin history zones config settings now q response (answered response e) kept are depth
-      by (Err error) e kept depth are = failed error (subst (λ (o : Outcome). IsNoMeaning o) e no_meaning) kept depth
+          → AreKeptAliases settings q kept → IsDeep preserves history now depth q
+          → Bears chains origin options history failed zones config settings now q depth (step_of settings q kept depth outcome)
+      by (Ok response) e kept depth are deep =
+          response-step chains origin options history failed zones config settings now q response (answered response e) kept are depth deep
+      by (Err error) e kept depth are deep =
+          failing error (subst (λ (o : Outcome). HasReason options failed q o) e reason) kept depth

@@ -11,6 +11,7 @@ use Rattle.dns_messages.specs.declared.query.Query.{Query}
 use Rattle.dns_messages.specs.declared.response_code.ResponseCode.{ResponseCode}
 use Rattle.stub_lookup.specs.Error.{no_records}
 use Rattle.stub_lookup.specs.declared.error.DnsError.TheVariants as dns
+use Rattle.stub_lookup.specs.declared.error.NetError.{NetError}
 use Rattle.stub_lookup.specs.declared.error.NetError.TheVariants as errors
 use Rattle.stub_lookup.specs.declared.error.NoRecords.{NoRecords}
 use Rattle.stub_cache.specs.Cache.{CacheContent, Kept, aged, current, entry_of, is_about, is_current, same_key, storing}
@@ -70,7 +71,7 @@ module _ (low short : Type 0) (longest : Query → ℕ) (finds : Query → ℕ �
       let past : e.moment ≤ now = (holds k d less).past in
       record { past = omega arith; kept = (holds k d less).kept }
 
-  module _ (lacks : Query → ℕ → NoRecords → Type 0) (answers : AnswersOutlast low finds) (absences : AbsencesOutlast short longest misses lacks) where
+  module _ (lacks : Query → ℕ → NoRecords → Type 0) (fails : Query → ℕ → NetError → Type 0) (deep : ℕ → Query → Type 0) (answers : AnswersOutlast low finds) (absences : AbsencesOutlast short longest misses lacks) where
     -- the claims hold of what is kept, as it is returned now; and of what is stored, with TTLs within their bounds
     abbrev HoldNow : Query → ℕ → Kept → Type 0
     HoldNow q now (Ok m) = finds q now m.answers
@@ -136,7 +137,7 @@ module _ (low short : Type 0) (longest : Query → ℕ) (finds : Query → ℕ �
     -- what may be returned where aliases lead may be stored
     reply-may-be-stored : (config : TtlConfigContent) (target q : Query) (now : ℕ) (reply : Reply) → HasNoLeast low short longest config
         → ((rs : List Record) → finds target now rs → finds q now rs) → ((answer : NoRecords) → lacks target now answer → misses q now answer)
-        → HoldOfReply finds lacks target now reply → IfSome (kept_of q reply) (HoldClamped config q now)
+        → HoldOfReply finds lacks fails target now reply → IfSome (kept_of q reply) (HoldClamped config q now)
     reply-may-be-stored config target q now (Ok lookup) none f g h =
         answers.lowers q now (λ r. (clamped_record config r).ttl) lookup.message.answers (f lookup.message.answers h)
         (λ is-low. lower-bound config (none.positive is-low))
@@ -149,7 +150,7 @@ module _ (low short : Type 0) (longest : Query → ℕ) (finds : Query → ℕ �
     reply-may-be-stored config target q now (Err errors.Memory) none f g h = tt
 
     abbrev Hold : ℕ → Query → Reply → CacheContent → Type 0
-    Hold now q reply new = HoldOfCache low short longest finds misses now new × HoldOfReply finds lacks q now reply
+    Hold now q reply new = HoldOfCache low short longest finds misses now new × HoldOfReply finds lacks fails q now reply
 
     hold-stored : (now : ℕ) (old : CacheContent) (q : Query) (kept : Kept) (new : CacheContent) → HasNoLeast low short longest old.config
         → HoldOfCache low short longest finds misses now old → HoldClamped old.config q now kept → new ≡ storing old q kept now → HoldOfCache low short longest finds misses now new
@@ -160,91 +161,94 @@ module _ (low short : Type 0) (longest : Query → ℕ) (finds : Query → ℕ �
 
     stores-hold : (now : ℕ) (old : CacheContent) (q : Query) (o : Option Kept) (given reply : Reply) (new : CacheContent)
         → HasNoLeast low short longest old.config → HoldOfCache low short longest finds misses now old → IfSome o (HoldClamped old.config q now)
-        → HoldOfReply finds lacks q now given → Stores now old q o given reply new → Hold now q reply new
+        → HoldOfReply finds lacks fails q now given → Stores now old q o given reply new → Hold now q reply new
     stores-hold now old q None given reply new none holds clamps told h =
-        (subst (HoldOfCache low short longest finds misses now) (sym h.1) holds, subst (HoldOfReply finds lacks q now) (sym h.0) told)
+        (subst (HoldOfCache low short longest finds misses now) (sym h.1) holds, subst (HoldOfReply finds lacks fails q now) (sym h.0) told)
     stores-hold now old q (Some kept) given reply new none holds clamps told (inl h) =
-        (hold-stored now old q kept new none holds clamps h.1, subst (HoldOfReply finds lacks q now) (sym h.0) told)
+        (hold-stored now old q kept new none holds clamps h.1, subst (HoldOfReply finds lacks fails q now) (sym h.0) told)
     stores-hold now old q (Some kept) given reply new none holds clamps told (inr h) = (
       elim h.1 [
         | inl e ↦ subst (HoldOfCache low short longest finds misses now) (sym e) holds
         | inr e ↦ hold-stored now old q kept new none holds clamps e
       ],
-      subst (HoldOfReply finds lacks q now) (sym h.0) tt,
+      subst (HoldOfReply finds lacks fails q now) (sym h.0) tt,
     )
 
     -- ---- lookups
 
     back : (now : ℕ) (p q : Query) (reply : Reply) → ((rs : List Record) → finds p now rs → finds q now rs)
-        → ((answer : NoRecords) → lacks p now answer → lacks q now answer) → HoldOfReply finds lacks p now reply → HoldOfReply finds lacks q now reply
-    back now p q (Ok lookup) f g h = f lookup.message.answers h
-    back now p q (Err (errors.Dns (dns.NoRecordsFound answer))) f g h = g answer h
-    back now p q (Err (errors.Dns (dns.ResponseCode code))) f g h = tt
-    back now p q (Err (errors.Proto error)) f g h = tt
-    back now p q (Err (errors.Message text)) f g h = tt
-    back now p q (Err (errors.Link fault)) f g h = tt
-    back now p q (Err errors.Unsupported) f g h = tt
-    back now p q (Err errors.Memory) f g h = tt
+        → ((answer : NoRecords) → lacks p now answer → lacks q now answer) → ((error : NetError) → fails p now error → fails q now error)
+        → HoldOfReply finds lacks fails p now reply → HoldOfReply finds lacks fails q now reply
+    back now p q (Ok lookup) f g e h = f lookup.message.answers h
+    back now p q (Err (errors.Dns (dns.NoRecordsFound answer))) f g e h = g answer h
+    back now p q (Err (errors.Dns (dns.ResponseCode code))) f g e h = e (errors.Dns (dns.ResponseCode code)) h
+    back now p q (Err (errors.Proto error)) f g e h = e (errors.Proto error) h
+    back now p q (Err (errors.Message text)) f g e h = e (errors.Message text) h
+    back now p q (Err (errors.Link fault)) f g e h = e (errors.Link fault) h
+    back now p q (Err errors.Unsupported) f g e h = e errors.Unsupported h
+    back now p q (Err errors.Memory) f g e h = tt
 
-    proceeds-hold : (next : Query → List Record → Reply → CacheContent → Type 0) (settings : LookupSettings) (now : ℕ) (old : CacheContent)
+    proceeds-hold : (next : Query → List Record → Reply → CacheContent → Type 0) (settings : LookupSettings) (now depth : ℕ) (old : CacheContent)
         (q : Query) (step : Step) (asks : List Ask) (reply : Reply) (new : CacheContent)
         → ((target : Query) (kept : List Record) (inner : Reply) (mid : CacheContent) → HasNoLeast low short longest old.config
-        → AreKeptAliases settings target kept → next target kept inner mid → SameSettings old mid × Hold now target inner mid)
-        → HasNoLeast low short longest old.config → HoldOfCache low short longest finds misses now old → HoldOfStep finds misses lacks settings old.config now q step
+        → AreKeptAliases settings target kept → deep (suc depth) target → next target kept inner mid → SameSettings old mid × Hold now target inner mid)
+        → HasNoLeast low short longest old.config → HoldOfCache low short longest finds misses now old → HoldOfStep finds misses lacks fails deep settings old.config now depth q step
         → Proceeds next now old q step asks reply new → Hold now q reply new
-    proceeds-hold next settings now old q (Gives m) asks reply new rest none holds step h =
+    proceeds-hold next settings now depth old q (Gives m) asks reply new rest none holds step h =
         stores-hold now old q (Some (Ok m)) (given_reply old.config now q m) reply new none holds step step h.1
-    proceeds-hold next settings now old q (Misses answer) asks reply new rest none holds step h =
+    proceeds-hold next settings now depth old q (Misses answer) asks reply new rest none holds step h =
         stores-hold now old q (Some (Err answer)) (negative answer) reply new none holds step (absences.returns q now answer step) h.1
-    proceeds-hold next settings now old q (Stops error) asks reply new rest none holds step h =
-        (subst (HoldOfCache low short longest finds misses now) (sym h.2) holds, subst (HoldOfReply finds lacks q now) (sym h.1) step)
-    proceeds-hold next settings now old q (Follows target kept) asks reply new rest none holds step h =
-        let inner = rest target kept h.0 h.1 none step.1 h.2 in
+    proceeds-hold next settings now depth old q (Stops error) asks reply new rest none holds step h =
+        (subst (HoldOfCache low short longest finds misses now) (sym h.2) holds, subst (HoldOfReply finds lacks fails q now) (sym h.1) step)
+    proceeds-hold next settings now depth old q (Follows target kept) asks reply new rest none holds step h =
+        let inner = rest target kept h.0 h.1 none step.1 step.2 h.2 in
         let none-then : HasNoLeast low short longest h.1.config =
         subst (λ (config : TtlConfigContent). HasNoLeast low short longest config) (sym inner.0.1) none in
-        let at-question : HoldOfReply finds lacks q now h.0 =
-        back now target q h.0 step.2 (λ answer lacking. absences.returns q now answer (step.3 answer lacking)) inner.1.1 in
+        let at-question : HoldOfReply finds lacks fails q now h.0 =
+        back now target q h.0 step.3 (λ answer lacking. absences.returns q now answer (step.4 answer lacking)) step.5 inner.1.1 in
         stores-hold now h.1 q (kept_of q h.0) h.0 reply new none-then inner.1.0
-        (reply-may-be-stored h.1.config target q now h.0 none-then step.2 step.3 inner.1.1) at-question h.3
+        (reply-may-be-stored h.1.config target q now h.0 none-then step.3 step.4 inner.1.1) at-question h.3
 
-    cached-hold : (q : Query) (now : ℕ) (kept : Kept) → HoldNow q now kept → HoldOfReply finds lacks q now (cached_reply now q kept)
+    cached-hold : (q : Query) (now : ℕ) (kept : Kept) → HoldNow q now kept → HoldOfReply finds lacks fails q now (cached_reply now q kept)
     cached-hold q now (Ok m) h = h
     cached-hold q now (Err answer) h = h
 
     answered-hold : (now : ℕ) (q : Query) (special : SpecialAnswer) (hit : Option Kept) (reply : Reply)
         → ((r : Record) → special ≡ Loopback r → finds q now (r ∷ []))
         → ((code : ResponseCode) → special ≡ Nothing code → lacks q now (no_records q code)) → IfSome hit (HoldNow q now)
-        → IsAnsweredHere now q special hit reply → HoldOfReply finds lacks q now reply
-    answered-hold now q (Loopback r) hit reply f n g h = subst (HoldOfReply finds lacks q now) (sym h) (f r refl)
-    answered-hold now q (Nothing code) hit reply f n g h = subst (HoldOfReply finds lacks q now) (sym h) (n code refl)
-    answered-hold now q Ordinary (Some kept) reply f n g h = subst (HoldOfReply finds lacks q now) (sym h) (cached-hold q now kept g)
+        → IsAnsweredHere now q special hit reply → HoldOfReply finds lacks fails q now reply
+    answered-hold now q (Loopback r) hit reply f n g h = subst (HoldOfReply finds lacks fails q now) (sym h) (f r refl)
+    answered-hold now q (Nothing code) hit reply f n g h = subst (HoldOfReply finds lacks fails q now) (sym h) (n code refl)
+    answered-hold now q Ordinary (Some kept) reply f n g h = subst (HoldOfReply finds lacks fails q now) (sym h) (cached-hold q now kept g)
     answered-hold now q Ordinary None reply f n g h = absurd h
 
     -- Every lookup keeps the claims.
     pub lookup-keeps : HoldOfSpecialNames finds lacks → (settings : LookupSettings) (now depth : ℕ) (kept : List Record) (old : CacheContent)
         (q : Query) (asks : List Ask) (reply : Reply) (new : CacheContent)
-        → HasNoLeast low short longest old.config → AreKeptAliases settings q kept → HoldOfCache low short longest finds misses now old
-        → All (BearOut finds misses lacks settings old.config now) asks
+        → HasNoLeast low short longest old.config → AreKeptAliases settings q kept → deep depth q
+        → HoldOfCache low short longest finds misses now old
+        → All (BearOut finds misses lacks fails deep settings old.config now) asks
         → Looks settings now depth kept old q asks reply new → Hold now q reply new
-    lookup-keeps special settings now depth kept old q [] reply new none are holds steps h = (
+    lookup-keeps special settings now depth kept old q [] reply new none are there holds steps h = (
       subst (HoldOfCache low short longest finds misses now) (sym h.0) holds,
       elim h.1 [
-        | inl memory ↦ subst (HoldOfReply finds lacks q now) (sym memory) tt
+        | inl memory ↦ subst (HoldOfReply finds lacks fails q now) (sym memory) tt
         | inr answered ↦ answered-hold now q (special_answer q) (current old.entries q now) reply (λ r e. special.loopback q now r e)
             (λ code e. special.nothing q now code e) (current-hold now old.entries q holds) answered
       ],
     )
-    lookup-keeps special settings now depth kept old q (ask ∷ asks) reply new none are holds steps h =
-        let Each : Ask → Type 0 = BearOut finds misses lacks settings old.config now in
+    lookup-keeps special settings now depth kept old q (ask ∷ asks) reply new none are there holds steps h =
+        let Each : Ask → Type 0 = BearOut finds misses lacks fails deep settings old.config now in
         elim h.3 [
-          | inl memory ↦ (subst (HoldOfCache low short longest finds misses now) (sym memory.3) holds, subst (HoldOfReply finds lacks q now) (sym memory.2) tt)
+          | inl memory ↦ (subst (HoldOfCache low short longest finds misses now) (sym memory.3) holds, subst (HoldOfReply finds lacks fails q now) (sym memory.2) tt)
           | inr goes ↦
-              proceeds-hold (λ target aliases inner mid. Looks settings now (suc depth) aliases old target asks inner mid) settings now old q
+              proceeds-hold (λ target aliases inner mid. Looks settings now (suc depth) aliases old target asks inner mid) settings now depth old q
               (step_of settings q kept depth ask.outcome) asks reply new
-              (λ target aliases inner mid none are looks. (
+              (λ target aliases inner mid none are there looks. (
                 settings-stay settings now (suc depth) aliases old target asks inner mid looks,
-                lookup-keeps special settings now (suc depth) aliases old target asks inner mid none are holds (All-tail Each ask asks steps) looks,
+                lookup-keeps special settings now (suc depth) aliases old target asks inner mid none are there holds (All-tail Each ask asks steps) looks,
               )) none holds
-              (subst (λ (p : Query). AreKeptAliases settings p kept → HoldOfStep finds misses lacks settings old.config now p (step_of settings p kept depth ask.outcome))
-              h.0 (All-head Each ask asks steps kept depth) are) goes
+              (subst (λ (p : Query). AreKeptAliases settings p kept → deep depth p
+              → HoldOfStep finds misses lacks fails deep settings old.config now depth p (step_of settings p kept depth ask.outcome))
+              h.0 (All-head Each ask asks steps kept depth) are there) goes
         ]

@@ -6,6 +6,7 @@ use Rattle.dns_names.specs.Name.{DomainName}
 use Rattle.dns_records.specs.Record.{Record}
 use Rattle.dns_messages.specs.declared.query.Query.{Query}
 use Rattle.stub_lookup.specs.Lookup.{LookupContent}
+use Rattle.stub_lookup.specs.declared.error.NetError.{NetError}
 use Rattle.stub_lookup.specs.declared.error.NoRecords.{NoRecords}
 use Rattle.stub_hosts.specs.Hosts.{question, static_lookup}
 use Rattle.stub_client.specs.Looks.{Reply}
@@ -17,14 +18,14 @@ use Rattle.stub_laws.proofs.StandLaws.{contains-head}
 use Rattle.stub_laws.specs.answers.Lookups.{ByClaims}
 use Rattle.stub_laws.specs.answers.Ends.{NameEnds, by_hosts, by_memory, by_no_name, by_question}
 
-module _ (finds : Query → ℕ → List Record → Type 0) (lacks : Query → ℕ → NoRecords → Type 0) (settings : Settings) (now : ℕ) (kind : RecordType)
+module _ (finds : Query → ℕ → List Record → Type 0) (lacks : Query → ℕ → NoRecords → Type 0) (fails : Query → ℕ → NetError → Type 0) (settings : Settings) (now : ℕ) (kind : RecordType)
     (all : List DomainName) where
   abbrev Ends : Reply → Type 0
-  Ends reply = NameEnds finds lacks settings now all kind reply
+  Ends reply = NameEnds finds lacks fails settings now all kind reply
 
   -- what is asked for a name
   abbrev Asks : Unit {0} → DomainName → Reply → Unit {0} → Type 0
-  Asks old name reply new = ByClaims finds lacks now old (question name kind) reply new
+  Asks old name reply new = ByClaims finds lacks fails now old (question name kind) reply new
 
   continued : (ends : Bool) (rest : Reply → Unit {0} → Type 0) (last : Reply) (old : Unit {0}) (reply : Reply) (new : Unit {0})
       → Continues ends rest last old reply new → (reply ≡ last → Ends reply) → (rest reply new → Ends reply) → Ends reply
@@ -50,20 +51,20 @@ module _ (finds : Query → ℕ → List Record → Type 0) (lacks : Query → �
     | inr memory ↦ by_memory memory
   ]
 
-names-end : (finds : Query → ℕ → List Record → Type 0) (lacks : Query → ℕ → NoRecords → Type 0) (settings : Settings) (now : ℕ) (kind : RecordType)
+names-end : (finds : Query → ℕ → List Record → Type 0) (lacks : Query → ℕ → NoRecords → Type 0) (fails : Query → ℕ → NetError → Type 0) (settings : Settings) (now : ℕ) (kind : RecordType)
     (names : List DomainName) (reply : Reply) (old new : Unit {0})
-    → AttemptsWithHosts settings.hosts now (ByClaims finds lacks now) kind old names reply new
-    → NameEnds finds lacks settings now names kind reply
-names-end finds lacks settings now kind [] reply old new h = by_no_name h.0
-names-end finds lacks settings now kind (name ∷ names) reply old new h =
-    attempts-end finds lacks settings now kind (name ∷ names) h.0 h.1
-    (first-ends finds lacks settings now kind (name ∷ names) name (contains-head name names) (contains-head name [])
+    → AttemptsWithHosts settings.hosts now (ByClaims finds lacks fails now) kind old names reply new
+    → NameEnds finds lacks fails settings now names kind reply
+names-end finds lacks fails settings now kind [] reply old new h = by_no_name h.0
+names-end finds lacks fails settings now kind (name ∷ names) reply old new h =
+    attempts-end finds lacks fails settings now kind (name ∷ names) h.0 h.1
+    (first-ends finds lacks fails settings now kind (name ∷ names) name (contains-head name names) (contains-head name [])
     (static_lookup settings.hosts (question name kind) now) refl h.0 old h.1 h.2)
     names (λ other there. Contains-append_right (name ∷ []) names other there) reply new h.3
 
-pub name-ends : (finds : Query → ℕ → List Record → Type 0) (lacks : Query → ℕ → NoRecords → Type 0) (settings : Settings) (now : ℕ)
-    (name : DomainName) (kind : RecordType) (reply : Reply) → LooksUp settings now (ByClaims finds lacks now) (Ok name) kind tt reply tt
-    → NameEnds finds lacks settings now (names_for settings name) (known_type kind) reply
-name-ends finds lacks settings now name kind reply (inl memory) = by_memory memory.0
-name-ends finds lacks settings now name kind reply (inr h) =
-    names-end finds lacks settings now (known_type kind) (names_for settings name) reply tt tt h
+pub name-ends : (finds : Query → ℕ → List Record → Type 0) (lacks : Query → ℕ → NoRecords → Type 0) (fails : Query → ℕ → NetError → Type 0) (settings : Settings) (now : ℕ)
+    (name : DomainName) (kind : RecordType) (reply : Reply) → LooksUp settings now (ByClaims finds lacks fails now) (Ok name) kind tt reply tt
+    → NameEnds finds lacks fails settings now (names_for settings name) (known_type kind) reply
+name-ends finds lacks fails settings now name kind reply (inl memory) = by_memory memory.0
+name-ends finds lacks fails settings now name kind reply (inr h) =
+    names-end finds lacks fails settings now (known_type kind) (names_for settings name) reply tt tt h

@@ -1,110 +1,100 @@
--- Over the scripted link no error of a question is a negative answer: it is a fault of the link, want of memory, or unsupported.
-use Rattle.std.proofs.Common.{◌≡◌, ℕ, zero, suc, Bool, true, false, cond, length, Option, Some, None, Result, Ok, Err, All, sym, ap, subst, ◌∙◌, inl, inr}
-use Rattle.std.specs.Prelude.{slice_get, List, [], ◌∷◌}
+-- Over the scripted link an error of a question has a reason: a fault of the link, which is counted, want of memory, or a request that
+-- asks no question.
+use Rattle.std.proofs.Common.{◌≡◌, ◌≤◌, ◌+◌, ◌-◌, ◌^◌, ℕ, suc, min, length, true, false, List, [], ◌∷◌, Ok, Err, All, Contains, refl, sym, ap, ◌∙◌, inl, inr, arith}
+use Rattle.std.specs.Prelude.{◌⊎◌}
 use Rattle.std.proofs.lemmas.Bool.{true≢false}
-use Rattle.std.proofs.lemmas.List.Elements.{All-cons, All-nil}
+use Rattle.std.proofs.lemmas.List.Elements.{All-cons, All-nil, All-weaker, Contains-append_right}
 use Rattle.dns_messages.specs.declared.message.Message.{Message}
 use Rattle.dns_messages.specs.declared.query.Query.{Query}
-use Rattle.dns_messages.specs.declared.response.DnsResponse.{DnsResponse}
 use Rattle.stub_config.specs.declared.request_options.DnsRequestOptions.{DnsRequestOptions}
-use Rattle.stub_lookup.specs.declared.error.LinkFault.TheVariants as fault
 use Rattle.stub_lookup.specs.declared.error.NetError.TheVariants as net
 use Rattle.stub_client.specs.Handle.{Ask, Led, Outcome, request_for}
+use Rattle.stub_client.specs.Request.{request_of}
 use Rattle.stub_client.specs.declared.request.DnsRequest.{DnsRequest}
-use Rattle.stub_link.specs.declared.link.LinkError.{LinkError}
-use Rattle.stub_link.specs.declared.link.LinkError.TheVariants.{Failed, Memory}
 use Rattle.stub_link.specs.Ask as one_question
-use Rattle.stub_link.specs.Ask.{AfterReply, AfterSending, AfterStream, AfterWaiting, AskUnder, IsAsked, IsStreamReply, draw, stream_outcome}
-use Rattle.stub_link.specs.Ask.IsStreamReply.{matching, unreadable, other, undecoded}
+use Rattle.stub_link.specs.Ask.{faults_after}
 use Rattle.stub_link.specs.AskState.{AskState, AskZone}
 use Rattle.stub_link.specs.Link.{messages}
-use Rattle.stub_link.specs.LinkState.{LinkState, link_calls}
-use Rattle.stub_link.specs.Request.{with_id}
-use Rattle.stub_link.specs.Wait.{Wait, WaitAfter, one_more}
+use Rattle.stub_link.specs.LinkState.{link_calls}
+use Rattle.stub_link.specs.Request.{IsQuestion}
+use Rattle.stub_link.specs.SoundQuestion.{IsReplyOrFault}
+use Rattle.stub_link.proofs.OutcomeLaws.{question-ends}
+use Rattle.stub_laws.specs.answers.Failing.{HasReason, failed_questions, with_fault}
 use Rattle.stub_laws.proofs.OutLaws.{IsOut, ask-out}
-use Rattle.stub_laws.specs.answers.Claims.{IsNoMeaning}
+use Rattle.stub_laws.proofs.StandLaws.{contains-head}
 
-same-outcome : (x y : Outcome) → x ≡ y → IsNoMeaning y → IsNoMeaning x
-same-outcome x y e h = subst (λ (o : Outcome). IsNoMeaning o) (sym e) h
+-- ---- what one request ends in
 
-whole-reply : (truncated : Bool) (response : DnsResponse) → IsNoMeaning (cond truncated (Err (net.Link fault.Truncated)) (Ok response))
-whole-reply true response = tt
-whole-reply false response = tt
+-- a request that asks no question is not supported, and no fault
+pub record IsNoQuestion (m : Message) (outcome : Outcome) (old new : ℕ) : Type 0 where
+  pub outcome_is : outcome ≡ Err net.Unsupported
+  pub no_question : (q : Query) → ¬ IsQuestion m q
+  pub none : new ≡ old
 
-module _ (id : ℕ) (q : Query) where
-  stream-reply : (reply : Message) (outcome : Outcome) → IsStreamReply messages id q reply outcome → IsNoMeaning outcome
-  stream-reply reply outcome (matching response responds same e) =
-      same-outcome outcome (stream_outcome response) e (whole-reply response.message.metadata.truncation response)
-  stream-reply reply outcome (unreadable none e) = same-outcome outcome (Err (net.Link fault.StreamUnreadable)) e tt
-  stream-reply reply outcome (other x decodes differs e) = same-outcome outcome (Err (net.Link fault.StreamMismatch)) e tt
-  stream-reply reply outcome (undecoded e) = same-outcome outcome (Err net.Memory) e tt
-
-  after-stream : (result : Result Message LinkError) (outcome : Outcome) → AfterStream messages id q result outcome → IsNoMeaning outcome
-  after-stream (Ok reply) outcome t = stream-reply reply outcome t
-  after-stream (Err Failed) outcome t = same-outcome outcome (Err (net.Link fault.StreamFailed)) t tt
-  after-stream (Err Memory) outcome t = same-outcome outcome (Err net.Memory) t tt
-
-  after-reply : (datagram : Message) (truncated : Bool) (response : DnsResponse) (mid : AskState) (outcome : Outcome) (new : AskState)
-      → AfterReply messages link_calls id q datagram truncated response mid outcome new → IsNoMeaning outcome
-  after-reply datagram false response mid outcome new t = same-outcome outcome (Ok response) t.0 tt
-  after-reply datagram true response mid outcome new t = after-stream t.result outcome t.after
-
-  after-waiting : (datagram : Message) (waited : Outcome) (mid : AskState) (outcome : Outcome) (new : AskState) → IsNoMeaning waited
-      → AfterWaiting messages link_calls id q datagram waited mid outcome new → IsNoMeaning outcome
-  after-waiting datagram (Ok response) mid outcome new h t = after-reply datagram response.message.metadata.truncation response mid outcome new t
-  after-waiting datagram (Err error) mid outcome new h t = same-outcome outcome (Err error) t.0 h
-
-waited : (left id : ℕ) (question : Option Query) (old : LinkState) (dropped : ℕ) (outcome : Outcome) (new : LinkState) (total : ℕ)
-    → Wait messages link_calls left id question old dropped outcome new total → IsNoMeaning outcome
-unfolding Wait
-waited zero id question old dropped outcome new total w = same-outcome outcome (Err (net.Link fault.NoMatch)) w.0 tt
-waited (suc left) id question old dropped outcome new total w =
-    go (λ v. waited left id question w.1 (one_more dropped) outcome new total v) w.0 w.3
-  where
-    mid : LinkState
-    mid = w.1
-
-    go : (Wait messages link_calls left id question mid (one_more dropped) outcome new total → IsNoMeaning outcome)
-        → (received : Result (Option Message) LinkError)
-        → WaitAfter messages id question received mid dropped (λ more. Wait messages link_calls left id question mid more) outcome new total
-        → IsNoMeaning outcome
-    go on (Ok (Some datagram)) t =
-        elim t [
-          | inl u ↦ same-outcome outcome (Ok u.response) u.outcome_is tt
-          | inr u ↦ elim u [
-            | inl v ↦ on v.1
-            | inr v ↦ same-outcome outcome (Err net.Memory) v.outcome_is tt
-          ]
-        ]
-    go on (Ok None) t = same-outcome outcome (Err (net.Link fault.Quiet)) t.0 tt
-    go on (Err Failed) t = same-outcome outcome (Err (net.Link fault.NotReceived)) t.0 tt
-    go on (Err Memory) t = same-outcome outcome (Err net.Memory) t.0 tt
-
-after-sending : (id : ℕ) (question : Option Query) (result : Result (Unit {0}) LinkError) (mid : AskState) (outcome : Outcome)
-    (new : AskState) → AfterSending messages link_calls id question result mid outcome new → IsNoMeaning outcome
-after-sending id question (Ok done) mid outcome new a = waited 16 id question mid.link mid.dropped outcome a.link a.dropped a.waits
-after-sending id question (Err Failed) mid outcome new a = same-outcome outcome (Err (net.Link fault.NotSent)) a.0 tt
-after-sending id question (Err Memory) mid outcome new a = same-outcome outcome (Err net.Memory) a.0 tt
-
-asked-well : (m : Message) (q : Query) (old : AskState) (outcome : Outcome) (new : AskState) → IsAsked messages link_calls m q old outcome new
-    → IsNoMeaning outcome
-asked-well m q old outcome new x =
-    after-waiting m.metadata.id q x.datagram x.waited x.mid outcome new
-    (after-sending m.metadata.id (Some q) x.sent.result (record old { link = x.sent.link }) x.waited x.mid x.sent.after) x.ends
-
-under-well : (found : Option ℕ) (m : Message) (q : Query) (old : AskState) (outcome : Outcome) (new : AskState)
-    → AskUnder messages link_calls found m q old outcome new → IsNoMeaning outcome
-under-well None m q old outcome new t = same-outcome outcome (Err (net.Link fault.NoId)) t.0 tt
-under-well (Some id) m q old outcome new (inl t) = same-outcome outcome (Err net.Memory) t.0 tt
-under-well (Some id) m q old outcome new (inr x) = asked-well (with_id id m) q (draw id q old) outcome new x
-
-no-meaning : (m : Message) (old : AskState) (outcome : Outcome) (new : AskState) → one_question.Ask messages link_calls m old outcome new
-    → IsNoMeaning outcome
-no-meaning m old outcome new a =
+ask-ends : (m : Message) (old : AskState) (outcome : Outcome) (new : AskState) → one_question.Ask messages link_calls m old outcome new
+    → IsReplyOrFault outcome old.faults new.faults ⊎ IsNoQuestion m outcome old.faults new.faults
+ask-ends m old outcome new a =
     elim a.asked [
-      | inl u ↦ same-outcome outcome (Err net.Unsupported) u.outcome_is tt
-      | inr k ↦ under-well (slice_get old.ids (length old.sent)) m k.question old outcome a.uncounted k.asked
+      | inl u ↦ inr (record {
+        outcome_is = u.outcome_is;
+        no_question = u.no_question;
+        none = ap (λ (s : AskState). s.faults) a.counted
+            ∙ ap (λ (o : Outcome). faults_after o a.uncounted.faults) u.outcome_is
+            ∙ ap (λ (s : AskState). s.faults) u.same;
+      })
+      | inr k ↦ inl (question-ends messages link_calls m k.question old outcome new k.asks a)
     ]
+
+-- ---- reasons
+
+more-failed : (q : Query) (outcome : Outcome) (failed : List Query) (p : Query) → Contains failed p → Contains (with_fault q outcome failed) p
+more-failed q (Err (net.Link fault)) failed p h = Contains-append_right (q ∷ []) failed p h
+more-failed q (Err (net.Dns error)) failed p h = h
+more-failed q (Err (net.Proto error)) failed p h = h
+more-failed q (Err (net.Message text)) failed p h = h
+more-failed q (Err net.Unsupported) failed p h = h
+more-failed q (Err net.Memory) failed p h = h
+more-failed q (Ok response) failed p h = h
+
+module _ (options : DnsRequestOptions) where
+  reason-stays : (few many : List Query) → ((p : Query) → Contains few p → Contains many p) → (q : Query) (outcome : Outcome)
+      → HasReason options few q outcome → HasReason options many q outcome
+  reason-stays few many among q (Err (net.Link fault)) h = among q h
+  reason-stays few many among q (Err (net.Dns error)) h = h
+  reason-stays few many among q (Err (net.Proto error)) h = h
+  reason-stays few many among q (Err (net.Message text)) h = h
+  reason-stays few many among q (Err net.Unsupported) h = h
+  reason-stays few many among q (Err net.Memory) h = h
+  reason-stays few many among q (Ok response) h = h
+
+  fault-reason : (q : Query) (outcome : Outcome) (failed : List Query) (old new : ℕ) → IsReplyOrFault outcome old new
+      → HasReason options (with_fault q outcome failed) q outcome
+  fault-reason q (Err (net.Link fault)) failed old new h = contains-head q failed
+  fault-reason q (Err (net.Dns error)) failed old new h = absurd h
+  fault-reason q (Err (net.Proto error)) failed old new h = absurd h
+  fault-reason q (Err (net.Message text)) failed old new h = absurd h
+  fault-reason q (Err net.Unsupported) failed old new h = absurd h
+  fault-reason q (Err net.Memory) failed old new h = tt
+  fault-reason q (Ok response) failed old new h = tt
+
+-- ---- counts
+
+same-count : (old mid new count most : ℕ) → mid ≡ old → min (mid + count) most ≤ new → min (old + count) most ≤ new
+same-count old mid new count most same rest = omega (arith, same, rest)
+
+next-count : (old mid new count most : ℕ) → mid ≡ min (old + 1) most → min (mid + count) most ≤ new → min (old + suc count) most ≤ new
+next-count old mid new count most same rest = omega (arith, same, rest)
+
+-- each question that failed by a fault of the link is counted
+fault-counts : (q : Query) (outcome : Outcome) (failed : List Query) (old mid new : ℕ) → IsReplyOrFault outcome old mid
+    → min (mid + length failed) (2 ^ 64 - 1) ≤ new → min (old + length (with_fault q outcome failed)) (2 ^ 64 - 1) ≤ new
+fault-counts q (Err (net.Link fault)) failed old mid new h rest = next-count old mid new (length failed) (2 ^ 64 - 1) h rest
+fault-counts q (Err (net.Dns error)) failed old mid new h rest = absurd h
+fault-counts q (Err (net.Proto error)) failed old mid new h rest = absurd h
+fault-counts q (Err (net.Message text)) failed old mid new h rest = absurd h
+fault-counts q (Err net.Unsupported) failed old mid new h rest = absurd h
+fault-counts q (Err net.Memory) failed old mid new h rest = same-count old mid new (length failed) (2 ^ 64 - 1) h rest
+fault-counts q (Ok response) failed old mid new h rest = same-count old mid new (length failed) (2 ^ 64 - 1) h rest
 
 -- ---- the questions of a lookup
 
@@ -119,13 +109,58 @@ module _ (options : DnsRequestOptions) (now : ℕ) where
   led-out old new (ask ∷ asks) led h =
       led-out led.0 new asks led.2 (zone-out old led.0 (request_for ask.question options) now ask.outcome led.1 h)
 
-  pub led-no-meaning : (old new : AskState) (asks : List Ask)
+  -- a question has a reason among some, and is counted before others
+  pub record Reasons (q : Query) (outcome : Outcome) (failed : List Query) (old new : ℕ) : Type 0 where
+    pub reason : HasReason options (with_fault q outcome failed) q outcome
+    pub counted : min (old + length (with_fault q outcome failed)) (2 ^ 64 - 1) ≤ new
+
+  no-question-reasons : (q : Query) (outcome : Outcome) (failed : List Query) (old mid new : ℕ) → outcome ≡ Err net.Unsupported
+      → ((p : Query) → ¬ IsQuestion (request_of q options) p) → mid ≡ old → min (mid + length failed) (2 ^ 64 - 1) ≤ new
+      → Reasons q outcome failed old new
+  no-question-reasons q (Err net.Unsupported) failed old mid new is none same rest =
+      record { reason = none; counted = same-count old mid new (length failed) (2 ^ 64 - 1) same rest }
+  no-question-reasons q (Err (net.Link fault)) failed old mid new is none same rest = absurd (cc)
+  no-question-reasons q (Err (net.Dns error)) failed old mid new is none same rest = absurd (cc)
+  no-question-reasons q (Err (net.Proto error)) failed old mid new is none same rest = absurd (cc)
+  no-question-reasons q (Err (net.Message text)) failed old mid new is none same rest = absurd (cc)
+  no-question-reasons q (Err net.Memory) failed old mid new is none same rest = absurd (cc)
+  no-question-reasons q (Ok response) failed old mid new is none same rest = absurd (cc)
+
+  ask-reasons : (old mid : AskState) (ask : Ask) (failed : List Query) (new : ℕ)
+      → one_question.Ask messages link_calls (request_for ask.question options).message old ask.outcome mid
+      → min (mid.faults + length failed) (2 ^ 64 - 1) ≤ new → Reasons ask.question ask.outcome failed old.faults new
+  ask-reasons old mid ask failed new a rest =
+      elim (ask-ends (request_for ask.question options).message old ask.outcome mid a) [
+        | inl h ↦ record {
+          reason = fault-reason options ask.question ask.outcome failed old.faults mid.faults h;
+          counted = fault-counts ask.question ask.outcome failed old.faults mid.faults new h rest;
+        }
+        | inr h ↦ no-question-reasons ask.question ask.outcome failed old.faults mid.faults new h.outcome_is h.no_question h.none rest
+      ]
+
+  -- the errors of questions that did not run out of memory on the link have reasons, and are counted
+  pub record HaveReasons (old new : ℕ) (asks : List Ask) : Type 0 where
+    pub reasons : All (λ ask. HasReason options (failed_questions asks) ask.question ask.outcome) asks
+    pub counted : min (old + length (failed_questions asks)) (2 ^ 64 - 1) ≤ new
+
+  pub led-reasons : (old new : AskState) (asks : List Ask)
       → Led (λ old request now outcome new. AskZone old request now outcome new) options now old asks new → new.link.out_of_memory ≡ false
-      → All (λ ask. IsNoMeaning ask.outcome) asks
-  led-no-meaning old new [] led memory = All-nil (λ (ask : Ask). IsNoMeaning ask.outcome)
-  led-no-meaning old new (ask ∷ asks) led memory =
-      All-cons (λ (a : Ask). IsNoMeaning a.outcome) ask asks (by led.1) (led-no-meaning led.0 new asks led.2 memory)
-    where
-      by : AskZone old (request_for ask.question options) now ask.outcome led.0 → IsNoMeaning ask.outcome
-      by (inl s) = absurd (true≢false (sym (led-out led.0 new asks led.2 s.1) ∙ memory))
-      by (inr x) = no-meaning (request_for ask.question options).message old ask.outcome led.0 x
+      → HaveReasons old.faults new.faults asks
+  led-reasons old new [] led memory =
+      let same : new.faults ≡ old.faults = ap (λ (a : AskState). a.faults) led in
+      record { reasons = All-nil (λ (ask : Ask). HasReason options [] ask.question ask.outcome); counted = omega (arith, same) }
+  led-reasons old new (ask ∷ asks) led memory =
+      let rest = led-reasons led.0 new asks led.2 memory in
+      let first : Reasons ask.question ask.outcome (failed_questions asks) old.faults new.faults =
+      elim led.1 [
+        | inl s ↦ absurd (true≢false (sym (led-out led.0 new asks led.2 s.1) ∙ memory))
+        | inr a ↦ ask-reasons old led.0 ask (failed_questions asks) new.faults a rest.counted
+      ] in
+      record {
+        reasons = All-cons (λ (a : Ask). HasReason options (failed_questions (ask ∷ asks)) a.question a.outcome) ask asks first.reason
+            (All-weaker (λ (a : Ask). HasReason options (failed_questions asks) a.question a.outcome)
+            (λ (a : Ask). HasReason options (failed_questions (ask ∷ asks)) a.question a.outcome)
+            (λ a h. reason-stays options (failed_questions asks) (failed_questions (ask ∷ asks))
+            (λ p there. more-failed ask.question ask.outcome (failed_questions asks) p there) a.question a.outcome h) asks rest.reasons);
+        counted = first.counted;
+      }

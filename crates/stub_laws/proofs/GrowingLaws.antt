@@ -1,5 +1,5 @@
 -- What stood in a history stands in one that goes on; and a whole set is fresh.
-use Rattle.std.proofs.Common.{◌≡◌, ◌≢◌, ℕ, ◌+◌, ◌≤◌, min, Bool, true, List, [], ◌∷◌, Ok, Err, All, Contains, unwrap_or, refl, sym, ap, subst, ◌∙◌, slice_index_or, arith}
+use Rattle.std.proofs.Common.{◌≡◌, ◌≢◌, ℕ, ◌+◌, ◌≤◌, min, Bool, true, List, [], ◌∷◌, Ok, Err, All, Contains, unwrap_or, refl, sym, ap, subst, ◌∙◌, slice_index_or, inl, inr, arith}
 use Rattle.std.specs.FinMap as rows_map
 use Rattle.std.proofs.lemmas.Bool.{true≢false}
 use Rattle.std.proofs.lemmas.List.Elements.{All-cons, All-contains, All-nil, All-weaker, Contains-append_right}
@@ -32,6 +32,7 @@ use Rattle.stub_laws.specs.answers.Standing.IsLed.{by_alias, by_service, here}
 use Rattle.stub_laws.specs.answers.Standing.HasRows.{no_more, of_other_type, of_row}
 use Rattle.stub_laws.specs.answers.Standing.HasBeenAbsent.{as_absence, as_link, as_special}
 use Rattle.stub_laws.specs.answers.Standing.HaveStood.{as_loopback, as_set}
+use Rattle.stub_laws.proofs.StandingLaws.{IsLast}
 
 module _ (preserves : Bool) (history other : List Version) where
   led-on : (now : ℕ) → GoesOn now history other → {kind : RecordType} {from to : DomainName} {links : ℕ} → IsLed preserves history now kind from links to
@@ -67,6 +68,12 @@ module _ (preserves : Bool) (history other : List Version) where
   })
 
   module _ (config : TtlConfigContent) (origin : DomainName) where
+    last-on : (now : ℕ) → GoesOn now history other → {kind : RecordType} {owner : DomainName} → IsLast preserves origin history now kind owner
+        → IsLast preserves origin other now kind owner
+    last-on now on (inl s) = inl (record { first = s.first; before = s.before; many = s.many; led = led-on now on s.led })
+    last-on now on (inr a) =
+        inr (record { soa = a.soa; end = a.end; links = a.links; some = a.some; led = led-on now on a.led; away = a.away })
+
     lacking-on : (age now : ℕ) (q : Query) (answer : NoRecords) → GoesOn now history other
         → HasBeenAbsent config preserves origin history age now q answer → HasBeenAbsent config preserves origin other age now q answer
     lacking-on age now q answer on (as_absence a) = as_absence (record {
@@ -100,6 +107,7 @@ module _ (preserves : Bool) (history other : List Version) where
       past = a.past;
       recent = a.recent;
       there = a.there;
+      last = last-on now on a.last;
       lasts = a.lasts;
     }) code none
 

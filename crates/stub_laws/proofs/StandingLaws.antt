@@ -10,6 +10,7 @@ use Rattle.std.proofs.Math.Nat.{suc-mul}
 use Rattle.std.proofs.lemmas.Nat.{mul-le}
 use Rattle.std.proofs.lemmas.List.Elements.{All-head, All-tail}
 use Rattle.dns_wire.specs.codes.RecordType.{type_number}
+use Rattle.dns_wire.specs.declared.codes.dns_class.DNSClass.TheVariants.{IN}
 use Rattle.dns_wire.specs.declared.codes.record_type.RecordType.{RecordType}
 use Rattle.dns_names.specs.Compare.{lower}
 use Rattle.dns_names.specs.Name.{DomainName}
@@ -20,6 +21,10 @@ use Rattle.dns_records.specs.declared.row.Row.{Row}
 use Rattle.dns_messages.specs.Response.{has_type}
 use Rattle.dns_messages.specs.declared.query.Query.{Query}
 use Rattle.dns_zone.specs.Answer.{record_of}
+use Rattle.stub_config.specs.declared.request_options.DnsRequestOptions.{DnsRequestOptions}
+use Rattle.stub_lookup.specs.declared.error.DnsError.TheVariants as dns
+use Rattle.stub_lookup.specs.declared.error.NetError.{NetError}
+use Rattle.stub_lookup.specs.declared.error.NetError.TheVariants as errors
 use Rattle.stub_lookup.specs.declared.error.NoRecords.{NoRecords}
 use Rattle.stub_cache.specs.Ttl.{TtlConfigContent, TtlRange, aged_answer, negative_range}
 use Rattle.stub_client.specs.Laws.{EachOf}
@@ -29,7 +34,8 @@ use Rattle.stub_laws.specs.history.Answered.{greatest_ttl}
 use Rattle.stub_laws.specs.history.Stands.{AreSame}
 use Rattle.stub_laws.proofs.FreshLaws.{range_at, same-names, same-numbers}
 use Rattle.stub_laws.specs.answers.Claims.{AbsencesOutlast, AnswersOutlast, HasNoNegativeMinima, HoldOfSpecialNames, longest_absence, longest_of, negative_time}
-use Rattle.stub_laws.specs.answers.Standing.{FindsWhole, HasBeenAbsent, HasLink, HasRows, HaveStood, IsAbsent, IsLed, IsOfLocalHost, IsSoaOf, IsWholeSet, LacksIndeed, LeadsOn, MissesIndeed}
+use Rattle.stub_laws.specs.answers.Failing.{FailsIndeed, LeadsToQuestion}
+use Rattle.stub_laws.specs.answers.Standing.{FindsWhole, HasBeenAbsent, HasLastLink, HasRows, HasSevenLinks, HaveStood, IsAbsent, IsDeep, IsLed, IsOfLocalHost, IsSoaOf, IsWholeSet, LacksIndeed, LeadsAway, LeadsOn, MissesIndeed}
 use Rattle.stub_laws.specs.answers.Standing.IsLed.{by_alias, by_service, here}
 use Rattle.stub_laws.specs.answers.Standing.HasBeenAbsent.{as_absence, as_link, as_special}
 use Rattle.stub_laws.specs.answers.Standing.HasRows.{no_more, of_other_type, of_row}
@@ -104,6 +110,47 @@ led-typed other same (by_service links owner to moment rows row service asks aft
 led-respelled : {preserves : Bool} {history : List Version} {now : ℕ} (p q : Query) {to : DomainName} {links : ℕ} → type_number p.query_type ≡ type_number q.query_type
     → AreSame p.name q.name → IsLed preserves history now p.query_type p.name links to → IsLed preserves history now q.query_type q.name links to
 led-respelled p q same name led = led-from q.name name (led-typed q.query_type same led)
+
+-- ---- links that are not followed
+
+-- why a link is not followed
+abbrev pub IsLast : Bool → DomainName → List Version → ℕ → RecordType → DomainName → Type 0
+IsLast preserves origin history now kind owner =
+    HasSevenLinks preserves history now kind owner ⊎ LeadsAway preserves origin history now kind owner
+
+last-later : (preserves : Bool) (origin : DomainName) (history : List Version) (now later : ℕ) (kind : RecordType) (owner : DomainName) → now ≤ later
+    → IsLast preserves origin history now kind owner → IsLast preserves origin history later kind owner
+last-later preserves origin history now later kind owner less (inl s) =
+    inl (record { first = s.first; before = s.before; many = s.many; led = led-later later less s.led })
+last-later preserves origin history now later kind owner less (inr a) =
+    inr (record { soa = a.soa; end = a.end; links = a.links; some = a.some; led = led-later later less a.led; away = a.away })
+
+-- for a type with the same number
+last-typed : (preserves : Bool) (origin : DomainName) (history : List Version) (now : ℕ) (kind other : RecordType) (owner : DomainName)
+    → type_number kind ≡ type_number other → IsLast preserves origin history now kind owner → IsLast preserves origin history now other owner
+last-typed preserves origin history now kind other owner same (inl s) =
+    inl (record { first = s.first; before = s.before; many = s.many; led = led-typed other same s.led })
+last-typed preserves origin history now kind other owner same (inr a) =
+    inr (record { soa = sym same ∙ a.soa; end = a.end; links = a.links; some = a.some; led = led-typed other same a.led; away = a.away })
+
+-- ---- how far a lookup has come
+
+-- it begins at its name
+pub deep-first : (preserves : Bool) (history : List Version) (now : ℕ) (q : Query) → IsDeep preserves history now 0 q
+deep-first preserves history now q = record { first = q.name; before = 0; far = omega arith; led = here q.name refl }
+
+-- each time that it goes on, a link leads there, at least
+pub deep-through : (preserves : Bool) (history : List Version) (now depth links : ℕ) (q target : Query) → target.query_type ≡ q.query_type → 0 < links
+    → IsLed preserves history now q.query_type q.name links target.name → IsDeep preserves history now depth q
+    → IsDeep preserves history now (suc depth) target
+deep-through preserves history now depth links q target same some led d =
+    let all = led-through d.led led in
+    record {
+      first = d.first;
+      before = all.links;
+      far = (let far : d.before + links ≤ all.links = all.far in let deep : depth ≤ d.before = d.far in omega (arith, some));
+      led = subst (λ (kind : RecordType). IsLed preserves history now kind d.first all.links target.name) (sym same) all.led;
+    }
 
 -- ---- sets
 
@@ -323,7 +370,8 @@ module _ (config : TtlConfigContent) (preserves : Bool) (origin : DomainName) (h
 
   link-aged : (since now : ℕ) (kind : RecordType) (from : DomainName) (answer : NoRecords) → since ≤ now → answer.negative_ttl ≡ None
       → (HasNoNegativeMinima config → now ≤ since + negative_time answer) → now ≤ since + longest_absence config kind
-      → HasLink config preserves history 0 since kind from → HasLink config preserves history (longest_absence config kind) now kind from
+      → HasLastLink config preserves origin history 0 since kind from
+      → HasLastLink config preserves origin history (longest_absence config kind) now kind from
   link-aged since now kind from answer past no_ttl due most a =
       let time : negative_time answer ≡ 0 = ap (λ (o : Option ℕ). unwrap_or o 0) no_ttl in
       record {
@@ -336,6 +384,7 @@ module _ (config : TtlConfigContent) (preserves : Bool) (origin : DomainName) (h
         past = omega (arith, a.past, past);
         recent = recent-aged since now a.moment (a.links * longest_absence config kind) (longest_absence config kind) a.recent most;
         there = a.there;
+        last = last-later preserves origin history since now kind a.owner past a.last;
         lasts = λ none.
             (let last = a.lasts none in
             let before = due none in
@@ -386,6 +435,7 @@ module _ (config : TtlConfigContent) (preserves : Bool) (origin : DomainName) (h
     past = a.past;
     recent = recent-returned now a.moment (a.links * longest_absence config q.query_type) age a.recent;
     there = a.there;
+    last = a.last;
     lasts = a.lasts;
   }) code none
 
@@ -428,6 +478,7 @@ module _ (config : TtlConfigContent) (preserves : Bool) (origin : DomainName) (h
         past = a.past;
         recent = subst (λ (l : ℕ). now ≤ a.moment + (a.links * l + age)) most a.recent;
         there = there-same a.rows a.owner a.there;
+        last = last-typed preserves origin history now p.query_type q.query_type a.owner same a.last;
         lasts = a.lasts;
       }) code none
     where
@@ -466,7 +517,8 @@ module _ (config : TtlConfigContent) (preserves : Bool) (origin : DomainName) (h
       }
 
   link-through : (now links : ℕ) (kind : RecordType) (from mid : DomainName) → 0 < links → IsLed preserves history now kind from links mid
-      → HasLink config preserves history (longest_absence config kind) now kind mid → HasLink config preserves history 0 now kind from
+      → HasLastLink config preserves origin history (longest_absence config kind) now kind mid
+      → HasLastLink config preserves origin history 0 now kind from
   link-through now links kind from mid some first a =
       let all = led-through first a.led in
       let more : a.links * longest_absence config kind + longest_absence config kind ≤ all.links * longest_absence config kind =
@@ -482,6 +534,7 @@ module _ (config : TtlConfigContent) (preserves : Bool) (origin : DomainName) (h
         recent = recent-through now a.moment (a.links * longest_absence config kind) (longest_absence config kind)
             (all.links * longest_absence config kind) a.recent more;
         there = a.there;
+        last = a.last;
         lasts = a.lasts;
       }
 
@@ -503,7 +556,7 @@ module _ (config : TtlConfigContent) (preserves : Bool) (origin : DomainName) (h
           as_special all.links s all.led special none
       by (as_link a code none) =
           as_link (link-through now links q.query_type q.name target.name some first
-          (subst (λ (kind : RecordType). HasLink config preserves history most now kind target.name) same a)) code none
+          (subst (λ (kind : RecordType). HasLastLink config preserves origin history most now kind target.name) same a)) code none
 
   pub lacks-outlast : AbsencesOutlast (HasNoNegativeMinima config) (longest_of config) (λ q at answer. MissesIndeed config preserves origin history q at answer)
       (λ q at answer. LacksIndeed config preserves origin history q at answer)
@@ -515,6 +568,55 @@ module _ (config : TtlConfigContent) (preserves : Bool) (origin : DomainName) (h
         lacking-respelled now (longest_absence config q.query_type) p q answer number (same-names p q same)
         (subst (λ (age : ℕ). HasBeenAbsent config preserves origin history age now p answer) (longest-same config p.query_type q.query_type number) h));
   }
+
+-- ---- errors
+
+-- where a question leads to another one along a link, it leads to what that one leads to
+leads-through : (preserves : Bool) (history : List Version) (now links : ℕ) (q target p : Query) → target.query_type ≡ q.query_type
+    → target.query_class ≡ IN → IsLed preserves history now q.query_type q.name links target.name → LeadsToQuestion preserves history now target p
+    → LeadsToQuestion preserves history now q p
+leads-through preserves history now links q target p same class first l =
+    let all = led-through first (subst (λ (kind : RecordType). IsLed preserves history now kind target.name l.links p.name) same l.led) in
+    record {
+      links = all.links;
+      led = all.led;
+      same_type = l.same_type ∙ same;
+      same_class = elim l.same_class [
+        | inl as_target ↦ inr (as_target ∙ class)
+        | inr internet ↦ inr internet
+      ];
+    }
+
+-- a question leads to itself
+pub leads-here : (preserves : Bool) (history : List Version) (now : ℕ) (q : Query) → LeadsToQuestion preserves history now q q
+leads-here preserves history now q = record { links = 0; led = here q.name refl; same_type = refl; same_class = inl refl }
+
+pub fails-through : (preserves : Bool) (origin : DomainName) (options : DnsRequestOptions) (history : List Version) (failed : List Query) (now links : ℕ)
+    (q target : Query) (error : NetError) → target.query_type ≡ q.query_type → target.query_class ≡ IN
+    → IsLed preserves history now q.query_type q.name links target.name
+    → FailsIndeed preserves origin options history failed target now error → FailsIndeed preserves origin options history failed q now error
+fails-through preserves origin options history failed now links q target (errors.Link fault) same class first h = record {
+  question = h.question;
+  leads = leads-through preserves history now links q target h.question same class first h.leads;
+  fails = h.fails;
+}
+fails-through preserves origin options history failed now links q target (errors.Dns (dns.ResponseCode code)) same class first h = record {
+  question = h.question;
+  leads = leads-through preserves history now links q target h.question same class first h.leads;
+  rows = h.rows;
+  stand = h.stand;
+  refused = h.refused;
+  code_is = h.code_is;
+}
+fails-through preserves origin options history failed now links q target errors.Unsupported same class first h = record {
+  question = h.question;
+  leads = leads-through preserves history now links q target h.question same class first h.leads;
+  no_question = h.no_question;
+}
+fails-through preserves origin options history failed now links q target errors.Memory same class first h = tt
+fails-through preserves origin options history failed now links q target (errors.Dns (dns.NoRecordsFound answer)) same class first h = absurd h
+fails-through preserves origin options history failed now links q target (errors.Proto error) same class first h = absurd h
+fails-through preserves origin options history failed now links q target (errors.Message text) same class first h = absurd h
 
 -- ---- special-use names
 

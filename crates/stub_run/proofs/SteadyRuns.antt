@@ -1,5 +1,5 @@
--- Where the rows of the zone do not change, the replies of a run stood in the zone as it is.
-use Rattle.std.proofs.Common.{◌≡◌, ℕ, ◌≤◌, ◌++◌, List, [], ◌∷◌, Result, Ok, Err, Bool, false, All, refl, sym, ap, subst, ◌∙◌, slice_index_or, inl, inr, arith, Option, Some, None}
+-- Where the rows of the zone do not change, the replies of a run stood in the zone as it is, or are errors that have a reason.
+use Rattle.std.proofs.Common.{◌≡◌, ℕ, ◌≤◌, length, ◌++◌, List, [], ◌∷◌, Result, Ok, Err, Bool, false, All, refl, sym, ap, subst, ◌∙◌, slice_index_or, inl, inr, arith, Option, Some, None}
 use Rattle.std.specs.Prelude.{string_bytes}
 use Rattle.std.proofs.lemmas.Bool.{true≢false}
 use Rattle.std.proofs.lemmas.List.{append_assoc, append-nil}
@@ -48,9 +48,11 @@ use Rattle.stub_laws.specs.answers.Claims.{HasNoNegativeMinima, longest_of}
 use Rattle.stub_laws.specs.answers.Lookups.{ByStanding, CacheStands, Stands}
 use Rattle.stub_laws.specs.answers.Steady.{always}
 use Rattle.stub_laws.proofs.ClaimLaws.{own-least}
-use Rattle.stub_laws.proofs.ErrorLaws.{led-no-meaning}
+use Rattle.stub_laws.specs.answers.Failing.{AreCounted, FailsIndeed, failed_questions}
+use Rattle.stub_laws.specs.answers.Standing.{IsDeep}
+use Rattle.stub_laws.proofs.ErrorLaws.{led-reasons}
 use Rattle.stub_laws.proofs.AnswersResolverLaws.{held-cleared, held-empty, held-later, host-keeps, name-keeps}
-use Rattle.stub_laws.proofs.StandingLaws.{finds-outlast, lacks-outlast, special-hold}
+use Rattle.stub_laws.proofs.StandingLaws.{deep-first, finds-outlast, lacks-outlast, special-hold}
 use Rattle.stub_laws.proofs.AnswersSteadyLaws.{always-stand}
 use Rattle.stub_laws.proofs.AnswersStepLaws.{ask-bears}
 use Rattle.stub_link.specs.declared.link.script.Script.{Script}
@@ -72,7 +74,7 @@ use Rattle.stub_run.proofs.Growing.{past-begun, runs-extend}
 use Rattle.stub_run.proofs.Happening.{AsksServer}
 use Rattle.stub_run.proofs.RunLaws.{mid-memory}
 use Rattle.stub_run.proofs.Unchanged.{since-same, unchanged-before}
-use Rattle.stub_run.proofs.WholeRuns.{each-ask}
+use Rattle.stub_run.proofs.WholeRuns.{counted-all, each-ask}
 
 -- the history goes on
 extends-then : (earlier mid history : List Version) → Extends earlier mid → Extends mid history → Extends earlier history
@@ -212,24 +214,32 @@ module _ (keep : UpdatesKeepZones) (chains : (zone : ZoneContent) (q : Query) �
         each-ask (λ a. (response : DnsResponse) → meaning a.ask.outcome ≡ Ok response → HasAskedTypes a.ask.question response.message) now keeps.asks
         (asked-types chains origin (asks_of mid).link.history stays.faithful.history.versions (asked_at now keeps.asks) led.1)
 
+    -- the lookup is one in which each reply stood, or has a reason
+    abbrev IsSteady : TtlConfigContent → Bool → Type 0
+    IsSteady c b =
+        (failed : List Query) × AreCounted failed (asks_of mid).faults
+        × looks (ByStanding c b origin options (always first.zone.rows) failed now)
+
     looked : IsUnchanged first (asks_of mid).link.history
         → CacheStands old.client.cache.config old.client.preserve_intermediates origin (always first.zone.rows) now mid.client.cache
-        × looks (ByStanding old.client.cache.config old.client.preserve_intermediates origin (always first.zone.rows) now)
+        × IsSteady old.client.cache.config old.client.preserve_intermediates
     looked unchanged =
-        let meanings = led-no-meaning options now (asks_of old) (asks_of mid) keeps.asks keeps.led memory in
+        let reasons = led-reasons options now (asks_of old) (asks_of mid) keeps.asks keeps.led memory in
+        let failed : List Query = failed_questions keeps.asks in
         let before = h.cache (unchanged-before first (asks_of old).link.history (asks_of mid).link.history stays.added unchanged) in
         let each = each-ask (IsAnsweredBy origin (asks_of mid).link.history) now keeps.asks led.1 in
-        keeps.keeps
+        let kept = keeps.keeps
         (record {
-          bear = λ n d less. ask-bears chains origin (always first.zone.rows) zones old.client.cache.config (told_by old) now
+          bear = λ n d less. ask-bears chains origin options (always first.zone.rows) failed zones old.client.cache.config (told_by old) now
               (slice_index_or keeps.asks n d)
-              (answered-always unchanged (slice_index_or keeps.asks n d) (each n d less) (since n d less)) (meanings n d less);
+              (answered-always unchanged (slice_index_or keeps.asks n d) (each n d less) (since n d less)) (reasons.reasons n d less);
           typed = typed;
         })
         (by-state first (λ c b. CacheStands c b origin (always first.zone.rows) now old.client.cache) old h
-        (subst (λ (t : ℕ). CacheStands config preserves origin (always first.zone.rows) t old.client.cache) at before))
+        (subst (λ (t : ℕ). CacheStands config preserves origin (always first.zone.rows) t old.client.cache) at before)) in
+        (kept.0, (failed, counted-all (asks_of old).faults (length failed) (asks_of mid).faults reasons.counted, kept.1))
 
-    has-looked : HasLooked first old mid (looks (ByStanding config preserves origin (always first.zone.rows) now))
+    has-looked : HasLooked first old mid (IsSteady config preserves)
     has-looked = record {
       has = record {
         faithful = stays.faithful;
@@ -246,7 +256,7 @@ module _ (keep : UpdatesKeepZones) (chains : (zone : ZoneContent) (q : Query) �
       };
       moment_is = stays.moment_is;
       stands = λ unchanged.
-          by-run first (λ c b. looks (ByStanding c b origin (always first.zone.rows) now)) old h (looked unchanged).1;
+          by-run first (λ c b. IsSteady c b) old h (looked unchanged).1;
     }
 
   -- ---- the reply to an event
@@ -254,7 +264,8 @@ module _ (keep : UpdatesKeepZones) (chains : (zone : ZoneContent) (q : Query) �
   pub record HasReplied (first : Past) (at : ℕ) (action : Action) (reply : EventReply) (old mid : RunState) : Type 0 where
     pub has : Has first mid
     pub moment_is : (asks_of mid).link.moment ≡ (asks_of old).link.moment
-    pub stands : IsUnchanged first (asks_of mid).link.history → IsStandingReply config origin (always first.zone.rows) settings at action reply
+    pub stands : IsUnchanged first (asks_of mid).link.history
+        → IsStandingReply config origin (always first.zone.rows) settings (asks_of mid).faults at action reply
 
   looked-up : (first : Past) (at : ℕ) (name : DomainName) (kind : RecordType) (found : Reply) (old mid : RunState)
       (later : List (ℕ × Query)) → Has first old → (asks_of old).link.moment ≡ at → ResolvesName AsksServer at (Ok name) kind old found mid
@@ -266,14 +277,18 @@ module _ (keep : UpdatesKeepZones) (chains : (zone : ZoneContent) (q : Query) �
       let history : List Version = always first.zone.rows in
       let l = has-looked first at old mid later h moment resolves.settings memory once
       (λ asks. LooksUp old.settings at asks (Ok name) kind tt found tt)
-      (name-keeps AsksServer at old mid (HasNoMinima c) (HasNoNegativeMinima c) (longest_of c) _ _ _ (finds-outlast c b history)
-      (lacks-outlast c b origin history) (special-hold c b origin history) (own-least c) round (Ok name) kind found resolves.lookup) in
+      (name-keeps AsksServer at old mid (HasNoMinima c) (HasNoNegativeMinima c) (longest_of c) _ _ _
+      (λ asks q at error. FailsIndeed b origin (request_options old.settings.options) history (failed_questions asks) q at error)
+      (λ depth q. IsDeep b history at depth q) (finds-outlast c b history)
+      (lacks-outlast c b origin history) (special-hold c b origin history) (deep-first b history at) (own-least c) round (Ok name) kind found resolves.lookup) in
       record {
         has = l.has;
         moment_is = l.moment_is;
         stands = λ unchanged.
-            subst (λ (s : Settings). LooksUp s at (ByStanding config preserves origin history at) (Ok name) kind tt found tt) h.settings_is
-            (l.stands unchanged);
+            subst
+            (λ (s : Settings). (failed : List Query) × AreCounted failed (asks_of mid).faults
+            × LooksUp s at (ByStanding config preserves origin (request_options s.options) history failed at) (Ok name) kind tt found tt)
+            h.settings_is (l.stands unchanged);
       }
 
   looked-up-host : (first : Past) (at : ℕ) (host : _) (found : Reply) (old mid : RunState) (later : List (ℕ × Query))
@@ -288,17 +303,20 @@ module _ (keep : UpdatesKeepZones) (chains : (zone : ZoneContent) (q : Query) �
       let name : Result DomainName ParseError = name_of_text (string_bytes host) in
       let l = has-looked first at old mid later h moment resolves.settings memory once
       (λ asks. LooksUpHost old.settings at asks resolves.address name tt found tt)
-      (host-keeps AsksServer at old mid (HasNoMinima c) (HasNoNegativeMinima c) (longest_of c) _ _ _ (finds-outlast c b history)
-      (lacks-outlast c b origin history) (special-hold c b origin history) (own-least c) round resolves.address name found resolves.lookup) in
+      (host-keeps AsksServer at old mid (HasNoMinima c) (HasNoNegativeMinima c) (longest_of c) _ _ _
+      (λ asks q at error. FailsIndeed b origin (request_options old.settings.options) history (failed_questions asks) q at error)
+      (λ depth q. IsDeep b history at depth q) (finds-outlast c b history)
+      (lacks-outlast c b origin history) (special-hold c b origin history) (deep-first b history at) (own-least c) round resolves.address name found resolves.lookup) in
       record {
         has = l.has;
         moment_is = l.moment_is;
-        stands = λ unchanged. (
-          resolves.address,
-          resolves.is_address,
-          subst (λ (s : Settings). LooksUpHost s at (ByStanding config preserves origin history at) resolves.address name tt found tt) h.settings_is
-              (l.stands unchanged),
-        );
+        stands = λ unchanged.
+            (let looks =
+            subst
+            (λ (s : Settings). (failed : List Query) × AreCounted failed (asks_of mid).faults
+            × LooksUpHost s at (ByStanding config preserves origin (request_options s.options) history failed at) resolves.address name tt found tt)
+            h.settings_is (l.stands unchanged) in
+            (resolves.address, resolves.is_address, looks.0, looks.1, looks.2));
       }
 
   -- ---- other events
@@ -412,7 +430,10 @@ module _ (keep : UpdatesKeepZones) (chains : (zone : ZoneContent) (q : Query) �
             (subst (Has since) (sym step.ends) (has-after since step.mid (end (asks_of step.mid)) r.has stays));
         moment_is = ap (λ (s : RunState). (asks_of s).link.moment) step.ends ∙ stays.moment_is ∙ r.moment_is ∙ b.1;
         stands = subst (λ (p : Past). IsSteadyEvent config origin settings p (past_of (asks_of new).link) e report) is
-            (λ unchanged. r.stands (unchanged-before since (asks_of step.mid).link.history (asks_of new).link.history more unchanged));
+            (λ unchanged.
+            subst (λ (n : ℕ). IsStandingReply config origin (always since.zone.rows) settings n e.at e.action report.reply)
+            (sym (ap (λ (s : RunState). (asks_of s).faults) step.ends) ∙ sym step.faults)
+            (r.stands (unchanged-before since (asks_of step.mid).link.history (asks_of new).link.history more unchanged)));
       }
 
   -- ---- all events

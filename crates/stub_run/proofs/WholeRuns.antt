@@ -1,5 +1,5 @@
--- Event by event, the replies of a run stood in the zone: as whole sets, or as negative answers.
-use Rattle.std.proofs.Common.{◌≡◌, ℕ, ◌≤◌, ◌++◌, List, [], ◌∷◌, Result, Ok, Err, Bool, false, All, refl, sym, ap, subst, ◌∙◌, slice_index_or, inl, inr, arith, Option, Some, None}
+-- Event by event, the replies of a run stood in the zone, as whole sets, or as negative answers, or are errors that have a reason.
+use Rattle.std.proofs.Common.{◌≡◌, ℕ, ◌≤◌, ◌+◌, ◌-◌, ◌^◌, min, length, ◌++◌, List, [], ◌∷◌, Result, Ok, Err, Bool, false, All, refl, sym, ap, subst, ◌∙◌, slice_index_or, inl, inr, arith, Option, Some, None}
 use Rattle.std.specs.Prelude.{string_bytes}
 use Rattle.std.proofs.lemmas.Bool.{true≢false}
 use Rattle.std.proofs.lemmas.List.Elements.{All-cons, All-head, All-nil, All-tail}
@@ -15,6 +15,7 @@ use Rattle.dns_messages.specs.declared.response.DnsResponse.{DnsResponse}
 use Rattle.dns_messages.specs.declared.response_code.ResponseCode.{ResponseCode}
 use Rattle.dns_zone.specs.Answer.{IsChain, answer}
 use Rattle.dns_zone.specs.Rows.{IsZone, ZoneContent}
+use Rattle.stub_config.specs.declared.request_options.DnsRequestOptions.{DnsRequestOptions}
 use Rattle.stub_lookup.specs.declared.error.NetError.{NetError}
 use Rattle.stub_lookup.specs.declared.error.NetError.TheVariants as net
 use Rattle.stub_cache.specs.Cache.{CacheContent}
@@ -43,10 +44,12 @@ use Rattle.stub_laws.proofs.ServeLaws.{UpdatesKeepZones}
 use Rattle.stub_laws.specs.answers.Claims.{HasNoNegativeMinima, longest_of}
 use Rattle.stub_laws.specs.answers.Lookups.{ByStanding, CacheStands, GoesOn, Stands}
 use Rattle.stub_laws.proofs.ClaimLaws.{own-least}
-use Rattle.stub_laws.proofs.ErrorLaws.{led-no-meaning}
+use Rattle.stub_laws.specs.answers.Failing.{AreCounted, FailsIndeed, failed_questions}
+use Rattle.stub_laws.specs.answers.Standing.{IsDeep}
+use Rattle.stub_laws.proofs.ErrorLaws.{led-reasons}
 use Rattle.stub_laws.proofs.GrowingLaws.{cache-on}
 use Rattle.stub_laws.proofs.AnswersResolverLaws.{held-cleared, held-empty, held-later, host-keeps, name-keeps}
-use Rattle.stub_laws.proofs.StandingLaws.{finds-outlast, lacks-outlast, special-hold}
+use Rattle.stub_laws.proofs.StandingLaws.{deep-first, finds-outlast, lacks-outlast, special-hold}
 use Rattle.stub_laws.proofs.AnswersStepLaws.{ask-bears}
 use Rattle.stub_link.specs.declared.link.script.Script.{Script}
 use Rattle.stub_run.specs.Event.{update_of}
@@ -64,6 +67,10 @@ use Rattle.stub_run.specs.declared.report.EventReport.{EventReport}
 use Rattle.stub_run.proofs.Growing.{runs-extend}
 use Rattle.stub_run.proofs.Happening.{AsksServer}
 use Rattle.stub_run.proofs.RunLaws.{mid-memory}
+
+-- faults that are counted from a number on are counted from 0 on
+pub counted-all : (before count faults : ℕ) → min (before + count) (2 ^ 64 - 1) ≤ faults → min count (2 ^ 64 - 1) ≤ faults
+counted-all before count faults h = omega (arith, h)
 
 -- ---- lists
 
@@ -167,28 +174,39 @@ module _ (keep : UpdatesKeepZones) (chains : (zone : ZoneContent) (q : Query) �
         let held = answered response ok in
         record { full = held.full; rows = held.rows; stand = on now held.rows (omega arith) held.stand; holds = held.holds }
 
+    abbrev options : DnsRequestOptions
+    options = request_options old.settings.options
+
+    -- the lookup is one in which each reply stood, or has a reason
+    abbrev IsStanding : TtlConfigContent → Bool → List Version → Type 0
+    IsStanding c b history =
+        (failed : List Query) × AreCounted failed (asks_of mid).faults × looks (ByStanding c b origin options history failed now)
+
     -- over each history that goes on after the lookup
     looked : (history : List Version) → AreZones origin history → GoesOn now (asks_of mid).link.history history
         → CacheStands old.client.cache.config old.client.preserve_intermediates origin history now mid.client.cache
-        × looks (ByStanding old.client.cache.config old.client.preserve_intermediates origin history now)
+        × IsStanding old.client.cache.config old.client.preserve_intermediates history
     looked history zones on =
         let k = keeps history in
         let answered : All (λ ask. IsAnsweredBy origin history (record { moment = now; ask = ask })) k.asks =
         λ n d less. answered-on history on (slice_index_or k.asks n d)
         (each-ask (IsAnsweredBy origin (asks_of mid).link.history) now k.asks (led k.asks k.led).1 n d less) in
-        let meanings = led-no-meaning (request_options old.settings.options) now (asks_of old) (asks_of mid) k.asks k.led memory in
+        let reasons = led-reasons options now (asks_of old) (asks_of mid) k.asks k.led memory in
         let first : GoesOn now (asks_of old).link.history history =
         λ moment rows past stand. on moment rows past
         (stays.stands moment rows (let begun : (asks_of old).link.moment ≡ now = at in omega arith) stand) in
-        k.keeps
+        let kept = k.keeps
         (record {
-          bear = λ n d less. ask-bears chains origin history zones old.client.cache.config (told_by old) now (slice_index_or k.asks n d)
-              (answered n d less) (meanings n d less);
+          bear = λ n d less. ask-bears chains origin options history (failed_questions k.asks) zones old.client.cache.config (told_by old) now
+              (slice_index_or k.asks n d) (answered n d less) (reasons.reasons n d less);
           typed = typed-by k.asks (led k.asks k.led).1;
         })
         (cache-on old.client.preserve_intermediates (asks_of old).link.history history old.client.cache.config origin now old.client.cache first
         (by-state (λ c b. CacheStands c b origin (asks_of old).link.history now old.client.cache) old h
-        (subst (λ (t : ℕ). CacheStands config preserves origin (asks_of old).link.history t old.client.cache) at h.cache)))
+        (subst (λ (t : ℕ). CacheStands config preserves origin (asks_of old).link.history t old.client.cache) at h.cache))) in (
+          kept.0,
+          (failed_questions k.asks, counted-all (asks_of old).faults (length (failed_questions k.asks)) (asks_of mid).faults reasons.counted, kept.1),
+        )
       where
         typed-by : (asks : List Ask) → All (IsAnsweredBy origin (asks_of mid).link.history) (asked_at now asks)
             → All (λ ask. (response : DnsResponse) → meaning ask.outcome ≡ Ok response → HasAskedTypes ask.question response.message) asks
@@ -196,7 +214,7 @@ module _ (keep : UpdatesKeepZones) (chains : (zone : ZoneContent) (q : Query) �
             each-ask (λ a. (response : DnsResponse) → meaning a.ask.outcome ≡ Ok response → HasAskedTypes a.ask.question response.message) now asks
             (asked-types chains origin (asks_of mid).link.history stays.faithful.history.versions (asked_at now asks) answered)
 
-    has-looked : HasLooked old mid (λ history. looks (ByStanding config preserves origin history now))
+    has-looked : HasLooked old mid (IsStanding config preserves)
     has-looked =
         let k = keeps (asks_of mid).link.history in
         let here = looked (asks_of mid).link.history stays.faithful.history.versions (λ moment rows past stand. stand) in
@@ -211,7 +229,7 @@ module _ (keep : UpdatesKeepZones) (chains : (zone : ZoneContent) (q : Query) �
           };
           moment_is = stays.moment_is;
           stands = λ history zones on.
-              by-run (λ c b. looks (ByStanding c b origin history now)) old h
+              by-run (λ c b. IsStanding c b history) old h
               (looked history zones (subst (λ (t : ℕ). GoesOn t (asks_of mid).link.history history) at-mid on)).1;
         }
 
@@ -220,7 +238,7 @@ module _ (keep : UpdatesKeepZones) (chains : (zone : ZoneContent) (q : Query) �
   abbrev pub StandsOn : ℕ → Action → EventReply → RunState → Type 0
   StandsOn at action reply mid =
       (history : List Version) → AreZones origin history → GoesOn (asks_of mid).link.moment (asks_of mid).link.history history
-      → IsStandingReply config origin history settings at action reply
+      → IsStandingReply config origin history settings (asks_of mid).faults at action reply
 
   pub record HasReplied (at : ℕ) (action : Action) (reply : EventReply) (old mid : RunState) : Type 0 where
     pub has : Has mid
@@ -236,14 +254,18 @@ module _ (keep : UpdatesKeepZones) (chains : (zone : ZoneContent) (q : Query) �
       let b : Bool = old.client.preserve_intermediates in
       let l = has-looked at old mid later h moment resolves.settings memory once
       (λ asks. LooksUp old.settings at asks (Ok name) kind tt found tt)
-      (λ history. name-keeps AsksServer at old mid (HasNoMinima c) (HasNoNegativeMinima c) (longest_of c) _ _ _ (finds-outlast c b history)
-      (lacks-outlast c b origin history) (special-hold c b origin history) (own-least c) round (Ok name) kind found resolves.lookup) in
+      (λ history. name-keeps AsksServer at old mid (HasNoMinima c) (HasNoNegativeMinima c) (longest_of c) _ _ _
+      (λ asks q at error. FailsIndeed b origin (request_options old.settings.options) history (failed_questions asks) q at error)
+      (λ depth q. IsDeep b history at depth q) (finds-outlast c b history)
+      (lacks-outlast c b origin history) (special-hold c b origin history) (deep-first b history at) (own-least c) round (Ok name) kind found resolves.lookup) in
       record {
         has = l.has;
         moment_is = l.moment_is;
         stands = λ history zones on.
-            subst (λ (s : Settings). LooksUp s at (ByStanding config preserves origin history at) (Ok name) kind tt found tt) h.settings_is
-            (l.stands history zones on);
+            subst
+            (λ (s : Settings). (failed : List Query) × AreCounted failed (asks_of mid).faults
+            × LooksUp s at (ByStanding config preserves origin (request_options s.options) history failed at) (Ok name) kind tt found tt)
+            h.settings_is (l.stands history zones on);
       }
 
   looked-up-host : (at : ℕ) (host : _) (found : Reply) (old mid : RunState) (later : List (ℕ × Query))
@@ -257,17 +279,20 @@ module _ (keep : UpdatesKeepZones) (chains : (zone : ZoneContent) (q : Query) �
       let name : Result DomainName ParseError = name_of_text (string_bytes host) in
       let l = has-looked at old mid later h moment resolves.settings memory once
       (λ asks. LooksUpHost old.settings at asks resolves.address name tt found tt)
-      (λ history. host-keeps AsksServer at old mid (HasNoMinima c) (HasNoNegativeMinima c) (longest_of c) _ _ _ (finds-outlast c b history)
-      (lacks-outlast c b origin history) (special-hold c b origin history) (own-least c) round resolves.address name found resolves.lookup) in
+      (λ history. host-keeps AsksServer at old mid (HasNoMinima c) (HasNoNegativeMinima c) (longest_of c) _ _ _
+      (λ asks q at error. FailsIndeed b origin (request_options old.settings.options) history (failed_questions asks) q at error)
+      (λ depth q. IsDeep b history at depth q) (finds-outlast c b history)
+      (lacks-outlast c b origin history) (special-hold c b origin history) (deep-first b history at) (own-least c) round resolves.address name found resolves.lookup) in
       record {
         has = l.has;
         moment_is = l.moment_is;
-        stands = λ history zones on. (
-          resolves.address,
-          resolves.is_address,
-          subst (λ (s : Settings). LooksUpHost s at (ByStanding config preserves origin history at) resolves.address name tt found tt) h.settings_is
-              (l.stands history zones on),
-        );
+        stands = λ history zones on.
+            (let looks =
+            subst
+            (λ (s : Settings). (failed : List Query) × AreCounted failed (asks_of mid).faults
+            × LooksUpHost s at (ByStanding config preserves origin (request_options s.options) history failed at) resolves.address name tt found tt)
+            h.settings_is (l.stands history zones on) in
+            (resolves.address, resolves.is_address, looks.0, looks.1, looks.2));
       }
 
   -- other entries in the cache
@@ -327,14 +352,14 @@ module _ (keep : UpdatesKeepZones) (chains : (zone : ZoneContent) (q : Query) �
 
   -- ---- one event
 
-  pub record HasStepped (e : Event) (reply : EventReply) (new : RunState) : Type 0 where
+  pub record HasStepped (e : Event) (report : EventReport) (new : RunState) : Type 0 where
     pub has : Has new
     pub moment_is : (asks_of new).link.moment ≡ e.at
-    pub stands : IsStandingReply config origin (asks_of new).link.history settings e.at e.action reply
+    pub stands : IsStandingReply config origin (asks_of new).link.history settings report.faults e.at e.action report.reply
 
   stepped : (e : Event) (report : EventReport) (old new : RunState) (later : List (ℕ × Query)) → Has old
       → (asks_of old).link.moment ≤ e.at → Step old e report new → HasNoReuse ((asks_of new).sent ++ later)
-      → HasStepped e report.reply new
+      → HasStepped e report new
   stepped e report old new later h less step once =
       let b = begun (update_of e.action) e.at e.script old h less in
       let sent : (asks_of new).sent ≡ (asks_of step.mid).sent = ap (λ (s : RunState). (asks_of s).sent) step.ends in
@@ -345,8 +370,9 @@ module _ (keep : UpdatesKeepZones) (chains : (zone : ZoneContent) (q : Query) �
       record {
         has = subst Has (sym step.ends) last;
         moment_is = ap (λ (s : RunState). (asks_of s).link.moment) step.ends ∙ stays.moment_is ∙ r.moment_is ∙ b.1;
-        stands = subst (λ (s : RunState). IsStandingReply config origin (asks_of s).link.history settings e.at e.action report.reply) (sym step.ends)
-            (r.stands (end (asks_of step.mid)).link.history stays.faithful.history.versions stays.stands);
+        stands = subst (λ (n : ℕ). IsStandingReply config origin (asks_of new).link.history settings n e.at e.action report.reply) (sym step.faults)
+            (subst (λ (s : RunState). IsStandingReply config origin (asks_of s).link.history settings (asks_of s).faults e.at e.action report.reply)
+            (sym step.ends) (r.stands (end (asks_of step.mid)).link.history stays.faithful.history.versions stays.stands));
       }
 
   -- ---- all events
@@ -359,7 +385,7 @@ module _ (keep : UpdatesKeepZones) (chains : (zone : ZoneContent) (q : Query) �
   events-stand past first last (e ∷ events) (report ∷ reports) (state ∷ states) (o ∷ occasions) h order runs once pasts =
       let more = runs-extend state last events reports states runs.1 in
       let s = stepped e report first state more.0 h order.0 runs.0 (subst HasNoReuse more.1 once) in (
-        subst (λ (vs : List Version). IsStandingReply config origin vs settings e.at e.action report.reply) (ap (λ (p : Past). p.history) pasts.0) s.stands,
+        subst (λ (vs : List Version). IsStandingReply config origin vs settings report.faults e.at e.action report.reply) (ap (λ (p : Past). p.history) pasts.0) s.stands,
         events-stand (past_after_occasion past o) state last events reports states occasions s.has
             (subst (λ (t : ℕ). InOrder t events) (sym s.moment_is) order.2) runs.1 once pasts.1,
       )

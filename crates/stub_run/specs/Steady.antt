@@ -15,7 +15,7 @@ use Rattle.stub_run.specs.declared.report.EventReport.{EventReport}
 -- always had these rows.
 abbrev pub IsSteadyEvent : TtlConfigContent → DomainName → Settings → Past → Past → Event → EventReport → Type 0
 IsSteadyEvent ttls origin settings first after e report =
-    IsUnchanged first after.history → IsStandingReply ttls origin (always first.zone.rows) settings e.at e.action report.reply
+    IsUnchanged first after.history → IsStandingReply ttls origin (always first.zone.rows) settings report.faults e.at e.action report.reply
 
 -- event by event
 abbrev pub AreSteadyEvents : TtlConfigContent → DomainName → Settings → Past → Past → List Event → List EventReport → List Occasion → Type 0

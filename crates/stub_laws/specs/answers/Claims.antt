@@ -1,5 +1,6 @@
--- Claims about whole answers: about all records that are returned for a question together, and about its negative answers.
-use Rattle.std.specs.Prelude.{◌≡◌, ◌≤◌, ◌+◌, ◌-◌, max, true, false, All, List, [], ◌∷◌, ℕ, map, Ok, Err}
+-- Claims about whole answers: about all records that are returned for a question together, about its negative answers, and about
+-- the other errors with which it ends.
+use Rattle.std.specs.Prelude.{◌≡◌, ◌≤◌, ◌+◌, ◌-◌, max, true, false, All, List, [], ◌∷◌, ℕ, map, suc, Ok, Err}
 use Rattle.std.specs.Option.{unwrap_or}
 use Rattle.dns_wire.specs.codes.RecordType.{type_number}
 use Rattle.dns_wire.specs.declared.codes.record_type.RecordType.{RecordType}
@@ -10,12 +11,13 @@ use Rattle.dns_messages.specs.declared.query.Query.{Query}
 use Rattle.dns_messages.specs.declared.response_code.ResponseCode.{ResponseCode}
 use Rattle.stub_lookup.specs.Error.{no_records}
 use Rattle.stub_lookup.specs.declared.error.DnsError.TheVariants as dns
+use Rattle.stub_lookup.specs.declared.error.NetError.{NetError}
 use Rattle.stub_lookup.specs.declared.error.NetError.TheVariants as errors
 use Rattle.stub_lookup.specs.declared.error.NoRecords.{NoRecords}
 use Rattle.stub_cache.specs.Cache.{CacheContent, Kept, same_key}
 use Rattle.stub_cache.specs.Ttl.{TtlConfigContent, aged_answer, bounds_of, clamped_record, negative_range}
 use Rattle.stub_cache.specs.declared.cache.entry.Entry.{Entry}
-use Rattle.stub_client.specs.Handle.{Ask, Outcome}
+use Rattle.stub_client.specs.Handle.{Ask}
 use Rattle.stub_client.specs.Laws.{EachOf}
 use Rattle.stub_client.specs.Looks.{Reply}
 use Rattle.stub_client.specs.SpecialNames.{special_answer}
@@ -37,6 +39,14 @@ AnswersClaim = Query → ℕ → List Record → Type 0
 -- a claim about a negative answer that is returned for a question at a moment
 abbrev pub AbsenceClaim : Type 1
 AbsenceClaim = Query → ℕ → NoRecords → Type 0
+
+-- a claim about an error with which a question ends at a moment, other than a negative answer and want of memory
+abbrev pub FailureClaim : Type 1
+FailureClaim = Query → ℕ → NetError → Type 0
+
+-- a claim about the questions that a lookup asks after it followed aliases so many times
+abbrev pub DepthClaim : Type 1
+DepthClaim = ℕ → Query → Type 0
 
 -- A claim about answers outlasts the cache if it still holds while the TTLs of the type that was asked for run down, with lower
 -- TTLs, and for the question in another spelling.
@@ -98,11 +108,13 @@ pub record HoldOfEntry (low short : Type 0) (longest : Query → ℕ) (finds : A
 abbrev pub HoldOfCache : Type 0 → Type 0 → (Query → ℕ) → AnswersClaim → AbsenceClaim → ℕ → CacheContent → Type 0
 HoldOfCache low short longest finds misses now cache = All (HoldOfEntry low short longest finds misses now) cache.entries
 
--- the claims hold of a reply: of all its answers, or of its negative answer; of another error nothing is claimed
-abbrev pub HoldOfReply : AnswersClaim → AbsenceClaim → Query → ℕ → Reply → Type 0
-HoldOfReply finds lacks q now (Ok lookup) = finds q now lookup.message.answers
-HoldOfReply finds lacks q now (Err (errors.Dns (dns.NoRecordsFound answer))) = lacks q now answer
-HoldOfReply finds lacks q now (Err error) = Unit {0}
+-- The claims hold of a reply: of all its answers, of its negative answer, or of another error. Memory may run out in the lookup
+-- itself, so that nothing is claimed of the want of it.
+abbrev pub HoldOfReply : AnswersClaim → AbsenceClaim → FailureClaim → Query → ℕ → Reply → Type 0
+HoldOfReply finds lacks fails q now (Ok lookup) = finds q now lookup.message.answers
+HoldOfReply finds lacks fails q now (Err (errors.Dns (dns.NoRecordsFound answer))) = lacks q now answer
+HoldOfReply finds lacks fails q now (Err errors.Memory) = Unit {0}
+HoldOfReply finds lacks fails q now (Err error) = fails q now error
 
 -- ---- steps
 
@@ -112,24 +124,24 @@ pub record AreKeptAliases (settings : LookupSettings) (q : Query) (kept : List R
   pub of_aliases : type_number q.query_type ≡ 5 → kept ≡ []
   pub left_out : settings.preserve_intermediates ≡ false → kept ≡ []
 
--- The claims hold of the answers of a step, with TTLs within their bounds, or of its negative answer; and they hold at the
--- question if they do at the end of the aliases: of a negative answer that is returned there, what is claimed as it is stored.
-abbrev pub HoldOfStep : AnswersClaim → AbsenceClaim → AbsenceClaim → LookupSettings → TtlConfigContent → ℕ → Query → Step → Type 0
-HoldOfStep finds misses lacks settings config now q (Gives m) = finds q now (map (clamped_record config) m.answers)
-HoldOfStep finds misses lacks settings config now q (Misses answer) = misses q now answer
-HoldOfStep finds misses lacks settings config now q (Stops error) = HoldOfReply finds lacks q now (Err error)
-HoldOfStep finds misses lacks settings config now q (Follows target kept) =
-    (target.query_type ≡ q.query_type) × AreKeptAliases settings target kept
+-- The claims hold of the answers of a step, with TTLs within their bounds, or of its negative answer or error; and they hold at the
+-- question if they do at the end of the aliases, which is a question that a lookup asks next: of a negative answer that is returned
+-- there, what is claimed as it is stored.
+abbrev pub HoldOfStep : AnswersClaim → AbsenceClaim → AbsenceClaim → FailureClaim → DepthClaim → LookupSettings → TtlConfigContent → ℕ → ℕ
+    → Query → Step → Type 0
+HoldOfStep finds misses lacks fails deep settings config now depth q (Gives m) = finds q now (map (clamped_record config) m.answers)
+HoldOfStep finds misses lacks fails deep settings config now depth q (Misses answer) = misses q now answer
+HoldOfStep finds misses lacks fails deep settings config now depth q (Stops error) = HoldOfReply finds lacks fails q now (Err error)
+HoldOfStep finds misses lacks fails deep settings config now depth q (Follows target kept) =
+    (target.query_type ≡ q.query_type) × AreKeptAliases settings target kept × deep (suc depth) target
     × ((rs : List Record) → finds target now rs → finds q now rs)
     × ((answer : NoRecords) → lacks target now answer → misses q now answer)
+    × ((error : NetError) → fails target now error → fails q now error)
 
--- the outcome of a question leads to a step of which the claims hold, whatever aliases are kept and however deep
-abbrev pub BearOut : AnswersClaim → AbsenceClaim → AbsenceClaim → LookupSettings → TtlConfigContent → ℕ → Ask → Type 0
-BearOut finds misses lacks settings config now ask =
-    (kept : List Record) (depth : ℕ) → AreKeptAliases settings ask.question kept
-    → HoldOfStep finds misses lacks settings config now ask.question (step_of settings ask.question kept depth ask.outcome)
-
--- not an error by what a response means: a fault of the link, want of memory, or no error
-abbrev pub IsNoMeaning : Outcome → Type 0
-IsNoMeaning (Err (errors.Dns error)) = ⊥
-IsNoMeaning outcome = Unit {0}
+-- the outcome of a question leads to a step of which the claims hold, whatever aliases are kept, and at each depth at which it is asked
+abbrev pub BearOut : AnswersClaim → AbsenceClaim → AbsenceClaim → FailureClaim → DepthClaim → LookupSettings → TtlConfigContent → ℕ → Ask
+    → Type 0
+BearOut finds misses lacks fails deep settings config now ask =
+    (kept : List Record) (depth : ℕ) → AreKeptAliases settings ask.question kept → deep depth ask.question
+    → HoldOfStep finds misses lacks fails deep settings config now depth ask.question
+    (step_of settings ask.question kept depth ask.outcome)

@@ -1,10 +1,11 @@
 -- Whole sets of records, and negative answers, that stood in a zone: what may be returned for a name, whole and in time.
-use Rattle.std.specs.Prelude.{◌≡◌, ◌≢◌, ◌≤◌, ◌+◌, ◌*◌, ◌<◌, ◌⊎◌, Bool, true, false, suc, min, Contains, List, [], ◌∷◌, ℕ, Some, None, IsSomeAnd}
+use Rattle.std.specs.Prelude.{◌≡◌, ◌≢◌, ◌≤◌, ◌+◌, ◌*◌, ◌<◌, ◌⊎◌, ◌&&◌, ◌||◌, not, Bool, true, false, suc, min, Contains, List, [], ◌∷◌, ℕ, Some, None, IsSomeAnd}
 use Rattle.dns_wire.specs.codes.RecordType.{type_number}
 use Rattle.dns_wire.specs.declared.codes.record_type.RecordType.{RecordType}
 use Rattle.dns_wire.specs.declared.codes.record_type.RecordType.TheVariants as types
 use Rattle.dns_names.specs.Compare.{at_or_below}
 use Rattle.dns_names.specs.Name.{DomainName}
+use Rattle.dns_text.specs.Usage.{is_loopback, is_nonexistent}
 use Rattle.dns_data.specs.declared.rdata.RData.TheVariants as of
 use Rattle.dns_data.specs.declared.rdata.cname.CNAME.{CNAME}
 use Rattle.dns_data.specs.declared.rdata.soa.SOA.{SOA}
@@ -43,6 +44,13 @@ pub data IsLed (preserves : Bool) (history : List Version) (now : ℕ) (kind : R
       → IsLed preserves history now kind from links owner → StandAt history moment rows → moment ≤ now
       → Contains (rows_at rows owner.labels types.SRV) row → row.rdata ≡ of.SRV service → AreSame service.target name
       → IsLed preserves history now kind from (suc links) name
+
+-- A lookup that has followed aliases so many times asks this question: at least so many links lead to its name from some name.
+pub record IsDeep (preserves : Bool) (history : List Version) (now depth : ℕ) (q : Query) : Type 0 where
+  pub first : DomainName
+  pub before : ℕ
+  pub far : depth ≤ before
+  pub led : IsLed preserves history now q.query_type first before q.name
 
 -- a record of the local host, with at most its own TTL, at a special-use name that a question leads to (RFC 6761 section 6.3)
 pub record IsOfLocalHost (preserves : Bool) (history : List Version) (now : ℕ) (kind : RecordType) (from : DomainName) (r : Record) : Type 0 where
@@ -128,9 +136,29 @@ LeadsOn rows kind owner =
     ((type_number kind ≢ 5) × (rows_at rows owner.labels types.CNAME ≢ []))
     ⊎ ((type_number kind ≡ 33) × (rows_at rows owner.labels types.SRV ≢ []))
 
--- A link stood at a name that the question leads to: now, if no minimum prolongs the answer, and else no longer ago than above.
-pub record HasLink (config : TtlConfigContent) (preserves : Bool) (history : List Version) (age now : ℕ) (kind : RecordType)
-    (from : DomainName) : Type 0 where
+-- A name lies at the end of a chain of seven links, or more, which lead there from some name: a lookup that has followed them goes no
+-- further.
+pub record HasSevenLinks (preserves : Bool) (history : List Version) (now : ℕ) (kind : RecordType) (owner : DomainName) : Type 0 where
+  pub first : DomainName
+  pub before : ℕ
+  pub many : 7 ≤ before
+  pub led : IsLed preserves history now kind first before owner
+
+-- Aliases lead from a name to one that the zone does not answer for, as it is not in the zone, or a special-use name. There a lookup
+-- of an SOA record ends.
+pub record LeadsAway (preserves : Bool) (origin : DomainName) (history : List Version) (now : ℕ) (kind : RecordType) (owner : DomainName)
+    : Type 0 where
+  pub soa : type_number kind ≡ 6
+  pub end : DomainName
+  pub links : ℕ
+  pub some : 0 < links
+  pub led : IsLed preserves history now kind owner links end
+  pub away : at_or_below origin.labels end.labels && not (is_loopback end || is_nonexistent end) ≡ false
+
+-- A link stood at a name that the question leads to: now, if no minimum prolongs the answer, and else no longer ago than above. The
+-- lookup does not follow it, as it is the eighth link of a chain, or as it leads away.
+pub record HasLastLink (config : TtlConfigContent) (preserves : Bool) (origin : DomainName) (history : List Version) (age now : ℕ)
+    (kind : RecordType) (from : DomainName) : Type 0 where
   pub owner : DomainName
   pub links : ℕ
   pub led : IsLed preserves history now kind from links owner
@@ -140,11 +168,11 @@ pub record HasLink (config : TtlConfigContent) (preserves : Bool) (history : Lis
   pub past : moment ≤ now
   pub recent : now ≤ moment + (links * longest_absence config kind + age)
   pub there : LeadsOn rows kind owner
+  pub last : HasSevenLinks preserves history now kind owner ⊎ LeadsAway preserves origin history now kind owner
   pub lasts : HasNoNegativeMinima config → now ≤ moment
 
 -- A negative answer to a question stood: as the absence of its type; or, without an SOA record and for no time, as that of a
--- special-use name that the question leads to (RFC 6761, RFC 7686), or where it leads on from a name, as after more links than
--- are followed.
+-- special-use name that the question leads to (RFC 6761, RFC 7686), or at a link that is not followed.
 pub data HasBeenAbsent (config : TtlConfigContent) (preserves : Bool) (origin : DomainName) (history : List Version) (age now : ℕ)
     (q : Query) (answer : NoRecords) : Type 0 where
   as_absence : IsAbsent config preserves origin history age now q.query_type q.name answer
@@ -152,7 +180,7 @@ pub data HasBeenAbsent (config : TtlConfigContent) (preserves : Bool) (origin : 
   as_special : (links : ℕ) (p : Query) → IsLed preserves history now q.query_type q.name links p.name
       → special_answer p ≡ Nothing answer.response_code → answer.negative_ttl ≡ None
       → HasBeenAbsent config preserves origin history age now q answer
-  as_link : HasLink config preserves history age now q.query_type q.name → answer.response_code ≡ NoError → answer.negative_ttl ≡ None
+  as_link : HasLastLink config preserves origin history age now q.query_type q.name → answer.response_code ≡ NoError → answer.negative_ttl ≡ None
       → HasBeenAbsent config preserves origin history age now q answer
 
 -- ---- claims

@@ -8,8 +8,8 @@ use Rattle.stub_laws.proofs.AnswersResolverLaws.{none-kept}
 use Rattle.stub_laws.proofs.answers.laws.lookups.every_lookup_keeps_whole_answers.Goals as goal
 
 pub returns : goal.returns
-returns g c = λ config answers absences special settings now old q asks reply new looks same holds bears.
+returns g c = λ config answers absences special start settings now old q asks reply new looks same holds bears.
     lookup-keeps (HasNoMinima config) (HasNoNegativeMinima config) (longest_of config) g.C.WholeClaim.finds g.C.WholeClaim.misses g.C.WholeClaim.lacks
-    answers absences special settings now 0 _ old q asks reply new
-    (subst (HasNoLeast (HasNoMinima config) (HasNoNegativeMinima config) (longest_of config)) (sym same) (own-least config)) (none-kept settings q) holds
-    (subst (λ (t : TtlConfigContent). All (BearOut g.C.WholeClaim.finds g.C.WholeClaim.misses g.C.WholeClaim.lacks settings t now) asks) (sym same) bears) looks
+    g.C.WholeClaim.fails g.C.WholeClaim.deep answers absences special settings now 0 _ old q asks reply new
+    (subst (HasNoLeast (HasNoMinima config) (HasNoNegativeMinima config) (longest_of config)) (sym same) (own-least config)) (none-kept settings q) (start q) holds
+    (subst (λ (t : TtlConfigContent). All (BearOut g.C.WholeClaim.finds g.C.WholeClaim.misses g.C.WholeClaim.lacks g.C.WholeClaim.fails g.C.WholeClaim.deep settings t now) asks) (sym same) bears) looks
