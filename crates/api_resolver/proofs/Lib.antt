@@ -1,3 +1,4 @@
+mod AskLaws
 mod LookupLaws
 mod ReplayLaws
 mod ProgressLaws

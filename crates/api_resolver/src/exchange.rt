@@ -1,7 +1,7 @@
 //! The exchange for one question.
 
 ghost use Rattle.std.specs.Prelude.{◌≡◌, IfOk};
-ghost use Rattle.api_resolver.specs.Exchange.{ComesTo, IsPool, Steps, after_message, after_step, awaited_of, with_event};
+ghost use Rattle.api_resolver.specs.Exchange.{Asks, ComesTo, IsPool, Steps, after_message, after_step, awaited_of, with_event};
 
 use crate::event::{Event, Outgoing};
 use crate::replayed::ReplayedNetwork;
@@ -179,11 +179,7 @@ pub fn run_exchange(
 ) -> Result<ExchangeStep, AllocError>
     ensures { IfOk result (λ step. ComesTo settings.now start.now events.now step) }
 {
-    let pool = pool_over(alloc, settings, start, events.clone()?)?;
-    let mut handle = Scrubber::new(alloc, pool);
-    let request = DnsRequest::from_query(alloc, start.question.clone()?, settings.request)?;
-    let outcome = handle.send(request, 0);
-    let pool = &handle.handle;
+    let Asked { outcome, pool } = ask(alloc, settings, start, events)?;
     match awaited_of(pool.network())? {
         Some(awaited) => {
             drop(outcome);
@@ -191,6 +187,31 @@ pub fn run_exchange(
         }
         None => Ok(ExchangeStep::Ends(outcome, pool.servers().clone()?)),
     }
+}
+
+/// What a pool was asked, and what it is afterwards.
+#[derive(Drop)]
+struct Asked {
+    outcome: Result<DnsResponse, NetError>,
+    pool: NameServerPool<ReplayedNetwork, ListedIds>,
+}
+
+/// Asks the pool of an exchange its question, over the events that have come so far. Of its reply remains what the question leads to.
+fn ask(
+    alloc: Global,
+    settings: &ExchangeSettings,
+    start: &Start,
+    events: &Sequence<Event>,
+) -> Result<Asked, AllocError>
+    ensures { IfOk result (λ asked.
+        Asks settings.now start.now events.now asked.outcome asked.pool) }
+{
+    let pool = pool_over(alloc, settings, start, events.clone()?)?;
+    let mut handle = Scrubber::new(alloc, pool);
+    let request = DnsRequest::from_query(alloc, start.question.clone()?, settings.request)?;
+    let outcome = handle.send(request, 0);
+    let pool = handle.into_handle();
+    Ok(Asked { outcome, pool })
 }
 
 /// Returns the pool of an exchange before it is asked, over a network of events.

@@ -66,21 +66,21 @@ receives-within old deadline result new r =
 sends-same : (old : ScriptState) (server : SocketAddr) (bytes : List ℕ) (result : Result (Unit {0}) LinkError) (new : ScriptState) → Sends old server bytes result new → new.clock ≡ old.clock
 sends-same old server bytes result new s =
     elim s [
-      inl h ↦ ap (λ (t : ScriptState). t.clock) h.1
+      | inl h ↦ ap (λ (t : ScriptState). t.clock) h.1
       | inr h ↦ ap (λ (t : ScriptState). t.clock) h.2.others
     ]
 
 streams-forward : (old : ScriptState) (server : SocketAddr) (bytes : List ℕ) (deadline : ℕ) (result : Result (List ℕ) LinkError) (new : ScriptState) → Streams old server bytes deadline result new → old.clock ≤ new.clock
 streams-forward old server bytes deadline result new s =
     elim s [
-      inl h ↦ let is : new.clock ≡ old.clock = ap (λ (t : ScriptState). t.clock) h.1 in omega (arith, is)
+      | inl h ↦ let is : new.clock ≡ old.clock = ap (λ (t : ScriptState). t.clock) h.1 in omega (arith, is)
       | inr h ↦ receives-forward (transmit Tcp server bytes old) deadline h.0 new h.2
     ]
 
 streams-within : (old : ScriptState) (server : SocketAddr) (bytes : List ℕ) (deadline : ℕ) (result : Result (List ℕ) LinkError) (new : ScriptState) → Streams old server bytes deadline result new → new.clock ≤ max old.clock deadline + 0
 streams-within old server bytes deadline result new s =
     elim s [
-      inl h ↦ let is : new.clock ≡ old.clock = ap (λ (t : ScriptState). t.clock) h.1 in omega (arith, is)
+      | inl h ↦ let is : new.clock ≡ old.clock = ap (λ (t : ScriptState). t.clock) h.1 in omega (arith, is)
       | inr h ↦ receives-within (transmit Tcp server bytes old) deadline h.0 new h.2
     ]
 

@@ -155,12 +155,18 @@ module _ (alloc : Global) (one other : SocketAddr) {I : Type 0} (ids : I) where
   asked = transmit Udp one request before
 
   abbrev disturbed : ScriptState
-  disturbed = record asked { clock = 40; script = record { delay = 60; event = Arrival cut_bytes } ∷ record { delay = 0; event = Silence }
-      ∷ record { delay = 30; event = Arrival [] } ∷ record { delay = 70; event = Arrival cut_bytes } ∷ [] }
+  disturbed = record asked {
+    clock = 40;
+    script = record { delay = 60; event = Arrival cut_bytes } ∷ record { delay = 0; event = Silence }
+        ∷ record { delay = 30; event = Arrival [] } ∷ record { delay = 70; event = Arrival cut_bytes } ∷ [];
+  }
 
   abbrev truncated : ScriptState
-  truncated = record asked { clock = 100; script = record { delay = 0; event = Silence }
-      ∷ record { delay = 30; event = Arrival [] } ∷ record { delay = 70; event = Arrival cut_bytes } ∷ [] }
+  truncated = record asked {
+    clock = 100;
+    script = record { delay = 0; event = Silence }
+        ∷ record { delay = 30; event = Arrival [] } ∷ record { delay = 70; event = Arrival cut_bytes } ∷ [];
+  }
 
   abbrev silent : ScriptState
   silent = record (transmit Tcp one request truncated) { clock = 200; script = record { delay = 30; event = Arrival [] } ∷ record { delay = 70; event = Arrival cut_bytes } ∷ [] }
@@ -348,7 +354,7 @@ pub sent-metered : IsMeter script_calls (λ state. length state.sent) 1 0 0 1
 sent-metered = record {
   sends = λ old server bytes result new s.
       elim s [
-        inl h ↦ omega (arith, ap (λ (t : ScriptState). length t.sent) h.1)
+        | inl h ↦ omega (arith, ap (λ (t : ScriptState). length t.sent) h.1)
         | inr h ↦ omega (arith, ap (λ (t : ScriptState). length t.sent) h.2.others, one-more-sent Udp server bytes old)
       ];
   arrives = λ old deadline bytes new r. receives-sent old deadline (Ok (Some bytes)) new r;
@@ -356,7 +362,7 @@ sent-metered = record {
   fails = λ old deadline error new r. receives-sent old deadline (Err error) new r;
   streams = λ old server bytes deadline result new s.
       elim s [
-        inl h ↦ omega (arith, ap (λ (t : ScriptState). length t.sent) h.1)
+        | inl h ↦ omega (arith, ap (λ (t : ScriptState). length t.sent) h.1)
         | inr h ↦ omega (arith, receives-sent (transmit Tcp server bytes old) deadline h.0 new h.2, one-more-sent Tcp server bytes old)
       ];
   reads_clock = λ old now new r. omega (arith, ap (λ (t : ScriptState). length t.sent) r.1);

@@ -58,7 +58,7 @@ pub fn exchanges_end_in_time<N: Network, I: IdSource>()
         (outcome : Outcome)
         → IsClock (network_calls N.sends N.receives N.streams N.reads_clock) clock
         → Exchanges (prompt_calls clock slack
-            (network_calls N.sends N.receives N.streams N.reads_clock)) m old outcome new
+        (network_calls N.sends N.receives N.streams N.reads_clock)) m old outcome new
         → EndsInTime clock slack old new }
 {}
 

@@ -39,6 +39,17 @@ impl<H> Scrubber<H> {
     {
         Scrubber { alloc, handle }
     }
+
+    /// Returns the handle that was asked.
+    pub fn into_handle(self) -> H
+        ensures { result ≡ self.handle }
+    {
+        let Scrubber {
+            alloc: _alloc,
+            handle,
+        } = self;
+        handle
+    }
 }
 
 impl<H: DnsHandle> DnsHandle for Scrubber<H> {
