@@ -1,13 +1,16 @@
 -- Where a zone answers the questions, they come to what their walks come to, and so do lookups.
-use Rattle.std.proofs.Common.{◌≡◌, ℕ, ◌≤◌, ◌==◌, Bool, true, false, List, [], Some, None, Ok, Err, All, refl, sym, ap, subst, ◌∙◌, slice_index_or, inl, inr, arith}
+use Rattle.std.proofs.Common.{◌≡◌, ℕ, ◌≤◌, ◌==◌, Bool, true, false, List, [], Some, None, Ok, Err, All, Contains, unwrap_or, refl, sym, ap, subst, ◌∙◌, slice_index_or, inl, inr, arith}
 use Rattle.std.specs.Prelude.{◌⊎◌, ◌≢◌, Option}
+use Rattle.std.specs.FinMap as rows_map
 use Rattle.std.proofs.lemmas.Bool.{true≢false}
 use Rattle.std.proofs.lemmas.List.Elements.{All-contains}
 use Rattle.dns_wire.specs.codes.DNSClass.{class_number}
 use Rattle.dns_wire.specs.codes.RecordType.{type_number}
 use Rattle.dns_wire.specs.declared.codes.dns_class.DNSClass.TheVariants.{IN}
 use Rattle.dns_names.specs.Compare.{at_or_below, same_name}
+use Rattle.dns_names.specs.Name.{DomainName}
 use Rattle.dns_records.specs.Record.{Record}
+use Rattle.dns_records.specs.Rows.{Rows}
 use Rattle.dns_messages.specs.declared.query.Query.{Query}
 use Rattle.dns_messages.specs.declared.response.DnsResponse.{DnsResponse}
 use Rattle.dns_zone.specs.Answer.{is_no_row_type}
@@ -35,18 +38,20 @@ use Rattle.stub_client.proofs.StepCases.{outcome-cases, reply-cases}
 use Rattle.stub_core.specs.Outcomes.{ErrorIsOutcome}
 use Rattle.stub_core.proofs.OrdinaryLaws.{ordinary-asks}
 use Rattle.stub_laws.specs.history.Answered.{is_plain}
+use Rattle.stub_laws.specs.history.Stands.{AreSame, IsLinked}
+use Rattle.stub_laws.specs.history.Stands.IsLinked.{no_link, one_link}
 use Rattle.stub_laws.proofs.AnswerRowLaws.{equal-numbers}
 use Rattle.stub_laws.proofs.EndLaws.{is_followed}
 use Rattle.stub_laws.proofs.FreshLaws.{same-names, same-numbers}
 use Rattle.stub_laws.proofs.StandLaws.{both-true}
 use Rattle.stub_laws.specs.walk.Answered.{HasShortAliases, HaveNoFault, IsAsked, IsOrdinary, IsPlainAsk, IsZoneOutcome, IsZoneReply}
-use Rattle.stub_laws.specs.walk.Walk.{AgreesWithWalk, CacheAgrees, IsDirect, IsWalked}
+use Rattle.stub_laws.specs.walk.Walk.{AgreesWithWalk, CacheAgrees, HasShortAliasesAt, HasShortAliasesIn, IsDirect, IsWalked}
 use Rattle.stub_laws.specs.walk.Walk.Walk.{at_local_host, at_special_name}
 use Rattle.stub_laws.proofs.Spelling.{flags-of}
-use Rattle.stub_laws.proofs.StepLaws.{Bears, WithinWalk, answered-bears, both-inside, is_out, nothing-claimed, refused-bears, refused-step, special-question}
-use Rattle.stub_laws.proofs.CourseLaws.{plain-rows}
+use Rattle.stub_laws.proofs.StepLaws.{Bears, WithinWalk, answered-bears, both-inside, cut-bears, is_out, nothing-claimed, refused-bears, refused-step, special-question}
+use Rattle.stub_laws.proofs.CourseLaws.{answer-course, linked-through, plain-rows}
 use Rattle.stub_laws.proofs.DirectLaws.{direct-bears}
-use Rattle.stub_laws.proofs.WalkLaws.{direct-respelled, followed-of, walk-respelled}
+use Rattle.stub_laws.proofs.WalkLaws.{direct-respelled, followed-of, of-zone-same, walk-respelled}
 
 -- ---- claims about walks
 
@@ -56,24 +61,51 @@ same-classes p q same =
     equal-numbers (class_number p.query_class) (class_number q.query_class)
     (both-true (type_number p.query_type == type_number q.query_type) (class_number p.query_class == class_number q.query_class) rest.1).1
 
+-- chains from another spelling of a name
+linked-respelled : {rows : Rows} {a : DomainName} {links : ℕ} {to : DomainName} (b : DomainName) → AreSame a b → IsLinked rows a links to
+    → (last : DomainName) × IsLinked rows b links last × AreSame to last
+linked-respelled b same no_link = (b, no_link, same)
+linked-respelled {rows} b same (one_link links owner row alias rest there is) =
+    let r = linked-respelled b same rest in (
+      alias.0,
+      one_link links r.0 row alias r.1
+          (subst (λ (labels : List (List ℕ)). Contains (unwrap_or (rows_map.get rows (labels, 5)) []) row) r.2 there) is,
+      refl,
+    )
+
+short-respelled : (zone : ZoneContent) (a b : DomainName) → AreSame a b → HasShortAliasesAt zone a → HasShortAliasesAt zone b
+short-respelled zone a b same short = λ before after first through last to at from.
+    (let other = linked-respelled a (sym same) from in
+    short before after first through other.0 to (at ∙ sym same) other.1)
+
+-- where no chain in a zone passes seven links, none through a name does
+pub short-at : (zone : ZoneContent) → HasShortAliases zone → (name : DomainName) → HasShortAliasesAt zone name
+short-at zone short name = λ before after first through last to at from.
+    (let other = linked-respelled through (sym at) from in
+    let all = linked-through to other.1 in
+    let bound : all.links ≤ 7 = short all.links first other.0 all.linked in
+    omega (arith, all.far))
+
 module _ (zone : ZoneContent) where
   pub agreement-respells : Respells (AgreesWithWalk zone)
-  agreement-respells p q conclusion agrees same = λ typed in_internet direct.
+  agreement-respells p q conclusion agrees same = λ typed in_internet direct short.
       let number : type_number p.query_type ≡ type_number q.query_type = same-numbers p q same in
       let flag : p.name.is_fqdn ≡ q.name.is_fqdn = flags-of p.name q.name (both-true (same_name p.name q.name) _ same).0 in
       walk-respelled zone p.query_type q.query_type number q.name flag (same-names p q same)
       (agrees (ap is_no_row_type number ∙ typed) (same-classes p q same ∙ in_internet)
-      (direct-respelled zone q.query_type p.query_type (sym number) q.name p.name (sym flag) (sym (same-names p q same)) direct))
+      (direct-respelled zone q.query_type p.query_type (sym number) q.name p.name (sym flag) (sym (same-names p q same)) direct)
+      (λ of_zone. short-respelled zone q.name p.name (sym (same-names p q same))
+      (short (of-zone-same zone p.query_type q.query_type number p.name q.name flag (same-names p q same) of_zone))))
 
   pub special-names-agree : HasSpecialNames (AgreesWithWalk zone)
   special-names-agree = record {
-    loopback = λ q r e. λ typed in_internet direct. at_local_host 7 q.name r (sym (special-question q in_internet) ∙ e);
-    nothing = λ q code e. λ typed in_internet direct. at_special_name 7 q.name code (sym (special-question q in_internet) ∙ e);
+    loopback = λ q r e. λ typed in_internet direct short. at_local_host 7 q.name r (sym (special-question q in_internet) ∙ e);
+    nothing = λ q code e. λ typed in_internet direct short. at_special_name 7 q.name code (sym (special-question q in_internet) ∙ e);
   }
 
 -- ---- outcomes
 
-module _ (zone : ZoneContent) (good : IsZone zone) (short : HasShortAliases zone) (settings : LookupSettings) (off : settings.preserve_intermediates ≡ false) where
+module _ (zone : ZoneContent) (good : IsZone zone) (settings : LookupSettings) (off : settings.preserve_intermediates ≡ false) where
   -- the name of a question that the zone answers, but does not refuse, is followed
   followed-there : (q : Query) → special_answer q ≡ Ordinary → class_number q.query_class ≡ 1 → at_or_below zone.origin.labels q.name.labels ≡ true
       → is_followed zone.origin q.name ≡ true
@@ -87,12 +119,12 @@ module _ (zone : ZoneContent) (good : IsZone zone) (short : HasShortAliases zone
       by-plain : is_no_row_type (type_number q.query_type) ≡ false → class_number q.query_class ≡ 1 → is_followed zone.origin q.name ≡ true
           → is_out zone q ≡ false → (b : Bool) → is_plain q.query_type ≡ b → Bears zone settings depth q (step_of settings q [] depth (Ok response))
       by-plain typed in_internet followed out true plain =
-          elim (within plain in_internet) [
-            | inl first ↦ answered-bears zone settings depth q typed response reply plain good short off in_internet followed out first
-            | inr leaves ↦ absurd (true≢false (sym followed ∙ leaves))
+          elim (answer-course zone q typed good out followed) [
+            | inl course ↦ answered-bears zone settings depth q typed response reply plain good off in_internet followed out within course
+            | inr cut ↦ cut-bears zone settings depth q typed response reply good followed cut plain
           ]
       by-plain typed in_internet followed out false other =
-          direct-bears zone settings depth q good short off typed in_internet other response reply out followed
+          direct-bears zone settings depth q good off typed in_internet other response reply out followed
 
       by-name : is_no_row_type (type_number q.query_type) ≡ false → (b : Bool) → is_out zone q ≡ b
           → Bears zone settings depth q (step_of settings q [] depth (Ok response))
@@ -130,7 +162,7 @@ module _ (zone : ZoneContent) (good : IsZone zone) (short : HasShortAliases zone
       → CacheAgrees zone new × ReplyComesTo (AgreesWithWalk zone) q reply
   lookup-agrees now old q asks reply new asked agrees looks =
       lookup-comes (AgreesWithWalk zone) (agreement-respells zone) (special-names-agree zone) (WithinWalk zone) settings now 0 old q asks reply new off
-      (λ plain in_internet. inl refl) agrees (asks-agree asks asked (ordinary-asks settings now 0 [] old q asks reply new looks)) looks
+      (λ plain in_internet short. inl refl) agrees (asks-agree asks asked (ordinary-asks settings now 0 [] old q asks reply new looks)) looks
 
   -- ---- questions that are asked anew
 
@@ -140,7 +172,7 @@ module _ (zone : ZoneContent) (good : IsZone zone) (short : HasShortAliases zone
         let ask : Ask = record { question = q; outcome = steps.outcome } in
         subst (Bears zone settings 0 q) steps.is_step
         (outcome-bears 0 q steps.outcome (All-contains (IsAsked zone) asks ask asked steps.is_asked) (All-contains IsOrdinary asks ask ordinary steps.is_asked)
-        (λ plain in_internet. inl refl))
+        (λ plain in_internet short. inl refl))
 
     pub comes-agree : {q : Query} {conclusion : Conclusion} → ComesTo settings asks q conclusion → AgreesWithWalk zone q conclusion
     comes-agree (by_records steps) = steps-bear steps
@@ -196,7 +228,7 @@ module _ (zone : ZoneContent) (good : IsZone zone) (short : HasShortAliases zone
     off-stops q target kept (Err errors.Unsupported) h ordinary plain in_internet leaves e = stops-clash _ target kept e
     off-stops q target kept (Err errors.Memory) h ordinary plain in_internet leaves e = stops-clash _ target kept e
 
-    module _ (plain : All IsPlainAsk asks) where
+    module _ (plain : All IsPlainAsk asks) (short : HasShortAliases zone) where
       -- after one alias no name is followed
       leads-off : {first last : Query} {links : ℕ} → Leads settings asks first links last
           → (links ≤ 1) × ((links ≡ 0) ⊎ (is_followed zone.origin last.name ≡ false))
@@ -210,7 +242,7 @@ module _ (zone : ZoneContent) (good : IsZone zone) (short : HasShortAliases zone
           elim before.1 [
             | inl none ↦ (
               omega arith,
-              elim (bears.0 (ap is_plain next.kind ∙ is_plain_ask.plain) (ap class_number next.class)) [
+              elim (bears.0 (ap is_plain next.kind ∙ is_plain_ask.plain) (ap class_number next.class) (λ of_zone. short-at zone short target.name)) [
                 | inl never ↦ absurd (let clash : ◌≡◌ {A = ℕ} 1 0 = never in omega arith)
                 | inr leaves ↦ inr leaves
               ],
@@ -252,16 +284,16 @@ no-failure asks none error other memory failure from =
 -- a reply agrees with the walk if there was no fault
 pub reply-walked : (zone : ZoneContent) (asks : List Ask) (q : Query) (reply : Reply) → ReplyComesTo (AgreesWithWalk zone) q reply → ErrorIsOutcome asks reply
     → HaveNoFault asks → is_no_row_type (type_number q.query_type) ≡ false → class_number q.query_class ≡ 1
-    → IsDirect zone q.query_type q.name → IsWalked zone q reply
-reply-walked zone asks q (Ok lookup) agrees from none typed in_internet direct = agrees typed in_internet direct
-reply-walked zone asks q (Err (errors.Dns (dns.NoRecordsFound answer))) agrees from none typed in_internet direct = agrees typed in_internet direct
-reply-walked zone asks q (Err (errors.Dns (dns.ResponseCode code))) agrees from none typed in_internet direct = agrees typed in_internet direct
-reply-walked zone asks q (Err (errors.Proto error)) agrees from none typed in_internet direct =
+    → IsDirect zone q.query_type q.name → HasShortAliasesIn zone q.query_type q.name → IsWalked zone q reply
+reply-walked zone asks q (Ok lookup) agrees from none typed in_internet direct short = agrees typed in_internet direct short
+reply-walked zone asks q (Err (errors.Dns (dns.NoRecordsFound answer))) agrees from none typed in_internet direct short = agrees typed in_internet direct short
+reply-walked zone asks q (Err (errors.Dns (dns.ResponseCode code))) agrees from none typed in_internet direct short = agrees typed in_internet direct short
+reply-walked zone asks q (Err (errors.Proto error)) agrees from none typed in_internet direct short =
     no-failure asks none (errors.Proto error) refl (λ e. cc) refl from
-reply-walked zone asks q (Err (errors.Message text)) agrees from none typed in_internet direct =
+reply-walked zone asks q (Err (errors.Message text)) agrees from none typed in_internet direct short =
     no-failure asks none (errors.Message text) refl (λ e. cc) refl from
-reply-walked zone asks q (Err (errors.Link fault)) agrees from none typed in_internet direct =
+reply-walked zone asks q (Err (errors.Link fault)) agrees from none typed in_internet direct short =
     no-failure asks none (errors.Link fault) refl (λ e. cc) refl from
-reply-walked zone asks q (Err errors.Unsupported) agrees from none typed in_internet direct =
+reply-walked zone asks q (Err errors.Unsupported) agrees from none typed in_internet direct short =
     no-failure asks none errors.Unsupported refl (λ e. cc) refl from
-reply-walked zone asks q (Err errors.Memory) agrees from none typed in_internet direct = tt
+reply-walked zone asks q (Err errors.Memory) agrees from none typed in_internet direct short = tt

@@ -50,14 +50,14 @@ use Rattle.stub_laws.proofs.AnswerRowLaws.{Typed, alias-typed, equal-numbers, no
 use Rattle.stub_laws.proofs.ChainLaws.{alias-stays, follows, next-chain}
 use Rattle.stub_laws.proofs.EndLaws.{has-soa, is_followed}
 use Rattle.stub_laws.proofs.StandLaws.{both-true, names-lower}
-use Rattle.stub_laws.specs.walk.Answered.{HasShortAliases, IsZoneReply}
-use Rattle.stub_laws.specs.walk.Walk.{HasNoRows, IsDirect, IsOfZone, LeadsAlong, WalksTo, walks_everywhere}
+use Rattle.stub_laws.specs.walk.Answered.{IsZoneReply}
+use Rattle.stub_laws.specs.walk.Walk.{HasNoRows, HasShortAliasesIn, IsDirect, IsOfZone, LeadsAlong, WalksTo, walks_everywhere}
 use Rattle.stub_laws.specs.walk.Walk.LeadsAlong.{past_target, to_target}
 use Rattle.stub_laws.specs.walk.Walk.Walk.{at_nothing, at_rows}
-use Rattle.stub_laws.proofs.CourseLaws.{Ending, HasCourse, Links, answer-course, ends_found, ends_negative, ends_off, no_alias, one_alias, plain-rows, walk-along}
+use Rattle.stub_laws.proofs.CourseLaws.{Ending, HasCourse, Links, answer-course, ends_found, ends_negative, ends_off, never-cut, no_alias, one_alias, plain-rows, walk-along}
 use Rattle.stub_laws.proofs.ReadLaws.{all-three, equal-test, filter-all, filter-none, links-end, not-second, or-left, or-right, other-test, over-append, some-after}
 use Rattle.stub_laws.proofs.StepLaws.{Bears, is_out}
-use Rattle.stub_laws.proofs.WalkLaws.{followed-of, others-direct}
+use Rattle.stub_laws.proofs.WalkLaws.{followed-of, of-zone, others-direct}
 
 -- ---- tests
 
@@ -254,7 +254,8 @@ module _ (zone : ZoneContent) (settings : LookupSettings) (depth : ℕ) (q : Que
 
   abbrev Premises : Type 0 → Type 0
   Premises claim =
-      is_no_row_type (type_number q.query_type) ≡ false → class_number q.query_class ≡ 1 → IsDirect zone q.query_type q.name → claim
+      is_no_row_type (type_number q.query_type) ≡ false → class_number q.query_class ≡ 1 → IsDirect zone q.query_type q.name
+      → HasShortAliasesIn zone q.query_type q.name → claim
 
   ends-bear : is_plain q.query_type ≡ false → (step : Step) → HasSameType step → Premises (EndsAtWalk step) → Bears zone settings depth q step
   ends-bear other (Gives m) same h = h
@@ -267,8 +268,8 @@ module _ (zone : ZoneContent) (settings : LookupSettings) (depth : ℕ) (q : Que
   ends-bear other (Stops errors.Unsupported) same h = tt
   ends-bear other (Stops errors.Memory) same h = tt
   ends-bear other (Follows target kept) same h = (
-    λ plain in_internet. absurd (true≢false (sym plain ∙ ap is_plain same ∙ other)),
-    λ conclusion comes. λ typed in_internet direct. absurd (h typed in_internet direct),
+    λ plain in_internet short. absurd (true≢false (sym plain ∙ ap is_plain same ∙ other)),
+    λ conclusion comes. λ typed in_internet direct short. absurd (h typed in_internet direct short),
   )
 
   -- ---- a response
@@ -667,10 +668,13 @@ module _ (zone : ZoneContent) (settings : LookupSettings) (depth : ℕ) (q : Que
           by (ends_negative none e) is = negative-ends none.none is none e
           by (ends_off leaves) is = absurd (never-off leaves)
 
-  pub direct-bears : IsZone zone → HasShortAliases zone → settings.preserve_intermediates ≡ false → is_no_row_type (type_number q.query_type) ≡ false
+  pub direct-bears : IsZone zone → settings.preserve_intermediates ≡ false → is_no_row_type (type_number q.query_type) ≡ false
       → class_number q.query_class ≡ 1 → is_plain q.query_type ≡ false → (response : DnsResponse) → IsZoneReply zone q response.message
       → is_out zone q ≡ false → is_followed zone.origin q.name ≡ true → Bears zone settings depth q (step_of settings q [] depth (Ok response))
-  direct-bears good short off typed in_internet other response reply out followed =
+  direct-bears good off typed in_internet other response reply out followed =
       ends-bear other (step_of settings q [] depth (Ok response)) (same-type (meaning (Ok response)))
-      (λ again class direct. ends-at-walk good typed in_internet response reply (answer-course zone q typed good short out followed) off other
-      (both-true (at_or_below zone.origin.labels q.name.labels) _ followed).0 followed direct)
+      (λ again class direct short. elim (answer-course zone q typed good out followed) [
+        | inl course ↦ ends-at-walk good typed in_internet response reply course off other
+            (both-true (at_or_below zone.origin.labels q.name.labels) _ followed).0 followed direct
+        | inr cut ↦ absurd (never-cut zone good q.query_type q.name (answer zone q) cut (short (of-zone zone q.query_type q.name followed)))
+      ])

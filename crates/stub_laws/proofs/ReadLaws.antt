@@ -129,7 +129,7 @@ module _ (zone : ZoneContent) (good : IsZone zone) (t : RecordType) (plain : is_
 
 -- ---- a message that holds an answer
 
-alias-test : (n : ℕ) → is_plain_number n ≡ true → (a b : Bool) → (n == 5) ≡ a → (n == 255) ≡ b → a || b ≡ false
+pub alias-test : (n : ℕ) → is_plain_number n ≡ true → (a b : Bool) → (n == 5) ≡ a → (n == 255) ≡ b → a || b ≡ false
 alias-test n plain true b e f = absurd (not-plain n 5 plain (equal-numbers n 5 e) refl)
 alias-test n plain false true e f = absurd (not-plain n 255 plain (equal-numbers n 255 f) refl)
 alias-test n plain false false e f = refl

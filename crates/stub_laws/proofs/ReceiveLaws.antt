@@ -8,7 +8,6 @@ use Rattle.dns_records.specs.Rows.{Rows}
 use Rattle.dns_messages.specs.Sound.{IsSound}
 use Rattle.dns_messages.specs.declared.message.Message.{Message}
 use Rattle.dns_messages.specs.declared.op_code.OpCode.TheVariants as ops
-use Rattle.dns_zone.specs.Rows.{ZoneContent}
 use Rattle.dns_zone.specs.Serving.{zone_after}
 use Rattle.stub_link.specs.declared.link.LinkError.{LinkError}
 use Rattle.stub_link.specs.declared.link.LinkError.TheVariants.{Failed}

@@ -21,13 +21,14 @@ use Rattle.stub_client.specs.declared.caching_client.CachingClient.{CachingClien
 use Rattle.stub_client.specs.declared.caching_client.step.LookupSettings.{LookupSettings}
 use Rattle.stub_client.proofs.ErrorsLaws.{error-ends}
 use Rattle.stub_core.specs.Attempts.{Lookups}
+use Rattle.stub_core.specs.Origins.{names_of}
 use Rattle.stub_core.specs.Outcomes.{ErrorIsOutcome}
 use Rattle.stub_core.specs.Resolver.{LooksUp, LooksUpHost, asks_of, request_options}
 use Rattle.stub_core.specs.declared.resolver.Resolver.{Resolver}
 use Rattle.stub_core.proofs.OrdinaryLaws.{ordinary-asks}
 use Rattle.stub_core.proofs.StatelessLaws.{EachExplained, Explained, looks_up-by, looks_up_host-by}
-use Rattle.stub_laws.specs.walk.Answered.{ComesToWalk, HasShortAliases, HaveNoFault, IsAsked, IsOrdinary, IsWalkedLookup}
-use Rattle.stub_laws.specs.walk.Walk.{AgreesWithWalk, ByDirectWalk, ByWalk, CacheAgrees, IsDirect, IsWalked, walks_everywhere}
+use Rattle.stub_laws.specs.walk.Answered.{ComesToWalk, HaveNoFault, IsAsked, IsOrdinary, IsWalkedLookup}
+use Rattle.stub_laws.specs.walk.Walk.{AgreesWithWalk, AreShortAt, ByDirectWalk, ByWalk, CacheAgrees, HasShortAliasesAt, HasShortAliasesIn, IsDirect, IsWalked, walks_everywhere}
 use Rattle.stub_laws.proofs.ComingLaws.{lookup-agrees, reply-walked}
 use Rattle.stub_laws.proofs.DirectLaws.{everywhere-direct, everywhere-rows}
 use Rattle.stub_laws.proofs.MoreLaws.{more-looks-up, more-looks-up-host}
@@ -49,14 +50,14 @@ error-among asks all reply are from = λ error is failure memory.
 
 -- ---- clients
 
-module _ (zone : ZoneContent) (good : IsZone zone) (short : HasShortAliases zone) where
+module _ (zone : ZoneContent) (good : IsZone zone) where
   pub client-agrees : (settings : LookupSettings) → settings.preserve_intermediates ≡ false → (now : ℕ) (old : CacheContent) (q : Query) (asks : List Ask)
       (reply : Reply) (new : CacheContent) → All (IsAsked zone) asks → CacheAgrees zone old → Looks settings now 0 [] old q asks reply new
       → CacheAgrees zone new
       × (HaveNoFault asks → is_no_row_type (type_number q.query_type) ≡ false → class_number q.query_class ≡ 1
-      → IsDirect zone q.query_type q.name → IsWalked zone q reply)
+      → IsDirect zone q.query_type q.name → HasShortAliasesIn zone q.query_type q.name → IsWalked zone q reply)
   client-agrees settings off now old q asks reply new asked agrees looks =
-      let whole = lookup-agrees zone good short settings off now old q asks reply new asked agrees looks in
+      let whole = lookup-agrees zone good settings off now old q asks reply new asked agrees looks in
       (whole.0, reply-walked zone asks q reply whole.1 (error-from asks settings now old q reply new looks))
 
   -- ---- questions of a resolver
@@ -131,7 +132,7 @@ module _ (zone : ZoneContent) (good : IsZone zone) (short : HasShortAliases zone
       λ all fits good_client.
           let looks : Looks told now 0 [] old.cache q h.asks reply new.cache =
           subst (λ (s : LookupSettings). Looks s now 0 [] old.cache q h.asks reply new.cache) (told-by old good_client.0) h.looks in
-          let agrees = lookup-agrees zone good short told off now old.cache q h.asks reply new.cache fits.1 good_client.1 looks in (
+          let agrees = lookup-agrees zone good told off now old.cache q h.asks reply new.cache fits.1 good_client.1 looks in (
             (h.settings ∙ good_client.0, agrees.0),
             record {
               agrees = agrees.1;
@@ -148,16 +149,19 @@ module _ (zone : ZoneContent) (good : IsZone zone) (short : HasShortAliases zone
   abbrev Everywhere : RecordType → Type 0
   Everywhere kind = walks_everywhere kind ≡ true
 
-  -- a question is walked if a lookup of its type walks from the name
-  question-direct : (asks : List Ask) → HaveNoFault asks → (name : DomainName) (kind : RecordType) → HasRows kind → (old : Unit {0}) (reply : Reply)
-      (new : Unit {0}) → ByAgreement asks old (question name kind) reply new → ByDirectWalk zone old (question name kind) reply new
-  question-direct asks none name kind typed old reply new h = reply-walked zone asks (question name kind) reply h.agrees h.error none typed refl
+  -- a question is walked if a lookup of its type walks from the name, and chains through the name are short
+  question-direct : (asks : List Ask) → HaveNoFault asks → (name : DomainName) (kind : RecordType) → HasShortAliasesAt zone name → HasRows kind
+      → (old : Unit {0}) (reply : Reply) (new : Unit {0}) → ByAgreement asks old (question name kind) reply new
+      → ByDirectWalk zone old (question name kind) reply new
+  question-direct asks none name kind short typed old reply new h = λ direct.
+      reply-walked zone asks (question name kind) reply h.agrees h.error none typed refl direct (λ of_zone. short)
 
   -- so it is if a lookup of its type walks from every name
-  question-walked : (asks : List Ask) → HaveNoFault asks → (name : DomainName) (kind : RecordType) → Everywhere kind → (old : Unit {0}) (reply : Reply)
-      (new : Unit {0}) → ByAgreement asks old (question name kind) reply new → ByWalk zone old (question name kind) reply new
-  question-walked asks none name kind every old reply new h =
-      question-direct asks none name kind (everywhere-rows kind every) old reply new h (everywhere-direct zone kind name every)
+  question-walked : (asks : List Ask) → HaveNoFault asks → (name : DomainName) (kind : RecordType) → HasShortAliasesAt zone name → Everywhere kind
+      → (old : Unit {0}) (reply : Reply) (new : Unit {0}) → ByAgreement asks old (question name kind) reply new
+      → ByWalk zone old (question name kind) reply new
+  question-walked asks none name kind short every old reply new h =
+      question-direct asks none name kind short (everywhere-rows kind every) old reply new h (everywhere-direct zone kind name every)
 
   module _ {H : Type 0} (gives : Behavior H) (now : ℕ) (old new : Resolver H) (off : old.client.preserve_intermediates ≡ false) where
     abbrev options : DnsRequestOptions
@@ -182,16 +186,22 @@ module _ (zone : ZoneContent) (good : IsZone zone) (short : HasShortAliases zone
       walks = λ asked none agrees. more h.0 none (h.2 h.0 (λ ask there. there, asked) (off, agrees)).1;
     }
 
+    abbrev Short : DomainName → Type 0
+    Short = HasShortAliasesAt zone
+
     pub name-walks : (name : Result DomainName ParseError) (kind : RecordType) (reply : Reply)
         → LooksUp old.settings now (asks_of gives now old) name kind old.client reply new.client
-        → ComesToWalk zone gives now old new (IsWalkedLookup zone old.settings now name kind reply)
+        → ComesToWalk zone gives now old new (AreShortAt zone (names_of old.settings name) → IsWalkedLookup zone old.settings now name kind reply)
     name-walks name kind reply h =
-        explained (λ asks. LooksUp old.settings now asks name kind tt reply tt) (IsWalkedLookup zone old.settings now name kind reply)
-        (λ asks none looks. record {
+        explained (λ asks. LooksUp old.settings now asks name kind tt reply tt)
+        (AreShortAt zone (names_of old.settings name) → IsWalkedLookup zone old.settings now name kind reply)
+        (λ asks none looks short. record {
           everywhere = λ every.
-              more-looks-up now (ByAgreement asks) (ByWalk zone) Everywhere (question-walked asks none) old.settings name kind every tt reply tt looks;
+              more-looks-up now (ByAgreement asks) (ByWalk zone) Short Everywhere (question-walked asks none) old.settings name kind short every tt reply
+              tt looks;
           direct = λ typed.
-              more-looks-up now (ByAgreement asks) (ByDirectWalk zone) HasRows (question-direct asks none) old.settings name kind typed tt reply tt looks;
+              more-looks-up now (ByAgreement asks) (ByDirectWalk zone) Short HasRows (question-direct asks none) old.settings name kind short typed tt
+              reply tt looks;
         })
         (looks_up-by (Path gives options now told off refl) (Fits gives options now told off refl)
         (Good gives options now told off refl) (path-none gives options now told off refl) (path-both gives options now told off refl)
@@ -200,12 +210,13 @@ module _ (zone : ZoneContent) (good : IsZone zone) (short : HasShortAliases zone
 
     pub host-walks : (address : Option IpAddr) (name : Result DomainName ParseError) (reply : Reply)
         → LooksUpHost old.settings now (asks_of gives now old) address name old.client reply new.client
-        → ComesToWalk zone gives now old new (LooksUpHost old.settings now (ByWalk zone) address name tt reply tt)
+        → ComesToWalk zone gives now old new
+        (AreShortAt zone (names_of old.settings name) → LooksUpHost old.settings now (ByWalk zone) address name tt reply tt)
     host-walks address name reply h =
         explained (λ asks. LooksUpHost old.settings now asks address name tt reply tt)
-        (LooksUpHost old.settings now (ByWalk zone) address name tt reply tt)
-        (λ asks none looks. more-looks-up-host now (ByAgreement asks) (ByWalk zone) Everywhere (question-walked asks none)
-        old.settings refl refl address name tt reply tt looks)
+        (AreShortAt zone (names_of old.settings name) → LooksUpHost old.settings now (ByWalk zone) address name tt reply tt)
+        (λ asks none looks short. more-looks-up-host now (ByAgreement asks) (ByWalk zone) Short Everywhere (question-walked asks none)
+        old.settings refl refl address name short tt reply tt looks)
         (looks_up_host-by (Path gives options now told off refl) (Fits gives options now told off refl)
         (Good gives options now told off refl) (path-none gives options now told off refl) (path-both gives options now told off refl)
         (fits-left gives options now told off refl) (fits-right gives options now told off refl)

@@ -1,5 +1,5 @@
 -- What a client does with the answer of a zone agrees with walks over the zone.
-use Rattle.std.proofs.Common.{◌≡◌, ℕ, ◌==◌, ◌&&◌, ◌||◌, nat_lt, Bool, true, false, cond, not, List, [], ◌∷◌, map, Some, None, Ok, refl, sym, ap, subst, ◌∙◌, inr, arith}
+use Rattle.std.proofs.Common.{◌≡◌, ℕ, ◌==◌, ◌&&◌, ◌||◌, suc, nat_lt, Bool, true, false, cond, not, List, [], ◌∷◌, map, Some, None, Ok, refl, sym, ap, subst, ◌∙◌, inl, inr, arith}
 use Rattle.std.specs.Prelude.{◌⊎◌, Option}
 use Rattle.std.proofs.lemmas.Bool.{cond_both, true≢false}
 use Rattle.dns_wire.specs.codes.DNSClass.{class_number, class_of}
@@ -27,7 +27,7 @@ use Rattle.stub_hosts.specs.Hosts.{question}
 use Rattle.stub_client.specs.Conclusions.{Conclusion, ErrorComesTo, Finds, Lacks, Refuses, StepComesTo}
 use Rattle.stub_client.specs.Handle.{Outcome}
 use Rattle.stub_client.specs.SpecialNames.{in_class, name_answer, special_answer}
-use Rattle.stub_client.specs.Step.{chain_of, given_message, is_given, is_negative_end, kept_aliases, max_depth, next_question, nothing_found, step_along, step_of, step_on}
+use Rattle.stub_client.specs.Step.{asks_for_aliases, chain_of, chain_over, chain_start, given_message, is_given, is_negative_end, kept_aliases, max_depth, meaning, next_question, nothing_found, step_along, step_of, step_on}
 use Rattle.stub_client.specs.declared.caching_client.step.LookupSettings.{LookupSettings}
 use Rattle.stub_client.specs.declared.caching_client.step.Step.{Step}
 use Rattle.stub_client.specs.declared.caching_client.step.Step.TheVariants.{Gives, Misses, Stops, Follows}
@@ -36,12 +36,12 @@ use Rattle.stub_client.proofs.StepCases.{outcome-cases, reply-cases}
 use Rattle.stub_laws.specs.history.Answered.{is_plain}
 use Rattle.stub_laws.proofs.EndLaws.{is_followed}
 use Rattle.stub_laws.proofs.StandLaws.{both-true}
-use Rattle.stub_laws.specs.walk.Answered.{HasShortAliases, IsZoneReply}
-use Rattle.stub_laws.specs.walk.Walk.{AgreesWithWalk, IsOfZone, Walk}
+use Rattle.stub_laws.specs.walk.Answered.{IsZoneReply}
+use Rattle.stub_laws.specs.walk.Walk.{AgreesWithWalk, HasShortAliasesIn, IsOfZone, Walk}
 use Rattle.stub_laws.specs.walk.Walk.Walk.{at_foreign_name, at_nothing, at_rows}
-use Rattle.stub_laws.proofs.CourseLaws.{Ending, HasCourse, answer-course, ends_found, ends_negative, ends_off, plain-rows, refused-answer, walk-along}
-use Rattle.stub_laws.proofs.ReadLaws.{alias-off, answers-found, answers-off, chain-end, equal-test, given-values, has-answer, negative-end, not-given, rows-given, soa-missing, soa-there}
-use Rattle.stub_laws.proofs.WalkLaws.{plain-direct, walk-off}
+use Rattle.stub_laws.proofs.CourseLaws.{Ending, HasCourse, IsCut, ends_found, ends_negative, ends_off, never-cut, never-cut-at, plain-rows, refused-answer, walk-along}
+use Rattle.stub_laws.proofs.ReadLaws.{alias-off, alias-test, answers-found, answers-off, chain-end, equal-test, given-values, has-answer, links-end, negative-end, not-given, rows-given, soa-missing, soa-there}
+use Rattle.stub_laws.proofs.WalkLaws.{followed-of, of-zone, plain-direct, walk-off}
 
 -- ---- questions
 
@@ -59,10 +59,11 @@ both-inside true true h = (refl, refl)
 both-inside true false h = absurd (true≢false h)
 both-inside false y h = absurd (true≢false h)
 
--- At a depth of aliases a question is the first one, or its name is not followed by the zone.
+-- At a depth of aliases a question is the first one, or its name is not followed by the zone, unless a chain through its name passes
+-- seven links.
 abbrev pub WithinWalk : ZoneContent → ℕ → Query → Type 0
 WithinWalk zone depth q =
-    is_plain q.query_type ≡ true → class_number q.query_class ≡ 1 → (depth ≡ 0) ⊎ (is_followed zone.origin q.name ≡ false)
+    is_plain q.query_type ≡ true → class_number q.query_class ≡ 1 → HasShortAliasesIn zone q.query_type q.name → (depth ≡ 0) ⊎ (is_followed zone.origin q.name ≡ false)
 
 -- whether a question is refused because of its class or its name
 abbrev pub is_out : ZoneContent → Query → Bool
@@ -86,15 +87,15 @@ module _ (zone : ZoneContent) (settings : LookupSettings) (depth : ℕ) (q : Que
   nothing-claimed never out =
       outcome-cases settings q [] depth Bears out
       (λ response is. reply-cases settings q [] depth Bears response.message
-      (λ given. λ typed in_internet direct. absurd (never typed))
-      (λ none ends. λ typed in_internet direct. absurd (never typed))
+      (λ given. λ typed in_internet direct short. absurd (never typed))
+      (λ none ends. λ typed in_internet direct short. absurd (never typed))
       (λ none no_end alias above. (
-        (λ plain in_internet. absurd (never (plain-rows (type_number q.query_type) plain))),
-        λ conclusion comes. λ typed in_internet direct. absurd (never typed),
+        (λ plain in_internet short. absurd (never (plain-rows (type_number q.query_type) plain))),
+        λ conclusion comes. λ typed in_internet direct short. absurd (never typed),
       ))
-      (λ typed in_internet direct. absurd (never typed)))
-      (λ answer. λ typed in_internet direct. absurd (never typed))
-      (λ error failure is. error-bears (λ conclusion typed in_internet direct. absurd (never typed)) error)
+      (λ typed in_internet direct short. absurd (never typed)))
+      (λ answer. λ typed in_internet direct short. absurd (never typed))
+      (λ error failure is. error-bears (λ conclusion typed in_internet direct short. absurd (never typed)) error)
 
   module _ (typed : is_no_row_type (type_number q.query_type) ≡ false) (response : DnsResponse) (reply : IsZoneReply zone q response.message) where
     abbrev m : Message
@@ -117,7 +118,7 @@ module _ (zone : ZoneContent) (settings : LookupSettings) (depth : ℕ) (q : Que
     pub refused-bears : special_answer q ≡ Ordinary → is_out zone q ≡ true → Bears (step_of settings q [] depth (Ok response))
     refused-bears ordinary out =
         step-by (Some (dns.ResponseCode Refused)) (refused-error out)
-        (λ typed in_internet direct.
+        (λ typed in_internet direct short.
         at_foreign_name 7 q.name (sym (special-question q in_internet) ∙ ordinary)
         (not-inside (class_number q.query_class == 1) (at_or_below zone.origin.labels q.name.labels)
         (equal-test (class_number q.query_class) 1 in_internet) out))
@@ -133,14 +134,58 @@ module _ (zone : ZoneContent) (settings : LookupSettings) (depth : ℕ) (q : Que
     error-by-existence true = refl
     error-by-existence false = refl
 
-    module _ (plain : is_plain q.query_type ≡ true) (good : IsZone zone) (short : HasShortAliases zone)
-        (off : settings.preserve_intermediates ≡ false) (in_internet : class_number q.query_class ≡ 1)
-        (followed : is_followed zone.origin q.name ≡ true) (inside : is_out zone q ≡ false) (first : depth ≡ 0) where
-      course : HasCourse zone q.query_type 0 q.name (answer zone q)
-      course = answer-course zone q typed good short inside followed
+    -- an answer that is cut off after seven aliases
+    module _ (good : IsZone zone) (followed : is_followed zone.origin q.name ≡ true) (cut : IsCut zone q.query_type 0 q.name (answer zone q)) where
+      -- where no chain passes seven links there is none
+      nothing-cut : (conclusion : Conclusion) → AgreesWithWalk zone q conclusion
+      nothing-cut conclusion = λ typed in_internet direct short.
+          absurd (never-cut zone good q.query_type q.name (answer zone q) cut (short (of-zone zone q.query_type q.name followed)))
 
+      same-response : (o : Option DnsError) (other : DnsResponse) → unless_error response o ≡ Ok other → response ≡ other
+      same-response None other e = cc
+      same-response (Some error) other e = absurd (cc)
+
+      cut-target : (other : DnsResponse) → unless_error response (error_in m) ≡ Ok other → is_plain q.query_type ≡ true
+          → (chain_of q other.message).name ≡ cut.end
+      cut-target other is plain =
+          let same : response ≡ other = same-response (error_in m) other is in
+          let not-aliases : asks_for_aliases q ≡ false =
+          alias-test (type_number q.query_type) plain (type_number q.query_type == 5) (type_number q.query_type == 255) refl refl in
+          ap (λ (r : DnsResponse). (chain_of q r.message).name) (sym same)
+          ∙ ap (λ (b : Bool). (cond b (chain_start q) (chain_over (chain_start q) m.answers)).name) not-aliases
+          ∙ ap (λ (rs : List Record). (chain_over (chain_start q) rs).name) (reply.holds.answers ∙ cut.answers)
+          ∙ links-end cut.links (chain_start q) refl
+
+      -- the next question is for a name in the zone, through which a chain passes seven links
+      cut-within : (target : Query) → target.query_type ≡ q.query_type → target.name ≡ cut.end → WithinWalk zone (suc depth) target
+      cut-within target kind end plain in_internet short = by (is_followed zone.origin target.name) refl
+        where
+          by : (b : Bool) → is_followed zone.origin target.name ≡ b → (suc depth ≡ 0) ⊎ (is_followed zone.origin target.name ≡ false)
+          by false off = inr off
+          by true on =
+              absurd (never-cut-at zone good q.query_type q.name target.name (answer zone q) cut end
+              (short (of-zone zone target.query_type target.name on)))
+
+      pub cut-bears : is_plain q.query_type ≡ true → Bears (step_of settings q [] depth (Ok response))
+      cut-bears plain =
+          outcome-cases settings q [] depth Bears (meaning (Ok response))
+          (λ other is. reply-cases settings q [] depth Bears other.message
+          (λ given. nothing-cut _)
+          (λ none ends. nothing-cut _)
+          (λ none no_end alias above. (
+            cut-within (next_question q (chain_of q other.message)) refl (cut-target other is plain),
+            λ conclusion comes. nothing-cut conclusion,
+          ))
+          (nothing-cut _))
+          (λ answer. nothing-cut _)
+          (λ error failure is. error-bears nothing-cut error)
+
+    module _ (plain : is_plain q.query_type ≡ true) (good : IsZone zone)
+        (off : settings.preserve_intermediates ≡ false) (in_internet : class_number q.query_class ≡ 1)
+        (followed : is_followed zone.origin q.name ≡ true) (inside : is_out zone q ≡ false) (within : WithinWalk zone depth q)
+        (course : HasCourse zone q.query_type 0 q.name (answer zone q)) where
       walk-through : (conclusion : Conclusion) → ((left : ℕ) → Walk zone q.query_type left course.end conclusion) → AgreesWithWalk zone q conclusion
-      walk-through conclusion walk = λ typed in_internet direct. walk-along 7 course.links (omega (arith, course.few)) walk
+      walk-through conclusion walk = λ typed in_internet direct short. walk-along 7 course.links (omega (arith, course.few)) walk
 
       found-bears : (row : Row) (more : List Row) → IsOfZone zone q.query_type course.end
           → rows_at zone.rows course.end.labels q.query_type ≡ row ∷ more → course.last ≡ positive course.end (row ∷ more)
@@ -208,12 +253,17 @@ module _ (zone : ZoneContent) (settings : LookupSettings) (depth : ℕ) (q : Que
           (Follows (next_question q (chain_of q m)) (kept_aliases settings q (chain_of q m) [] m))
           (Stops (errors.Dns (dns.NoRecordsFound (nothing_found q m)))) Bears
           (λ both. (
-            (λ plain in_internet. inr (ap (is_followed zone.origin) end-is ∙ leaves)),
+            (λ plain in_internet short. inr (ap (is_followed zone.origin) end-is ∙ leaves)),
             λ conclusion comes. walk-through conclusion (λ left. walk-off left leaves
                 (subst (λ (name : DomainName). Walk zone q.query_type 7 name conclusion) end-is
-                (comes typed refl (plain-direct zone q.query_type (chain_of q m).name plain)))),
+                (comes typed refl (plain-direct zone q.query_type (chain_of q m).name plain)
+                (λ of_zone. absurd (true≢false
+                (sym (followed-of zone q.query_type (chain_of q m).name of_zone) ∙ ap (is_followed zone.origin) end-is ∙ leaves)))))),
           ))
-          (λ neither. absurd (true≢false (sym ((λ i. alias i && nat_lt (first i) max_depth)) ∙ neither))))))
+          (λ neither typed in_internet direct short. elim (within plain in_internet short) [
+            | inl first ↦ absurd (true≢false (sym ((λ i. alias i && nat_lt (first i) max_depth)) ∙ neither))
+            | inr foreign ↦ absurd (true≢false (sym followed ∙ foreign))
+          ]))))
 
       pub answered-bears : Bears (step_of settings q [] depth (Ok response))
       answered-bears = by course.ending refl

@@ -150,7 +150,7 @@ module _ (zone : ZoneContent) (kind : RecordType) where
 -- ---- other spellings
 
 module _ (zone : ZoneContent) (one other : RecordType) (number : type_number one ≡ type_number other) where
-  of-zone-same : (a b : DomainName) → a.is_fqdn ≡ b.is_fqdn → AreSame a b → IsOfZone zone one a → IsOfZone zone other b
+  pub of-zone-same : (a b : DomainName) → a.is_fqdn ≡ b.is_fqdn → AreSame a b → IsOfZone zone one a → IsOfZone zone other b
   of-zone-same a b flag low of_zone = record {
     ordinary = special-same a b flag low one other number ∙ ap (owned a b flag low) of_zone.ordinary;
     inside = sym (inside-same a b flag low zone.origin.labels) ∙ of_zone.inside;

@@ -2,6 +2,7 @@ pub mod Alike
 pub mod Beginning
 pub mod Counting
 pub mod DistinctIds
+pub mod FailureLaws
 pub mod FewLaws
 pub mod FreshRuns
 pub mod Growing

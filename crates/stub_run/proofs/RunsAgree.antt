@@ -1,23 +1,26 @@
 -- Two runs over a zone agree where nothing is updated and the link meets no fault.
 use Rattle.std.proofs.Common.{◌≡◌, ℕ, Option, Some, None, Ok, Err, List, [], ◌∷◌, inl, inr, refl, sym, ap, subst, ◌∙◌}
-use Rattle.std.specs.Prelude.{◌≢◌, string_bytes}
+use Rattle.std.specs.Prelude.{◌≢◌, Result, string_bytes}
 use Rattle.std.specs.List.{AllByRecursion}
 use Rattle.std.specs.declared.net.ip_addr.IpAddr.{IpAddr}
 use Rattle.std.proofs.NetLemmas.Theorems.{IsIpText_unique}
+use Rattle.dns_names.specs.Name.{DomainName}
 use Rattle.dns_names.specs.Parse.{name_of_text}
+use Rattle.dns_names.specs.declared.error.ParseError.{ParseError}
 use Rattle.dns_messages.specs.declared.message.Message.{Message}
 use Rattle.dns_text.specs.Address.{IsTextOf}
 use Rattle.dns_zone.specs.Rows.{ZoneContent}
 use Rattle.stub_lookup.specs.declared.error.NetError.TheVariants as net
+use Rattle.stub_core.specs.Origins.{names_of}
 use Rattle.stub_core.specs.Resolver.{LooksUpHost}
 use Rattle.stub_core.specs.declared.resolver.settings.Settings.{Settings}
 use Rattle.stub_link.specs.History.{Occasion, Past, first_past, past_after_occasion}
-use Rattle.stub_laws.specs.walk.Walk.{ByWalk}
+use Rattle.stub_laws.specs.walk.Walk.{AreShortAt, ByWalk}
 use Rattle.stub_laws.proofs.AgreementLaws.{looks-up-agree, looks-up-host-agree}
 use Rattle.stub_run.specs.Event.{update_of}
 use Rattle.stub_run.specs.Headline.{WorldContent, settings_of}
 use Rattle.stub_run.specs.History.{AreOccasions, IsOccasion, IsUpdateOf}
-use Rattle.stub_run.specs.Walked.{AgreeOn, AreAgreed, AreAgreedEvents, AreWalked, AreWalkedEvents, HasSentUpdate, IsWalkedReply, past_since, with_cache_size, with_sizes}
+use Rattle.stub_run.specs.Walked.{AgreeOn, AreAgreed, AreAgreedEvents, AreWalked, AreWalkedEvents, HasSentUpdate, IsWalkedReply, attempted_by, past_since, with_cache_size, with_sizes}
 use Rattle.stub_run.specs.declared.event.Action.{Action}
 use Rattle.stub_run.specs.declared.event.Action.TheVariants as actions
 use Rattle.stub_run.specs.declared.event.Event.{Event}
@@ -53,10 +56,22 @@ agree-on zone settings size at actions.ClearAll (replies.Cleared one) other h k 
 agree-on zone settings size at (actions.Update update) (replies.Update one) other h k = absurd k
 agree-on zone settings size at action one other h k = absurd h
 
+-- the size of the cache makes no difference to the names that are attempted
+same-attempted : (settings : Settings) (size : ℕ) (action : Action) → attempted_by settings action ≡ attempted_by (with_cache_size size settings) action
+same-attempted settings size (actions.Lookup name kind) = refl
+same-attempted settings size (actions.LookupIp host) = by (name_of_text (string_bytes host))
+  where
+    by : (name : Result DomainName ParseError) → names_of settings name ≡ names_of (with_cache_size size settings) name
+    by (Ok name) = refl
+    by (Err error) = refl
+same-attempted settings size (actions.Clear name kind) = refl
+same-attempted settings size actions.ClearAll = refl
+same-attempted settings size (actions.Update update) = refl
+
 events-agree : (settings : Settings) (size : ℕ) (first past : Past) (events : List Event) (ones others : List EventReport)
     (occasions : List Occasion) → AreWalkedEvents settings first past events ones occasions
     → AreWalkedEvents (with_cache_size size settings) first past events others occasions
-    → AreAgreedEvents first past events ones others occasions
+    → AreAgreedEvents settings first past events ones others occasions
 events-agree settings size first past [] [] [] [] h k = tt
 events-agree settings size first past [] [] [] (o ∷ occasions) h k = absurd h
 events-agree settings size first past [] [] (other ∷ others) occasions h k = absurd k
@@ -66,7 +81,8 @@ events-agree settings size first past (e ∷ events) (one ∷ ones) [] occasions
 events-agree settings size first past (e ∷ events) (one ∷ ones) (other ∷ others) [] h k = absurd h
 events-agree settings size first past (e ∷ events) (one ∷ ones) (other ∷ others) (o ∷ occasions) h k = (
   λ unchanged short none no.
-      agree-on (past_since e.action first past).zone settings size e.at e.action one.reply other.reply (h.0 unchanged short none) (k.0 unchanged short no),
+      agree-on (past_since e.action first past).zone settings size e.at e.action one.reply other.reply (h.0 unchanged short none)
+      (k.0 unchanged (subst (AreShortAt (past_since e.action first past).zone) (same-attempted settings size e.action) short) no),
   events-agree settings size (past_since e.action first past) (past_after_occasion past o) events ones others occasions h.1 k.1,
 )
 
@@ -108,7 +124,7 @@ occasions-same (e ∷ events) (one ∷ ones) (other ∷ others) (o ∷ os) (p �
 pub runs-agree : (content : WorldContent) (size limit : ℕ) (ids : List ℕ) (events : List Event) (reports others : List EventReport)
     (occasions more : List Occasion) → AreOccasions events reports occasions → AreOccasions events others more
     → AreWalked content events reports occasions → AreWalked (with_sizes size limit ids content) events others more
-    → AllByRecursion HasSentUpdate reports → AllByRecursion HasSentUpdate others → AreAgreed content.zone events reports others occasions
+    → AllByRecursion HasSentUpdate reports → AllByRecursion HasSentUpdate others → AreAgreed content events reports others occasions
 runs-agree content size limit ids events reports others occasions more are others-are one two i j =
     events-agree (settings_of content) size (first_past content.zone) (first_past content.zone) events reports others occasions one
     (subst (λ (os : List Occasion). AreWalkedEvents (settings_of (with_sizes size limit ids content)) (first_past content.zone) (first_past content.zone) events others os)

@@ -23,6 +23,7 @@ use Rattle.stub_client.specs.Handle.{Ask, Behavior}
 use Rattle.stub_client.specs.Looks.{Reply}
 use Rattle.stub_client.specs.declared.caching_client.CachingClient.{CachingClient}
 use Rattle.stub_core.specs.Attempts.{Lookups}
+use Rattle.stub_core.specs.Origins.{names_of}
 use Rattle.stub_core.specs.Resolver.{LooksUp, LooksUpHost, ResolvesHost, ResolvesName, asks_of as asks_of_client, request_options, with_handle}
 use Rattle.stub_core.specs.declared.resolver.Resolver.{Resolver}
 use Rattle.stub_core.specs.declared.resolver.settings.Settings.{Settings}
@@ -40,8 +41,8 @@ use Rattle.stub_laws.proofs.EventLaws.{begin-faithful, begin-update-faithful, en
 use Rattle.stub_laws.proofs.FaithfulLaws.{ask-stays, update-stays}
 use Rattle.stub_laws.proofs.LedLaws.{led-since, stays-then}
 use Rattle.stub_laws.proofs.ServeLaws.{UpdatesKeepZones}
-use Rattle.stub_laws.specs.walk.Answered.{ComesToWalk, HasShortAliases, IsAsked, IsWalkedLookup}
-use Rattle.stub_laws.specs.walk.Walk.{AgreesWithWalk, ByWalk, CacheAgrees}
+use Rattle.stub_laws.specs.walk.Answered.{ComesToWalk, IsAsked, IsWalkedLookup}
+use Rattle.stub_laws.specs.walk.Walk.{AgreesWithWalk, AreShortAt, ByWalk, CacheAgrees}
 use Rattle.stub_laws.proofs.ResolverLaws.{host-walks, name-walks}
 use Rattle.stub_link.specs.declared.link.script.Script.{Script}
 use Rattle.stub_run.specs.Event.{update_of}
@@ -50,7 +51,7 @@ use Rattle.stub_run.specs.History.{MakePasts}
 use Rattle.stub_run.specs.Questions.{AreAskable, AsksZone, IsAskable, RepliesByQuestions}
 use Rattle.stub_run.specs.Run.{Clears, InOrder, RepliesByZone, RunState, Runs, Step, asks_of, begin_asks, begin_event}
 use Rattle.stub_run.specs.World.{IsFirst}
-use Rattle.stub_run.specs.Walked.{AreWalked, AreWalkedEvents, IsUnchanged, IsWalkedEvent, IsWalkedReply, past_since}
+use Rattle.stub_run.specs.Walked.{AreWalked, AreWalkedEvents, IsUnchanged, IsWalkedEvent, IsWalkedReply, attempted_by, past_since}
 use Rattle.stub_run.specs.declared.event.Action.{Action}
 use Rattle.stub_run.specs.declared.event.Action.TheVariants as actions
 use Rattle.stub_run.specs.declared.event.Event.{Event}
@@ -111,7 +112,7 @@ module _ (keep : UpdatesKeepZones) (round : (number : ℕ) → type_number (type
     pub moment : ℕ
     pub current : IsCurrent first.history moment first.zone.rows
     pub added : Extends first.history (asks_of state).link.history
-    pub cache : IsUnchanged first (asks_of state).link.history → HasShortAliases first.zone → CacheAgrees first.zone state.client.cache
+    pub cache : IsUnchanged first (asks_of state).link.history → CacheAgrees first.zone state.client.cache
     pub settings_is : state.settings ≡ settings
     pub aliases_is : state.client.preserve_intermediates ≡ false
 
@@ -126,7 +127,7 @@ module _ (keep : UpdatesKeepZones) (round : (number : ℕ) → type_number (type
     moment = h.moment;
     current = h.current;
     added = (h.added.0, same ∙ h.added.1);
-    cache = λ unchanged short. h.cache (subst (λ (vs : List Version). IsUnchanged first vs) same unchanged) short;
+    cache = λ unchanged. h.cache (subst (λ (vs : List Version). IsUnchanged first vs) same unchanged);
     settings_is = h.settings_is;
     aliases_is = h.aliases_is;
   }
@@ -186,8 +187,7 @@ module _ (keep : UpdatesKeepZones) (round : (number : ℕ) → type_number (type
     moment = h.moment;
     current = h.current;
     added = extends-then first.history (asks_of old).link.history asks.link.history h.added s.added;
-    cache = λ unchanged short.
-        h.cache (unchanged-before first (asks_of old).link.history asks.link.history s.added unchanged) short;
+    cache = λ unchanged. h.cache (unchanged-before first (asks_of old).link.history asks.link.history s.added unchanged);
     settings_is = h.settings_is;
     aliases_is = h.aliases_is;
   }
@@ -223,7 +223,7 @@ module _ (keep : UpdatesKeepZones) (round : (number : ℕ) → type_number (type
   -- what an event makes of a state, with what holds of its reply
   pub record HasReplied (first : Past) (at : ℕ) (action : Action) (reply : EventReply) (mid : RunState) : Type 0 where
     pub has : HasWalked first mid
-    pub walked : IsUnchanged first (asks_of mid).link.history → HasShortAliases first.zone → (asks_of mid).faults ≡ 0
+    pub walked : IsUnchanged first (asks_of mid).link.history → AreShortAt first.zone (attempted_by settings action) → (asks_of mid).faults ≡ 0
         → IsWalkedReply first.zone settings at action reply
 
   -- a lookup, of which it is known to what it comes
@@ -231,13 +231,12 @@ module _ (keep : UpdatesKeepZones) (round : (number : ℕ) → type_number (type
       (later : List (ℕ × Query)) (action : Action) (reply : EventReply)
       → HasWalked first old → (asks_of old).link.moment ≡ now → StaysFaithful origin (asks_of old) (asks_of mid)
       → (asks_of mid).link.out_of_memory ≡ false → HasNoReuse ((asks_of mid).sent ++ later)
-      → (HasShortAliases first.zone → ComesToWalk first.zone Asking now old mid (looks old.settings))
+      → ComesToWalk first.zone Asking now old mid (looks old.settings)
       → mid.settings ≡ old.settings → mid.client.preserve_intermediates ≡ old.client.preserve_intermediates
-      → (looks settings → IsWalkedReply first.zone settings now action reply) → HasReplied first now action reply mid
+      → (looks settings → AreShortAt first.zone (attempted_by settings action) → IsWalkedReply first.zone settings now action reply) → HasReplied first now action reply mid
   has-looked first now old mid looks later action reply h at s memory once comes same aliases gives =
-      let before : IsUnchanged first (asks_of mid).link.history → HasShortAliases first.zone → CacheAgrees first.zone old.client.cache =
-      λ unchanged short.
-      h.cache (unchanged-before first (asks_of old).link.history (asks_of mid).link.history s.added unchanged) short in
+      let before : IsUnchanged first (asks_of mid).link.history → CacheAgrees first.zone old.client.cache =
+      λ unchanged. h.cache (unchanged-before first (asks_of old).link.history (asks_of mid).link.history s.added unchanged) in
       record {
         has = record {
           faithful = s.faithful;
@@ -246,14 +245,13 @@ module _ (keep : UpdatesKeepZones) (round : (number : ℕ) → type_number (type
           moment = h.moment;
           current = h.current;
           added = extends-then first.history (asks_of old).link.history (asks_of mid).link.history h.added s.added;
-          cache = λ unchanged short.
-              (looked first now old mid (looks old.settings) later h at s memory once (comes short) unchanged (before unchanged short)).0;
+          cache = λ unchanged. (looked first now old mid (looks old.settings) later h at s memory once comes unchanged (before unchanged)).0;
           settings_is = same ∙ h.settings_is;
           aliases_is = aliases ∙ h.aliases_is;
         };
         walked = λ unchanged short none.
             gives (subst looks h.settings_is
-            ((looked first now old mid (looks old.settings) later h at s memory once (comes short) unchanged (before unchanged short)).1 none));
+            ((looked first now old mid (looks old.settings) later h at s memory once comes unchanged (before unchanged)).1 none)) short;
       }
 
   looked-up : (first : Past) (at : ℕ) (name : DomainName) (kind : RecordType) (found : Reply) (old mid : RunState)
@@ -263,10 +261,10 @@ module _ (keep : UpdatesKeepZones) (round : (number : ℕ) → type_number (type
       → HasReplied first at (actions.Lookup name kind) (replies.Lookup found) mid
   looked-up first at name kind found old mid later h moment resolves s memory once =
       has-looked first at old mid
-      (λ t. IsWalkedLookup first.zone t at (Ok name) kind found) later
+      (λ t. AreShortAt first.zone (names_of t (Ok name)) → IsWalkedLookup first.zone t at (Ok name) kind found) later
       (actions.Lookup name kind) (replies.Lookup found) h moment s memory once
-      (λ short. name-walks first.zone h.good short Asking at old mid h.aliases_is (Ok name) kind found resolves.lookup)
-      resolves.settings (name-aliases Asking at old mid (Ok name) kind found resolves.lookup) (λ walked. walked)
+      (name-walks first.zone h.good Asking at old mid h.aliases_is (Ok name) kind found resolves.lookup)
+      resolves.settings (name-aliases Asking at old mid (Ok name) kind found resolves.lookup) (λ walked short. walked short)
 
   looked-up-host : (first : Past) (at : ℕ) (host : _) (found : Reply) (old mid : RunState)
       (later : List (ℕ × Query)) → HasWalked first old → (asks_of old).link.moment ≡ at
@@ -277,11 +275,11 @@ module _ (keep : UpdatesKeepZones) (round : (number : ℕ) → type_number (type
   looked-up-host first at host found old mid later h moment resolves s memory once =
       let name = name_of_text (string_bytes host) in
       has-looked first at old mid
-      (λ t. LooksUpHost t at (ByWalk first.zone) resolves.address name tt found tt) later
+      (λ t. AreShortAt first.zone (names_of t name) → LooksUpHost t at (ByWalk first.zone) resolves.address name tt found tt) later
       (actions.LookupIp host) (replies.LookupIp found) h moment s memory once
-      (λ short. host-walks first.zone h.good short Asking at old mid h.aliases_is resolves.address name found resolves.lookup)
+      (host-walks first.zone h.good Asking at old mid h.aliases_is resolves.address name found resolves.lookup)
       resolves.settings (host-aliases Asking at old mid resolves.address name found resolves.lookup)
-      (λ walked. (resolves.address, resolves.is_address, walked))
+      (λ walked short. (resolves.address, resolves.is_address, walked short))
 
   -- ---- other events
 
@@ -301,7 +299,7 @@ module _ (keep : UpdatesKeepZones) (round : (number : ℕ) → type_number (type
         moment = h.moment;
         current = h.current;
         added = h.added;
-        cache = λ unchanged short. fewer (h.cache unchanged short);
+        cache = λ unchanged. fewer (h.cache unchanged);
         settings_is = h.settings_is;
         aliases_is = h.aliases_is;
       })
@@ -328,7 +326,7 @@ module _ (keep : UpdatesKeepZones) (round : (number : ℕ) → type_number (type
     moment = (asks_of old).link.moment;
     current = h.faithful.history.current;
     added = ([], sym (append-nil (asks_of old).link.history));
-    cache = λ unchanged short. All-nil (EntryAgrees (asks_of old).link.zone);
+    cache = λ unchanged. All-nil (EntryAgrees (asks_of old).link.zone);
     settings_is = h.settings_is;
     aliases_is = h.aliases_is;
   }
@@ -433,7 +431,7 @@ module _ (keep : UpdatesKeepZones) (round : (number : ℕ) → type_number (type
     moment = 0;
     current = record { before = []; since = 0; split = refl; begun = omega arith };
     added = ([], ap (λ (a : AskState). a.link.history) begins.asks);
-    cache = λ unchanged short.
+    cache = λ unchanged.
         subst (CacheAgrees content.zone) (sym begins.cache)
         (All-nil (λ (e : Entry). KeptComesTo (AgreesWithWalk content.zone) e.question e.kept));
     settings_is = begins.settings;

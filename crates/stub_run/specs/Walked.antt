@@ -2,17 +2,19 @@
 -- cache, nor the size of datagrams, nor ids make a difference.
 use Rattle.std.specs.Prelude.{◌≡◌, ◌≢◌, ◌++◌, true, string_bytes, All, List, [], ◌∷◌, ℕ, Option, Ok, Err}
 use Rattle.std.specs.declared.net.ip_addr.IpAddr.{IpAddr}
+use Rattle.dns_names.specs.Name.{DomainName}
 use Rattle.dns_names.specs.Parse.{name_of_text}
 use Rattle.dns_text.specs.Address.{IsTextOf}
 use Rattle.dns_zone.specs.Rows.{ZoneContent}
 use Rattle.stub_lookup.specs.declared.error.NetError.TheVariants as net
+use Rattle.stub_core.specs.Origins.{names_of}
 use Rattle.stub_core.specs.Resolver.{LooksUpHost, known_type}
 use Rattle.stub_core.specs.declared.resolver.settings.Settings.{Settings}
 use Rattle.stub_link.specs.History.{Occasion, Past, first_past, past_after_occasion}
 use Rattle.stub_link.specs.LinkState.{Version}
 use Rattle.stub_laws.specs.walk.Agreement.{Agree}
-use Rattle.stub_laws.specs.walk.Answered.{HasShortAliases, IsWalkedLookup}
-use Rattle.stub_laws.specs.walk.Walk.{ByWalk, walks_everywhere}
+use Rattle.stub_laws.specs.walk.Answered.{IsWalkedLookup}
+use Rattle.stub_laws.specs.walk.Walk.{AreShortAt, ByWalk, walks_everywhere}
 use Rattle.stub_run.specs.Headline.{WorldContent, settings_of}
 use Rattle.stub_run.specs.declared.event.Action.{Action}
 use Rattle.stub_run.specs.declared.event.Action.TheVariants as actions
@@ -48,11 +50,17 @@ IsWalkedReply zone settings at actions.ClearAll (replies.Cleared done) = Unit {0
 IsWalkedReply zone settings at (actions.Update update) (replies.Update reply) = Unit {0}
 IsWalkedReply zone settings at action reply = ⊥
 
--- If no delivery changed the rows since the last full clear, or the start, up to the end of the event, no chain of aliases in the
--- zone passes seven links, and the link met no fault in this event, its reply is walked.
+-- the names that the lookup of an event attempts
+abbrev pub attempted_by : Settings → Action → List DomainName
+attempted_by settings (actions.Lookup name kind) = names_of settings (Ok name)
+attempted_by settings (actions.LookupIp host) = names_of settings (name_of_text (string_bytes host))
+attempted_by settings action = []
+
+-- If no delivery changed the rows since the last full clear, or the start, up to the end of the event, no chain of aliases through a
+-- name that it attempts passes seven links, and the link met no fault in this event, its reply is walked.
 abbrev pub IsWalkedEvent : Settings → Past → Past → Event → EventReport → Type 0
 IsWalkedEvent settings first after e report =
-    IsUnchanged first after.history → HasShortAliases first.zone → report.faults ≡ 0
+    IsUnchanged first after.history → AreShortAt first.zone (attempted_by settings e.action) → report.faults ≡ 0
     → IsWalkedReply first.zone settings e.at e.action report.reply
 
 -- event by event
@@ -98,17 +106,17 @@ AgreeOn action one other = ⊥
 abbrev pub HasSentUpdate : EventReport → Type 0
 HasSentUpdate report = report.reply ≢ replies.Update (Err net.Memory)
 
--- If the zone is unchanged, its chains of aliases are short and the link met no fault in either run, the replies agree; event by
--- event.
-abbrev pub AreAgreedEvents : Past → Past → List Event → List EventReport → List EventReport → List Occasion → Type 0
-AreAgreedEvents first past [] [] [] [] = Unit {0}
-AreAgreedEvents first past (e ∷ events) (one ∷ reports) (other ∷ others) (occasion ∷ occasions) =
+-- If the zone is unchanged, chains of aliases through the names that a lookup attempts are short, and the link met no fault in either
+-- run, the replies agree; event by event.
+abbrev pub AreAgreedEvents : Settings → Past → Past → List Event → List EventReport → List EventReport → List Occasion → Type 0
+AreAgreedEvents settings first past [] [] [] [] = Unit {0}
+AreAgreedEvents settings first past (e ∷ events) (one ∷ reports) (other ∷ others) (occasion ∷ occasions) =
     (IsUnchanged (past_since e.action first past) (past_after_occasion past occasion).history
-    → HasShortAliases (past_since e.action first past).zone → one.faults ≡ 0 → other.faults ≡ 0 → AgreeOn e.action one.reply other.reply)
-    × AreAgreedEvents (past_since e.action first past) (past_after_occasion past occasion) events reports others occasions
-AreAgreedEvents first past events reports others occasions = ⊥
+    → AreShortAt (past_since e.action first past).zone (attempted_by settings e.action) → one.faults ≡ 0 → other.faults ≡ 0 → AgreeOn e.action one.reply other.reply)
+    × AreAgreedEvents settings (past_since e.action first past) (past_after_occasion past occasion) events reports others occasions
+AreAgreedEvents settings first past events reports others occasions = ⊥
 
 -- two runs over a zone with these occasions agree
-abbrev pub AreAgreed : ZoneContent → List Event → List EventReport → List EventReport → List Occasion → Type 0
-AreAgreed zone events reports others occasions =
-    AreAgreedEvents (first_past zone) (first_past zone) events reports others occasions
+abbrev pub AreAgreed : WorldContent → List Event → List EventReport → List EventReport → List Occasion → Type 0
+AreAgreed content events reports others occasions =
+    AreAgreedEvents (settings_of content) (first_past content.zone) (first_past content.zone) events reports others occasions

@@ -42,9 +42,9 @@ mod stepping;
 
 use crate::event_link::EventLink;
 pub use headline::{
-    distinct_ids_are_not_reused, every_answer_stood, every_record_stood, runs_have_one_history,
-    unchanged_zones_are_steady, unchanged_zones_are_walked, walked_replies_agree,
-    walked_runs_agree,
+    distinct_ids_are_not_reused, every_answer_stood, every_record_stood, lookups_fail_for_reasons,
+    runs_have_one_history, unchanged_zones_are_steady, unchanged_zones_are_walked,
+    walked_replies_agree, walked_runs_agree,
 };
 pub use questions::{
     questions_without_faults_are_answered, resolvers_ask_sound_questions,

@@ -1,6 +1,6 @@
 -- Walks over a zone: what a name comes to for a type, by the rows of the zone alone (RFC 1034 section 4.3.2). A walk has neither
 -- a cache nor messages nor TTLs.
-use Rattle.std.specs.Prelude.{◌≡◌, ◌==◌, ◌||◌, Bool, true, false, suc, map, List, [], ◌∷◌, ℕ, Ok, Err}
+use Rattle.std.specs.Prelude.{◌≡◌, ◌≤◌, ◌+◌, ◌==◌, ◌||◌, Bool, true, false, suc, All, map, List, [], ◌∷◌, ℕ, Ok, Err}
 use Rattle.dns_wire.specs.codes.DNSClass.{class_number}
 use Rattle.dns_wire.specs.codes.RecordType.{type_number}
 use Rattle.dns_wire.specs.declared.codes.record_type.RecordType.{RecordType}
@@ -27,6 +27,7 @@ use Rattle.stub_client.specs.SpecialNames.{special_answer}
 use Rattle.stub_client.specs.declared.special_names.SpecialAnswer.TheVariants.{Ordinary, Loopback, Nothing}
 use Rattle.stub_core.specs.Attempts.{Lookups}
 use Rattle.stub_laws.specs.history.Answered.{is_plain}
+use Rattle.stub_laws.specs.history.Stands.{AreSame, IsLinked}
 
 -- ---- walks
 
@@ -95,6 +96,22 @@ pub record IsDirect (zone : ZoneContent) (kind : RecordType) (name : DomainName)
 abbrev pub walks_everywhere : RecordType → Bool
 walks_everywhere kind = is_plain kind || (type_number kind == 5)
 
+-- ---- chains of aliases
+
+-- no chain of aliases that goes through a name passes seven links
+abbrev pub HasShortAliasesAt : ZoneContent → DomainName → Type 0
+HasShortAliasesAt zone name =
+    (before after : ℕ) (first through last : DomainName) → IsLinked zone.rows first before through → AreSame through name
+    → IsLinked zone.rows name after last → before + after ≤ 7
+
+-- the same of each of some names
+abbrev pub AreShortAt : ZoneContent → List DomainName → Type 0
+AreShortAt zone names = All (HasShortAliasesAt zone) names
+
+-- the same of one, unless the zone does not answer for it
+abbrev pub HasShortAliasesIn : ZoneContent → RecordType → DomainName → Type 0
+HasShortAliasesIn zone kind name = IsOfZone zone kind name → HasShortAliasesAt zone name
+
 -- ---- lookups that agree with walks
 
 -- A reply is what the walk of a question comes to: records up to TTLs and ASCII case of owners, a negative answer, or an error by
@@ -116,12 +133,12 @@ ByDirectWalk zone old q reply new = IsDirect zone q.query_type q.name → IsWalk
 
 -- ---- what is kept
 
--- A question of a type that rows may have and of the class of the Internet, from whose name a lookup of the type walks, comes to what
--- its walk comes to. Of others nothing is claimed.
+-- A question of a type that rows may have and of the class of the Internet, from whose name a lookup of the type walks, and through
+-- whose name no chain of aliases passes seven links, comes to what its walk comes to. Of others nothing is claimed.
 abbrev pub AgreesWithWalk : ZoneContent → Query → Conclusion → Type 0
 AgreesWithWalk zone q conclusion =
     is_no_row_type (type_number q.query_type) ≡ false → class_number q.query_class ≡ 1 → IsDirect zone q.query_type q.name
-    → WalksTo zone q conclusion
+    → HasShortAliasesIn zone q.query_type q.name → WalksTo zone q conclusion
 
 -- what a cache has for such questions is what their walks come to
 abbrev pub CacheAgrees : ZoneContent → CacheContent → Type 0

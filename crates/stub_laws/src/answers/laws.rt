@@ -9,5 +9,6 @@ pub use lookups::{
 };
 pub use standing::{
     absences_are_negative_answers, questions_lead_along_aliases,
-    questions_that_lead_nowhere_are_answered_at_their_name, whole_sets_are_fresh,
+    questions_that_lead_nowhere_are_answered_at_their_name, short_chains_are_followed_to_their_end,
+    whole_sets_are_fresh,
 };

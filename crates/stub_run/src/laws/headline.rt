@@ -1,18 +1,26 @@
 //! What runs promise of the records that their lookups return.
 
-ghost use Rattle.std.specs.Prelude.{◌≡◌, ◌+◌, ◌<◌, ◌^◌, false, true, EachIndex, List, ℕ, length, map, slice_index, take};
+ghost use Rattle.std.specs.Prelude.{◌≡◌, ◌+◌, ◌<◌, ◌^◌, false, true, Contains, EachIndex, Err, List, ℕ, length, map, slice_index, take};
 ghost use Rattle.std.specs.List.{AllByRecursion};
 ghost use Rattle.dns_wire.specs.declared.codes.record_type.RecordType.{RecordType};
 ghost use Rattle.dns_names.specs.Name.{DomainName};
 ghost use Rattle.dns_messages.specs.declared.query.Query.{Query};
 ghost use Rattle.dns_zone.specs.Rows.{IsZone, ZoneContent};
+ghost use Rattle.dns_messages.specs.declared.response_code.ResponseCode.{ResponseCode};
+ghost use Rattle.stub_lookup.specs.declared.error.DnsError.{DnsError};
+ghost use Rattle.stub_lookup.specs.declared.error.LinkFault.{LinkFault};
+ghost use Rattle.stub_lookup.specs.declared.error.NetError.{NetError};
+ghost use Rattle.stub_hosts.specs.Hosts.{question};
+ghost use Rattle.stub_cache.specs.Ttl.{TtlConfigContent};
 ghost use Rattle.stub_client.specs.Looks.{Reply};
-ghost use Rattle.stub_core.specs.Resolver.{known_type};
+ghost use Rattle.stub_core.specs.Resolver.{known_type, names_for};
 ghost use Rattle.stub_core.specs.declared.resolver.settings.Settings.{Settings};
 ghost use Rattle.stub_link.specs.History.{Occasion, first_past};
 ghost use Rattle.stub_laws.specs.walk.Agreement.{Agree};
 ghost use Rattle.stub_laws.specs.walk.Walk.{walks_everywhere};
+ghost use Rattle.stub_link.specs.LinkState.{Version};
 ghost use Rattle.stub_laws.specs.history.Faithful.{HasNoReuse};
+ghost use Rattle.stub_laws.specs.answers.Failing.{IsRefused};
 ghost use Rattle.stub_run.specs.Headline.{AreFresh, HasNoLeastTtl, HaveChainBounds, WorldContent, settings_of};
 ghost use Rattle.stub_run.specs.Ids.{AreDistinct};
 ghost use Rattle.stub_run.specs.Questions.{AreAskable};
@@ -21,7 +29,7 @@ ghost use Rattle.stub_run.specs.OneHistory.{HasOneHistory};
 ghost use Rattle.stub_run.specs.Run.{InOrder, IsReportOf, RunState, Runs, asks_of};
 ghost use Rattle.stub_run.specs.Steady.{AreSteady};
 ghost use Rattle.stub_run.specs.Walked.{AreAgreed, AreWalked, HasSentUpdate, IsWalkedReply, with_cache_size, with_sizes};
-ghost use Rattle.stub_run.specs.Whole.{AreWhole};
+ghost use Rattle.stub_run.specs.Whole.{AreWhole, IsStandingReply};
 ghost use Rattle.stub_run.specs.World.{IsFirst};
 ghost use Rattle.stub_run.specs.declared.event.Action.{Action};
 ghost use Rattle.stub_run.specs.declared.event.Event.{Event};
@@ -67,7 +75,7 @@ pub fn every_record_stood()
 /// Each reply to a lookup of a run stood in the zone, for each name that it attempted and each type of addresses: the records of the
 /// type are a whole set of one version of the zone, and no TTL is more than what is left of its own since a moment at which this
 /// version stood; a negative answer is what the zone answered at such a moment, no longer ago than its negative TTL, nor than negative
-/// answers are kept.
+/// answers are kept; and another error has a reason.
 ///
 /// No id serves two equal questions. The least TTL of positive answers is 0, or nothing is said of sets; and that of negative
 /// answers is 0, or nothing is said of their own TTLs.
@@ -86,6 +94,23 @@ pub fn every_answer_stood()
     answers_are_alias_chains();
     updates_keep_zones_well_formed();
 }
+
+/// A lookup of a name fails for a reason: by a fault of the link only in an event that counts a fault, and by a response code only where
+/// the zone refuses a question, with this code, to which the question for an attempted name leads.
+pub fn lookups_fail_for_reasons()
+    ensures link { (ttls : TtlConfigContent) (origin : DomainName) (history : List Version)
+        (settings : Settings) (at : ℕ) (name : DomainName) (kind : RecordType) (fault : LinkFault)
+        → ¬ IsStandingReply ttls origin history settings 0 at (Action.Lookup name kind)
+        (EventReply.Lookup (Err (NetError.Link fault))) }
+    ensures code { (ttls : TtlConfigContent) (origin : DomainName) (history : List Version)
+        (settings : Settings) (faults at : ℕ) (name : DomainName) (kind : RecordType)
+        (code : ResponseCode)
+        → IsStandingReply ttls origin history settings faults at (Action.Lookup name kind)
+        (EventReply.Lookup (Err (NetError.Dns (DnsError.ResponseCode code))))
+        → (attempted : DomainName) × Contains (names_for settings name) attempted
+        × IsRefused settings.options.preserve_intermediates origin history at
+        (question attempted (known_type kind)) code }
+{}
 
 /// Where nothing was updated since the last full clear, or the start, the reply to each lookup stood in the zone as it is: of any type, along
 /// aliases of any number, and also where the link met faults.
@@ -111,8 +136,8 @@ pub fn unchanged_zones_are_steady()
 /// aliases or of a host is one in which each question is walked over the zone, and so is one of SOA or SRV records where it goes along
 /// aliases alone: whatever was kept, however large datagrams may be, and whatever the link loses, repeats, delays or reorders in between.
 ///
-/// No id serves two equal questions, aliases are left out, and no chain of aliases in the zone passes seven links. Memory may run
-/// out for a lookup.
+/// No id serves two equal questions, aliases are left out, and no chain of aliases through a name that the lookup attempts passes seven
+/// links. Memory may run out for a lookup.
 pub fn unchanged_zones_are_walked()
     ensures { (content : WorldContent) (first last : RunState) (events : List Event)
         (reports : List EventReport) (states : List RunState) (occasions : List Occasion)
@@ -179,7 +204,7 @@ pub fn walked_runs_agree()
         → AreWalked content events reports occasions
         → AreWalked (with_sizes size limit ids content) events others more
         → AllByRecursion HasSentUpdate reports → AllByRecursion HasSentUpdate others
-        → AreAgreed content.zone events reports others occasions }
+        → AreAgreed content events reports others occasions }
 {}
 
 /// Distinct ids serve no two questions: if no id occurs twice in the list, no id that was drawn serves two equal questions. Ids

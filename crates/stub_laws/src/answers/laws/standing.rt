@@ -1,6 +1,6 @@
 //! What whole sets and negative answers say of the zone.
 
-ghost use Rattle.std.specs.Prelude.{◌≡◌, ◌≢◌, ℕ, Bool, List, [], Contains, false, true};
+ghost use Rattle.std.specs.Prelude.{◌≡◌, ◌≢◌, ◌⊎◌, ℕ, Bool, List, [], Contains, false, true};
 ghost use Rattle.dns_wire.specs.codes.RecordType.{type_number};
 ghost use Rattle.dns_wire.specs.declared.codes.record_type.RecordType.{RecordType};
 ghost use Rattle.dns_names.specs.Name.{DomainName};
@@ -8,6 +8,7 @@ ghost use Rattle.dns_records.specs.Record.{Record};
 ghost use Rattle.dns_records.specs.Rows.{Rows, rows_at};
 ghost use Rattle.dns_messages.specs.Response.{has_type};
 ghost use Rattle.dns_messages.specs.declared.query.Query.{Query};
+ghost use Rattle.dns_zone.specs.Rows.{IsZone};
 ghost use Rattle.dns_zone.specs.Answer.{answer, is_no_row_type, negative};
 ghost use Rattle.stub_cache.specs.Ttl.{TtlConfigContent};
 ghost use Rattle.stub_lookup.specs.declared.error.NoRecords.{NoRecords};
@@ -15,8 +16,9 @@ ghost use Rattle.stub_hosts.specs.Hosts.{question};
 ghost use Rattle.stub_link.specs.LinkState.{Version};
 ghost use Rattle.stub_laws.specs.history.Answered.{zone_with};
 ghost use Rattle.stub_laws.specs.history.Stands.{AreSame, IsFresh, IsReached};
-ghost use Rattle.stub_laws.specs.answers.Standing.{HasRows, IsAbsent, IsLed, IsWholeSet};
-ghost use Rattle.stub_laws.specs.answers.Steady.{LeadsNowhere, always};
+ghost use Rattle.stub_laws.specs.answers.Standing.{HasBeenAbsent, HasRows, IsAbsent, IsLed, IsWholeSet};
+ghost use Rattle.stub_laws.specs.walk.Answered.{HasShortAliases};
+ghost use Rattle.stub_laws.specs.answers.Steady.{HasSpecialEnd, LeadsNowhere, always};
 
 use dns_zone::laws::names_without_alias_are_answered_directly;
 
@@ -70,4 +72,16 @@ pub fn questions_that_lead_nowhere_are_answered_at_their_name()
         → AreSame q.name a.owner
         × (rows_at rows q.name.labels q.query_type ≡ [])
         × (absence.response_code ≡ (negative (zone_with origin rows) a.owner.labels).code) }
+{}
+
+/// In a zone that does not change, in which no chain of aliases passes seven links, chains are followed to their end: a question of
+/// another type than SOA and SRV has no records only where its type is absent, or at a special-use name.
+pub fn short_chains_are_followed_to_their_end()
+    ensures { (config : TtlConfigContent) (preserves : Bool) (origin : DomainName) (rows : Rows)
+        (age now : ℕ) (q : Query) (absence : NoRecords) → IsZone (zone_with origin rows)
+        → HasShortAliases (zone_with origin rows) → type_number q.query_type ≢ 6
+        → type_number q.query_type ≢ 33
+        → HasBeenAbsent config preserves origin (always rows) age now q absence
+        → IsAbsent config preserves origin (always rows) age now q.query_type q.name absence
+        ⊎ HasSpecialEnd preserves (always rows) now q absence }
 {}

@@ -23,11 +23,11 @@ ghost use Rattle.stub_laws.specs.history.Stands.{StandAt};
 ghost use Rattle.stub_laws.specs.walk.Answered.{HasShortAliases, IsAskError, IsAsked, IsOrdinary, IsPlainAsk, IsZoneOutcome, IsZoneReply};
 ghost use Rattle.stub_laws.specs.walk.Walk.{AgreesWithWalk};
 
-/// Where a zone answers all questions, aliases are not preserved, and no chain of aliases in the zone passes seven links, a
-/// question of a type that rows may have comes to what its walk comes to, if a lookup of this type walks from the name.
+/// Where a zone answers all questions, and aliases are not preserved, a question of a type that rows may have comes to what its walk
+/// comes to, if a lookup of this type walks from the name, and no chain of aliases through the name passes seven links.
 pub fn outcomes_of_answers_are_walks()
     ensures { (zone : ZoneContent) (settings : LookupSettings) (asks : List Ask) (q : Query)
-        (conclusion : Conclusion) → IsZone zone → HasShortAliases zone
+        (conclusion : Conclusion) → IsZone zone
         → settings.preserve_intermediates ≡ false → All (IsAsked zone) asks
         → All IsOrdinary asks → ComesTo settings asks q conclusion
         → AgreesWithWalk zone q conclusion }
