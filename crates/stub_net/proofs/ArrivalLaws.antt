@@ -9,12 +9,12 @@ use Rattle.dns_tsig.specs.signer.Signer.{SignsRequest}
 use Rattle.dns_tsig.specs.declared.key.Key.{Key}
 use Rattle.stub_config.specs.declared.config.connection.Protocol.TheVariants.{Tcp, Udp}
 use Rattle.stub_link.specs.declared.link.LinkError.{LinkError}
-use Rattle.stub_net.specs.Script.{Receives, ScriptState, Sends, Streams, TakesEvent, TakesFirstSendFailure, in_time, passed, received, script_over, stream_result, too_late, transmit}
+use Rattle.stub_net.specs.Script.{Receives, ScriptState, Sends, Streams, TakesEvent, TakesFirstSendFailure, in_time, passed, received, script_calls, script_over, stream_result, too_late, transmit}
 use Rattle.stub_net.specs.declared.network.scripted.NetworkEvent.{NetworkEvent}
 use Rattle.stub_net.specs.declared.network.scripted.NetworkEvent.TheVariants.{Arrival, Failure, SendFailure, Silence}
 use Rattle.stub_net.specs.declared.network.scripted.TimedEvent.{TimedEvent}
 use Rattle.stub_net.specs.declared.network.scripted.Transmission.{Transmission}
-use Rattle.stub_net.specs.signed.Arrival.{IsAcceptedArrival, IsSignedArrival, script_calls}
+use Rattle.stub_net.specs.signed.Arrival.{IsAcceptedArrival, IsSignedArrival}
 use Rattle.stub_net.specs.signed.Reply.{BringsReply, EndsWithReply, IsAccepted, IsSignedReply, by_datagram, by_stream}
 use Rattle.stub_net.specs.signed.Signed.{time_at}
 use Rattle.stub_net.specs.signed.Run.{ClockRead, IsClockRead, IsOfWait, IsRun, IsStep, NetworkStep, Received, Sent, Streamed}

@@ -1,5 +1,5 @@
 -- The next event of a script.
-use Rattle.std.proofs.Common.{◌≡◌, ◌<◌, ◌≤◌, ℕ, List, [], ◌∷◌, length, get_or, refl, sym, subst, ◌∙◌, ap, arith}
+use Rattle.std.proofs.Common.{◌≡◌, ◌+◌, ◌-◌, ◌^◌, ◌<◌, ◌≤◌, min, ℕ, List, [], ◌∷◌, length, get_or, refl, sym, subst, ◌∙◌, ap, arith}
 use Rattle.std.specs.Prelude.{remove}
 use Rattle.stub_net.specs.Script.{ScriptState, TakesEvent, in_time, later, too_late}
 use Rattle.stub_net.specs.declared.network.scripted.NetworkEvent.TheVariants.{Silence}
@@ -14,6 +14,10 @@ first-removed (y ∷ ys) x rest h e r = ap (λ z. z ∷ ys) (sym e) ∙ ap (λ z
 pub nothing-left : (xs : List TimedEvent) → length xs ≡ 0 → xs ≡ []
 nothing-left [] e = refl
 nothing-left (x ∷ xs) e = absurd (omega arith)
+
+-- the sum of two numbers of 64 bits, up to the greatest one
+pub moment-later : (clock delay moment : ℕ) → clock ≤ 2 ^ 64 - 1 → moment ≡ min (clock + delay) (2 ^ 64 - 1) → moment ≡ later clock delay
+moment-later clock delay moment small is = omega arith
 
 -- the next event comes by the deadline
 pub taken-in-time : (deadline : ℕ) (old : ScriptState) (next : TimedEvent) (rest : List TimedEvent) (moment : ℕ) → old.script ≡ next ∷ rest → moment ≡ later old.clock next.delay → moment ≤ deadline

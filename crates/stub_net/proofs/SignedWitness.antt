@@ -40,7 +40,7 @@ use Rattle.stub_servers.specs.ServerList.{servers_from}
 use Rattle.stub_servers.specs.declared.server.Server.{Server}
 use Rattle.stub_net.specs.Exchange.{Exchanges, no_try, plan_runs, server_accepted, try_ends}
 use Rattle.stub_net.specs.Request.{Finds}
-use Rattle.stub_net.specs.Script.{ReadsClock, Receives, ScriptState, Sends, first_script, in_time}
+use Rattle.stub_net.specs.Script.{ReadsClock, Receives, ScriptState, Sends, first_script, in_time, script_calls}
 use Rattle.stub_net.specs.Try.{Tries, first_counts}
 use Rattle.stub_net.specs.Wait.{Awaits, other_arrives, reply_arrives}
 use Rattle.stub_net.specs.declared.network.scripted.NetworkEvent.TheVariants.{Arrival}
@@ -51,7 +51,6 @@ use Rattle.stub_net.specs.declared.requester.Requester.{Requester}
 use Rattle.stub_net.specs.signed.Reply.{BringsReply, EndsWithReply, by_datagram, by_stream}
 use Rattle.stub_net.specs.signed.Run.{ClockRead, NetworkStep, Received, Sent, Streamed}
 use Rattle.stub_net.specs.signed.Signed.{ReceivesSigned, SendsSigned, count_refusal, over, signed_calls, time_at}
-use Rattle.stub_net.specs.signed.Arrival.{script_calls}
 use Rattle.stub_net.specs.declared.signed.network.SignedNetwork.{SignedNetwork}
 
 -- ---- the messages

@@ -1,5 +1,5 @@
 -- What holds of every exchange.
-use Rattle.std.specs.Prelude.{◌≡◌, ◌+◌, ◌≤◌, true, false, List, [], ◌∷◌, ℕ, Option, Some, Result}
+use Rattle.std.specs.Prelude.{◌≡◌, ◌+◌, ◌≤◌, true, false, List, [], ◌∷◌, ℕ, Option, Some, None, Result, Ok, Err}
 use Rattle.std.specs.declared.net.socket_addr.SocketAddr.{SocketAddr}
 use Rattle.std.specs.declared.ops.ControlFlow.TheVariants.{Continue}
 use Rattle.dns_messages.specs.declared.message.Message.{Message}
@@ -36,12 +36,17 @@ pub record IsDeclinedByAll {N I : Type 0} (calls : NetworkCalls N) (m : Message)
 
 -- ---- bounds
 
--- A count that a send raises by at most a number, a stream by at most another, and no other call.
-pub record IsMeter {N : Type 0} (calls : NetworkCalls N) (count : N → ℕ) (by_send by_stream : ℕ) : Type 0 where
+-- A count that each call raises by at most a number: a send, a datagram that is received, a receive that ends without one, and a
+-- stream. A reading of the clock does not raise it. With the count of the receives less that of the datagrams that arrived, which a
+-- datagram does not raise, the law says that there are no more receives than datagrams that arrived and tries.
+pub record IsMeter {N : Type 0} (calls : NetworkCalls N) (count : N → ℕ) (by_send by_datagram by_end by_stream : ℕ) : Type 0 where
   pub sends : (old : N) (server : SocketAddr) (bytes : List ℕ) (result : Result (Unit {0}) LinkError) (new : N)
       → calls.sends old server bytes result new → count new ≤ count old + by_send
-  pub receives : (old : N) (deadline : ℕ) (result : Result (Option (List ℕ)) LinkError) (new : N)
-      → calls.receives old deadline result new → count new ≤ count old
+  pub arrives : (old : N) (deadline : ℕ) (bytes : List ℕ) (new : N)
+      → calls.receives old deadline (Ok (Some bytes)) new → count new ≤ count old + by_datagram
+  pub passes : (old : N) (deadline : ℕ) (new : N) → calls.receives old deadline (Ok None) new → count new ≤ count old + by_end
+  pub fails : (old : N) (deadline : ℕ) (error : LinkError) (new : N)
+      → calls.receives old deadline (Err error) new → count new ≤ count old + by_end
   pub streams : (old : N) (server : SocketAddr) (bytes : List ℕ) (deadline : ℕ) (result : Result (List ℕ) LinkError) (new : N)
       → calls.streams old server bytes deadline result new → count new ≤ count old + by_stream
   pub reads_clock : (old : N) (now : ℕ) (new : N) → calls.reads_clock old now new → count new ≤ count old

@@ -7,6 +7,7 @@ pub mod Try
 pub mod Verdict
 pub mod Exchange
 pub mod Pool
+pub mod Time
 pub mod Laws
 pub mod scrub
 pub mod signed

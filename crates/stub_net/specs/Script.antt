@@ -5,6 +5,7 @@ use Rattle.stub_config.specs.declared.config.connection.Protocol.{Protocol}
 use Rattle.stub_config.specs.declared.config.connection.Protocol.TheVariants.{Tcp, Udp}
 use Rattle.stub_link.specs.declared.link.LinkError.{LinkError}
 use Rattle.stub_link.specs.declared.link.LinkError.TheVariants.{Failed, Memory}
+use Rattle.stub_net.specs.Network.{NetworkCalls, network_calls}
 use Rattle.stub_net.specs.declared.network.scripted.NetworkEvent.{NetworkEvent}
 use Rattle.stub_net.specs.declared.network.scripted.NetworkEvent.TheVariants.{Arrival, Failure, SendFailure, Silence}
 use Rattle.stub_net.specs.declared.network.scripted.TimedEvent.{TimedEvent}
@@ -22,7 +23,7 @@ first_script script = record { clock = 0; script = script; sent = [] }
 
 -- so many milliseconds later, up to 2^64 - 1
 abbrev pub later : ℕ → ℕ → ℕ
-later clock delay = min (clock + delay) (2 ^ 64 - 1)
+later clock delay = clock + min delay (2 ^ 64 - 1 - clock)
 
 -- a message is given to send
 abbrev pub transmit : Protocol → SocketAddr → List ℕ → ScriptState → ScriptState
@@ -109,3 +110,7 @@ Streams old server bytes deadline result new =
 -- the clock is read
 abbrev pub ReadsClock : ScriptState → ℕ → ScriptState → Type 0
 ReadsClock old now new = (now ≡ old.clock) × (new ≡ old)
+
+-- the calls of a network in memory
+abbrev pub script_calls : NetworkCalls ScriptState
+script_calls = network_calls Sends Receives Streams ReadsClock

@@ -1,1 +1,3 @@
 pub mod IdLaws
+pub mod ClockLaws
+mod ClockWitness

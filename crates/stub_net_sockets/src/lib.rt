@@ -8,10 +8,12 @@
 //! - `stopwatch`: a clock that counts milliseconds and does not go back
 //! - `entropy`: sources of random bytes, of which one is the system; `random_ids`: ids from such bytes
 //! - `traced`: a network that tells on standard error what it does
+//! - `laws`: what holds of every exchange over sockets
 #![tactic(auto)]
 
 mod datagram;
 mod entropy;
+pub mod laws;
 mod random_ids;
 mod socket_network;
 mod stopwatch;

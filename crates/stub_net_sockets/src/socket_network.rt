@@ -1,6 +1,6 @@
 //! The network.
 
-ghost use Rattle.std.specs.Prelude.{◌≡◌, ◌≤◌, IfOk, None, Ok};
+ghost use Rattle.std.specs.Prelude.{◌≡◌, ◌<◌, ◌≤◌, IfOk, IsSome, None, Ok};
 
 use crate::datagram::DatagramSocket;
 use crate::stopwatch::Stopwatch;
@@ -21,7 +21,7 @@ const MAX_WAITS: u32 = 65_536;
 /// A network over sockets. `R` is the runtime, or a reference to it.
 ///
 /// The socket of a datagram is open until the next one is sent, or a stream is opened. A system call that a signal interrupts is
-/// repeated, at most 1,024 times.
+/// repeated, at most 1,024 times. The clock is read after each wait, so that the time of a wait belongs to the call that waited.
 #[derive(Drop)]
 pub struct SocketNetwork<R> {
     net: R,
@@ -46,10 +46,12 @@ impl<R: Net<Listener = TcpListener, Stream = TcpStream> + Clock + Drop> SocketNe
         })
     }
 
-    /// Receives the next datagram of the open socket, or `None` once the deadline has passed.
+    /// Receives the next datagram of the open socket, or `None` once the deadline has passed. Each wait begins before the
+    /// deadline, and the clock is read after it.
     fn receive(&mut self, deadline: u64) -> Result<Option<Vec<u8>>, SocketError>
         ensures kept { self.old.clock.last ≤ self.new.clock.last }
         ensures passed { result ≡ Ok None → deadline ≤ self.new.clock.last }
+        ensures arrived { IfOk result (λ found. IsSome found → self.old.clock.last < deadline) }
     {
         let Some(socket) = &self.socket else {
             return Err(SocketError::Failed);
@@ -59,7 +61,9 @@ impl<R: Net<Listener = TcpListener, Stream = TcpStream> + Clock + Drop> SocketNe
             if left == 0 {
                 return Ok(None);
             }
-            if let Some(count) = socket.receive(self.buffer.as_mut_slice(), left)? {
+            let received = socket.receive(self.buffer.as_mut_slice(), left);
+            self.clock.milliseconds();
+            if let Some(count) = received? {
                 let bytes = &self.buffer.as_slice()[..count];
                 return Ok(Some(Vec::from_slice(self.alloc, bytes)?));
             }
@@ -119,7 +123,9 @@ impl<R: Net<Listener = TcpListener, Stream = TcpStream> + Clock + Drop> Network
     ) -> Result<Vec<u8>, LinkError> {
         self.socket = None;
         let clock = &mut self.clock;
-        network_result(exchange(&self.net, self.alloc, clock, server, bytes, deadline))
+        let reply = exchange(&self.net, self.alloc, clock, server, bytes, deadline);
+        self.clock.milliseconds();
+        network_result(reply)
     }
 
     fn now(&mut self) -> u64 {

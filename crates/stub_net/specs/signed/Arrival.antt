@@ -6,18 +6,13 @@ use Rattle.dns_messages.specs.declared.response.DnsResponse.{DnsResponse}
 use Rattle.dns_tsig.specs.signer.Signer.{SignsRequest}
 use Rattle.dns_tsig.specs.declared.key.Key.{Key}
 use Rattle.stub_link.specs.Link.{Encodes}
-use Rattle.stub_net.specs.Network.{NetworkCalls, network_calls}
 use Rattle.stub_net.specs.Request.{Finds}
-use Rattle.stub_net.specs.Script.{ReadsClock, Receives, ScriptState, Sends, Streams}
+use Rattle.stub_net.specs.Script.{ScriptState}
 use Rattle.stub_net.specs.declared.network.scripted.NetworkEvent.TheVariants.{Arrival}
 use Rattle.stub_net.specs.declared.network.scripted.TimedEvent.{TimedEvent}
 use Rattle.stub_net.specs.declared.network.scripted.Transmission.{Transmission}
 use Rattle.stub_net.specs.signed.Reply.{IsAccepted}
 use Rattle.stub_net.specs.signed.Signed.{time_at}
-
--- the calls of a network in memory
-abbrev pub script_calls : NetworkCalls ScriptState
-script_calls = network_calls Sends Receives Streams ReadsClock
 
 -- A message of the script was accepted as the reply to a request. The request is in the last transmission, signed at its moment, and
 -- the clock has not moved since the reply was accepted.

@@ -1,13 +1,14 @@
 //! What holds of every exchange over a signed network, over whatever network below.
 
-ghost use Rattle.std.specs.Prelude.{ℕ, Ok};
+ghost use Rattle.std.specs.Prelude.{◌*◌, ℕ, Ok};
 ghost use Rattle.dns_messages.specs.declared.message.Message.{Message};
 ghost use Rattle.dns_messages.specs.declared.response.DnsResponse.{DnsResponse};
 ghost use Rattle.stub_net.specs.Exchange.{Exchanges};
 ghost use Rattle.stub_net.specs.Network.{network_calls};
 ghost use Rattle.stub_net.specs.declared.pool.NameServerPool.{NameServerPool};
-ghost use Rattle.stub_net.specs.Script.{ScriptState};
-ghost use Rattle.stub_net.specs.signed.Arrival.{IsSignedArrival, script_calls};
+ghost use Rattle.stub_net.specs.Script.{ScriptState, script_calls};
+ghost use Rattle.stub_net.specs.Time.{IsClock, IsTimed};
+ghost use Rattle.stub_net.specs.signed.Arrival.{IsSignedArrival};
 ghost use Rattle.stub_net.specs.signed.Reply.{IsSignedReply};
 ghost use Rattle.stub_net.specs.signed.Signed.{signed_calls};
 ghost use Rattle.stub_net.specs.declared.signed.network.SignedNetwork.{SignedNetwork};
@@ -35,4 +36,17 @@ pub fn signed_replies_arrive<I: IdSource>()
         → Exchanges (signed_calls script_calls) m old (Ok response) new
         → IsSignedArrival old.requester.network.signer.key old.requester.network.base m
         old.requester.network.network new.requester.network.network response }
+{}
+
+/// A network that signs has the clock of the network below. Where the calls of that one end in time, so do its own, with three times the
+/// slack: to ask over a stream it reads the clock, asks, and reads the clock.
+pub fn signed_networks_are_timed<N: Network>()
+    ensures clock { (clock : N → ℕ)
+        → IsClock (network_calls N.sends N.receives N.streams N.reads_clock) clock
+        → IsClock (signed_calls (network_calls N.sends N.receives N.streams N.reads_clock))
+        (λ signed. clock signed.network) }
+    ensures timed { (clock : N → ℕ) (slack : ℕ)
+        → IsTimed (network_calls N.sends N.receives N.streams N.reads_clock) clock slack
+        → IsTimed (signed_calls (network_calls N.sends N.receives N.streams N.reads_clock))
+        (λ signed. clock signed.network) (3 * slack) }
 {}

@@ -1,5 +1,5 @@
 use Rattle.std.specs.Prelude.{Ok}
-use Rattle.stub_net.specs.signed.Arrival.{script_calls}
+use Rattle.stub_net.specs.Script.{script_calls}
 use Rattle.stub_net.proofs.ArrivalLaws.{reply_arrived}
 use Rattle.stub_net.proofs.SignedLaws.{exchange_signed}
 use Rattle.stub_net.proofs.signed.laws.signed_replies_arrive.Goals as goal
