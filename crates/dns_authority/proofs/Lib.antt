@@ -9,6 +9,7 @@ pub mod CopyLaws
 pub mod ExistenceLaws
 pub mod OriginLaws
 pub mod PlainLaws
+mod SoundLaws
 pub mod SourceLaws
 pub mod StepLaws
 pub mod SetIndexLaws

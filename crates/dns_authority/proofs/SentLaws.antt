@@ -23,15 +23,15 @@ use Rattle.dns_authority.specs.Additional.{with_additionals}
 use Rattle.dns_authority.specs.Origin.{ComesFrom, IsAdditionalRecord, IsAnswerRecord, IsAuthorityRecord}
 use Rattle.dns_authority.specs.Step.{refusal}
 use Rattle.dns_authority.proofs.OriginLaws.{records_come}
-use Rattle.dns_authority.specs.replies.Reply.{answer_to, bare_answer_by_code, bare_answer_to_queries, reply}
+use Rattle.dns_authority.specs.replies.Reply.{answer_to, bare_answer_by_code, bare_answer_to_queries, reply, reply_with}
 use Rattle.dns_authority.specs.replies.Sending.{fits, fitting_count, fullest_sent, is_referral, rest_sent, sent, with_fitting, without_additionals}
 use Rattle.dns_authority.specs.replies.WholeSets.{set_start}
-use Rattle.dns_authority.specs.sent.Sent.{IsReplyWith, RecordsComeFrom}
+use Rattle.dns_authority.specs.sent.Sent.{AnswerTheQuestion, HasNoRecords, IsReplyWith, RecordsComeFrom}
 
 -- ---- parts of a section
 
 module _ {X : Type 0} (P : X → Type 0) where
-  all_taken : (n : ℕ) (xs : List X) → AllByRecursion P xs → AllByRecursion P (take n xs)
+  pub all_taken : (n : ℕ) (xs : List X) → AllByRecursion P xs → AllByRecursion P (take n xs)
   all_taken zero xs all = tt
   all_taken (suc n) [] all = tt
   all_taken (suc n) (x ∷ xs) all = (all.0, all_taken n xs all.1)
@@ -81,18 +81,29 @@ rest_part limit m = by (is_referral m) (fits limit (without_additionals m))
     by false true = fullest_part limit m
     by false false = cut_short
 
-sent_part : (limit : ℕ) (m : Message) → IsPart m (sent limit m)
+pub sent_part : (limit : ℕ) (m : Message) → IsPart m (sent limit m)
 sent_part limit m = by (fits limit m)
   where
     by : (b : Bool) → IsPart m (cond b m (rest_sent limit m))
     by true = all
     by false = rest_part limit m
 
-part_comes : (zones : List ZoneContent) (m part : Message) → IsPart m part → RecordsComeFrom zones m → RecordsComeFrom zones part
-part_comes zones m _ (fewer n) from = record { answers = from.answers; authorities = from.authorities; additionals = all_taken (IsAdditionalRecord zones) n m.additionals from.additionals }
-part_comes zones m _ bare from = record { answers = from.answers; authorities = from.authorities; additionals = tt }
-part_comes zones m _ all from = from
-part_comes zones m _ cut_short from = record { answers = tt; authorities = tt; additionals = tt }
+part_comes : (zones : List ZoneContent) (q : Query) (a : AuthorityAnswer) (m part : Message) → IsPart m part → RecordsComeFrom zones q a m → RecordsComeFrom zones q a part
+part_comes zones q a m _ (fewer n) from = record { answers = from.answers; authorities = from.authorities; additionals = all_taken (IsAdditionalRecord zones a.answers a.authorities) n m.additionals from.additionals }
+part_comes zones q a m _ bare from = record { answers = from.answers; authorities = from.authorities; additionals = tt }
+part_comes zones q a m _ all from = from
+part_comes zones q a m _ cut_short from = record { answers = tt; authorities = tt; additionals = tt }
+
+none_taken : {X : Type 0} (xs : List X) (n : ℕ) → xs ≡ [] → take n xs ≡ []
+none_taken [] zero e = refl
+none_taken [] (suc n) e = refl
+none_taken (x ∷ xs) n e = absurd (cc)
+
+part_empty : (m part : Message) → IsPart m part → HasNoRecords m → HasNoRecords part
+part_empty m _ (fewer n) none = record { answers = none.answers; authorities = none.authorities; additionals = none_taken m.additionals n none.additionals }
+part_empty m _ bare none = record { answers = none.answers; authorities = none.authorities; additionals = refl }
+part_empty m _ all none = none
+part_empty m _ cut_short none = record { answers = refl; authorities = refl; additionals = refl }
 
 part_whole : (m part : Message) → IsPart m part → part.metadata.truncation ≡ false → part.answers ≡ m.answers
 part_whole m _ (fewer n) e = refl
@@ -108,11 +119,22 @@ part_code m _ cut_short = refl
 
 -- ---- what is left of it
 
-cut_comes : (zones : List ZoneContent) (limit : ℕ) (m : Message) → RecordsComeFrom zones m → RecordsComeFrom zones (cut limit m)
-cut_comes zones limit m from = record {
-  answers = all_fitting (IsAnswerRecord zones) record_item limit (queries_end m) m.answers from.answers;
-  authorities = all_fitting (IsAuthorityRecord zones) record_item limit (answers_end limit m) m.authorities from.authorities;
-  additionals = all_fitting (IsAdditionalRecord zones) record_item limit (authorities_end limit m) m.additionals from.additionals;
+cut_comes : (zones : List ZoneContent) (q : Query) (a : AuthorityAnswer) (limit : ℕ) (m : Message) → RecordsComeFrom zones q a m → RecordsComeFrom zones q a (cut limit m)
+cut_comes zones q a limit m from = record {
+  answers = all_fitting (IsAnswerRecord zones q a.answers) record_item limit (queries_end m) m.answers from.answers;
+  authorities = all_fitting (IsAuthorityRecord zones q a.answers) record_item limit (answers_end limit m) m.authorities from.authorities;
+  additionals = all_fitting (IsAdditionalRecord zones a.answers a.authorities) record_item limit (authorities_end limit m) m.additionals from.additionals;
+}
+
+none_fits : {X : Type 0} (pieces : X → Position → List Piece) (limit : ℕ) (s : Position) (xs : List X) → xs ≡ [] → fitting_prefix pieces limit s xs ≡ []
+none_fits pieces limit s [] e = refl
+none_fits pieces limit s (x ∷ xs) e = absurd (cc)
+
+cut_empty : (limit : ℕ) (m : Message) → HasNoRecords m → HasNoRecords (cut limit m)
+cut_empty limit m none = record {
+  answers = none_fits record_item limit (queries_end m) m.answers none.answers;
+  authorities = none_fits record_item limit (answers_end limit m) m.authorities none.authorities;
+  additionals = none_fits record_item limit (authorities_end limit m) m.additionals none.additionals;
 }
 
 or_false : (a b : Bool) → (a || b) ≡ false → (a ≡ false) × (b ≡ false)
@@ -127,41 +149,62 @@ cut_whole limit m e =
 
 -- ---- the answer to a request
 
-refusal_comes : (zones : List ZoneContent) (code : ResponseCode) → ComesFrom zones (with_additionals zones (refusal code))
-refusal_comes zones code = record { answers = tt; authorities = tt; additionals = tt }
+-- an answer to a request with these questions: it has no records unless there is exactly one
+abbrev pub AnswerComes : List ZoneContent → List Query → AuthorityAnswer → Type 0
+AnswerComes zones (q ∷ []) a = ComesFrom zones q a
+AnswerComes zones queries a = (a.answers ≡ []) × (a.authorities ≡ []) × (a.additionals ≡ [])
 
-pub answer_comes : (any : AnyAnswer) (zones : List ZoneContent) (m : Message) → ComesFrom zones (answer_to any zones m)
+refusal_comes : (zones : List ZoneContent) (queries : List Query) (code : ResponseCode) → AnswerComes zones queries (with_additionals zones (refusal code))
+refusal_comes zones [] code = (refl, refl, refl)
+refusal_comes zones (q ∷ []) code = record { answers = tt; authorities = tt; additionals = tt }
+refusal_comes zones (q ∷ r ∷ more) code = (refl, refl, refl)
+
+pub answer_comes : (any : AnyAnswer) (zones : List ZoneContent) (m : Message) → AnswerComes zones m.queries (answer_to any zones m)
 answer_comes any zones m = by (nat_lt 0 (version_of m.edns))
   where
-    of_queries : (queries : List Query) → ComesFrom zones (with_additionals zones (bare_answer_to_queries any zones queries))
-    of_queries [] = refusal_comes zones FormErr
+    of_queries : (queries : List Query) → AnswerComes zones queries (with_additionals zones (bare_answer_to_queries any zones queries))
+    of_queries [] = refusal_comes zones [] FormErr
     of_queries (q ∷ []) = records_come any zones q
-    of_queries (q ∷ r ∷ more) = refusal_comes zones FormErr
+    of_queries (q ∷ r ∷ more) = refusal_comes zones (q ∷ r ∷ more) FormErr
 
-    of_code : (op : OpCode) → ComesFrom zones (with_additionals zones (bare_answer_by_code any zones m.queries op))
+    of_code : (op : OpCode) → AnswerComes zones m.queries (with_additionals zones (bare_answer_by_code any zones m.queries op))
     of_code ops.Query = of_queries m.queries
-    of_code other = refusal_comes zones NotImp
+    of_code other = refusal_comes zones m.queries NotImp
 
-    by : (b : Bool) → ComesFrom zones (with_additionals zones (cond b (refusal BADVERS) (bare_answer_by_code any zones m.queries m.metadata.op_code)))
-    by true = refusal_comes zones BADVERS
+    by : (b : Bool) → AnswerComes zones m.queries (with_additionals zones (cond b (refusal BADVERS) (bare_answer_by_code any zones m.queries m.metadata.op_code)))
+    by true = refusal_comes zones m.queries BADVERS
     by false = of_code m.metadata.op_code
 
+-- what is left of the reply with an answer that is sent
+reply_comes : (zones : List ZoneContent) (request : Message) (a : AuthorityAnswer) (limit : ℕ) (queries : List Query) → AnswerComes zones queries a
+    → AnswerTheQuestion zones queries a (cut limit (sent limit (reply_with request a)))
+reply_comes zones request a limit [] none =
+    let m : Message = reply_with request a in
+    let empty : HasNoRecords m = record { answers = none.0; authorities = none.1; additionals = none.2 } in
+    cut_empty limit (sent limit m) (part_empty m (sent limit m) (sent_part limit m) empty)
+reply_comes zones request a limit (q ∷ []) from =
+    let m : Message = reply_with request a in
+    let whole : RecordsComeFrom zones q a m = record { answers = from.answers; authorities = from.authorities; additionals = from.additionals } in
+    cut_comes zones q a limit (sent limit m) (part_comes zones q a m (sent limit m) (sent_part limit m) whole)
+reply_comes zones request a limit (q ∷ r ∷ more) none =
+    let m : Message = reply_with request a in
+    let empty : HasNoRecords m = record { answers = none.0; authorities = none.1; additionals = none.2 } in
+    cut_empty limit (sent limit m) (part_empty m (sent limit m) (sent_part limit m) empty)
+
 pub reply_is_with : (any : AnyAnswer) (zones : List ZoneContent) (request : Message) (limit : ℕ)
-    → IsReplyWith zones (answer_to any zones request) (cut limit (sent limit (reply any zones request)))
+    → IsReplyWith zones request.queries (answer_to any zones request) (cut limit (sent limit (reply any zones request)))
 reply_is_with any zones request limit =
     let m : Message = reply any zones request in
     let a : AuthorityAnswer = answer_to any zones request in
-    let from : ComesFrom zones a = answer_comes any zones request in
     let part : IsPart m (sent limit m) = sent_part limit m in
-    let whole : RecordsComeFrom zones m = record { answers = from.answers; authorities = from.authorities; additionals = from.additionals } in
     record {
-      records = cut_comes zones limit (sent limit m) (part_comes zones m (sent limit m) part whole);
+      records = reply_comes zones request a limit request.queries (answer_comes any zones request);
       whole = λ e. let left = cut_whole limit (sent limit m) e in left.1 ∙ part_whole m (sent limit m) part left.0;
       code = ap (remaining_code (remaining limit (sent limit m)).edns) (part_code m (sent limit m) part);
     }
 
 pub decoded_reply : (any : AnyAnswer) (zones : List ZoneContent) (request : Message) (limit : ℕ) (bytes : List ℕ)
     → Encodes limit (sent limit (reply any zones request)) bytes → IsSound (sent limit (reply any zones request))
-    → (decoded : Message) × (ReadsMessage bytes decoded × IsReplyWith zones (answer_to any zones request) decoded)
+    → (decoded : Message) × (ReadsMessage bytes decoded × IsReplyWith zones request.queries (answer_to any zones request) decoded)
 decoded_reply any zones request limit bytes encodes sound =
     (cut limit (sent limit (reply any zones request)), (encodes.decodes sound, reply_is_with any zones request limit))

@@ -21,11 +21,12 @@ pub fn plain_zones_answer_alike()
         → zone_answer (authority_answer any (zone ∷ []) q) ≡ answer zone q }
 {}
 
-/// Each record of an answer is a row of a zone, or is synthesized from one, as its definition names it. No record below a zone cut
-/// is in the answer section.
+/// Each record of an answer is a row of a zone, or is synthesized from one, as its definition names it. One in the answer section
+/// is of the type of the question or an alias, or of any type if the question is for ANY, at the name in the question or at one
+/// that the aliases of the section lead to, and not below a zone cut.
 pub fn records_come_from_zones()
     ensures { (any : AnyAnswer) (zones : List ZoneContent) (q : Query)
-        → ComesFrom zones (authority_answer any zones q) }
+        → ComesFrom zones q (authority_answer any zones q) }
 {}
 
 /// The code is `NXDomain` exactly if the name in the question does not exist, or the last of the aliases from it.
