@@ -1,5 +1,5 @@
 -- What is sent can be encoded and decoded again.
-use Rattle.std.proofs.Common.{◌≡◌, ◌==◌, ◌<◌, ◌≤◌, ◌^◌, ◌+◌, ◌-◌, ◌/◌, ◌%◌, ◌&&◌, ◌||◌, not, Bool, true, false, cond, ℕ, zero, suc, List, [], ◌∷◌, ◌++◌, map, length, take, drop, get_or, refl, sym, subst, ap, ◌∙◌, arith, length-append, Option, Some, None, Result, Ok, Err}
+use Rattle.std.proofs.Common.{◌≡◌, ◌==◌, ◌<◌, ◌≤◌, ◌^◌, ◌-◌, ◌&&◌, not, Bool, true, false, cond, ℕ, zero, suc, List, [], ◌∷◌, ◌++◌, map, length, take, drop, get_or, refl, sym, subst, ap, ◌∙◌, arith, length-append, Option, Some, None, Result, Ok, Err}
 use Rattle.std.specs.Prelude.{IfSome, nat_lt, slice_get, unwrap_or}
 use Rattle.std.specs.FinMap as rows_map
 use Rattle.std.specs.List.{AllByRecursion, Contains, find, range_with_len}
@@ -8,7 +8,6 @@ use Rattle.std.proofs.lemmas.Bool.{ltb-false}
 use Rattle.dns_wire.specs.Encodable.{whole_form}
 use Rattle.dns_wire.specs.Name.{max_name_len, name_len}
 use Rattle.dns_wire.specs.codes.DNSClass.{class_number}
-use Rattle.dns_wire.specs.codes.RecordType.{type_number, type_of}
 use Rattle.dns_wire.specs.declared.codes.dns_class.DNSClass.TheVariants.{IN}
 use Rattle.dns_wire.specs.declared.codes.record_type.RecordType.{RecordType}
 use Rattle.dns_wire.specs.declared.codes.record_type.RecordType.TheVariants as types
@@ -27,28 +26,27 @@ use Rattle.dns_messages.specs.declared.op_code.OpCode.{OpCode}
 use Rattle.dns_messages.specs.declared.op_code.OpCode.TheVariants as ops
 use Rattle.dns_messages.specs.declared.query.Query.{Query}
 use Rattle.dns_messages.specs.declared.response_code.ResponseCode.{ResponseCode}
-use Rattle.dns_messages.specs.declared.response_code.ResponseCode.TheVariants.{BADVERS, FormErr, NXDomain, NoError, NotImp, Refused, ServFail, YXDomain}
+use Rattle.dns_messages.specs.declared.response_code.ResponseCode.TheVariants.{BADVERS, NotImp, Refused}
 use Rattle.dns_messages.specs.Edns.{IsSoundEdns}
 use Rattle.dns_messages.specs.Encoding.{Encodes}
 use Rattle.dns_messages.specs.Grammar.{ReadsMessage}
 use Rattle.dns_messages.specs.Header.{code_number, code_of}
-use Rattle.dns_messages.specs.Message.{truncated, version_of}
-use Rattle.dns_messages.specs.Section.{is_opt_type, is_tsig_type}
+use Rattle.dns_messages.specs.Message.{version_of}
+use Rattle.dns_messages.specs.Section.{is_opt_type}
 use Rattle.dns_messages.specs.Sound.{IsExtendedBy, IsSound, IsSoundIn, IsSoundQuery, is_update_code}
 use Rattle.dns_records.specs.Record.{Record}
 use Rattle.dns_records.specs.RecordHead.{class_for}
 use Rattle.dns_records.specs.declared.row.Row.{Row}
 use Rattle.dns_zone.specs.Answer.{authority_row, max_aliases, negative_ttl, record_of}
-use Rattle.dns_zone.specs.Request.{repeated_by_code, repeated_queries}
+use Rattle.dns_zone.specs.Request.{repeated_by_code}
 use Rattle.dns_zone.specs.Rows.{AreRowsAt, AreSoundRows, IsSoundRow, IsSoundRowData, IsZone, Key, ZoneContent, key, rows_at}
-use Rattle.dns_zone.specs.Serving.{reply_edns}
 use Rattle.dns_server.specs.Zones.{closest}
 use Rattle.dns_authority.specs.declared.answer.AuthorityAnswer.{AuthorityAnswer}
 use Rattle.dns_authority.specs.declared.asked.AnyAnswer.{AnyAnswer}
 use Rattle.dns_authority.specs.declared.asked.Asked.{Asked}
 use Rattle.dns_authority.specs.declared.step.Step.{Step}
 use Rattle.dns_authority.specs.declared.step.Step.TheVariants.{End, Links}
-use Rattle.dns_authority.specs.Additional.{host_of, with_additionals}
+use Rattle.dns_authority.specs.Additional.{host_of}
 use Rattle.dns_authority.specs.Answer.{after_records, after_step, answer_at, bare_answer, is_unanswered, rest_at}
 use Rattle.dns_authority.specs.Asked.{asked_rows}
 use Rattle.dns_authority.specs.Origin.{ComesFrom, IsAdditionalRecord, IsAnswerRecord, IsAuthorityRecord, IsReached}
@@ -56,12 +54,12 @@ use Rattle.dns_authority.specs.Origin.IsReached.{by_alias, is_asked}
 use Rattle.dns_authority.specs.Origin.IsAnswerRecord.{redirected as redirected_alias, redirects, stored}
 use Rattle.dns_authority.specs.Origin.IsAuthorityRecord.{delegates, soa}
 use Rattle.dns_authority.specs.Origin.IsAdditionalRecord.{address, glue}
-use Rattle.dns_authority.specs.Step.{alias_target, closest_zone, followed_for, negative, positive, redirect, redirected, referral, refusal, step, step_at, step_below, step_by, step_in, step_over, step_to, step_with, synthesized, zone_at, zone_for}
-use Rattle.dns_authority.specs.replies.Reply.{answer_to, bare_answer_by_code, bare_answer_to_queries, edns_with, reply, reply_with}
+use Rattle.dns_authority.specs.Step.{alias_target, closest_zone, positive, redirect, redirected, referral, refusal, step, step_at, step_below, step_by, step_in, step_over, step_to, step_with, zone_at, zone_for}
+use Rattle.dns_authority.specs.replies.Reply.{answer_to, bare_answer_by_code, bare_answer_to_queries, edns_with, reply}
 use Rattle.dns_authority.specs.replies.Sending.{sent}
 use Rattle.dns_authority.specs.sent.Sent.{IsReplyWith}
-use Rattle.dns_authority.specs.steps.Barrier.{barrier, barrier_above, cut_at, is_barrier, is_cut, is_ds, names_above}
-use Rattle.dns_authority.specs.steps.Redirection.{after_label, dname_target, if_made, name_along, split_label, with_label, with_part, with_target}
+use Rattle.dns_authority.specs.steps.Barrier.{barrier, barrier_above, cut_at, is_barrier, is_cut, is_ds}
+use Rattle.dns_authority.specs.steps.Redirection.{after_label, dname_target, if_made, name_along, split_label, with_label, with_part}
 use Rattle.dns_authority.specs.steps.Wildcard.{answering_name}
 use Rattle.dns_authority.proofs.SentLaws.{AnswerComes, IsPart, all, all_taken, answer_comes, bare, cut_short, decoded_reply, fewer, sent_part}
 
@@ -241,7 +239,7 @@ alias_sound made f fits =
     }
 
 lowered_fits : (ttl : ℕ) (d : RData) → ttl < 2 ^ 32 → negative_ttl ttl d < 2 ^ 32
-lowered_fits ttl (of.SOA soa) h = omega arith
+lowered_fits ttl (of.SOA start) h = omega arith
 lowered_fits ttl other h = h
 
 alias_fqdn : (d : RData) (target : DomainName) → IsSoundData d → alias_target d ≡ Some target → target.is_fqdn ≡ true
@@ -426,15 +424,11 @@ short_code : (edns : Option Edns) (code : ResponseCode) → IsShort code → IsC
 short_code None code short = record { fits = omega (arith, short.0); named = short.1; extended = short.0 }
 short_code (Some e) code short = record { fits = omega (arith, short.0); named = short.1; extended = omega (arith, short.0) }
 
-bad_version : (edns : Option Edns) → nat_lt 0 (version_of edns) ≡ true → IsCodeOfReply edns BADVERS
-bad_version None e = absurd (cc)
-bad_version (Some e) is = record { fits = omega arith; named = refl; extended = refl }
-
-code_of_reply : (any : AnyAnswer) (zones : List ZoneContent) (request : Message) → IsCodeOfReply request.edns (answer_to any zones request).code
-code_of_reply any zones request = by (nat_lt 0 (version_of request.edns)) refl
+code_of_reply : (any : AnyAnswer) (zones : List ZoneContent) (request : Message) → version_of request.edns ≡ 0 → IsCodeOfReply request.edns (answer_to any zones request).code
+code_of_reply any zones request known = by (nat_lt 0 (version_of request.edns)) (ap (nat_lt 0) known)
   where
-    by : (b : Bool) → nat_lt 0 (version_of request.edns) ≡ b → IsCodeOfReply request.edns (cond b (refusal BADVERS) (bare_answer_by_code any zones request.queries request.metadata.op_code)).code
-    by true is = bad_version request.edns is
+    by : (b : Bool) → b ≡ false → IsCodeOfReply request.edns (cond b (refusal BADVERS) (bare_answer_by_code any zones request.queries request.metadata.op_code)).code
+    by true is = absurd (cc)
     by false is = short_code request.edns (bare_answer_by_code any zones request.queries request.metadata.op_code).code (code_short any zones request.queries request.metadata.op_code)
 
 -- ---- the reply
@@ -461,11 +455,11 @@ edns_sound (Some e) code = record {
   options = record { values = (tt, tt); fields = refl; type_fits = omega arith; type_named = refl; fits = omega arith };
 }
 
-whole_reply_sound : (any : AnyAnswer) (zones : List ZoneContent) (request : Message) → AllByRecursion IsZone zones → IsSound request → IsSound (reply any zones request)
-whole_reply_sound any zones request well_formed sound =
+whole_reply_sound : (any : AnyAnswer) (zones : List ZoneContent) (request : Message) → AllByRecursion IsZone zones → IsSound request → version_of request.edns ≡ 0 → IsSound (reply any zones request)
+whole_reply_sound any zones request well_formed sound known =
     let a : AuthorityAnswer = answer_to any zones request in
     let records : HasSoundRecords a = answered_records zones request.queries a well_formed sound.queries (answer_comes any zones request) in
-    let code : IsCodeOfReply request.edns a.code = code_of_reply any zones request in
+    let code : IsCodeOfReply request.edns a.code = code_of_reply any zones request known in
     let is_update : Bool = is_update_code request.metadata.op_code in
     record {
       metadata = record {
@@ -524,12 +518,12 @@ part_sound m _ cut_short h = record {
   signature = tt;
 }
 
-pub sent_sound : (any : AnyAnswer) (zones : List ZoneContent) (request : Message) (limit : ℕ) → AllByRecursion IsZone zones → IsSound request → IsSound (sent limit (reply any zones request))
-sent_sound any zones request limit well_formed sound =
-    part_sound (reply any zones request) (sent limit (reply any zones request)) (sent_part limit (reply any zones request)) (whole_reply_sound any zones request well_formed sound)
+pub sent_sound : (any : AnyAnswer) (zones : List ZoneContent) (request : Message) (limit : ℕ) → AllByRecursion IsZone zones → IsSound request → version_of request.edns ≡ 0 → IsSound (sent limit (reply any zones request))
+sent_sound any zones request limit well_formed sound known =
+    part_sound (reply any zones request) (sent limit (reply any zones request)) (sent_part limit (reply any zones request)) (whole_reply_sound any zones request well_formed sound known)
 
-pub decoded_sound_reply : (any : AnyAnswer) (zones : List ZoneContent) (request : Message) (limit : ℕ) (bytes : List ℕ) → AllByRecursion IsZone zones → IsSound request
+pub decoded_sound_reply : (any : AnyAnswer) (zones : List ZoneContent) (request : Message) (limit : ℕ) (bytes : List ℕ) → AllByRecursion IsZone zones → IsSound request → version_of request.edns ≡ 0
     → Encodes limit (sent limit (reply any zones request)) bytes
     → (decoded : Message) × (ReadsMessage bytes decoded × IsReplyWith zones request.queries (answer_to any zones request) decoded)
-decoded_sound_reply any zones request limit bytes well_formed sound encodes =
-    decoded_reply any zones request limit bytes encodes (sent_sound any zones request limit well_formed sound)
+decoded_sound_reply any zones request limit bytes well_formed sound known encodes =
+    decoded_reply any zones request limit bytes encodes (sent_sound any zones request limit well_formed sound known)

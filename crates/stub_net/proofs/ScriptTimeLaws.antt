@@ -1,13 +1,12 @@
 -- A script's clock: it does not go back, and no call ends after its deadline.
-use Rattle.std.proofs.Common.{◌≡◌, ◌+◌, ◌-◌, ◌^◌, ◌<◌, ◌≤◌, min, max, List, ℕ, Option, Some, None, Result, Ok, Err, refl, sym, ap, subst, ◌∙◌, arith, inl, inr}
+use Rattle.std.proofs.Common.{◌≡◌, ◌+◌, ◌≤◌, max, List, ℕ, Option, Some, Result, Ok, ap, arith, inl, inr}
 use Rattle.std.specs.declared.net.socket_addr.SocketAddr.{SocketAddr}
-use Rattle.stub_config.specs.declared.config.connection.Protocol.TheVariants.{Tcp, Udp}
+use Rattle.stub_config.specs.declared.config.connection.Protocol.TheVariants.{Tcp}
 use Rattle.stub_link.specs.declared.link.LinkError.{LinkError}
-use Rattle.stub_net.specs.Script.{Receives, ScriptState, Sends, Streams, TakesEvent, in_time, later, passed, received, script_calls, script_over, too_late, transmit}
+use Rattle.stub_net.specs.Script.{Receives, ScriptState, Sends, Streams, TakesEvent, in_time, passed, received, script_calls, script_over, too_late, transmit}
 use Rattle.stub_net.specs.Time.{IsTimed}
 use Rattle.stub_net.specs.declared.network.scripted.NetworkEvent.{NetworkEvent}
 use Rattle.stub_net.specs.declared.network.scripted.NetworkEvent.TheVariants.{Arrival, Failure, SendFailure, Silence}
-use Rattle.stub_net.specs.declared.network.scripted.TimedEvent.{TimedEvent}
 
 -- an event comes by the deadline, or leaves the clock as it is
 takes-forward : (deadline : ℕ) (old : ScriptState) (event : NetworkEvent) (mid : ScriptState) → TakesEvent deadline old event mid → old.clock ≤ mid.clock

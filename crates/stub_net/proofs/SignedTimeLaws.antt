@@ -4,7 +4,7 @@ use Rattle.std.specs.declared.net.socket_addr.SocketAddr.{SocketAddr}
 use Rattle.stub_link.specs.declared.link.LinkError.{LinkError}
 use Rattle.stub_net.specs.Network.{NetworkCalls}
 use Rattle.stub_net.specs.Time.{IsClock, IsTimed}
-use Rattle.stub_net.specs.signed.Signed.{AfterCame, AfterCheck, AfterSigned, AfterSignedStream, AfterStreamed, ChecksReply, ReadsTime, ReceivesSigned, SendsSigned, Signs, StreamsSigned, over, signed_calls}
+use Rattle.stub_net.specs.signed.Signed.{AfterCame, AfterCheck, AfterSigned, AfterSignedStream, AfterStreamed, ChecksReply, ReadsTime, Signs, over, signed_calls}
 use Rattle.stub_net.specs.declared.signed.network.SignedNetwork.{SignedNetwork}
 
 -- the clock of the network below

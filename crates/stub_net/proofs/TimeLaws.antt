@@ -1,5 +1,5 @@
 -- How long an exchange takes.
-use Rattle.std.proofs.Common.{◌≡◌, ◌+◌, ◌-◌, ◌*◌, ◌^◌, ◌<◌, ◌≤◌, max, min, Bool, true, false, List, ℕ, zero, suc, Option, Some, None, Result, Ok, Err, length, refl, sym, ap, subst, ◌∙◌, arith}
+use Rattle.std.proofs.Common.{◌≡◌, ◌+◌, ◌-◌, ◌*◌, ◌^◌, ◌≤◌, max, min, Bool, true, false, List, ℕ, Option, Some, None, Result, Ok, Err, length, refl, sym, ap, subst, ◌∙◌, arith}
 use Rattle.std.proofs.Math.Nat.{suc-mul}
 use Rattle.std.specs.declared.net.socket_addr.SocketAddr.{SocketAddr}
 use Rattle.std.specs.declared.ops.ControlFlow.{ControlFlow}
@@ -13,7 +13,7 @@ use Rattle.stub_net.specs.Exchange.{Exchanges, Runs, TriesPlace, all_tried, memo
 use Rattle.stub_net.specs.Network.{NetworkCalls}
 use Rattle.stub_net.specs.Request.{is_cut, is_cut_reply}
 use Rattle.stub_net.specs.Time.{EndsInTime, IsClock, IsTimed, prompt_calls}
-use Rattle.stub_net.specs.Try.{AfterDatagram, AfterSend, AsksDatagram, AsksStream, AwaitsReply, ReadsDeadline, SendsDatagram, TriesAddresses, count_datagram, count_stream, over_network}
+use Rattle.stub_net.specs.Try.{AfterDatagram, AfterSend, AsksStream, AwaitsReply, ReadsDeadline, SendsDatagram, TriesAddresses, count_datagram, count_stream, over_network}
 use Rattle.stub_net.specs.Wait.{Awaits, deadline_passes, no_memory_to_decode, no_memory_to_receive, none_left, other_arrives, receive_fails, reply_arrives}
 use Rattle.stub_net.specs.declared.pool.NameServerPool.{NameServerPool}
 use Rattle.stub_net.specs.declared.requester.Requester.{Requester}

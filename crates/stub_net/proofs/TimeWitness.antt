@@ -1,6 +1,6 @@
 -- A run that takes as long as an exchange may: two servers are asked in one round, each for the longest time. A datagram that is not
 -- the reply comes, and then, as the time-out of 100 milliseconds passes, a truncated reply; the stream is silent.
-use Rattle.std.proofs.Common.{◌≡◌, ◌<◌, ◌≤◌, ◌^◌, ◌-◌, ◌+◌, ◌*◌, ℕ, List, [], ◌∷◌, ◌++◌, true, false, length, Option, Some, None, Result, Ok, Err, refl, sym, subst, ap, arith, inl, inr, length-append}
+use Rattle.std.proofs.Common.{◌≡◌, ◌<◌, ◌≤◌, ◌^◌, ◌-◌, ◌+◌, ◌*◌, ℕ, List, [], ◌∷◌, true, false, length, Option, Some, None, Result, Ok, Err, refl, ap, arith, inl, inr, length-append}
 use Rattle.std.specs.Global.{Vec, Global}
 use Rattle.std.specs.declared.net.socket_addr.SocketAddr.{SocketAddr}
 use Rattle.std.specs.declared.ops.ControlFlow.TheVariants.{Continue}
@@ -30,7 +30,7 @@ use Rattle.stub_servers.specs.declared.server.Server.{Server}
 use Rattle.stub_net.specs.Exchange.{Exchanges, TriesPlace, all_tried, next_is_tried, no_try, plan_runs, server_declined}
 use Rattle.stub_net.specs.Laws.{IsMeter}
 use Rattle.stub_net.specs.Request.{Finds}
-use Rattle.stub_net.specs.Script.{Receives, ScriptState, Sends, Streams, TakesEvent, TakesFirstSendFailure, first_script, in_time, passed, script_calls, script_over, too_late, transmit}
+use Rattle.stub_net.specs.Script.{Receives, ScriptState, Streams, TakesEvent, first_script, in_time, passed, script_calls, script_over, too_late, transmit}
 use Rattle.stub_net.specs.Time.{EndsInTime}
 use Rattle.stub_net.specs.Try.{Tries, first_counts, stream_fails}
 use Rattle.stub_net.specs.Wait.{Awaits, other_arrives, reply_arrives}

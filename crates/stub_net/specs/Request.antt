@@ -1,5 +1,5 @@
 -- Requests, and which datagrams are the reply to one (RFC 5452 section 9.1).
-use Rattle.std.specs.Prelude.{◌≡◌, ◌&&◌, Bool, true, false, if◌then◌else◌, List, [], ℕ, Option, is_some, Ok, Err}
+use Rattle.std.specs.Prelude.{◌≡◌, ◌&&◌, Bool, true, false, if◌then◌else◌, List, ℕ, Option, is_some, Ok, Err}
 use Rattle.dns_messages.specs.Header.{peeked_metadata}
 use Rattle.dns_messages.specs.declared.message.Message.{Message}
 use Rattle.dns_messages.specs.declared.response.DnsResponse.{DnsResponse}

@@ -1,5 +1,5 @@
 -- The clock of a network over sockets.
-use Rattle.std.proofs.Common.{◌≡◌, ◌≤◌, ◌<◌, ℕ, Option, Some, Ok, refl, ap, arith}
+use Rattle.std.proofs.Common.{◌≡◌, refl, ap, arith}
 use Rattle.stub_net.specs.Time.{IsClock}
 use Rattle.stub_net_sockets.specs.SocketNetwork.{socket_calls, socket_clock}
 use Rattle.stub_net_sockets.specs.declared.socket_network.SocketNetwork.{SocketNetwork}

@@ -1,6 +1,6 @@
 -- An exchange over sockets each of whose calls ends in time, at most three milliseconds late. Two servers are asked in one round, with a
 -- time-out of 100 milliseconds. At each a datagram that is not the reply arrives, and the deadline passes.
-use Rattle.std.proofs.Common.{◌≡◌, ◌≤◌, ◌<◌, ◌-◌, ◌^◌, ℕ, List, [], ◌∷◌, Option, Some, None, true, false, Ok, Err, refl, arith}
+use Rattle.std.proofs.Common.{◌-◌, ◌^◌, ℕ, [], ◌∷◌, Some, None, true, false, Ok, Err, refl, arith}
 use Rattle.std.specs.Global.{Global}
 use Rattle.std.specs.declared.net.socket_addr.SocketAddr.{SocketAddr}
 use Rattle.std.specs.declared.ops.ControlFlow.TheVariants.{Continue}
@@ -18,7 +18,7 @@ use Rattle.stub_net.specs.declared.pool.NameServerPool.{NameServerPool}
 use Rattle.stub_net.specs.declared.requester.Requester.{Requester}
 use Rattle.stub_net.proofs.TimeLaws.{exchange-ends, prompt-is_timed}
 use Rattle.stub_net.proofs.TimeWitness.{encodes, no_message, question, request}
-use Rattle.stub_net_sockets.specs.SocketNetwork.{ReadsClock, ReceivesUntil, socket_calls, socket_clock}
+use Rattle.stub_net_sockets.specs.SocketNetwork.{socket_calls, socket_clock}
 use Rattle.stub_net_sockets.specs.declared.socket_network.SocketNetwork.{SocketNetwork}
 use Rattle.stub_net_sockets.proofs.ClockLaws.{sockets-clock}
 

@@ -1,4 +1,3 @@
-use Rattle.stub_net.specs.Time.{prompt_calls}
 use Rattle.stub_net.proofs.TimeLaws.{exchange-ends, prompt-is_timed}
 use Rattle.stub_net.proofs.laws.exchanges_end_in_time.Goals as goal
 
