@@ -18,18 +18,18 @@ ready_or states.Torn = inr (λ is. absurd cc)
 ready_or states.Lost = inr (λ is. absurd cc)
 
 -- nothing is asked
-pub asks_nothing : (new : List ℕ) (p : Position) → AsksToCompact new false p p []
-asks_nothing new p = record {
-  compacts = λ text bytes digest payloads at belongs one. nothing_done p text new bytes digest payloads belongs one at;
+pub asks_nothing : (new carried : List ℕ) (p : Position) → AsksToCompact new carried false p p []
+asks_nothing new carried p = record {
+  compacts = λ text bytes digest payloads at belongs one. nothing_done p text new carried bytes digest payloads belongs one at;
   idle = λ not. (refl, refl);
 }
 
 -- a journal that is ready is asked to append the mark
-pub asks_refused : (new : List ℕ) (p q : Position) (es : List Event) → p.state ≡ states.Ready
-    → ((bytes digest : List ℕ) (payloads : List (List ℕ)) → IsPosition p bytes digest payloads → (text : List ℕ) → Appends p q (mark new) false text bytes digest payloads es)
-    → AsksToCompact new false p q es
-asks_refused new p q es ready appends = record {
-  compacts = λ text bytes digest payloads at belongs one. append_refused p text new bytes digest payloads belongs one q es (appends bytes digest payloads at text);
+pub asks_refused : (new carried : List ℕ) (p q : Position) (es : List Event) → p.state ≡ states.Ready
+    → ((bytes digest : List ℕ) (payloads : List (List ℕ)) → IsPosition p bytes digest payloads → (text : List ℕ) → Appends p q (mark new carried) false text bytes digest payloads es)
+    → AsksToCompact new carried false p q es
+asks_refused new carried p q es ready appends = record {
+  compacts = λ text bytes digest payloads at belongs one. append_refused p text new carried bytes digest payloads belongs one q es (appends bytes digest payloads at text);
   idle = λ not. absurd (not ready);
 }
 
@@ -41,15 +41,15 @@ idle_calls entry payload p q errors.Full es not refused calls = (calls, refused.
 idle_calls entry payload p q errors.Storage es not refused calls = absurd (not refused.0)
 idle_calls entry payload p q errors.Memory es not refused calls = (calls, refused)
 
-pub asks_idle : (new entry payload : List ℕ) (p q : Position) (error : AppendError) (es : List Event) → p.state ≢ states.Ready → IsRefusal p payload q error
-    → AreCalls entry (Err error) q.state es → AsksToCompact new false p q es
-asks_idle new entry payload p q error es not refused calls =
+pub asks_idle : (new carried entry payload : List ℕ) (p q : Position) (error : AppendError) (es : List Event) → p.state ≢ states.Ready → IsRefusal p payload q error
+    → AreCalls entry (Err error) q.state es → AsksToCompact new carried false p q es
+asks_idle new carried entry payload p q error es not refused calls =
     let both = idle_calls entry payload p q error es not refused calls in
-    subst (λ (l : List Event). AsksToCompact new false p q l) (sym both.0) (subst (λ (r : Position). AsksToCompact new false p r []) (sym both.1) (asks_nothing new p))
+    subst (λ (l : List Event). AsksToCompact new carried false p q l) (sym both.0) (subst (λ (r : Position). AsksToCompact new carried false p r []) (sym both.1) (asks_nothing new carried p))
 
 -- a journal that is ready is compacted
-pub asks_done : (new : List ℕ) (done : Bool) (p q : Position) (es : List Event) → p.state ≡ states.Ready
+pub asks_done : (new carried : List ℕ) (done : Bool) (p q : Position) (es : List Event) → p.state ≡ states.Ready
     → ((text bytes digest : List ℕ) (payloads : List (List ℕ)) → IsPosition p bytes digest payloads → digest ≡ sha256 text → (sha256 new ≡ sha256 text → new ≡ text)
-    → Compacts p q done text new bytes digest payloads es)
-    → AsksToCompact new done p q es
-asks_done new done p q es ready compacts = record { compacts = compacts; idle = λ not. absurd (not ready) }
+    → Compacts p q done text new carried bytes digest payloads es)
+    → AsksToCompact new carried done p q es
+asks_done new carried done p q es ready compacts = record { compacts = compacts; idle = λ not. absurd (not ready) }

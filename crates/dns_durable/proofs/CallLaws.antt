@@ -1,9 +1,9 @@
 -- Calls of a history: what batches and compactions that succeed or are refused ask of a storage, and what they leave.
-use Rattle.std.proofs.Common.{◌≡◌, ◌≢◌, ◌+◌, ℕ, Bool, true, false, List, [], ◌∷◌, ◌++◌, length, take, drop, Ok, refl, sym, ap, subst, ◌∙◌, arith, inr, length-append}
+use Rattle.std.proofs.Common.{◌≡◌, ◌≢◌, ◌+◌, ◌<◌, ◌^◌, ℕ, Bool, true, false, List, [], ◌∷◌, ◌++◌, length, take, drop, Ok, refl, sym, ap, subst, ◌∙◌, arith, inr, length-append}
 use Rattle.std.proofs.lemmas.List.{take_at, drop_at, length-take}
 use Rattle.sha2.specs.Sha256.{sha256}
-use Rattle.dns_journal.specs.format.Format.{entry, first_link, header, next, IsShort}
-use Rattle.dns_journal.proofs.JournalLaws.{appended, new_journal, torn_write_cut}
+use Rattle.dns_journal.specs.format.Format.{entry, first_link, link_after, next, IsShort}
+use Rattle.dns_journal.proofs.JournalLaws.{appended, new_journal as header_is_journal, torn_write_cut}
 use Rattle.dns_journal.proofs.TornLaws.{frame_part}
 use Rattle.dns_journal.specs.declared.journal.Position.{Position}
 use Rattle.dns_journal.specs.declared.journal.State.TheVariants as states
@@ -12,14 +12,15 @@ use Rattle.dns_journal.specs.Event.{Event, Files}
 use Rattle.dns_journal.specs.Event as events
 use Rattle.dns_journal.specs.Storage.{Disk, Leaves, appended as written, at_rest}
 use Rattle.dns_journal.proofs.CrashLaws.{ready_appends}
-use Rattle.dns_durable.specs.recovery.Compacting.{mark}
+use Rattle.dns_durable.specs.recovery.Beginning.{new_journal}
+use Rattle.dns_durable.specs.recovery.Compacting.{mark, payloads_of}
 use Rattle.dns_durable.specs.recovery.Updating.{IsOpen, update_payload}
 use Rattle.dns_durable.proofs.AskingLaws.{asks_done}
-use Rattle.dns_durable.proofs.BeginningLaws.{first_digest, first_position, head_len}
+use Rattle.dns_durable.proofs.BeginningLaws.{first_digest, first_journal, first_position}
 use Rattle.dns_durable.proofs.CompactingLaws.{all_done}
 use Rattle.dns_durable.proofs.UpdatingLaws.{appends_update}
 use Rattle.dns_zone.specs.Rows.{ZoneContent}
-use Rattle.dns_durable.specs.Compaction.{IsRewritten, Rewrites}
+use Rattle.dns_durable.specs.Compaction.{IsTextBehind, Rewrites}
 use Rattle.dns_durable.specs.Durable.{Keeps, TakesEntry}
 use Rattle.dns_durable.specs.declared.durable_server.Replies.{Replies}
 use Rattle.dns_durable.specs.Storing.{Asks, entries_of}
@@ -84,37 +85,46 @@ answered p replies zones is takes =
 
 -- ---- compactions
 
--- the position in a journal without entries
-abbrev pub first : List ℕ → List ℕ → Position
-first text key = record { end = 64; digest = sha256 text; key = key; link = first_link (sha256 text ++ key); state = states.Ready }
+-- a new journal, with the updates that its text lacks
+abbrev pub begun : List ℕ → List ℕ → List ℕ → List ℕ
+begun text key carried = new_journal (sha256 text) key carried
 
--- a journal without entries
-abbrev pub begun : List ℕ → List ℕ → List ℕ
-begun text key = header (sha256 text ++ key)
+-- the position in it
+abbrev pub first : List ℕ → List ℕ → List ℕ → Position
+first text key carried = record {
+  end = length (begun text key carried);
+  digest = sha256 text;
+  key = key;
+  link = link_after key (first_link (sha256 text ++ key)) (payloads_of carried);
+  state = states.Ready;
+}
 
-pub first_is : (text key : List ℕ) → length key ≡ 16 → IsPosition (first text key) (begun text key) (sha256 text) []
-first_is text key size = first_position text key size new_journal (first text key) (record { end_is = refl; digest_is = refl; key_is = refl; link_is = refl; ready = refl })
+pub first_is : (text key carried : List ℕ) → length key ≡ 16 → length carried + 1 < 2 ^ 23 → IsPosition (first text key carried) (begun text key carried) (sha256 text) (payloads_of carried)
+first_is text key carried size short =
+    first_position text key size header_is_journal appended carried short (first text key carried) (record { end_is = refl; digest_is = refl; key_is = refl; link_is = refl; ready = refl })
 
 -- the calls that replace a text
-abbrev pub replacing : Position → List ℕ → List ℕ → List Event
-replacing p text key = events.Append (entry p.key p.link (mark text)) true ∷ events.Sync true ∷ events.ReplaceText text true ∷ events.ReplaceJournal (begun text key) true ∷ []
+abbrev pub replacing : Position → List ℕ → List ℕ → List ℕ → List Event
+replacing p text key carried =
+    events.Append (entry p.key p.link (mark text carried)) true ∷ events.Sync true ∷ events.ReplaceText text true ∷ events.ReplaceJournal (begun text key carried) true ∷ []
 
 -- a compaction that is done
-pub compacted : (p : Position) (text key : List ℕ) (zones : List ZoneContent) (again : ZoneContent) → p.state ≡ states.Ready → length key ≡ 16 → IsShort (mark text) → IsRewritten zones text again
-    → Rewrites text (Ok tt) p (first text key) zones (again ∷ []) (replacing p text key)
-compacted p text key zones again ready size short rewritten =
-    let es = appending p (mark text) in
-    let fs = events.ReplaceText text true ∷ events.ReplaceJournal (begun text key) true ∷ [] in
+pub compacted : (p : Position) (text key carried : List ℕ) (zones after : List ZoneContent) (again : ZoneContent) → p.state ≡ states.Ready → length key ≡ 16 → IsShort (mark text carried)
+    → length carried + 1 < 2 ^ 23 → IsTextBehind zones text carried again → TakesEntry (again ∷ []) carried after
+    → Rewrites text carried (Ok tt) p (first text key carried) zones after (replacing p text key carried)
+compacted p text key carried zones after again ready size short few behind_it served =
+    let es = appending p (mark text carried) in
+    let fs = events.ReplaceText text true ∷ events.ReplaceJournal (begun text key carried) true ∷ [] in
     record {
       again = again;
-      rewritten = rewritten;
-      served = λ _. refl;
+      behind = behind_it;
+      served = λ _. served;
       unchanged = λ e. absurd cc;
       ready = λ _. ready;
-      asks = asks_done text true p (first text key) (es ++ fs) ready
-          (λ old bytes digest payloads at belongs one. all_done p old text bytes digest payloads belongs one (behind p (mark text)) es
-          (ready_appends appended torn_write_cut old bytes digest (mark text) payloads short p at (entry p.key p.link (mark text)) refl es (behind p (mark text)) refl refl refl refl refl refl)
-          key (first_digest text key size) (new_journal (sha256 text ++ key) (head_len text key size)) (first text key) fs refl (first_is text key size) refl refl);
+      asks = asks_done text carried true p (first text key carried) (es ++ fs) ready
+          (λ old bytes digest payloads at belongs one. all_done p old text carried bytes digest payloads belongs one (behind p (mark text carried)) es
+          (ready_appends appended torn_write_cut old bytes digest (mark text carried) payloads short p at (entry p.key p.link (mark text carried)) refl es (behind p (mark text carried)) refl refl refl refl refl refl)
+          key (first_digest text key size) (first_journal text key size header_is_journal appended carried few) (first text key carried) fs refl (first_is text key carried size few) refl refl);
     }
 
 -- ---- a write that a crash tears

@@ -2,24 +2,25 @@
 use Rattle.std.proofs.Common.{◌≡◌, ◌≢◌, ◌⊎◌, ℕ, Bool, true, false, List, [], ◌∷◌, ◌++◌, drop, Result, Ok, Err, refl, sym, ap, subst, ◌∙◌, inl, inr, ⊎_elim, append_assoc, append-nil}
 use Rattle.std.specs.declared.alloc.AllocError.{AllocError}
 use Rattle.sha2.specs.Sha256.{sha256}
-use Rattle.dns_journal.specs.format.Format.{header}
 use Rattle.dns_journal.specs.declared.journal.Position.{Position}
 use Rattle.dns_journal.specs.declared.journal.State.TheVariants as states
 use Rattle.dns_journal.specs.Appending.{IsRemainder}
 use Rattle.dns_journal.specs.Event.{Event, Files}
 use Rattle.dns_journal.specs.Storage.{Always, Disk, Ends, LeavesOnly, at_rest}
-use Rattle.dns_durable.specs.recovery.Compacting.{IsOldOrNew, Recovers, mark}
+use Rattle.dns_durable.specs.recovery.Beginning.{new_journal}
+use Rattle.dns_durable.specs.recovery.Compacting.{IsOldOrNew, Recovers, entries_of, mark, payloads_of}
 use Rattle.dns_durable.specs.recovery.Updating.{IsOpen}
 use Rattle.dns_durable.proofs.AskingLaws.{ready_or}
+use Rattle.dns_durable.proofs.CompactingLaws.{carried_updates}
 use Rattle.dns_durable.proofs.EventLaws.{always_weaker, ends_then, ends_weaker}
 use Rattle.dns_durable.proofs.UpdatingLaws.{open_stands}
 use Rattle.dns_zone.specs.Rows.{ZoneContent}
-use Rattle.dns_durable.specs.Compaction.{IsLeftAlone, IsRewritten, Replaces, Rewrites}
+use Rattle.dns_durable.specs.Compaction.{IsLeftAlone, IsTextBehind, Replaces, Rewrites}
 use Rattle.dns_durable.specs.Durable.{Commits, EndsIn, IsUnchanged, LeadsTo, is_acknowledged}
 use Rattle.dns_durable.specs.declared.durable_server.Replies.{Replies}
 use Rattle.dns_durable.specs.declared.error.CompactError.{CompactError}
 use Rattle.dns_durable.specs.declared.error.CompactError.TheVariants as errors
-use Rattle.dns_durable.specs.History.{AreBatches, AreGenuine, AreInJournal, AreReady, Call, Deed, HasOwnDigest, HaveOwnDigests, IsBatch, IsGenuineOf, IsMade, IsServed, IsTextOf, KeepsContract, Kept, Outlasts, OutlastsInJournal, Runs, StandAfter, Writes, entries_in, events_of, is_done, position_after, text_after}
+use Rattle.dns_durable.specs.History.{AreBatches, AreGenuine, AreInJournal, AreReady, Call, Deed, HasOwnDigest, HaveOwnDigests, IsBatch, IsGenuineOf, IsMade, IsServed, IsTextOf, KeepsContract, Kept, Outlasts, OutlastsInJournal, Runs, StandAfter, Writes, entries_in, events_of, is_done, lacking, position_after, text_after}
 use Rattle.dns_durable.specs.History.Deed.{batch, compaction}
 use Rattle.dns_durable.specs.History.Kept.{nothing, with_it, without_it}
 use Rattle.dns_durable.specs.History.Runs.{a_call}
@@ -38,12 +39,12 @@ true_or true = inl refl
 true_or false = inr refl
 
 -- a compaction that is not done asks a storage, or is left alone
-not_done : (text : List ℕ) (error : CompactError) (old new : Position) (zones after : List ZoneContent) (es : List Event) → Rewrites text (Err error) old new zones after es
-    → Replaces text false old new zones after es ⊎ IsLeftAlone old new zones after es
-not_done text (errors.Journal error) old new zones after es rewrites = inl rewrites
-not_done text errors.Zones old new zones after es rewrites = inr rewrites
-not_done text errors.Text old new zones after es rewrites = inr rewrites
-not_done text errors.Memory old new zones after es rewrites = inr rewrites
+not_done : (text carried : List ℕ) (error : CompactError) (old new : Position) (zones after : List ZoneContent) (es : List Event) → Rewrites text carried (Err error) old new zones after es
+    → Replaces text carried false old new zones after es ⊎ IsLeftAlone old new zones after es
+not_done text carried (errors.Journal error) old new zones after es rewrites = inl rewrites
+not_done text carried errors.Zones old new zones after es rewrites = inr rewrites
+not_done text carried errors.Text old new zones after es rewrites = inr rewrites
+not_done text carried errors.Memory old new zones after es rewrites = inr rewrites
 
 -- ---- a journal that is not ready
 
@@ -57,10 +58,10 @@ idle_deed : (deed : Deed) (p new : Position) (zones after : List ZoneContent) (e
 idle_deed (batch frames outcome) p new zones after es not keeps =
     let left = (keeps.idle not).0 in
     record { unasked = left.unasked; position = left.position; none = λ is. (tt, entries_none frames (left.refused is)) }
-idle_deed (compaction text (Ok done)) p new zones after es not keeps = absurd (not (keeps.ready refl))
-idle_deed (compaction text (Err error)) p new zones after es not keeps =
+idle_deed (compaction text carried (Ok done)) p new zones after es not keeps = absurd (not (keeps.ready refl))
+idle_deed (compaction text carried (Err error)) p new zones after es not keeps =
     ⊎_elim (λ asks. let both = asks.asks.idle not in record { unasked = both.0; position = both.1; none = λ e. absurd cc })
-    (λ left. record { unasked = left.unasked; position = left.position; none = λ e. absurd cc }) (not_done text error p new zones after es keeps)
+    (λ left. record { unasked = left.unasked; position = left.position; none = λ e. absurd cc }) (not_done text carried error p new zones after es keeps)
 
 kept_none : (c : Call) (more : List Call) → (is_done c.deed ≡ true → IsBatch c.deed × (entries_in c.deed ≡ [])) → Kept more [] → Kept (c ∷ more) []
 kept_none c more none kept =
@@ -90,15 +91,15 @@ record IsBetween (text : List ℕ) (updates : List (List ℕ)) (p : Position) (z
   text_is : (files.text ≡ text) ⊎ Writes deed files.text
   stands : IsGenuineOf deed p files
       → ((files.text ≡ text) × (Recovers files updates ⊎ (IsBatch deed × Recovers files (updates ++ entries_in deed))))
-      ⊎ (Writes deed files.text × (((again : ZoneContent) × IsRewritten zones files.text again) × Recovers files []))
+      ⊎ (Writes deed files.text × (((again : ZoneContent) × IsTextBehind zones files.text (lacking deed) again) × Recovers files (entries_of (lacking deed))))
 
 -- what it leads to
 data Leads (text : List ℕ) (updates : List (List ℕ)) (p new : Position) (zones after : List ZoneContent) (deed : Deed) (d : Disk) (es : List Event) : Type 0 where
   stores : IsBatch deed → is_done deed ≡ true → IsServed deed zones after → Ends (IsOpen text (updates ++ entries_in deed) new) d es → Leads text updates p new zones after deed d es
   stays : is_done deed ≡ false → es ≡ [] → new ≡ p → after ≡ zones → Leads text updates p new zones after deed d es
   stops : is_done deed ≡ false → new.state ≢ states.Ready → Leads text updates p new zones after deed d es
-  replaces : (next : List ℕ) (again : ZoneContent) → Writes deed next → IsServed deed zones after → IsRewritten zones next again → text_after text deed ≡ next
-      → Ends (IsOpen next [] new) d es → Leads text updates p new zones after deed d es
+  replaces : (next : List ℕ) (again : ZoneContent) → Writes deed next → IsServed deed zones after → IsTextBehind zones next (lacking deed) again → text_after text deed ≡ next
+      → Ends (IsOpen next (entries_of (lacking deed)) new) d es → Leads text updates p new zones after deed d es
 
 record IsStep (text : List ℕ) (updates : List (List ℕ)) (p new : Position) (zones after : List ZoneContent) (deed : Deed) (d : Disk) (es : List Event) : Type 0 where
   moments : Always (LeavesOnly (IsBetween text updates p zones deed)) d es
@@ -141,58 +142,59 @@ module _ (text : List ℕ) (updates : List (List ℕ)) (p new : Position) (zones
 
 -- ---- compactions
 
-module _ (text : List ℕ) (updates : List (List ℕ)) (p new : Position) (zones after : List ZoneContent) (next : List ℕ) (d : Disk) (es : List Event) (opened : IsOpen text updates p d)
+module _ (text : List ℕ) (updates : List (List ℕ)) (p new : Position) (zones after : List ZoneContent) (next carried : List ℕ) (d : Disk) (es : List Event) (opened : IsOpen text updates p d)
     (own : sha256 next ≡ sha256 text → next ≡ text) where
-  compaction_between : (result : Result (Unit {0}) CompactError) (again : ZoneContent) → IsRewritten zones next again → (files : Files)
-      → IsOldOrNew p text next opened.bytes (sha256 text) opened.payloads files → IsBetween text updates p zones (compaction next result) files
-  compaction_between result again rewritten files at = record {
+  compaction_between : (result : Result (Unit {0}) CompactError) (again : ZoneContent) → IsTextBehind zones next carried again → (files : Files)
+      → IsOldOrNew p text next carried opened.bytes (sha256 text) opened.payloads files → IsBetween text updates p zones (compaction next carried result) files
+  compaction_between result again behind files at = record {
     text_is = at.text_is;
     stands = λ genuine. ⊎_elim
         (λ old. inl (old.0, inl (subst (λ (l : List (List ℕ)). Recovers files l) (sym opened.updates_are) old.1)))
-        (λ is_new. inr (is_new.0, ((again, subst (λ (t : List ℕ). IsRewritten zones t again) (sym is_new.0) rewritten), is_new.1)))
-        (at.stands (subst (λ (n : ℕ). IsRemainder p (mark next) (drop n files.journal)) opened.at.end_is genuine));
+        (λ is_new. inr (is_new.0, ((again, subst (λ (t : List ℕ). IsTextBehind zones t carried again) (sym is_new.0) behind), is_new.1)))
+        (at.stands (subst (λ (n : ℕ). IsRemainder p (mark next carried) (drop n files.journal)) opened.at.end_is genuine));
   }
 
-  compaction_moments : (result : Result (Unit {0}) CompactError) (done : Bool) → Replaces next done p new zones after es → Always (LeavesOnly (IsBetween text updates p zones (compaction next result))) d es
+  compaction_moments : (result : Result (Unit {0}) CompactError) (done : Bool) → Replaces next carried done p new zones after es
+      → Always (LeavesOnly (IsBetween text updates p zones (compaction next carried result))) d es
   compaction_moments result done at =
-      let P = LeavesOnly (IsOldOrNew p text next opened.bytes (sha256 text) opened.payloads) in
-      let Q = LeavesOnly (IsBetween text updates p zones (compaction next result)) in
+      let P = LeavesOnly (IsOldOrNew p text next carried opened.bytes (sha256 text) opened.payloads) in
+      let Q = LeavesOnly (IsBetween text updates p zones (compaction next carried result)) in
       subst (λ (e : Disk). Always Q e es) (sym opened.disk_is)
-      (always_weaker P Q (λ e holds files leaves. compaction_between result at.again at.rewritten files (holds files leaves)) (at_rest text opened.bytes) es
+      (always_weaker P Q (λ e holds files leaves. compaction_between result at.again at.behind files (holds files leaves)) (at_rest text opened.bytes) es
       (at.asks.compacts text opened.bytes (sha256 text) opened.payloads opened.at refl own).any_moment)
 
-  done_step : (done : Unit {0}) → Replaces next true p new zones after es → IsStep text updates p new zones after (compaction next (Ok done)) d es
+  done_step : (done : Unit {0}) → Replaces next carried true p new zones after es → IsStep text updates p new zones after (compaction next carried (Ok done)) d es
   done_step done at =
       let compacts = at.asks.compacts text opened.bytes (sha256 text) opened.payloads opened.at refl own in
-      let journal = header (sha256 next ++ new.key) in
+      let journal = new_journal (sha256 next) new.key carried in
       record {
         moments = compaction_moments (Ok done) true at;
-        leads = replaces next at.again refl (at.again, (at.rewritten, at.served refl)) at.rewritten refl
-            (subst (λ (e : Disk). Ends (IsOpen next [] new) e es) (sym opened.disk_is)
-            (ends_weaker (λ e. e ≡ at_rest next journal) (IsOpen next [] new)
-            (λ e is. record { bytes = journal; payloads = []; disk_is = is; at = compacts.position refl; updates_are = refl })
+        leads = replaces next at.again refl (at.again, (at.behind, at.served refl)) at.behind refl
+            (subst (λ (e : Disk). Ends (IsOpen next (entries_of carried) new) e es) (sym opened.disk_is)
+            (ends_weaker (λ e. e ≡ at_rest next journal) (IsOpen next (entries_of carried) new)
+            (λ e is. record { bytes = journal; payloads = payloads_of carried; disk_is = is; at = compacts.position refl; updates_are = carried_updates carried })
             (at_rest text opened.bytes) es (compacts.stored refl)));
       }
 
-  failed_leads : (error : CompactError) → Replaces next false p new zones after es → Leads text updates p new zones after (compaction next (Err error)) d es
+  failed_leads : (error : CompactError) → Replaces next carried false p new zones after es → Leads text updates p new zones after (compaction next carried (Err error)) d es
   failed_leads error at =
       let compacts = at.asks.compacts text opened.bytes (sha256 text) opened.payloads opened.at refl own in
       ⊎_elim (λ ready. let both = compacts.refused refl ready in stays refl both.0 both.1 (at.unchanged refl)) (λ stopped. stops refl stopped) (ready_or new.state)
 
-  failed_step : (error : CompactError) → Rewrites next (Err error) p new zones after es → IsStep text updates p new zones after (compaction next (Err error)) d es
+  failed_step : (error : CompactError) → Rewrites next carried (Err error) p new zones after es → IsStep text updates p new zones after (compaction next carried (Err error)) d es
   failed_step error rewrites = ⊎_elim
       (λ at. record { moments = compaction_moments (Err error) false at; leads = failed_leads error at })
       (λ left. record {
-        moments = subst (λ (l : List Event). Always (LeavesOnly (IsBetween text updates p zones (compaction next (Err error)))) d l) (sym left.unasked)
-            (open_between text updates p zones (compaction next (Err error)) d opened);
+        moments = subst (λ (l : List Event). Always (LeavesOnly (IsBetween text updates p zones (compaction next carried (Err error)))) d l) (sym left.unasked)
+            (open_between text updates p zones (compaction next carried (Err error)) d opened);
         leads = stays refl left.unasked left.position left.zones_are;
-      }) (not_done next error p new zones after es rewrites)
+      }) (not_done next carried error p new zones after es rewrites)
 
 step : (text : List ℕ) (updates : List (List ℕ)) (p new : Position) (zones after : List ZoneContent) (deed : Deed) (d : Disk) (es : List Event) → IsOpen text updates p d → HasOwnDigest text deed
     → KeepsContract deed p new zones after es → IsStep text updates p new zones after deed d es
 step text updates p new zones after (batch frames outcome) d es opened own keeps = batch_step text updates p new zones after frames d es outcome (keeps.commits text updates d opened)
-step text updates p new zones after (compaction next (Ok done)) d es opened own keeps = done_step text updates p new zones after next d es opened own done keeps
-step text updates p new zones after (compaction next (Err error)) d es opened own keeps = failed_step text updates p new zones after next d es opened own error keeps
+step text updates p new zones after (compaction next carried (Ok done)) d es opened own keeps = done_step text updates p new zones after next carried d es opened own done keeps
+step text updates p new zones after (compaction next carried (Err error)) d es opened own keeps = failed_step text updates p new zones after next carried d es opened own error keeps
 
 -- ---- what is left
 
@@ -234,7 +236,7 @@ interrupted text updates p zones c files ready at = record {
       }) old.1))
       (λ is_new. inr (inr (record {
         writes = is_new.0;
-        is_text = record { served = zones; again = is_new.1.0.0; serves = serves_none; rewritten = is_new.1.0.1 };
+        is_text = record { served = zones; again = is_new.1.0.0; serves = serves_none; behind = is_new.1.0.1 };
         recovers = is_new.1.1;
       }))) (at.stands (genuine.0 ready (inr refl)));
 }
@@ -261,8 +263,8 @@ after_stuck text updates p zones b done c files ready stopped not kept at = reco
         rest = done;
         done_is = refl;
         writes = is_new.0;
-        is_text = record { served = zones; again = is_new.1.0.0; serves = serves_none; rewritten = is_new.1.0.1 };
-        journal = in_journal files.text [] done c.deed files refl kept is_new.1.1;
+        is_text = record { served = zones; again = is_new.1.0.0; serves = serves_none; behind = is_new.1.0.1 };
+        journal = in_journal files.text (entries_of (lacking b.deed)) done c.deed files refl kept is_new.1.1;
       }))) (at.stands (genuine.0 ready (inl stopped)));
 }
 
@@ -278,12 +280,12 @@ stands_first text updates zones later_text later b done deed files served first 
       rest = at.rest;
       done_is = ap (λ (l : List Call). b ∷ l) at.done_is;
       writes = at.writes;
-      is_text = record { served = at.is_text.served; again = at.is_text.again; serves = serves_call {c = b} served at.is_text.serves; rewritten = at.is_text.rewritten };
+      is_text = record { served = at.is_text.served; again = at.is_text.again; serves = serves_call {c = b} served at.is_text.serves; behind = at.is_text.behind };
       journal = at.journal;
     })))
     (λ at. inr (inr (record {
       writes = at.writes;
-      is_text = record { served = at.is_text.served; again = at.is_text.again; serves = serves_call {c = b} served at.is_text.serves; rewritten = at.is_text.rewritten };
+      is_text = record { served = at.is_text.served; again = at.is_text.again; serves = serves_call {c = b} served at.is_text.serves; behind = at.is_text.behind };
       recovers = at.recovers;
     }))) replaced) stands
 
@@ -322,10 +324,11 @@ after_same text updates p q zones after b done c not served same same_zones file
 
 -- the first call has replaced the text
 after_replaced : (text : List ℕ) (updates : List (List ℕ)) (p : Position) (zones : List ZoneContent) (b : Call) (done : List Call) (c : Call) (next : List ℕ) (again : ZoneContent) → Writes b.deed next
-    → IsServed b.deed zones b.after → IsRewritten zones next again → (files : Files) → Outlasts next [] b.new b.after done c files → Outlasts text updates p zones (b ∷ done) c files
-after_replaced text updates p zones b done c next again writes served rewritten files at = record {
+    → IsServed b.deed zones b.after → IsTextBehind zones next (lacking b.deed) again → (files : Files)
+    → Outlasts next (entries_of (lacking b.deed)) b.new b.after done c files → Outlasts text updates p zones (b ∷ done) c files
+after_replaced text updates p zones b done c next again writes served behind files at = record {
   text_is = ⊎_elim (λ a. inl a) (λ is. inr (subst (λ (t : List ℕ). Writes b.deed t) (sym is) writes)) (of_next text next (done ++ c ∷ []) files.text at.text_is);
-  stands = λ genuine. stands_first text updates zones next [] b done c.deed files served
+  stands = λ genuine. stands_first text updates zones next (entries_of (lacking b.deed)) b done c.deed files served
       (λ rest. inr (inl (record {
         before = [];
         compacted = b;
@@ -336,7 +339,7 @@ after_replaced text updates p zones b done c next again writes served rewritten 
           served = zones;
           again = again;
           serves = serves_none;
-          rewritten = subst (λ (t : List ℕ). IsRewritten zones t again) (sym rest.text_is) rewritten;
+          behind = subst (λ (t : List ℕ). IsTextBehind zones t (lacking b.deed) again) (sym rest.text_is) behind;
         };
         journal = record { text_is = refl; kept = rest.kept; last = rest.last; are_kept = rest.are_kept; is_last = rest.is_last; recovers = rest.recovers };
       }))) (at.stands genuine.1);
@@ -357,17 +360,17 @@ at_rest_left text updates p zones d done c opened not runs files leaves =
 -- a call that was not done leaves the text and the zones
 text_stays : (text : List ℕ) (deed : Deed) → is_done deed ≡ false → text_after text deed ≡ text
 text_stays text (batch frames outcome) not = refl
-text_stays text (compaction next (Ok done)) not = absurd cc
-text_stays text (compaction next (Err error)) not = refl
+text_stays text (compaction next carried (Ok done)) not = absurd cc
+text_stays text (compaction next carried (Err error)) not = refl
 
 batch_stays : (text : List ℕ) (deed : Deed) → IsBatch deed → text_after text deed ≡ text
 batch_stays text (batch frames outcome) is = refl
-batch_stays text (compaction next result) is = absurd is
+batch_stays text (compaction next carried result) is = absurd is
 
 served_same : (deed : Deed) (zones after : List ZoneContent) → is_done deed ≡ false → after ≡ zones → IsServed deed zones after
 served_same (batch frames outcome) zones after not same = subst (λ (b : Bool). IsMade b frames zones after) (sym not) same
-served_same (compaction next (Ok done)) zones after not same = absurd cc
-served_same (compaction next (Err error)) zones after not same = same
+served_same (compaction next carried (Ok done)) zones after not same = absurd cc
+served_same (compaction next carried (Err error)) zones after not same = same
 
 -- a law for what is after a call is one for what is after it and others
 then_law : (P Q : Files → Type 0) (es : List Event) (done : List Call) → ((files : Files) → P files → Q files)
@@ -404,11 +407,12 @@ module _ (text : List ℕ) (updates : List (List ℕ)) (p : Position) (ready : p
       (λ e holds. stuck (LeavesOnly (Outlasts text updates p zones (b ∷ done) c)) b.new b.after e done c stopped runs
       (λ files leaves. after_stuck text updates p zones b done c files ready stopped not (stuck_kept b.new b.after done c stopped runs) (holds files leaves)))
       d b.events (always_ends (LeavesOnly (IsBetween text updates p zones b.deed)) d b.events moments)
-  by_leads moments (replaces next again writes served rewritten is ends) =
-      ends_weaker (IsOpen next [] b.new) Law
-      (λ e at. then_law (Outlasts next [] b.new b.after done c) (Outlasts text updates p zones (b ∷ done) c) c.events done
-      (after_replaced text updates p zones b done c next again writes served rewritten) e
-      (law_after next [] b.new b.after e at (own_if next is) runs)) d b.events ends
+  by_leads moments (replaces next again writes served behind is ends) =
+      let carried = entries_of (lacking b.deed) in
+      ends_weaker (IsOpen next carried b.new) Law
+      (λ e at. then_law (Outlasts next carried b.new b.after done c) (Outlasts text updates p zones (b ∷ done) c) c.events done
+      (after_replaced text updates p zones b done c next again writes served behind) e
+      (law_after next carried b.new b.after e at (own_if next is) runs)) d b.events ends
 
 pub outlasts : (text : List ℕ) (updates : List (List ℕ)) (p : Position) (zones : List ZoneContent) (d : Disk) (done : List Call) (c : Call) → IsOpen text updates p d → HaveOwnDigests text (done ++ c ∷ [])
     → Runs p zones (done ++ c ∷ []) → Ends (λ e. Always (LeavesOnly (Outlasts text updates p zones done c)) e c.events) d (events_of done)
@@ -433,7 +437,7 @@ outlasts text updates p zones d (b ∷ done) c opened own (a_call keeps runs) =
 
 batch_writes : (deed : Deed) (text : List ℕ) → IsBatch deed → Writes deed text → ⊥
 batch_writes (batch frames outcome) text is writes = absurd writes
-batch_writes (compaction next result) text is writes = absurd is
+batch_writes (compaction next carried result) text is writes = absurd is
 
 batches_own : (text : List ℕ) (calls : List Call) → AreBatches calls → HaveOwnDigests text calls
 batches_own text [] are = tt
@@ -441,7 +445,7 @@ batches_own text (c ∷ calls) are = (own c.deed are.0, batches_own (text_after 
   where
     own : (deed : Deed) → IsBatch deed → HasOwnDigest text deed
     own (batch frames outcome) is = tt
-    own (compaction next result) is = absurd is
+    own (compaction next carried result) is = absurd is
 
 batches_text : (former : List ℕ) (calls : List Call) (text : List ℕ) → AreBatches calls → IsTextOf former calls text → text ≡ former
 batches_text former [] text are is = is

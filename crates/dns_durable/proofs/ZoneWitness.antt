@@ -1,5 +1,5 @@
--- A zone, updates of it that add a TXT record each, and its text after the first one.
-use Rattle.std.proofs.Common.{◌≡◌, ◌≢◌, ◌≤◌, ◌<◌, ◌∙◌, arith, ℕ, Bool, true, false, cond, List, [], ◌∷◌, length, refl, sym, ap, subst, Option, Some, None, Ok, unwrap_or, is_some, ◌||◌, ◌==◌, ◌^◌, get_or}
+-- A zone, updates of it that add a TXT record each, and its text after the first one, which lacks the second.
+use Rattle.std.proofs.Common.{◌≡◌, ◌≢◌, ◌≤◌, ◌<◌, ◌∙◌, arith, ℕ, Bool, true, false, cond, List, [], ◌∷◌, length, refl, sym, ap, subst, Option, Some, None, Ok, unwrap_or, is_some, ◌||◌, ◌==◌, ◌^◌, get_or, ◌+◌, length-append}
 use Rattle.std.proofs.lemmas.Bool.Decides.{nat_tests}
 use Rattle.std.specs.FinMap as rows_map
 use Rattle.std.specs.Fmt.{digits}
@@ -42,7 +42,7 @@ use Rattle.dns_journal.specs.format.Format.{IsShort}
 use Rattle.dns_durable.specs.recovery.Compacting.{mark}
 use Rattle.dns_durable.specs.recovery.Updating.{update_payload}
 use Rattle.sha2.proofs.Facts256.{length-sha256}
-use Rattle.dns_durable.specs.Compaction.{IsFileText, IsRewritten}
+use Rattle.dns_durable.specs.Compaction.{IsFileText, IsRewritten, IsTextBehind}
 use Rattle.dns_durable.specs.Durable.{TakesEntry}
 use Rattle.dns_durable.specs.Durable.Takes.{no_frame, a_frame}
 use Rattle.dns_durable.specs.Rule.{entry_of, step_of}
@@ -149,6 +149,9 @@ frames_two = frames 98
 abbrev pub frames_three : List ℕ
 frames_three = frames 99
 
+abbrev pub frames_four : List ℕ
+frames_four = frames 100
+
 short : (letter : ℕ) → IsShort (update_payload (frames letter))
 short letter = let len : length (update_payload (frames letter)) ≡ 36 = refl in subst (λ (n : ℕ). n < 2 ^ 23) (sym len) (omega arith)
 
@@ -167,6 +170,9 @@ some_two e = absurd cc
 pub some_three : frames_three ≢ []
 some_three e = absurd cc
 
+pub some_four : frames_four ≢ []
+some_four e = absurd cc
+
 pub short_one : IsShort (update_payload frames_one)
 short_one = short 97
 
@@ -175,6 +181,9 @@ short_two = short 98
 
 pub short_three : IsShort (update_payload frames_three)
 short_three = short 99
+
+pub short_four : IsShort (update_payload frames_four)
+short_four = short 100
 
 -- no updates change nothing
 pub takes_none : (zones : List ZoneContent) → TakesEntry zones [] zones
@@ -266,7 +275,7 @@ stated k = subst (λ (o : Option (List Row)). IfSome o (AreStatedAt k)) (sym (ro
 is_read : ReadsZoneIn All [] None next_text (Ok grown)
 is_read = file_reads grown next_lines are_lines stated
 
-pub rewritten : IsRewritten (grown ∷ []) next_text grown
+rewritten : IsRewritten (grown ∷ []) next_text grown
 rewritten = record { zone = grown; zones_are = refl; is_text = is_text; is_read = is_read; is_same_text = is_text }
 
 -- ---- the zones after updates
@@ -289,6 +298,12 @@ after_three = step_of Plain after_two (update 99)
 pub takes_three : TakesEntry after_two frames_three after_three
 takes_three = takes 99 after_two after_three refl
 
+abbrev pub after_four : List ZoneContent
+after_four = step_of Plain after_three (update 100)
+
+pub takes_four : TakesEntry after_three frames_four after_four
+takes_four = takes 100 after_three after_four refl
+
 -- ---- the keys of its journals
 
 abbrev pub key : List ℕ
@@ -297,8 +312,18 @@ key = 1 ∷ 2 ∷ 3 ∷ 4 ∷ 5 ∷ 6 ∷ 7 ∷ 8 ∷ 9 ∷ 10 ∷ 11 ∷ 12 ∷
 abbrev pub next_key : List ℕ
 next_key = 16 ∷ 15 ∷ 14 ∷ 13 ∷ 12 ∷ 11 ∷ 10 ∷ 9 ∷ 8 ∷ 7 ∷ 6 ∷ 5 ∷ 4 ∷ 3 ∷ 2 ∷ 1 ∷ []
 
-pub short_mark : IsShort (mark next_text)
-short_mark = omega (arith, length-sha256 next_text)
+-- the second update is made while the text is written
+pub behind_two : IsTextBehind after_two next_text frames_two grown
+behind_two = record { base = grown ∷ []; rewritten = rewritten; carries = takes_two }
+
+frames_len : length frames_two ≡ 35
+frames_len = refl
+
+pub short_mark : IsShort (mark next_text frames_two)
+short_mark = omega (arith, length-sha256 next_text, length-append (sha256 next_text) frames_two, frames_len)
+
+pub few_two : length frames_two + 1 < 2 ^ 23
+few_two = omega (arith, frames_len)
 
 -- ---- their digests
 

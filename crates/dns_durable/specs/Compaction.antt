@@ -6,6 +6,7 @@ use Rattle.dns_journal.specs.declared.journal.State.TheVariants as states
 use Rattle.dns_journal.specs.Appending.{IsRefusal}
 use Rattle.dns_journal.specs.Event.{Event}
 use Rattle.dns_durable.specs.recovery.Compacting.{AsksToCompact, mark}
+use Rattle.dns_durable.specs.Durable.{TakesEntry}
 use Rattle.dns_zone.specs.Load.{ReadsZoneIn}
 use Rattle.dns_zone.specs.Printed.{IsZoneText}
 use Rattle.dns_zone.specs.Rows.{ZoneContent}
@@ -30,16 +31,24 @@ pub record IsRewritten (zones : List ZoneContent) (text : List ℕ) (again : Zon
   pub is_read : ReadsZoneIn All [] None text (Ok again)
   pub is_same_text : IsFileText again text
 
+-- A text lacks updates of zones: it is one of the only zone of others, from which these updates lead to the zones. The last one is the
+-- zone that is read from it.
+pub record IsTextBehind (zones : List ZoneContent) (text carried : List ℕ) (again : ZoneContent) : Type 0 where
+  pub base : List ZoneContent
+  pub rewritten : IsRewritten base text again
+  pub carries : TakesEntry base carried zones
+
 -- the zones of a server after a compaction: the one that was read again, if it was, or else the same
 abbrev pub zones_again : List ZoneContent → Option ZoneContent → List ZoneContent
 zones_again zones (Some again) = again ∷ []
 zones_again zones None = zones
 
--- a text of the only zone, and what is served once it has taken the place of a journal: the zone that is read from it
-pub record IsSuccessor (zones : List ZoneContent) (text : List ℕ) (read : Option ZoneContent) : Type 0 where
+-- A text that lacks updates, and what is served once it has taken the place of a journal: that to which these updates lead from the zone
+-- that is read from the text.
+pub record IsSuccessor (zones : List ZoneContent) (text carried : List ℕ) (read : Option ZoneContent) : Type 0 where
   pub again : ZoneContent
-  pub rewritten : IsRewritten zones text again
-  pub served : zones_again zones read ≡ again ∷ []
+  pub behind : IsTextBehind zones text carried again
+  pub served : TakesEntry (again ∷ []) carried (zones_again zones read)
 
 -- a text of the only zone, which can be stated
 pub record IsStatedText (zones : List ZoneContent) (text : List ℕ) : Type 0 where
@@ -48,15 +57,15 @@ pub record IsStatedText (zones : List ZoneContent) (text : List ℕ) : Type 0 wh
   pub is_text : IsFileText zone text
   pub stated : IsStated zone
 
--- A zone's text takes the place of the text and the updates of a journal, if that is done; the zone that is read from it is
--- served.
-pub record Replaces (text : List ℕ) (done : Bool) (old new : Position) (zones after : List ZoneContent) (es : List Event) : Type 0 where
+-- A zone's text takes the place of the text of a journal, and the updates that it lacks that of its updates, if that is done; then that is
+-- served to which these updates lead from the zone that is read from the text.
+pub record Replaces (text carried : List ℕ) (done : Bool) (old new : Position) (zones after : List ZoneContent) (es : List Event) : Type 0 where
   pub again : ZoneContent
-  pub rewritten : IsRewritten zones text again
-  pub served : done ≡ true → after ≡ again ∷ []
+  pub behind : IsTextBehind zones text carried again
+  pub served : done ≡ true → TakesEntry (again ∷ []) carried after
   pub unchanged : done ≡ false → after ≡ zones
   pub ready : done ≡ true → old.state ≡ states.Ready
-  pub asks : AsksToCompact text done old new es
+  pub asks : AsksToCompact text carried done old new es
 
 -- nothing is done
 pub record IsLeftAlone (old new : Position) (zones after : List ZoneContent) (es : List Event) : Type 0 where
@@ -64,13 +73,13 @@ pub record IsLeftAlone (old new : Position) (zones after : List ZoneContent) (es
   pub position : new ≡ old
   pub zones_are : after ≡ zones
 
--- What a compaction to a text asks of a storage, and the zones after it, by its result: nothing, unless the text is ready to take the
--- place of the old one.
-abbrev pub Rewrites : List ℕ → Result (Unit {0}) CompactError → Position → Position → List ZoneContent → List ZoneContent
+-- What a compaction to a text that lacks updates asks of a storage, and the zones after it, by its result: nothing, unless the text is
+-- ready to take the place of the old one.
+abbrev pub Rewrites : List ℕ → List ℕ → Result (Unit {0}) CompactError → Position → Position → List ZoneContent → List ZoneContent
     → List Event → Type 0
-Rewrites text (Ok done) old new zones after es = Replaces text true old new zones after es
-Rewrites text (Err (errors.Journal error)) old new zones after es = Replaces text false old new zones after es
-Rewrites text (Err other) old new zones after es = IsLeftAlone old new zones after es
+Rewrites text carried (Ok done) old new zones after es = Replaces text carried true old new zones after es
+Rewrites text carried (Err (errors.Journal error)) old new zones after es = Replaces text carried false old new zones after es
+Rewrites text carried (Err other) old new zones after es = IsLeftAlone old new zones after es
 
 -- a zone has a text that is not this one
 pub record HasOtherText (zone : ZoneContent) (text : List ℕ) : Type 0 where
@@ -106,9 +115,10 @@ pub record HasNoText (zones : List ZoneContent) : Type 0 where
 -- the journal does not take the mark of the text
 pub record IsRefusedText (old new : Position) (zones : List ZoneContent) (error : AppendError) : Type 0 where
   pub text : List ℕ
+  pub carried : List ℕ
   pub again : ZoneContent
-  pub rewritten : IsRewritten zones text again
-  pub refused : IsRefusal old (mark text) new error
+  pub behind : IsTextBehind zones text carried again
+  pub refused : IsRefusal old (mark text carried) new error
 
 -- why zones have no text that takes the place of a journal
 abbrev pub IsTextRefusal : List ZoneContent → CompactError → Type 0

@@ -8,7 +8,7 @@ use Rattle.dns_journal.specs.Appending.{IsRemainder}
 use Rattle.dns_journal.specs.Event.{Event, Files}
 use Rattle.dns_durable.specs.recovery.Compacting.{Recovers, mark}
 use Rattle.dns_zone.specs.Rows.{ZoneContent}
-use Rattle.dns_durable.specs.Compaction.{IsRewritten, Rewrites}
+use Rattle.dns_durable.specs.Compaction.{IsTextBehind, Rewrites}
 use Rattle.dns_durable.specs.Durable.{Keeps, TakesEntry, is_acknowledged}
 use Rattle.dns_durable.specs.Incoming.{AreAdmitted, changes_in}
 use Rattle.dns_durable.specs.Rule.{entry_of}
@@ -22,10 +22,10 @@ use Rattle.dns_durable.specs.declared.policy.Policy.{Policy}
 -- ---- calls
 
 -- What is called: a batch of requests, with the entry for the updates that it may make, and its outcome; or a compaction, with the
--- text that it writes, and its result.
+-- text that it writes, the updates that this lacks because they were made while it was written, and its result.
 pub data Deed : Type 0 where
   batch : List ℕ → Result Replies AllocError → Deed
-  compaction : List ℕ → Result (Unit {0}) CompactError → Deed
+  compaction : List ℕ → List ℕ → Result (Unit {0}) CompactError → Deed
 
 -- a call: what was called, what that asked of the storage, and what it left
 pub record Call : Type 0 where
@@ -37,7 +37,7 @@ pub record Call : Type 0 where
 -- a call keeps what its contract says
 abbrev pub KeepsContract : Deed → Position → Position → List ZoneContent → List ZoneContent → List Event → Type 0
 KeepsContract (batch frames outcome) old new zones after es = Keeps frames outcome old new zones after es
-KeepsContract (compaction text result) old new zones after es = Rewrites text result old new zones after es
+KeepsContract (compaction text carried result) old new zones after es = Rewrites text carried result old new zones after es
 
 -- The entry for the updates of requests, by the outcome: that for the updates that may be made, or none if memory was refused before
 -- the requests were decoded.
@@ -61,35 +61,41 @@ events_of (c ∷ more) = c.events ++ events_of more
 -- a batch of requests
 abbrev pub IsBatch : Deed → Type 0
 IsBatch (batch frames outcome) = Unit {0}
-IsBatch (compaction text result) = ⊥
+IsBatch (compaction text carried result) = ⊥
 
 -- batches of requests alone
 abbrev pub AreBatches : List Call → Type 0
 AreBatches [] = Unit {0}
 AreBatches (c ∷ more) = IsBatch c.deed × AreBatches more
 
--- whether a call was done: all updates of a batch were acknowledged, or the text of a compaction has taken the place of the journal
+-- Whether a call was done: all updates of a batch were acknowledged, or the text of a compaction and the updates that it lacks have
+-- taken the place of the old text and its journal.
 abbrev pub is_done : Deed → Bool
 is_done (batch frames outcome) = is_acknowledged outcome
-is_done (compaction text result) = is_ok result
+is_done (compaction text carried result) = is_ok result
 
 -- the entry of a call, if it has one
 abbrev pub entries_in : Deed → List (List ℕ)
 entries_in (batch frames outcome) = entries_of frames
-entries_in (compaction text result) = []
+entries_in (compaction text carried result) = []
+
+-- the entry of the updates that the text of a call lacks, if there are any: the new journal begins with it
+abbrev pub lacking : Deed → List ℕ
+lacking (batch frames outcome) = []
+lacking (compaction text carried result) = carried
 
 -- ---- the premises
 
 -- Another text than the one whose place it takes has another digest.
 abbrev pub HasOwnDigest : List ℕ → Deed → Type 0
 HasOwnDigest former (batch frames outcome) = Unit {0}
-HasOwnDigest former (compaction text result) = sha256 text ≡ sha256 former → text ≡ former
+HasOwnDigest former (compaction text carried result) = sha256 text ≡ sha256 former → text ≡ former
 
 -- the text after a call
 abbrev pub text_after : List ℕ → Deed → List ℕ
 text_after former (batch frames outcome) = former
-text_after former (compaction text (Ok done)) = text
-text_after former (compaction text (Err error)) = former
+text_after former (compaction text carried (Ok done)) = text
+text_after former (compaction text carried (Err error)) = former
 
 -- no text of a compaction has the digest of the one whose place it takes, unless it is equal
 abbrev pub HaveOwnDigests : List ℕ → List Call → Type 0
@@ -99,7 +105,7 @@ HaveOwnDigests former (c ∷ more) = HasOwnDigest former c.deed × HaveOwnDigest
 -- what a crash may leave of the entry that a call appends: that for its updates, or the mark of its text
 abbrev pub IsGenuineOf : Deed → Position → Files → Type 0
 IsGenuineOf (batch frames outcome) old files = IsGenuine frames old files
-IsGenuineOf (compaction text result) old files = IsRemainder old (mark text) (drop old.end files.journal)
+IsGenuineOf (compaction text carried result) old files = IsRemainder old (mark text carried) (drop old.end files.journal)
 
 -- A crash left of the write that it may have torn what it may leave, and no seal is right by chance in that. It is the write of
 -- the last call whose journal took entries: the last of all calls, or the one after which the journal took no further entries.
@@ -125,7 +131,7 @@ AreReady (c ∷ more) = (c.new.state ≡ states.Ready) × AreReady more
 abbrev pub MayBeKept : Call → Type 0
 MayBeKept c = IsBatch c.deed × ((is_done c.deed ≡ true) ⊎ (c.new.state ≢ states.Ready))
 
--- Entries of calls that no compaction has replaced, in order: those that were acknowledged are among them, and of the others at most
+-- Entries of calls after the last compaction, in order: those that were acknowledged are among them, and of the others at most
 -- one, that of the write that failed.
 pub data Kept : List Call → List (List ℕ) → Type 0 where
   nothing : Kept [] []
@@ -153,15 +159,17 @@ abbrev pub IsMade : Bool → List ℕ → List ZoneContent → List ZoneContent 
 IsMade true frames zones after = TakesEntry zones frames after
 IsMade false frames zones after = after ≡ zones
 
--- zones after a compaction, by whether it was done: the one that is read from the text of the only zone, or the same
-abbrev pub IsReadAgain : Bool → List ℕ → List ZoneContent → List ZoneContent → Type 0
-IsReadAgain true text zones after = (again : ZoneContent) × (IsRewritten zones text again × (after ≡ again ∷ []))
-IsReadAgain false text zones after = after ≡ zones
+-- zones after a compaction, by whether it was done: those to which the updates that its text lacks lead from the zone that is read from
+-- it, or the same
+abbrev pub IsReadAgain : Bool → List ℕ → List ℕ → List ZoneContent → List ZoneContent → Type 0
+IsReadAgain true text carried zones after =
+    (again : ZoneContent) × (IsTextBehind zones text carried again × TakesEntry (again ∷ []) carried after)
+IsReadAgain false text carried zones after = after ≡ zones
 
 -- zones after a call
 abbrev pub IsServed : Deed → List ZoneContent → List ZoneContent → Type 0
 IsServed (batch frames outcome) zones after = IsMade (is_acknowledged outcome) frames zones after
-IsServed (compaction text result) zones after = IsReadAgain (is_ok result) text zones after
+IsServed (compaction text carried result) zones after = IsReadAgain (is_ok result) text carried zones after
 
 -- zones after calls: those that exactly the acknowledged updates lead to, one after another
 pub data Serves : List ZoneContent → List Call → List ZoneContent → Type 0 where
@@ -169,35 +177,36 @@ pub data Serves : List ZoneContent → List Call → List ZoneContent → Type 0
   serves_call : {zones mid after : List ZoneContent} {c : Call} {more : List Call}
       → IsServed c.deed zones mid → Serves mid more after → Serves zones (c ∷ more) after
 
--- The text of a compaction after calls: it is one of the only zone, which exactly the acknowledged updates of these calls lead to,
--- and a zone with the same text is read from it.
-pub record IsTextAfter (zones : List ZoneContent) (before : List Call) (text : List ℕ) : Type 0 where
+-- The text of a compaction after calls, and the updates that it lacks: it is one of the only zone, from which these updates lead to
+-- exactly what the acknowledged updates of the calls lead to, and a zone with the same text is read from it.
+pub record IsTextAfter (zones : List ZoneContent) (before : List Call) (text carried : List ℕ) : Type 0 where
   pub served : List ZoneContent
   pub again : ZoneContent
   pub serves : Serves zones before served
-  pub rewritten : IsRewritten served text again
+  pub behind : IsTextBehind served text carried again
 
 -- a compaction that writes a text
 abbrev pub Writes : Deed → List ℕ → Type 0
 Writes (batch frames outcome) text = ⊥
-Writes (compaction new result) text = text ≡ new
+Writes (compaction new carried result) text = text ≡ new
 
--- Files have the text of a compaction, which has all acknowledged updates of the calls before it, and a journal with those of the
--- calls after it.
+-- Files have the text of a compaction, which has the acknowledged updates of the calls before it, but those that it lacks, and a journal
+-- with these and then those of the calls after it.
 pub record AreInText (zones : List ZoneContent) (done : List Call) (last_deed : Deed) (files : Files) : Type 0 where
   pub before : List Call
   pub compacted : Call
   pub rest : List Call
   pub done_is : done ≡ before ++ compacted ∷ rest
   pub writes : Writes compacted.deed files.text
-  pub is_text : IsTextAfter zones before files.text
-  pub journal : AreInJournal files.text [] rest last_deed files
+  pub is_text : IsTextAfter zones before files.text (lacking compacted.deed)
+  pub journal : AreInJournal files.text (entries_of (lacking compacted.deed)) rest last_deed files
 
--- Files have the text of the compaction that was interrupted, which has all acknowledged updates of the calls before it.
+-- Files have the text of the compaction that was interrupted, which has the acknowledged updates of the calls before it, but those that
+-- it lacks, which the journal has.
 pub record AreInLastText (zones : List ZoneContent) (done : List Call) (last_deed : Deed) (files : Files) : Type 0 where
   pub writes : Writes last_deed files.text
-  pub is_text : IsTextAfter zones done files.text
-  pub recovers : Recovers files []
+  pub is_text : IsTextAfter zones done files.text (lacking last_deed)
+  pub recovers : Recovers files (entries_of (lacking last_deed))
 
 -- Files have the updates of calls: in the journal of the text from before them, or in the text of the last compaction of them that
 -- has replaced it, and in the journal of that.

@@ -1,17 +1,13 @@
 -- Updates that arrive together are appended to a journal as one entry.
-use Rattle.std.specs.Prelude.{◌≡◌, ◌≢◌, ◌⊎◌, ℕ, Bool, true, false, List, [], ◌∷◌, ◌++◌, drop}
+use Rattle.std.specs.Prelude.{◌≡◌, ◌≢◌, ◌⊎◌, ℕ, Bool, true, false, List, [], ◌++◌, drop}
 use Rattle.dns_journal.specs.declared.journal.Position.{Position}
 use Rattle.dns_journal.specs.declared.journal.State.TheVariants as states
 use Rattle.dns_journal.specs.Appending.{IsRemainder}
 use Rattle.dns_journal.specs.Event.{Event, Files}
 use Rattle.dns_journal.specs.Storage.{Always, Disk, Ends, LeavesOnly}
 use Rattle.dns_durable.specs.recovery.Compacting.{Recovers}
+pub use Rattle.dns_durable.specs.recovery.Payloads.{entries_of}
 use Rattle.dns_durable.specs.recovery.Updating.{IsOpen, update_payload}
-
--- the entry for the frames of updates, if there are any
-abbrev pub entries_of : List ℕ → List (List ℕ)
-entries_of [] = []
-entries_of (byte ∷ bytes) = (byte ∷ bytes) ∷ []
 
 -- A crash left of the entry for frames all of it, or what an interrupted write leaves, and no seal is right by chance in that.
 abbrev pub IsGenuine : List ℕ → Position → Files → Type 0

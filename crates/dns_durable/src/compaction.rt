@@ -1,6 +1,7 @@
 //! The text of a zone takes the place of its journal.
 
 ghost use Rattle.std.specs.Prelude.{◌≡◌, ◌<◌, ◌↔◌, ◌∷◌, [], List, ℕ, string_bytes, false, Ok, option_map, unwrap_or, IfErr, IfOk, IfSome, IsOk, IsTrue};
+ghost use Rattle.sha2.specs.Sha256.{sha256};
 ghost use Rattle.dns_journal.specs.Storage.{Performs};
 ghost use Rattle.dns_journal.specs.declared.journal.State.TheVariants as states;
 ghost use Rattle.dns_durable.specs.Compaction.{HasOtherText, IsCompactRefusal, IsFileText, IsSuccessor, IsRewritten, IsStatedText, IsTextRefusal, Rewrites, is_want_of_memory};
@@ -8,8 +9,9 @@ ghost use Rattle.dns_durable.specs.zone_texts.Stated.{with_origin};
 
 use crate::durable_server::DurableServer;
 use crate::error::CompactError;
-use crate::recovery::compact;
+use crate::recovery::{NewText, compact};
 use crate::zone_texts::is_stated;
+use dns_journal::format::digest_of;
 use dns_journal::{State, Storage};
 use dns_names::Name;
 use dns_server::Server;
@@ -22,6 +24,10 @@ use std::alloc::{AllocError, Global};
 pub struct Rewritten {
     /// The text.
     pub text: String,
+    /// Its SHA-256 digest.
+    pub digest: [u8; 32],
+    /// The entry of the updates that it lacks, because they were made while it was written, or nothing.
+    pub carried: Vec<u8>,
     /// The zone that was read from it, unless that is known to be the same zone.
     pub zone: Option<Zone>,
 }
@@ -51,23 +57,36 @@ impl<S: Storage> DurableServer<S> {
     /// - [`CompactError::Text`] if no zone with the same text is read from the text of the zone;
     /// - [`CompactError::Memory`] if memory is refused.
     pub fn rewrite(&self, alloc: Global) -> Result<Rewritten, CompactError>
-        ensures ready { IfOk result (λ r. IsSuccessor self.now.server (string_bytes r.text) r.zone) }
+        ensures ready { IfOk result (λ r.
+            IsSuccessor self.now.server (string_bytes r.text) r.carried.items r.zone) }
+        ensures digest { IfOk result (λ r. r.digest ≡ sha256 (string_bytes r.text)) }
         ensures refused { IfErr result (IsTextRefusal self.now.server) }
     {
         match stated_text(alloc, self.server.zones())? {
-            Some(text) => Ok(Rewritten { text, zone: None }),
-            None => {
-                let ReadText { text, zone } = zone_text(alloc, self.server.zones())?;
+            Some(text) => {
+                let digest = digest_of(text.as_bytes());
                 Ok(Rewritten {
                     text,
+                    digest,
+                    carried: Vec::new(alloc),
+                    zone: None,
+                })
+            }
+            None => {
+                let ReadText { text, zone } = zone_text(alloc, self.server.zones())?;
+                let digest = digest_of(text.as_bytes());
+                Ok(Rewritten {
+                    text,
+                    digest,
+                    carried: Vec::new(alloc),
                     zone: Some(zone),
                 })
             }
         }
     }
 
-    /// Replaces the text of the journal by that of the zone, and begins a new journal with this key, which has to be drawn at random.
-    /// From then on, the zone that is read from the text is served.
+    /// Replaces the text of the journal by one of the zone, and begins a new journal with this key, which has to be drawn at random, and
+    /// with the updates that the text lacks. From then on, the zone that is read from the text is served, after these updates.
     ///
     /// # Errors
     ///
@@ -82,18 +101,30 @@ impl<S: Storage> DurableServer<S> {
         key: [u8; 16],
         rewritten: Rewritten,
     ) -> Result<(), CompactError>
-        requires { IsSuccessor self.old.server (string_bytes rewritten.text) rewritten.zone }
+        requires successor { IsSuccessor self.old.server (string_bytes rewritten.text)
+            rewritten.carried.items rewritten.zone }
+        requires digest { rewritten.digest ≡ sha256 (string_bytes rewritten.text) }
         ensures ready { IsOk result → self.old.journal.position.state ≡ states.Ready }
         ensures refused { IfErr result (IsCompactRefusal self.old.server
             self.old.journal.position self.new.journal.position) }
         ensures key { IsOk result → self.new.journal.position.key ≡ key }
         ensures performs { Performs S.performs self.old.journal.storage self.new.journal.storage
-            (λ es. Rewrites (string_bytes rewritten.text) result self.old.journal.position
-            self.new.journal.position self.old.server self.new.server es) }
+            (λ es. Rewrites (string_bytes rewritten.text) rewritten.carried.items result
+            self.old.journal.position self.new.journal.position self.old.server self.new.server es) }
     {
-        let Rewritten { text, zone } = rewritten;
+        let Rewritten {
+            text,
+            digest,
+            carried,
+            zone,
+        } = rewritten;
         let server = server_of(alloc, zone)?;
-        match compact(&mut self.journal, alloc, text.as_bytes(), key) {
+        let new = NewText {
+            text: text.as_bytes(),
+            digest,
+            carried: carried.as_slice(),
+        };
+        match compact(&mut self.journal, alloc, new, key) {
             Ok(()) => {
                 serve_again(&mut self.server, server);
                 Ok(())

@@ -24,9 +24,10 @@ pub fn responses_are_calls()
 {}
 
 /// After any batches and compactions, and at any moment of a further one, a crash leaves all updates that were acknowledged: in the
-/// text from before the calls and its journal; or in the text of a compaction, which is one of the zone that exactly the acknowledged
-/// updates before it lead to, and in the journal of that. A journal has its updates in order, none of them in part, with all that were
-/// acknowledged since its text was written. Of the further call there are all updates or none.
+/// text from before the calls and its journal; or in the text of a compaction and in the journal of that. Such a text may lack updates
+/// that were made while it was written, with which its journal begins: it is one of a zone from which these lead to the zone that exactly
+/// the acknowledged updates before the compaction lead to. A journal has its updates in order, none of them in part, with all that were
+/// acknowledged since then. Of the further call there are all updates or none.
 pub fn acknowledged_updates_outlast_crashes()
     ensures { (text : List ℕ) (updates : List (List ℕ)) (p : Position) (zones : List ZoneContent)
         (d : Disk) (done : List Call) (c : Call)

@@ -1,7 +1,7 @@
 -- What the opening of a journal does, and what a crash leaves of it.
-use Rattle.std.specs.Prelude.{◌≡◌, ◌≢◌, ◌⊎◌, ◌+◌, ◌-◌, ℕ, true, false, List, [], ◌∷◌, ◌++◌, length, drop, map, Result, Ok, Err}
+use Rattle.std.specs.Prelude.{◌≡◌, ◌≢◌, ◌⊎◌, ◌+◌, ◌-◌, ℕ, true, false, List, [], ◌∷◌, length, drop, map, Result, Ok, Err}
 use Rattle.sha2.specs.Sha256.{sha256}
-use Rattle.dns_journal.specs.format.Format.{digest_in, header, last_link, IsFault, IsJournal}
+use Rattle.dns_journal.specs.format.Format.{digest_in, last_link, IsFault, IsJournal}
 use Rattle.dns_journal.specs.declared.format.read.JournalContent.{JournalContent}
 use Rattle.dns_journal.specs.declared.storage.StoredFiles.{StoredFiles}
 use Rattle.dns_journal.specs.Appending.{IsPosition}
@@ -9,8 +9,8 @@ use Rattle.dns_journal.specs.Opening.{IsFrontOf, Resumes, whole_front}
 use Rattle.dns_journal.specs.Event.{Event, Files}
 use Rattle.dns_journal.specs.Event as events
 use Rattle.dns_journal.specs.Storage.{Always, Ends, LeavesOnly, at_rest}
-use Rattle.dns_durable.specs.recovery.Beginning.{IsFirst}
-use Rattle.dns_durable.specs.recovery.Compacting.{Recovers, last_payload, mark}
+use Rattle.dns_durable.specs.recovery.Beginning.{IsFirst, new_journal}
+use Rattle.dns_durable.specs.recovery.Compacting.{Recovers, entries_of, last_payload, mark}
 use Rattle.dns_durable.specs.recovery.Updating.{IsOpen}
 use Rattle.dns_durable.specs.declared.recovery.error.OpenError.{OpenError}
 use Rattle.dns_durable.specs.declared.recovery.error.OpenError.TheVariants as errors
@@ -31,7 +31,7 @@ pub record IsOfOtherText (files : Files) : Type 0 where
   pub end : List ℕ
   pub journal : IsJournal files.journal head payloads end
   pub other : digest_in head ≢ sha256 files.text
-  pub unmarked : last_payload payloads ≢ mark files.text
+  pub unmarked : (carried : List ℕ) → last_payload payloads ≢ mark files.text carried
 
 -- A journal belongs to its text: its digest is that of the text.
 pub record IsOfText (files : Files) : Type 0 where
@@ -67,14 +67,15 @@ Opens files (Ok opened) es = Always (LeavesOnly (Keeps files)) (at_rest files.te
 Opens files (Err (errors.Storage error)) es = Always (LeavesOnly (Keeps files)) (at_rest files.text files.journal) es
 Opens files (Err other) es = es ≡ []
 
--- a journal without entries is begun for a text, with a key
-abbrev pub Begins : List ℕ → List ℕ → Result Opened OpenError → List Event → Type 0
-Begins text key (Ok opened) es = (es ≡ events.ReplaceJournal (header (sha256 text ++ key)) true ∷ []) × (opened.updates.items ≡ [])
-    × IsFirst (sha256 text) key opened.position
-Begins text key (Err (errors.Storage error)) es = es ≡ events.ReplaceJournal (header (sha256 text ++ key)) false ∷ []
-Begins text key (Err errors.Memory) es = es ≡ []
-Begins text key (Err errors.OtherText) es = ⊥
-Begins text key (Err (errors.Journal error)) es = ⊥
+-- a journal is begun for a text, with a key and the updates that the text lacks
+abbrev pub Begins : List ℕ → List ℕ → List ℕ → Result Opened OpenError → List Event → Type 0
+Begins text key carried (Ok opened) es = (es ≡ events.ReplaceJournal (new_journal (sha256 text) key carried) true ∷ [])
+    × ((map (λ u. u.now) opened.updates.items ≡ entries_of carried) × IsFirst (sha256 text) key carried opened.position)
+Begins text key carried (Err (errors.Storage error)) es =
+    es ≡ events.ReplaceJournal (new_journal (sha256 text) key carried) false ∷ []
+Begins text key carried (Err errors.Memory) es = es ≡ []
+Begins text key carried (Err errors.OtherText) es = ⊥
+Begins text key carried (Err (errors.Journal error)) es = ⊥
 
 -- bytes are what was read as the content of a journal
 pub record IsContentOf (content : JournalContent) (bytes head : List ℕ) (payloads : List (List ℕ)) : Type 0 where

@@ -7,10 +7,7 @@ use Rattle.dns_journal.specs.Appending.{IsPosition, IsRemainder}
 use Rattle.dns_journal.specs.Event.{Event, Files}
 use Rattle.dns_journal.specs.Storage.{Always, Disk, Ends, LeavesOnly, at_rest}
 use Rattle.dns_durable.specs.recovery.Compacting.{Recovers, updates_in}
-
--- the payload of updates: a zero, and their bytes
-abbrev pub update_payload : List ℕ → List ℕ
-update_payload update = 0 ∷ update
+pub use Rattle.dns_durable.specs.recovery.Payloads.{update_payload}
 
 -- A journal is open: on the disk are its text, and the updates of this text up to its position.
 pub record IsOpen (text : List ℕ) (updates : List (List ℕ)) (position : Position) (d : Disk) : Type 0 where

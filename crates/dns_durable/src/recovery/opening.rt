@@ -1,15 +1,17 @@
 //! A journal that was read is opened.
 
-ghost use Rattle.std.specs.Prelude.{◌≡◌, ◌++◌, ◌∷◌, ◌↔◌, ◌⊎◌, [], length, map, IfOk, IfErr, IsTrue};
+ghost use Rattle.std.specs.Prelude.{◌≡◌, ◌≢◌, ◌<◌, ◌+◌, ◌^◌, ◌++◌, ◌∷◌, ◌↔◌, ◌⊎◌, List, ℕ, length, map, option_map, None, IfOk, IfErr, IfSome, IsTrue};
 ghost use Rattle.sha2.specs.Sha256.{sha256};
 ghost use Rattle.dns_journal.specs.Storage.{Performs};
-ghost use Rattle.dns_durable.specs.recovery.Compacting.{last_payload, updates_in, updates_of};
+ghost use Rattle.dns_durable.specs.recovery.Compacting.{entries_of, last_payload, updates_in, updates_of};
 ghost use Rattle.dns_durable.specs.recovery.Opening.{Begins, IsOfText, IsRefusal, Opens, ResumesUpdates, StandFor, files_read};
 
-use crate::recovery::beginning::new_journal;
+use crate::recovery::beginning::{NewJournal, new_journal};
 use crate::recovery::compacting::{MARK_TAG, UPDATE_TAG};
 use crate::recovery::error::OpenError;
-use dns_journal::format::laws::{a_header_is_a_journal, journals_read_unambiguously};
+use dns_journal::format::laws::{
+    a_header_is_a_journal, an_appended_entry_is_read, journals_read_unambiguously,
+};
 use dns_journal::format::{JournalContent, ReadError, digest_of, read_journal};
 use dns_journal::{Position, Storage, StoredFiles, resume};
 use std::alloc::{AllocError, Global};
@@ -24,7 +26,8 @@ pub struct Opened<'a> {
 }
 
 /// Opens the journal of files that were read: returns its updates and its position. A journal that is empty is begun, and so is one
-/// that ends with the mark of the text, both with this key, which has to be drawn at random. What follows the entries of another one is cut off, if the journal belongs to the text.
+/// that ends with the mark of the text, with the updates that the text lacks, both with this key, which has to be drawn at random. What
+/// follows the entries of another one is cut off, if the journal belongs to the text.
 ///
 /// # Errors
 ///
@@ -50,8 +53,9 @@ pub fn open_journal<'a, S: Storage>(
 {
     journals_read_unambiguously();
     a_header_is_a_journal();
+    an_appended_entry_is_read();
     if files.journal.is_empty() {
-        return begin(storage, alloc, files.text.as_slice(), key);
+        return begin(storage, alloc, files.text.as_slice(), key, &[]);
     }
     let content = match read_journal(alloc, files.journal.as_slice()) {
         Ok(content) => content,
@@ -63,36 +67,53 @@ pub fn open_journal<'a, S: Storage>(
     if is_same(&content.head[0..32], digest.as_slice()) {
         return resume_updates(storage, alloc, &content);
     }
-    if !is_mark(last_payload(content.payloads.as_slice()), digest.as_slice()) {
-        return Err(OpenError::OtherText);
+    match carried_by(last_payload(content.payloads.as_slice()), digest.as_slice()) {
+        Some(carried) => begin(storage, alloc, files.text.as_slice(), key, carried),
+        None => Err(OpenError::OtherText),
     }
-    begin(storage, alloc, files.text.as_slice(), key)
 }
 
-/// Begins a journal for a text, without updates and with a key.
+/// Begins a journal for a text, with the updates that this lacks and a key.
 fn begin<'a, S: Storage>(
     storage: &mut S,
     alloc: Global,
     text: &[u8],
     key: [u8; 16],
+    carried: &'a [u8],
 ) -> Result<Opened<'a>, OpenError>
-    ensures none { IfOk result (λ opened. opened.updates.items ≡ []) }
+    requires { length carried.now + 1 < 2 ^ 23 }
+    ensures updates { IfOk result (λ opened. map (λ u. u.now) opened.updates.items
+        ≡ entries_of carried.now) }
     ensures key { IfOk result (λ opened. opened.position.key ≡ key) }
     ensures len { length key ≡ 16 }
-    ensures performs { Performs S.performs storage.old storage.new (Begins text.now key result) }
+    ensures performs { Performs S.performs storage.old storage.new
+        (Begins text.now key carried.now result) }
 {
-    let new = match new_journal(alloc, digest_of(text), key) {
-        Ok(new) => new,
-        // Memory for the header was refused.
+    let updates = match entries_of(alloc, carried) {
+        Ok(updates) => updates,
+        // Memory for the list of updates was refused.
         Err(_) => return Err(OpenError::Memory),
     };
-    match storage.replace_journal(new.header.as_slice()) {
-        Ok(()) => Ok(Opened {
-            updates: Vec::new(alloc),
-            position: new.position,
-        }),
+    let NewJournal { bytes, position } = match new_journal(alloc, digest_of(text), key, carried) {
+        Ok(new) => new,
+        // Memory for the journal was refused.
+        Err(_) => return Err(OpenError::Memory),
+    };
+    match storage.replace_journal(bytes.as_slice()) {
+        Ok(()) => Ok(Opened { updates, position }),
         Err(error) => Err(OpenError::Storage(error)),
     }
+}
+
+/// Returns the entry for bytes of updates, if there are any.
+fn entries_of<'a>(alloc: Global, updates: &'a [u8]) -> Result<Vec<&'a [u8]>, AllocError>
+    ensures { IfOk result (λ entries. map (λ u. u.now) entries.items ≡ entries_of updates.now) }
+{
+    let mut entries = Vec::new(alloc);
+    if !updates.is_empty() {
+        entries.push(updates)?;
+    }
+    Ok(entries)
 }
 
 /// Returns the updates of a journal that was read, and cuts off what follows its entries.
@@ -157,13 +178,37 @@ fn last_payload<'a>(payloads: &[&'a [u8]]) -> &'a [u8]
     last
 }
 
-/// Returns `true` if a payload is the mark of a text with this digest.
-fn is_mark(payload: &[u8], digest: &[u8]) -> bool
-    ensures { IsTrue result ↔ (payload.now ≡ 1 ∷ digest.now) }
+/// Returns the bytes of the updates that a text with this digest lacks, if a payload is its mark.
+fn carried_by<'a>(payload: &'a [u8], digest: &[u8]) -> Option<&'a [u8]>
+    requires { length digest.now ≡ 32 }
+    ensures found { IfSome result (λ carried. payload.now ≡ 1 ∷ (digest.now ++ carried.now)) }
+    ensures none { result ≡ None → (carried : List ℕ) → payload.now ≢ 1 ∷ (digest.now ++ carried) }
 {
     match payload {
-        [tag, rest @ ..] => *tag == MARK_TAG && is_same(rest, digest),
-        [] => false,
+        [tag, rest @ ..] => {
+            if *tag == MARK_TAG {
+                behind(rest, digest)
+            } else {
+                None
+            }
+        }
+        [] => None,
+    }
+}
+
+/// Returns what follows the first 32 bytes, if these are a digest.
+fn behind<'a>(bytes: &'a [u8], digest: &[u8]) -> Option<&'a [u8]>
+    requires { length digest.now ≡ 32 }
+    ensures found { IfSome result (λ rest. bytes.now ≡ digest.now ++ rest.now) }
+    ensures none { result ≡ None → (rest : List ℕ) → bytes.now ≢ digest.now ++ rest }
+{
+    if bytes.len() < 32 {
+        return None;
+    }
+    if is_same(&bytes[..32], digest) {
+        Some(&bytes[32..])
+    } else {
+        None
     }
 }
 

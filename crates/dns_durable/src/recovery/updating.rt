@@ -1,14 +1,14 @@
 //! Updates are appended to a journal that is open.
 
-ghost use Rattle.std.specs.Prelude.{◌≡◌, ◌<◌, ◌^◌, ◌+◌, List, ℕ, length, is_ok, IfErr, IfOk, IsOk};
+ghost use Rattle.std.specs.Prelude.{◌≡◌, List, ℕ, is_ok, IfErr, IsOk};
 ghost use Rattle.dns_journal.specs.Appending.{IsRefusal};
 ghost use Rattle.dns_journal.specs.Storage.{Disk, Performs};
 ghost use Rattle.dns_journal.specs.declared.journal.State.TheVariants as states;
 ghost use Rattle.dns_durable.specs.recovery.Updating.{AppendsUpdate, IsOpen, update_payload};
 
-use crate::recovery::compacting::UPDATE_TAG;
+use crate::recovery::beginning::payload_of;
 use dns_journal::{AppendError, Journal, Storage};
-use std::alloc::{AllocError, Global};
+use std::alloc::Global;
 
 /// Appends the bytes of updates, and returns once they are on the disk.
 ///
@@ -35,14 +35,4 @@ pub fn append_update<S: Storage>(
         Err(_) => return Err(AppendError::Memory),
     };
     journal.append(alloc, payload.as_slice())
-}
-
-/// Returns the payload of updates.
-fn payload_of(alloc: Global, update: &[u8]) -> Result<Vec<u8>, AllocError>
-    ensures payload { IfOk result (λ payload. payload.items ≡ update_payload update.now) }
-{
-    let mut payload = Vec::new(alloc);
-    payload.push(UPDATE_TAG)?;
-    payload.extend_from_slice(update)?;
-    Ok(payload)
 }

@@ -14,12 +14,14 @@ returns-in-Ok-clause-performs g c =
       events = es;
       led = c.in-Ok.ensures.performs.led;
       holds = record {
-        again = c.requires.again;
-        rewritten = c.requires.rewritten;
-        served = λ _. served_again c.args.self.now.server c.serve_again.new.server c.args.rewritten.zone c.in_ok-server.server c.requires.again c.in_ok-server.ensures.ok c.serve_again.ensures c.requires.served;
+        again = c.requires.successor.again;
+        behind = c.requires.successor.behind;
+        served = λ _. served_again c.args.self.now.server c.serve_again.new.server c.args.rewritten.zone c.in_ok-server.server c.requires.successor.again c.args.rewritten.carried.items
+            c.in_ok-server.ensures.ok c.serve_again.ensures c.requires.successor.served;
         unchanged = λ e. absurd cc;
         ready = λ _. c.in-Ok.ensures.ready refl;
-        asks = subst (λ (t : List ℕ). AsksToCompact t true p q es) c.as_bytes.ensures.value c.in-Ok.ensures.performs.holds;
+        asks = subst (λ (t : List ℕ). AsksToCompact t c.args.rewritten.carried.items true p q es) c.as_bytes.ensures.value
+            (subst (λ (k : List ℕ). AsksToCompact c.as_bytes.result.now k true p q es) c.as_slice.ensures.value c.in-Ok.ensures.performs.holds);
       };
     }
 
@@ -32,12 +34,13 @@ returns-clause-performs g c =
       events = es;
       led = c.in-Err.ensures.performs.led;
       holds = record {
-        again = c.requires.again;
-        rewritten = c.requires.rewritten;
+        again = c.requires.successor.again;
+        behind = c.requires.successor.behind;
         served = λ e. absurd cc;
         unchanged = λ _. refl;
         ready = λ e. absurd cc;
-        asks = subst (λ (t : List ℕ). AsksToCompact t false p q es) c.as_bytes.ensures.value c.in-Err.ensures.performs.holds;
+        asks = subst (λ (t : List ℕ). AsksToCompact t c.args.rewritten.carried.items false p q es) c.as_bytes.ensures.value
+            (subst (λ (k : List ℕ). AsksToCompact c.as_bytes.result.now k false p q es) c.as_slice.ensures.value c.in-Err.ensures.performs.holds);
       };
     }
 
@@ -47,7 +50,9 @@ returns-clause-refused g c =
     let q = c.compact.new.journal.position in
     record {
       text = string_bytes c.args.rewritten.text;
-      again = c.requires.again;
-      rewritten = c.requires.rewritten;
-      refused = subst (λ (t : List ℕ). IsRefusal p (mark t) q c.in-Err.error) c.as_bytes.ensures.value c.in-Err.ensures.refused;
+      carried = c.args.rewritten.carried.items;
+      again = c.requires.successor.again;
+      behind = c.requires.successor.behind;
+      refused = subst (λ (t : List ℕ). IsRefusal p (mark t c.args.rewritten.carried.items) q c.in-Err.error) c.as_bytes.ensures.value
+          (subst (λ (k : List ℕ). IsRefusal p (mark c.as_bytes.result.now k) q c.in-Err.error) c.as_slice.ensures.value c.in-Err.ensures.refused);
     }

@@ -1,11 +1,11 @@
-use Rattle.std.proofs.Common.{◌≡◌, ◌≢◌, ◌⊎◌, ℕ, List, [], ◌∷◌, false, length, map, refl, sym, ap, subst, ◌∙◌, inr, arith, IsTrue, Bor}
+use Rattle.std.proofs.Common.{◌≡◌, ◌≢◌, ◌⊎◌, ℕ, List, [], ◌∷◌, ◌++◌, false, length, map, refl, sym, ap, subst, ◌∙◌, inr, arith, IsTrue, Bor}
 use Rattle.std.proofs.lemmas.Bool.Decides.{nat_tests}
 use Rattle.std.proofs.lemmas.Result.{IfOk-weaker}
 use Rattle.sha2.specs.Sha256.{sha256}
 use Rattle.dns_journal.specs.format.Format.{digest_in, IsJournal}
-use Rattle.dns_durable.specs.recovery.Compacting.{last_payload, mark, updates_in}
+use Rattle.dns_durable.specs.recovery.Compacting.{entries_of, last_payload, mark, updates_in}
 use Rattle.dns_durable.specs.recovery.Opening.{IsContentOf, IsOfText, StandFor, files_read}
-use Rattle.dns_durable.proofs.OpeningLaws.{begins_opens, none_if_empty, none_if_marked, resumed_stand, resumes_opens}
+use Rattle.dns_durable.proofs.OpeningLaws.{begins_opens, carried_short, none_if_empty, only_carried, resumed_stand, resumes_opens}
 use Rattle.dns_durable.proofs.recovery.opening.open_journal.Goals as goal
 
 nothing : (xs : List ℕ) → length xs ≡ 0 → xs ≡ []
@@ -25,8 +25,8 @@ returns-then-is_empty-clause-performs g c =
     record {
       events = c.begin.ensures.performs.events;
       led = c.begin.ensures.performs.led;
-      holds = begins_opens files c.as_slice.result.now c.args.key c.as_slice.ensures.value c.begin.ensures.len (none_if_empty files (nothing files.journal size))
-          c.a_header_is_a_journal.ensures c.begin.result c.begin.ensures.performs.events c.begin.ensures.performs.holds;
+      holds = begins_opens files c.as_slice.result.now c.args.key [] c.as_slice.ensures.value c.begin.ensures.len (omega arith) (none_if_empty files (nothing files.journal size))
+          c.a_header_is_a_journal.ensures c.an_appended_entry_is_read.ensures c.begin.result c.begin.ensures.performs.events c.begin.ensures.performs.holds;
     }
 
 pub returns-then-is_same-clause-ok : goal.returns-then-is_same-clause-ok
@@ -67,36 +67,51 @@ returns-then-is_same-clause-performs g c =
           c.resume_updates.ensures.updates c.resume_updates.ensures.performs.holds;
     }
 
-pub returns-clause-ok : goal.returns-clause-ok
-returns-clause-ok g c =
+pub begin-requires-in-Some : goal.begin-requires-in-Some
+begin-requires-in-Some g c =
+    let files = files_read c.args.files.now in
+    let payloads : List (List ℕ) = map (λ p. p.now) c.in-Ok.content.payloads.items in
+    let is : IsJournal files.journal c.in-Ok.content.head.now payloads c.in-Ok.content.end.now = journal_at _ _ _ payloads _ c.as_slice-2.ensures.value c.in-Ok.ensures.journal in
+    let last : last_payload payloads ≡ mark files.text c.in-Some.carried.now =
+    ap (λ (ps : List (Bor (List ℕ))). last_payload (map (λ p. p.now) ps)) (sym c.as_slice-5.ensures.value) ∙ sym c.last_payload.ensures ∙ c.in-Some.ensures.found
+    ∙ ap (λ (d : List ℕ). 1 ∷ (d ++ c.in-Some.carried.now)) (c.as_slice-6.ensures ∙ c.digest_of-digest.ensures ∙ ap sha256 c.as_slice-3.ensures.value) in
+    carried_short files.journal c.in-Ok.content.head.now payloads c.in-Ok.content.end.now files.text c.in-Some.carried.now is last
+
+pub returns-in-Some-clause-ok : goal.returns-in-Some-clause-ok
+returns-in-Some-clause-ok g c =
     let files = files_read c.args.files.now in
     let payloads : List (List ℕ) = map (λ p. p.now) c.in-Ok.content.payloads.items in
     let digest_is : c.as_slice-4.result.now ≡ sha256 files.text = c.as_slice-4.ensures ∙ c.digest_of-digest.ensures ∙ ap sha256 c.as_slice-3.ensures.value in
     let other : digest_in c.in-Ok.content.head.now ≢ sha256 files.text = λ e. no_truth (c.if-is_same.ensures.1 (e ∙ sym digest_is)) in
     let is : IsJournal files.journal c.in-Ok.content.head.now payloads c.in-Ok.content.end.now = journal_at _ _ _ payloads _ c.as_slice-2.ensures.value c.in-Ok.ensures.journal in
-    let last : last_payload payloads ≡ mark files.text =
-    ap (λ (ps : List (Bor (List ℕ))). last_payload (map (λ p. p.now) ps)) (sym c.as_slice-5.ensures.value) ∙ sym c.last_payload.ensures ∙ c.if-not-is_mark.ensures.0 refl
-    ∙ ap (λ (d : List ℕ). 1 ∷ d) (c.as_slice-6.ensures ∙ c.digest_of-digest.ensures ∙ ap sha256 c.as_slice-3.ensures.value) in
-    IfOk-weaker c.begin-2.result (λ opened. opened.updates.items ≡ []) (λ opened. StandFor files (map (λ u. u.now) opened.updates.items))
-    (λ opened empty. inr (record {
+    let last : last_payload payloads ≡ mark files.text c.in-Some.carried.now =
+    ap (λ (ps : List (Bor (List ℕ))). last_payload (map (λ p. p.now) ps)) (sym c.as_slice-5.ensures.value) ∙ sym c.last_payload.ensures ∙ c.in-Some.ensures.found
+    ∙ ap (λ (d : List ℕ). 1 ∷ (d ++ c.in-Some.carried.now)) (c.as_slice-6.ensures ∙ c.digest_of-digest.ensures ∙ ap sha256 c.as_slice-3.ensures.value) in
+    IfOk-weaker c.begin-in-Some.result (λ opened. map (λ u. u.now) opened.updates.items ≡ entries_of c.in-Some.carried.now) (λ opened. StandFor files (map (λ u. u.now) opened.updates.items))
+    (λ opened are. inr (record {
       head = c.in-Ok.content.head.now;
       payloads = payloads;
       end = c.in-Ok.content.end.now;
       journal = is;
-      by = inr (other, (last, ap (λ (us : List (Bor (List ℕ))). map (λ u. u.now) us) empty));
-    })) c.begin-2.ensures.none
+      by = inr (other, record { carried = c.in-Some.carried.now; marked = last; updates_are = are });
+    })) c.begin-in-Some.ensures.updates
 
-pub returns-clause-performs : goal.returns-clause-performs
-returns-clause-performs g c =
+pub returns-in-Some-clause-performs : goal.returns-in-Some-clause-performs
+returns-in-Some-clause-performs g c =
     let files = files_read c.args.files.now in
+    let carried = c.in-Some.carried.now in
     let payloads : List (List ℕ) = map (λ p. p.now) c.in-Ok.content.payloads.items in
     let digest_is : c.as_slice-4.result.now ≡ sha256 files.text = c.as_slice-4.ensures ∙ c.digest_of-digest.ensures ∙ ap sha256 c.as_slice-3.ensures.value in
     let other : digest_in c.in-Ok.content.head.now ≢ sha256 files.text = λ e. no_truth (c.if-is_same.ensures.1 (e ∙ sym digest_is)) in
     let is : IsJournal files.journal c.in-Ok.content.head.now payloads c.in-Ok.content.end.now = journal_at _ _ _ payloads _ c.as_slice-2.ensures.value c.in-Ok.ensures.journal in
+    let last : last_payload payloads ≡ mark files.text carried =
+    ap (λ (ps : List (Bor (List ℕ))). last_payload (map (λ p. p.now) ps)) (sym c.as_slice-5.ensures.value) ∙ sym c.last_payload.ensures ∙ c.in-Some.ensures.found
+    ∙ ap (λ (d : List ℕ). 1 ∷ (d ++ carried)) (c.as_slice-6.ensures ∙ c.digest_of-digest.ensures ∙ ap sha256 c.as_slice-3.ensures.value) in
     record {
-      events = c.begin-2.ensures.performs.events;
-      led = c.begin-2.ensures.performs.led;
-      holds = begins_opens files c.as_slice-7.result.now c.args.key c.as_slice-7.ensures.value c.begin-2.ensures.len
-          (none_if_marked c.journals_read_unambiguously.ensures files c.in-Ok.content.head.now payloads c.in-Ok.content.end.now is other)
-          c.a_header_is_a_journal.ensures c.begin-2.result c.begin-2.ensures.performs.events c.begin-2.ensures.performs.holds;
+      events = c.begin-in-Some.ensures.performs.events;
+      led = c.begin-in-Some.ensures.performs.led;
+      holds = begins_opens files c.as_slice-in-Some.result.now c.args.key carried c.as_slice-in-Some.ensures.value c.begin-in-Some.ensures.len
+          (carried_short files.journal c.in-Ok.content.head.now payloads c.in-Ok.content.end.now files.text carried is last)
+          (only_carried c.journals_read_unambiguously.ensures files c.in-Ok.content.head.now payloads c.in-Ok.content.end.now carried is other last)
+          c.a_header_is_a_journal.ensures c.an_appended_entry_is_read.ensures c.begin-in-Some.result c.begin-in-Some.ensures.performs.events c.begin-in-Some.ensures.performs.holds;
     }
