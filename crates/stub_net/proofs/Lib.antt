@@ -12,5 +12,6 @@ mod ArrivalLaws
 mod RepliedLaws
 mod SignedLaws
 mod SignedTimeLaws
+mod ScrubWitness
 mod SignedWitness
 pub mod TimeWitness
