@@ -8,6 +8,7 @@ pub mod ChainLaws
 pub mod CopyLaws
 pub mod ExistenceLaws
 pub mod OriginLaws
+pub mod OriginWitness
 pub mod PlainLaws
 mod SoundLaws
 pub mod SourceLaws

@@ -1,7 +1,7 @@
 //! A storage in memory, which can be made to fail and to crash.
 
-ghost use Rattle.std.specs.Prelude.{◌≡◌, ◌≤◌, ◌+◌, [], length, IfOk, OnOk, OnErr};
-ghost use Rattle.dns_journal.specs.Memory.{disk_of};
+ghost use Rattle.std.specs.Prelude.{◌≡◌, ◌≤◌, ◌<◌, ◌-◌, [], length, true, false, IfOk, OnOk, OnErr};
+ghost use Rattle.dns_journal.specs.Memory.{disk_of, torn};
 ghost use Rattle.dns_journal.specs.Storage.{Leaves, appended, at_rest};
 
 use crate::error::StorageError;
@@ -29,7 +29,8 @@ pub struct MemoryStorage {
 impl MemoryStorage {
     /// Creates a storage with these contents, all of them on the disk, of which a number of calls succeed.
     pub fn new(alloc: Global, files: StoredFiles, calls_left: u64) -> MemoryStorage
-        ensures { disk_of result ≡ at_rest files.text.items files.journal.items }
+        ensures disk { disk_of result ≡ at_rest files.text.items files.journal.items }
+        ensures calls { result.calls_left ≡ calls_left }
     {
         let len = files.journal.len();
         MemoryStorage {
@@ -73,7 +74,10 @@ impl MemoryStorage {
 
     /// Counts a call, and returns `true` if it succeeds.
     fn succeeds(&mut self) -> bool
-        ensures { disk_of self.new ≡ disk_of self.old }
+        ensures disk { disk_of self.new ≡ disk_of self.old }
+        ensures counted { self.new.calls_left ≡ self.old.calls_left - 1 }
+        ensures done { result ≡ true → 0 < self.old.calls_left }
+        ensures failed { result ≡ false → self.old.calls_left ≡ 0 }
     {
         if self.calls_left == 0 {
             return false;
@@ -86,6 +90,7 @@ impl MemoryStorage {
     fn push(&mut self, bytes: &[u8]) -> Result<(), AllocError>
         ensures ok { OnOk result (disk_of self.new ≡ appended (disk_of self.old) bytes.now) }
         ensures err { OnErr result (disk_of self.new ≡ appended (disk_of self.old) []) }
+        ensures calls { self.new.calls_left ≡ self.old.calls_left }
     {
         self.reach = self.reach.max(self.journal.len());
         self.journal.extend_from_slice(bytes)?;
@@ -93,13 +98,16 @@ impl MemoryStorage {
         Ok(())
     }
 
-    /// Makes what a crash may leave of a storage: its text, and a journal of which the safe front is unchanged and other bytes follow,
-    /// as far as there is room for them.
+    /// Makes what a crash may leave of a storage: its text, and a journal of which the safe front is unchanged and these bytes follow,
+    /// as many of them as have room.
     pub fn crashed(&self, tail: &[u8]) -> Result<StoredFiles, AllocError>
-        ensures { (disk_of self.now).safe ≤ length (disk_of self.now).seen
+        ensures leaves { (disk_of self.now).safe ≤ length (disk_of self.now).seen
             → (disk_of self.now).safe ≤ (disk_of self.now).reach
             → IfOk result (λ files. Leaves (disk_of self.now)
             (record { text = files.text.items; journal = files.journal.items })) }
+        ensures text { IfOk result (λ files. files.text.items ≡ (disk_of self.now).text) }
+        ensures torn { IfOk result (λ files. files.journal.items
+            ≡ torn (disk_of self.now) tail.now) }
     {
         let safe = self.safe.min(self.journal.len());
         let room = self.reach.saturating_sub(safe);
@@ -111,12 +119,17 @@ impl MemoryStorage {
 }
 
 impl Storage for MemoryStorage {
-    ghost use Rattle.dns_journal.specs.Memory.{disk_of};
-    ghost use Rattle.dns_journal.specs.Storage.{Steps};
+    ghost use Rattle.std.specs.Prelude.{◌≡◌, ◌<◌, ◌/◌, Err, IsOk, OnErr, [], is_ok, length, take};
+    ghost use Rattle.dns_journal.specs.Event as events;
+    ghost use Rattle.dns_journal.specs.Memory.{disk_of, Calls};
+    ghost use Rattle.dns_journal.specs.Storage.{appended, read_event};
 
-    ghost performs = { λ old event new. Steps (disk_of old) event (disk_of new) };
+    ghost performs = { Calls };
 
-    fn read(&mut self, alloc: Global) -> Result<StoredFiles, StorageError> {
+    fn read(&mut self, alloc: Global) -> Result<StoredFiles, StorageError>
+        ensures calls { Calls self.old (read_event result) self.new }
+        ensures failed { result ≡ Err StorageError.Failed → self.old.calls_left ≡ 0 }
+    {
         if !self.succeeds() {
             return Err(StorageError::Failed);
         }
@@ -127,7 +140,14 @@ impl Storage for MemoryStorage {
         }
     }
 
-    fn append(&mut self, bytes: &[u8]) -> Result<(), StorageError> {
+    fn append(&mut self, bytes: &[u8]) -> Result<(), StorageError>
+        ensures calls { Calls self.old (events.Append bytes.now (is_ok result)) self.new }
+        ensures failed { result ≡ Err StorageError.Failed → self.old.calls_left ≡ 0 }
+        ensures half { result ≡ Err StorageError.Failed → disk_of self.new
+            ≡ appended (disk_of self.old) (take (length bytes.now / 2) bytes.now) }
+        ensures none { result ≡ Err StorageError.Memory
+            → disk_of self.new ≡ appended (disk_of self.old) [] }
+    {
         if self.succeeds() {
             return match self.push(bytes) {
                 Ok(()) => Ok(()),
@@ -143,7 +163,10 @@ impl Storage for MemoryStorage {
         }
     }
 
-    fn sync(&mut self) -> Result<(), StorageError> {
+    fn sync(&mut self) -> Result<(), StorageError>
+        ensures calls { Calls self.old (events.Sync (is_ok result)) self.new }
+        ensures decided { 0 < self.old.calls_left → IsOk result }
+    {
         if !self.succeeds() {
             self.unsure = true;
             return Err(StorageError::Failed);
@@ -155,7 +178,11 @@ impl Storage for MemoryStorage {
         Ok(())
     }
 
-    fn cut(&mut self, len: usize) -> Result<(), StorageError> {
+    fn cut(&mut self, len: usize) -> Result<(), StorageError>
+        ensures calls { Calls self.old (events.Cut len (is_ok result)) self.new }
+        ensures decided { 0 < self.old.calls_left → IsOk result }
+        ensures err { OnErr result (disk_of self.new ≡ disk_of self.old) }
+    {
         if !self.succeeds() {
             return Err(StorageError::Failed);
         }
@@ -164,7 +191,11 @@ impl Storage for MemoryStorage {
         Ok(())
     }
 
-    fn replace_text(&mut self, text: &[u8]) -> Result<(), StorageError> {
+    fn replace_text(&mut self, text: &[u8]) -> Result<(), StorageError>
+        ensures calls { Calls self.old (events.ReplaceText text.now (is_ok result)) self.new }
+        ensures failed { result ≡ Err StorageError.Failed → self.old.calls_left ≡ 0 }
+        ensures err { OnErr result (disk_of self.new ≡ disk_of self.old) }
+    {
         if !self.succeeds() {
             return Err(StorageError::Failed);
         }
@@ -178,7 +209,11 @@ impl Storage for MemoryStorage {
         }
     }
 
-    fn replace_journal(&mut self, bytes: &[u8]) -> Result<(), StorageError> {
+    fn replace_journal(&mut self, bytes: &[u8]) -> Result<(), StorageError>
+        ensures calls { Calls self.old (events.ReplaceJournal bytes.now (is_ok result)) self.new }
+        ensures failed { result ≡ Err StorageError.Failed → self.old.calls_left ≡ 0 }
+        ensures err { OnErr result (disk_of self.new ≡ disk_of self.old) }
+    {
         if !self.succeeds() {
             return Err(StorageError::Failed);
         }
