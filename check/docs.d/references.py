@@ -4,7 +4,7 @@ from functools import cache
 
 CODE = re.compile(r"`([^`\n]+)`")
 ITEM = re.compile(r"([a-z]\w*)::([\w:{}, ]+?)(?:#(\w+))?")
-FILE = re.compile(r"(?:crates/)?(\w+/specs/[\w/{}, ]+\.antt)(?:: ([\w, -]+))?")
+FILE = re.compile(r"(?:crates/)?(\w+/(?:specs|proofs)/[\w/{}, ]+\.antt)(?:: ([\w, -]+))?")
 LINK = re.compile(r"\]\(([^)#:\s]*)(?:#([^)\s]*))?\)")
 # Names that a sentence places in a file, as "`IsFresh` and `IsReached`, in `stub_laws/specs/history/Stands.antt`".
 PLACED = re.compile(r"((?:`[\w-]+`(?:, | and |, and )?)+),? in `(\w+/specs/[\w/{},]+\.antt)`")
