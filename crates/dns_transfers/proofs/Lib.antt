@@ -5,5 +5,9 @@ pub mod SendingLaws
 pub mod RequestLaws
 pub mod ZoneRecordLaws
 pub mod SourceLaws
+pub mod ReadingLaws
+pub mod VersionLaws
+pub mod ClientLaws
+pub mod IncrementalWitness
 pub mod RecordedLaws
 pub mod SignedLaws

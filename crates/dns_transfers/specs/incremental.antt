@@ -1,2 +1,4 @@
 pub mod DifferenceRecords
 pub mod Messages
+pub mod Reading
+pub mod Versions
