@@ -164,7 +164,7 @@ pub both_true : (a b : Bool) → (a && b) ≡ true → (a ≡ true) × (b ≡ tr
 both_true true b e = (refl, e)
 both_true false b e = absurd (cc)
 
-start_place : (apex : DomainName) (t : RecordSetValue) → is_start apex t ≡ true → set_place t ≡ (owner_code apex.labels, 0)
+pub start_place : (apex : DomainName) (t : RecordSetValue) → is_start apex t ≡ true → set_place t ≡ (owner_code apex.labels, 0)
 start_place apex t h =
     let parts = both_true (is_soa t) (is_apex apex t) h in
     let owner = owner_of_lower t.name.labels apex.labels (sym (same-lower apex.labels t.name.labels parts.1)) in

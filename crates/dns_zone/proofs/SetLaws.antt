@@ -9,14 +9,14 @@ use Rattle.std.specs.List.Sorted.{IsStrictlySortedBy}
 use Rattle.std.specs.Map.{keys_of, values_of, lookup, remove_entry}
 use Rattle.std.specs.BTreeMap.{insert_entry, is_at}
 use Rattle.std.specs.BTreeMap.Range.{range_contains}
-use Rattle.std.specs.Ordering.{eq_by_cmp, is_eq, is_gt, is_le, nat_cmp, ordering_then, ordering_reverse, match_ordering}
-use Rattle.std.specs.declared.ops.Bound.TheVariants.{Included, Unbounded}
+use Rattle.std.specs.Ordering.{eq_by_cmp, is_eq, is_gt, is_le, is_lt, nat_cmp, ordering_then, ordering_reverse, match_ordering}
+use Rattle.std.specs.declared.ops.Bound.TheVariants.{Excluded, Included, Unbounded}
 use Rattle.dns_wire.specs.declared.codes.record_type.RecordType.{RecordType}
 use Rattle.dns_names.specs.Compare.{at_or_below}
 use Rattle.dns_records.specs.RecordSet.{RecordSetValue}
 use Rattle.dns_zone.specs.Rows.{Key, key, key_cmp, set_key}
 use Rattle.dns_updates.specs.Keys.{owner_code, Place, place_cmp}
-use Rattle.dns_zone.specs.Sets.{set_at, set_place, AreInOrder, HaveTheirKeys}
+use Rattle.dns_zone.specs.Sets.{set_at, set_place, sets_after, AreInOrder, HaveTheirKeys}
 use Rattle.dns_updates.proofs.OwnerCodeLaws.{below_begins, begins_below}
 use Rattle.dns_zone.proofs.FirstLaws.{either_first}
 use Rattle.dns_zone.proofs.KeptLaws.{tied_key}
@@ -301,3 +301,19 @@ below_none name start es r all sorted e zero between none =
     let found : IsFirst name (list_any (below name) (values_of es)) [] =
     subst (IsFirst name (list_any (below name) (values_of es))) (sym between ∙ none) (first_below name start es e zero all sorted) in
     sym found
+
+-- ---- the sets after a key
+
+-- what comes after a key in the map is what comes after its place
+pub after_start : (start : Stored) (es : Entries) → HaveTheirKeys es
+    → values_of (filter (λ (e : Entry). range_contains stored_cmp (Excluded start) Unbounded e.0) es) ≡ sets_after (place_of start) (values_of es)
+after_start start [] all = refl
+after_start start (x ∷ es) all = by (is_lt (stored_cmp start x.0)) (is_lt (place_cmp (place_of start) (set_place x.1))) (λ i. is_lt (place_cmp (place_of start) (all.0 i))) (after_start start es all.1)
+  where
+    by : (a b : Bool) → a ≡ b → values_of (filter (λ (e : Entry). range_contains stored_cmp (Excluded start) Unbounded e.0) es) ≡ sets_after (place_of start) (values_of es)
+        → values_of (cond (a && true) (x ∷ filter (λ (e : Entry). range_contains stored_cmp (Excluded start) Unbounded e.0) es) (filter (λ (e : Entry). range_contains stored_cmp (Excluded start) Unbounded e.0) es))
+        ≡ cond b (x.1 ∷ sets_after (place_of start) (values_of es)) (sets_after (place_of start) (values_of es))
+    by true true e more = ap (λ (l : List RecordSetValue). x.1 ∷ l) more
+    by true false e more = absurd (cc)
+    by false true e more = absurd (cc)
+    by false false e more = more

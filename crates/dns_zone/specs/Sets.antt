@@ -1,8 +1,8 @@
 -- The record sets of a zone, and the order in which they are kept.
 use Rattle.std.specs.Prelude.{◌≡◌, map, find, List, Option, Some, None}
-use Rattle.std.specs.List.{AllByRecursion}
+use Rattle.std.specs.List.{AllByRecursion, filter}
 use Rattle.std.specs.List.Sorted.{IsStrictlySortedBy}
-use Rattle.std.specs.Ordering.{eq_by_cmp}
+use Rattle.std.specs.Ordering.{eq_by_cmp, is_lt}
 use Rattle.dns_records.specs.Record.{Record}
 use Rattle.dns_records.specs.RecordSet.{RecordSetValue, put, record_data}
 use Rattle.dns_updates.specs.Keys.{Place, owner_code, place_cmp, type_code}
@@ -31,6 +31,10 @@ set_place s = (owner_code s.name.labels, type_code s.record_type)
 -- the places of sets strictly ascend
 abbrev pub AreInOrder : List RecordSetValue → Type 0
 AreInOrder sets = IsStrictlySortedBy place_cmp (map set_place sets)
+
+-- the sets that come after a place
+abbrev pub sets_after : Place → List RecordSetValue → List RecordSetValue
+sets_after place sets = filter (λ s. is_lt (place_cmp place (set_place s))) sets
 
 -- each set is kept at the key of its place
 abbrev pub HaveTheirKeys : List (Place × RecordSetValue) → Type 0

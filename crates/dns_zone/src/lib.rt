@@ -17,10 +17,10 @@ mod sets;
 mod transport;
 mod zone;
 
-pub use sets::Sets;
+pub use sets::{SetEntries, Sets};
 // `Road` is the former name of `Transport`.
 pub use transport::{DatagramLimit, LimitTooSmall, Transport, Transport as Road};
 pub use zone::{
-    Answer, Applied, Serials, Served, Zone, ZoneFault, bare_reply_bytes, decode_request,
-    first_serial, repeated_queries, reply_limit, zone_serial,
+    Answer, Applied, RecordLines, Serials, Served, Zone, ZoneFault, bare_reply_bytes,
+    decode_request, first_serial, repeated_queries, reply_limit, zone_serial,
 };

@@ -5,7 +5,8 @@ ghost use Rattle.std.specs.List.{filter, list_any};
 ghost use Rattle.std.specs.Ordering.{eq_by_cmp};
 ghost use Rattle.dns_names.specs.Compare.{at_or_below, same_labels};
 ghost use Rattle.dns_zone.specs.Rows.{Key, key, key_cmp, set_key};
-ghost use Rattle.dns_zone.specs.Sets.{set_at, with_put, with_records, AreInOrder};
+ghost use Rattle.dns_zone.specs.Sets.{set_at, sets_after, with_put, with_records, AreInOrder};
+ghost use Rattle.std.specs.Map.{values_of};
 
 mod store;
 mod zone_rows;
@@ -21,6 +22,9 @@ use std::ops::Bound;
 
 /// An iterator over sets, in order.
 pub type Sets<'a> = btree_map::Values<'a, SetKey, RecordSet>;
+
+/// An iterator over sets with their keys, in order.
+pub type SetEntries<'a> = btree_map::Range<'a, SetKey, RecordSet>;
 
 /// Record sets, at most one for each owner, up to ASCII case, and type (RFC 2181 section 5).
 ///
@@ -197,5 +201,12 @@ impl ZoneSets {
         ensures { result ≡ self.now }
     {
         self.map.values()
+    }
+
+    /// Iterates over the sets that come after a key, in order.
+    pub fn after(&self, key: &SetKey) -> SetEntries<'_>
+        ensures { values_of result ≡ sets_after key.now self.now }
+    {
+        self.map.range((Bound::Excluded(key), Bound::Unbounded))
     }
 }

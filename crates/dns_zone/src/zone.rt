@@ -21,6 +21,7 @@ mod update;
 
 use crate::sets::ZoneSets;
 pub use answer::Answer;
+pub use display::RecordLines;
 use dns_names::Name;
 use dns_zone_file::ZoneFileError;
 pub use serial::{first_serial, zone_serial};

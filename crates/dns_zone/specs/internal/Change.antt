@@ -50,10 +50,11 @@ abbrev pub put_by : Option Row → Row → List Row
 put_by None row = row ∷ []
 put_by (Some old) row = if old.ttl == row.ttl then [] else row ∷ []
 
--- the same by the rows of the set
+-- the row that is replaced, by the rows of the set
 abbrev pub rows_replaced : List Row → Row → List Row
 rows_replaced rows row = replaced_by (find (λ (x : Row). same_data x.rdata row.rdata) rows) row
 
+-- and the row that is added
 abbrev pub rows_put : List Row → Row → List Row
 rows_put rows row = put_by (find (λ (x : Row). same_data x.rdata row.rdata) rows) row
 

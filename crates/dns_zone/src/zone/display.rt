@@ -41,6 +41,23 @@ impl fmt::Display for Zone {
     }
 }
 
+/// Records of one owner as lines of a zone file, as [`Zone::to_text`] has them. No memory is taken.
+#[derive(Clone, Copy)]
+pub struct RecordLines<'a> {
+    /// The owner.
+    pub owner: &'a Name,
+    /// The records.
+    pub records: &'a [Record],
+}
+
+impl fmt::Display for RecordLines<'_> {
+    ghost output = { λ lines. Some (owner_lines lines.owner.now lines.records.now) };
+
+    fn fmt<W: fmt::Write>(&self, f: &mut fmt::Formatter<W>) -> fmt::Result {
+        write_records(self.owner, self.records, f)
+    }
+}
+
 /// The record sets of a zone, of which the first is the SOA.
 #[derive(Clone, Copy)]
 struct ZoneLines<'a> {

@@ -1,17 +1,20 @@
 //! The records of a zone by owner and type, for the answers of the crates above.
 
-ghost use Rattle.std.specs.Prelude.{◌≡◌, map, List, IfOk};
+ghost use Rattle.std.specs.Prelude.{◌≡◌, map, List, IfOk, option_copied};
 ghost use Rattle.std.specs.List.{filter};
+ghost use Rattle.std.specs.Map.{values_of};
 ghost use Rattle.dns_names.specs.Compare.{same_labels};
 ghost use Rattle.dns_records.specs.RecordSet.{RecordSetValue};
 ghost use Rattle.dns_zone.specs.Lookup.{AreSetsOf};
-ghost use Rattle.dns_zone.specs.Rows.{rows_at, rows_of, some_row_below, AreSoundRows};
+ghost use Rattle.dns_zone.specs.Rows.{key, rows_at, rows_of, some_row_below, AreSoundRows};
+ghost use Rattle.dns_zone.specs.Sets.{set_at, sets_after};
 
 use crate::rows::{has_row_below, records_at};
-use crate::sets::Sets;
+use crate::sets::{SetEntries, Sets};
 use crate::zone::Zone;
 use dns_names::Name;
-use dns_records::Record;
+use dns_records::{Record, RecordSet};
+use dns_updates::SetKey;
 use dns_wire::RecordType;
 use std::alloc::AllocError;
 
@@ -23,6 +26,24 @@ impl Zone {
     {
         self.sets.order();
         self.sets.iter()
+    }
+
+    /// Iterates over the record sets that come after a key, with their keys, in the order of [`sets`](Zone::sets).
+    pub fn sets_after(&self, key: &SetKey) -> SetEntries<'_>
+        ensures { (sets : List RecordSetValue) × (AreSetsOf self.now sets
+            × (values_of result ≡ sets_after key.now sets)) }
+    {
+        self.sets.order();
+        self.sets.after(key)
+    }
+
+    /// Returns the record set of an owner and a type.
+    pub fn record_set(&self, owner: &Name, record_type: RecordType) -> Option<&RecordSet>
+        ensures { (sets : List RecordSetValue) × (AreSetsOf self.now sets
+            × (option_copied result ≡ set_at sets (key owner.now.labels record_type))) }
+    {
+        self.sets.order();
+        self.sets.get(owner, record_type)
     }
 
     /// Returns the types of the records of a name, in the order of the sets.
