@@ -6,7 +6,7 @@ use crate::files::cut::{Cut, keep_cut};
 use crate::files::end::EndRecord;
 use crate::files::lock::take_lock;
 use crate::files::paths::{sync_folder, target_of};
-use crate::files::prepared::PreparedText;
+use crate::files::prepared::{PreparedText, UnfinishedText};
 use crate::files::replace::{Replacement, replace_file};
 use crate::files::stamp::Stamp;
 use crate::format::digest_of;
@@ -42,6 +42,8 @@ pub struct FileStorage<'a> {
     len: usize,
     /// The text as it was when it was read or replaced.
     stamp: Option<Stamp>,
+    /// What is being written of a text that is about to replace the text.
+    unfinished: Option<UnfinishedText>,
     /// What is about to replace the text.
     prepared: Option<PreparedText>,
     /// What was cut off the journal.
@@ -60,6 +62,7 @@ impl Drop for FileStorage<'_> {
             end,
             len: _len,
             stamp: _stamp,
+            unfinished,
             prepared,
             cut,
             error,
@@ -68,6 +71,7 @@ impl Drop for FileStorage<'_> {
         drop(file);
         drop(end);
         drop(lock);
+        drop(unfinished);
         drop(prepared);
         drop(cut);
         drop(error);
@@ -97,6 +101,7 @@ impl<'a> FileStorage<'a> {
             end: None,
             len: 0,
             stamp: None,
+            unfinished: None,
             prepared: None,
             cut: None,
             error: None,
@@ -116,6 +121,7 @@ impl<'a> FileStorage<'a> {
             end: None,
             len: 0,
             stamp: None,
+            unfinished: None,
             prepared: None,
             cut: None,
             error: None,
@@ -184,8 +190,69 @@ impl<'a> FileStorage<'a> {
         Ok(())
     }
 
-    /// Removes the file of a text that was prepared.
+    /// Begins a file beside that of the text, to which a text is written in pieces. An error leaves no such file.
+    pub fn begin_text(&mut self) -> Result<(), StorageError> {
+        self.discard_text();
+        let outcome = self.begin();
+        self.noted(outcome)
+    }
+
+    /// Begins a file beside that of the text.
+    fn begin(&mut self) -> io::Result<()> {
+        if let Some(paths) = &self.paths {
+            self.unfinished = Some(UnfinishedText::begin(self.rt, paths.text.as_str())?);
+        }
+        Ok(())
+    }
+
+    /// Returns the length of the text that was read or replaced.
+    pub fn text_len(&self) -> usize {
+        match &self.stamp {
+            Some(stamp) => stamp.size(),
+            None => 0,
+        }
+    }
+
+    /// Returns how many bytes are written of a text in pieces.
+    pub fn written_len(&self) -> usize {
+        match &self.unfinished {
+            Some(unfinished) => unfinished.len(),
+            None => 0,
+        }
+    }
+
+    /// Appends a piece to the text that was begun, and returns once it is on the disk. An error leaves no file of that text.
+    pub fn extend_text(&mut self, bytes: &[u8]) -> Result<(), StorageError> {
+        let outcome = match &mut self.unfinished {
+            Some(unfinished) => unfinished.extend(bytes),
+            None => Ok(()),
+        };
+        if outcome.is_err() {
+            self.discard_text();
+        }
+        self.noted(outcome)
+    }
+
+    /// Returns once the text that was begun is on the disk as a whole, so that it may replace the text, as after
+    /// [`prepare_text`](FileStorage::prepare_text). An error leaves no file of that text.
+    pub fn finish_text(&mut self) -> Result<(), StorageError> {
+        let outcome = self.finish();
+        self.noted(outcome)
+    }
+
+    /// Returns once the text that was begun is on the disk as a whole.
+    fn finish(&mut self) -> io::Result<()> {
+        if let Some(unfinished) = self.unfinished.take() {
+            self.prepared = Some(unfinished.finish(self.rt)?);
+        }
+        Ok(())
+    }
+
+    /// Removes the file of a text that was prepared, or begun.
     pub fn discard_text(&mut self) {
+        if let Some(unfinished) = self.unfinished.take() {
+            unfinished.remove(self.rt);
+        }
         if let Some(prepared) = self.prepared.take() {
             prepared.into_replacement().remove(self.rt);
         }

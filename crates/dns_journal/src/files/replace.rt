@@ -50,6 +50,57 @@ impl Replacement {
     }
 }
 
+/// A file that is being written, and is about to take the name of another one.
+#[derive(Drop)]
+pub(crate) struct Unfinished {
+    file: File,
+    replacement: Replacement,
+}
+
+impl Unfinished {
+    /// Begins a file that is about to replace the one at a path, as [`Replacement::write`] does.
+    pub(crate) fn begin(rt: &HostRuntime, path: &str) -> io::Result<Unfinished> {
+        let target = target_of(rt, path)?;
+        let path = format!(in rt.alloc(); "{target}.new")?;
+        match create_like(rt, path.as_str(), target.as_str()) {
+            Ok(file) => Ok(Unfinished {
+                file,
+                replacement: Replacement { path, target },
+            }),
+            Err(error) => {
+                // The failure that is reported is the first one.
+                let _removed = fs::remove_file(rt, path.as_str());
+                Err(error)
+            }
+        }
+    }
+
+    /// Appends bytes, and returns once they are on the disk.
+    pub(crate) fn extend(&mut self, bytes: &[u8]) -> io::Result<()> {
+        self.file.write_all(bytes)?;
+        self.file.sync_data()
+    }
+
+    /// Returns the file, once it is on the disk.
+    pub(crate) fn finish(self, rt: &HostRuntime) -> io::Result<Replacement> {
+        let Unfinished { file, replacement } = self;
+        match file.sync_all() {
+            Ok(()) => Ok(replacement),
+            Err(error) => {
+                replacement.remove(rt);
+                Err(error)
+            }
+        }
+    }
+
+    /// Removes the file.
+    pub(crate) fn remove(self, rt: &HostRuntime) {
+        let Unfinished { file, replacement } = self;
+        drop(file);
+        replacement.remove(rt);
+    }
+}
+
 /// Replaces a file, as [`Replacement`] does.
 pub(crate) fn replace_file(rt: &HostRuntime, path: &str, bytes: &[u8]) -> io::Result<()> {
     Replacement::write(rt, path, bytes)?.take_name(rt)
@@ -57,7 +108,14 @@ pub(crate) fn replace_file(rt: &HostRuntime, path: &str, bytes: &[u8]) -> io::Re
 
 /// Writes bytes to a file with the mode, the owner and the group of another one, and synchronizes it.
 fn write_like(rt: &HostRuntime, path: &str, target: &str, bytes: &[u8]) -> io::Result<()> {
-    let mut file = match fs::metadata(rt, target) {
+    let mut file = create_like(rt, path, target)?;
+    file.write_all(bytes)?;
+    file.sync_all()
+}
+
+/// Creates a file with the mode, the owner and the group of another one.
+fn create_like(rt: &HostRuntime, path: &str, target: &str) -> io::Result<File> {
+    match fs::metadata(rt, target) {
         Ok(metadata) => {
             let file = create_private(rt, path)?;
             let (user, group) = (metadata.uid(), metadata.gid());
@@ -65,13 +123,11 @@ fn write_like(rt: &HostRuntime, path: &str, target: &str, bytes: &[u8]) -> io::R
             let _given = fchown(&file, None, Some(group));
             let _given = fchown(&file, Some(user), None);
             file.set_permissions(Permissions::from_mode(metadata.mode() & 0o7777))?;
-            file
+            Ok(file)
         }
-        Err(error) if error.kind() == io::ErrorKind::NotFound => File::create(rt, path)?,
-        Err(error) => return Err(error),
-    };
-    file.write_all(bytes)?;
-    file.sync_all()
+        Err(error) if error.kind() == io::ErrorKind::NotFound => File::create(rt, path),
+        Err(error) => Err(error),
+    }
 }
 
 /// Creates a file that no other user may read.

@@ -21,6 +21,15 @@ impl Stamp {
         Ok(Stamp::in_metadata(&fs::metadata(rt, path)?))
     }
 
+    /// Returns the size of the file.
+    pub(crate) fn size(&self) -> usize {
+        match usize::try_from(self.size) {
+            Ok(size) => size,
+            // No text is that long.
+            Err(_) => usize::MAX,
+        }
+    }
+
     /// Returns the stamp that metadata have.
     fn in_metadata(metadata: &Metadata) -> Stamp {
         Stamp {
