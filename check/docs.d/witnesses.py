@@ -7,7 +7,7 @@ from references import CODE, ITEM, LINK, expanded, table_rows
 NO_PREMISE, NO_WITNESS, NO_BODY = "no premise", "no witness yet", "no wrong body yet"
 NAMES = r"(?: of ((?:`\w+`(?:, )?)+))?"
 # A lemma that builds a run, as `stub_net/proofs/TimeWitness.antt: ends`.
-LEMMA = re.compile(r"\w+/proofs/[\w/]+\.antt: [\w-]+")
+LEMMA = re.compile(r"\w+/proofs/[\w/]+\.antt: [\w, -]+")
 # The files of runs whose calls meet premises by their contracts, and of wrong bodies.
 RUNS, BODY = (".rows", ".script", ".case", ".rt"), ".edit"
 # How many laws have none, as the page says.
