@@ -1,6 +1,6 @@
 //! The names of records, and those without their last dot.
 
-ghost use Rattle.std.specs.Prelude.{◌≡◌, ◌==◌, ◌∷◌, [], find, length, IfOk, IsOk, option_copied};
+ghost use Rattle.std.specs.Prelude.{◌≡◌, ◌==◌, ◌∷◌, [], find, length, IfOk, IsOk, None, option_copied};
 ghost use Rattle.zone_lines.specs.warnings.Names.{doubled_origin, has_top_name, lies_below, name_below, name_lies_below, names_of, server_of};
 
 use crate::RecordLine;
@@ -8,12 +8,15 @@ use dns_data::RData;
 use dns_names::{Name, ParseError};
 use std::alloc::AllocError;
 
-/// Returns the origin with its labels once more, if that is a name and has a label. The root takes no memory.
+/// Returns the origin with its labels once more, if that is a name and has a label. If not, no memory is taken.
 pub fn doubled_origin(origin: &Name) -> Result<Option<Name>, AllocError>
     ensures ok { IfOk result (λ doubled. doubled ≡ doubled_origin origin.now) }
-    ensures root { origin.now.labels ≡ [] → IsOk result }
+    ensures none { doubled_origin origin.now ≡ None → IsOk result }
 {
     if origin.num_labels() == 0 {
+        return Ok(None);
+    }
+    if origin.encoded_len() + origin.encoded_len() > Name::MAX_LENGTH + 1 {
         return Ok(None);
     }
     match origin.clone()?.append_name(origin) {
