@@ -8,6 +8,7 @@ from kills import damage, disk, kills
 from mutations import mutations
 from pauses import pauses
 from speed import speed
+from steps import steps
 from torn import torn
 
 # The programs, and how often they are killed and tried.
@@ -24,6 +25,7 @@ PARTS = {
     "compacted": compacted,
     "disk": disk,
     "kills": kills,
+    "steps": steps,
     "torn": torn,
     "speed": speed,
     "pauses": pauses,

@@ -38,8 +38,9 @@ def pause(given, folder, records):
     server = Server(given.program, folder, "--journal-limit", "4096")
     clock = Clock(server)
     clock.start()
-    for number in range(200):
-        server.add(number, f"n{number}.example.")
+    for number in range(100_000):
+        if server.add(number, f"n{number % 1000}.example.", f"192.0.2.{number % 200}") != 0:
+            break
         if (folder / "zone").stat().st_ino != before:
             break
     time.sleep(0.2)
@@ -51,7 +52,7 @@ def pause(given, folder, records):
 
 def pauses(given):
     """Prints the pauses of zones of growing size."""
-    for records in (1_000, 10_000, 100_000):
+    for records in (1_000, 10_000, 100_000, 1_000_000):
         with tempfile.TemporaryDirectory() as name:
             longest = pause(given, Path(name), records)
             if longest is None:

@@ -18,20 +18,19 @@ not_memory fault lacks e =
     absurd (cc)
 
 -- a zone that can be stated is read from its text
+pub stated_rewritten : (zones : List ZoneContent) (text : List ℕ) (is : IsStatedText zones text) → IsRewritten zones text is.zone
+stated_rewritten zones text is = record {
+  zone = is.zone;
+  zones_are = is.zones_are;
+  is_text = is.is_text;
+  is_read = subst (λ (t : List ℕ). ReadsZoneIn All [] None t (Ok is.zone)) (sym is.is_text.text_is) (file_reads is.zone is.is_text.records is.is_text.is_text is.stated);
+  is_same_text = is.is_text;
+}
+
 pub ready_stated : (zones : List ZoneContent) (text : List ℕ) → IsStatedText zones text → IsSuccessor zones text [] None
 ready_stated zones text is = record {
   again = is.zone;
-  behind = record {
-    base = zones;
-    rewritten = record {
-      zone = is.zone;
-      zones_are = is.zones_are;
-      is_text = is.is_text;
-      is_read = subst (λ (t : List ℕ). ReadsZoneIn All [] None t (Ok is.zone)) (sym is.is_text.text_is) (file_reads is.zone is.is_text.records is.is_text.is_text is.stated);
-      is_same_text = is.is_text;
-    };
-    carries = no_frame;
-  };
+  behind = record { base = zones; rewritten = stated_rewritten zones text is; carries = no_frame };
   served = subst (λ (z : List ZoneContent). TakesEntry (is.zone ∷ []) [] z) (sym is.zones_are) no_frame;
 }
 

@@ -24,3 +24,11 @@ pub mod FileLaws
 pub mod OriginLaws
 pub mod StatedLaws
 pub mod ZoneLaws
+pub mod TouchLaws
+pub mod ServedLaws
+pub mod BetweenLaws
+pub mod PartLaws
+pub mod CarryLaws
+pub mod DraftStepLaws
+pub mod DraftBatchLaws
+pub mod DraftSettleLaws

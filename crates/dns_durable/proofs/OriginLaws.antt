@@ -11,7 +11,7 @@ use Rattle.dns_text.proofs.PrintedData.{name_datum}
 use Rattle.dns_records.specs.Record.{Record}
 use Rattle.dns_zone_file.specs.declared.context.Context.{Context}
 use Rattle.dns_zone_file.specs.declared.types.Types.TheVariants.{All}
-use Rattle.dns_zone_file.specs.Entry.{LexesEntry, one_token, origin_of, or_invalid}
+use Rattle.dns_zone_file.specs.Entry.{LexesEntry, one_token, or_invalid}
 use Rattle.dns_zone_file.specs.Parsing.{Applies, for_origin, applied, ParsesIn, HasRecords, context_in}
 use Rattle.dns_zone_file.specs.Printed.{lines_of, after_records, inserted_each, first_soa_owner}
 use Rattle.dns_zone_file.proofs.LineLaws.{at, past_blank, name_is, fqdn_some}

@@ -11,3 +11,5 @@ pub mod Rule
 pub mod Storing
 pub mod recovery
 pub mod zone_texts
+pub mod Draft
+pub mod internal

@@ -101,14 +101,16 @@ impl<S: Storage> DurableServer<S> {
         key: [u8; 16],
         rewritten: Rewritten,
     ) -> Result<(), CompactError>
-        requires successor { IsSuccessor self.old.server (string_bytes rewritten.text)
-            rewritten.carried.items rewritten.zone }
         requires digest { rewritten.digest ≡ sha256 (string_bytes rewritten.text) }
         ensures ready { IsOk result → self.old.journal.position.state ≡ states.Ready }
-        ensures refused { IfErr result (IsCompactRefusal self.old.server
+        ensures refused { IsSuccessor self.old.server (string_bytes rewritten.text)
+            rewritten.carried.items rewritten.zone
+            → IfErr result (IsCompactRefusal self.old.server
             self.old.journal.position self.new.journal.position) }
         ensures key { IsOk result → self.new.journal.position.key ≡ key }
-        ensures performs { Performs S.performs self.old.journal.storage self.new.journal.storage
+        ensures performs { IsSuccessor self.old.server (string_bytes rewritten.text)
+            rewritten.carried.items rewritten.zone
+            → Performs S.performs self.old.journal.storage self.new.journal.storage
             (λ es. Rewrites (string_bytes rewritten.text) rewritten.carried.items result
             self.old.journal.position self.new.journal.position self.old.server self.new.server es) }
     {
@@ -187,7 +189,7 @@ fn file_text(alloc: Global, zone: &Zone) -> Result<String, AllocError>
 }
 
 /// Returns a text behind the line that states an origin.
-fn with_origin(alloc: Global, origin: &Name, text: &str) -> Result<String, AllocError>
+pub(crate) fn with_origin(alloc: Global, origin: &Name, text: &str) -> Result<String, AllocError>
     ensures { IfOk result (λ whole. string_bytes whole ≡ with_origin origin.now text.now) }
 {
     format!(in alloc; "$ORIGIN {origin}\n{text}")

@@ -7,8 +7,11 @@ ghost use Rattle.dns_durable.specs.Changes.{AreChanges, reply_change};
 ghost use Rattle.dns_durable.specs.Durable.{Answers, Responds};
 ghost use Rattle.dns_durable.specs.Incoming.{AreJudged, changes_in};
 ghost use Rattle.dns_durable.specs.Rule.{entry_of};
+ghost use Rattle.dns_durable.specs.Draft.{IsBehind};
+ghost use Rattle.dns_zone.specs.Rows.{ZoneContent};
 
 use crate::answering::{Reply, answer_all};
+use crate::draft::{Progress, note_outcome, settle_updates};
 use crate::incoming::{Batch, Incoming};
 use crate::policy::Policy;
 use crate::storing::store;
@@ -32,12 +35,17 @@ pub struct DurableServer<S: Storage> {
     pub server: Server,
     /// The journal of their updates.
     pub journal: Journal<S>,
+    /// The text that is about to take the place of the journal.
+    pub draft: Progress,
 }
 
 impl<S: Storage> DurableServer<S> {
     /// Answers requests that arrived together, by the keys and the grants of a policy. Those of their updates that may be made are
     /// appended to the journal as one entry. Once that is on the disk, the requests are served one after another. If the journal does
     /// not take it, each of these updates is answered with `ServFail` and changes nothing. The reply to a signed request is signed.
+    ///
+    /// If a text is being written ([`begin_draft`](DurableServer::begin_draft)), it keeps the sets that these updates change, and carries
+    /// the updates that it lacks from then on.
     ///
     /// An error is want of memory. Some of the updates may have been served, and their changes are not returned; then all of them are on
     /// the disk, and the journal takes no further ones until it is opened again.
@@ -52,10 +60,19 @@ impl<S: Storage> DurableServer<S> {
             self.new.journal.position self.old.server self.new.server) }
         ensures changes { IfOk result (λ replies. AreChanges self.old.server
             (map reply_change replies.replies.items) self.new.server) }
+        ensures behind { (base : ZoneContent) → IsBehind base self.old.server self.old.draft
+            → IsBehind base self.new.server self.new.draft }
     {
         let batch = Batch::new(alloc, policy, requests)?;
-        let DurableServer { server, journal } = self;
-        respond_batch(server, journal, alloc, policy, &batch)
+        let DurableServer {
+            server,
+            journal,
+            draft,
+        } = self;
+        settle_updates(draft, server, &batch);
+        let outcome = respond_batch(server, journal, alloc, policy, &batch);
+        note_outcome(draft, &outcome, batch.entry.as_slice());
+        outcome
     }
 }
 

@@ -7,7 +7,8 @@
 //! - `policy`: keys, grants, and what they make of a request; `grant_text`: grants from words;
 //! - `incoming`: requests are decoded and verified; `storing`: their updates are appended; `answering`: they are served and answered;
 //!   `durable_server`: all of this; `rule`: by which rule updates are made; `replaying`: those of a journal are served again;
-//!   `compaction`: the text of a zone takes the place of its journal;
+//!   `compaction`: the text of a zone takes the place of its journal; `draft`: that text is written in steps while the zone changes;
+//!   `drafting`: a server does so;
 //! - `laws`: theorems; `error`: why updates are not served again, or words are not a grant.
 //!
 //! Further modules, each with a page of its own:
@@ -17,6 +18,8 @@
 
 mod answering;
 mod compaction;
+mod draft;
+mod drafting;
 mod durable_server;
 mod error;
 mod grant_text;
@@ -31,6 +34,7 @@ pub mod zone_texts;
 
 pub use answering::Reply;
 pub use compaction::Rewritten;
+pub use draft::{Draft, DraftFault, Progress};
 pub use durable_server::{DurableServer, Replies};
 pub use error::{CompactError, GrantError, ReplayError};
 pub use grant_text::parse_grant;

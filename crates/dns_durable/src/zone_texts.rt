@@ -6,3 +6,4 @@ pub mod laws;
 mod stated;
 
 pub use stated::is_stated;
+pub(crate) use stated::is_stated_set;

@@ -6,7 +6,7 @@ use crate::files::text_of;
 use crate::includes::refuse_includes;
 use crate::zones::{add_zone, milliseconds_since, read_zones, tell, zone_of};
 use dns_durable::recovery::{OpenError, Opened, open_journal};
-use dns_durable::{CompactError, DurableServer, ReplayError, replay};
+use dns_durable::{CompactError, DurableServer, Progress, ReplayError, replay};
 use dns_journal::files::FileStorage;
 use dns_journal::format::{Link, ReadError};
 use dns_journal::{Journal, Position, State, Storage, StorageError, StoredFiles};
@@ -60,6 +60,7 @@ pub(crate) fn open_durable<'a>(
                 storage: FileStorage::without_files(rt),
                 position: START,
             },
+            draft: Progress::Idle,
         }),
     }
 }
@@ -113,7 +114,11 @@ fn open_with_journal<'a>(
     let stored = Stored::read(rt, file, path)?;
     let mut server = server_of(rt, arguments, file, &stored.files)?;
     let journal = stored.into_journal(rt, &mut server, path)?;
-    Ok(DurableServer { server, journal })
+    Ok(DurableServer {
+        server,
+        journal,
+        draft: Progress::Idle,
+    })
 }
 
 /// Returns a server of the zone of files that were read. Standard error has a line for it.
@@ -283,9 +288,8 @@ pub(crate) fn replace_text(
 
 /// Writes a text to a file beside the zone file, which was not edited until it is there.
 fn prepare(journal: &mut Journal<FileStorage<'_>>, text: &str) -> Result<(), Unreplaced> {
-    if let Err(_) = journal.storage.prepare_text(text.as_bytes()) {
-        let error = journal.storage.take_error();
-        return Err(Unreplaced::Unwritten(error.unwrap_or(io::Error::from(io::ErrorKind::Other))));
+    if journal.storage.prepare_text(text.as_bytes()).is_err() {
+        return Err(unwritten(&mut journal.storage));
     }
     match unedited_text(journal) {
         Ok(()) => Ok(()),
@@ -296,8 +300,14 @@ fn prepare(journal: &mut Journal<FileStorage<'_>>, text: &str) -> Result<(), Unr
     }
 }
 
+/// Returns why a text can't be written beside the zone file.
+pub(crate) fn unwritten(storage: &mut FileStorage<'_>) -> Unreplaced {
+    let error = storage.take_error();
+    Unreplaced::Unwritten(error.unwrap_or(io::Error::from(io::ErrorKind::Other)))
+}
+
 /// Returns why the zone file is not to be replaced, if it was edited since it was read, or can't be read.
-fn unedited_text(journal: &mut Journal<FileStorage<'_>>) -> Result<(), Unreplaced> {
+pub(crate) fn unedited_text(journal: &mut Journal<FileStorage<'_>>) -> Result<(), Unreplaced> {
     let Journal { storage, position } = journal;
     match storage.is_unedited(position.digest.as_slice()) {
         Ok(true) => Ok(()),

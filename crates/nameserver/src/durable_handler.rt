@@ -1,10 +1,13 @@
 //! What the program does with requests, if there are keys or a journal.
 
-use crate::durable::{Unreplaced, replace_text};
+use crate::compaction::{Stage, begin_compaction, continue_compaction};
+use crate::durable::Unreplaced;
 use crate::log_file::LogFile;
 use crate::notices::Notices;
 use crate::transfers::{Sources, Transfers};
-use dns_durable::{CompactError, DurableServer, Incoming, Policy, Reply, Terms, is_update};
+use dns_durable::{
+    CompactError, DurableServer, Incoming, Policy, Progress, Reply, Terms, is_update,
+};
 use dns_faults::Delivery;
 use dns_journal::State;
 use dns_journal::files::FileStorage;
@@ -94,14 +97,18 @@ impl Handler for DurableHandler<'_> {
         self.notices.take_response(response)
     }
 
+    /// While a compaction is under way, there is always more to do.
     fn next_moment(&self) -> Option<Milliseconds> {
+        if self.is_compacting() {
+            return Some(0);
+        }
         self.notices.next_moment()
     }
 
-    /// Once all replies and notifications are sent, the journal is looked after.
+    /// Once all replies and notifications are sent, the journal is looked after, and a compaction goes on by a step.
     fn next_notice(&mut self, now: Milliseconds) -> Option<Notice> {
         let notice = self.notices.next_notice(self.rt, now);
-        if notice.is_none() && !self.is_tended {
+        if notice.is_none() && (!self.is_tended || self.is_compacting()) {
             self.is_tended = true;
             self.tend_journal();
         }
@@ -213,14 +220,29 @@ impl DurableHandler<'_> {
 
     /// Lets the zone file take the place of a journal that is long, and tells the first failure on standard error.
     fn tend_journal(&mut self) {
-        let limit = self.journal_limit.max(self.retry_limit);
-        if self.server.journal.storage.has_files() && self.server.is_due(limit) {
-            match replace_text(self.rt, &mut self.server) {
-                Ok(()) => self.retry_limit = 0,
-                Err(reason) => self.note_refusal(&reason),
-            }
+        match self.compact() {
+            Ok(Stage::Done) => self.retry_limit = 0,
+            Ok(Stage::Begun) => {}
+            Err(reason) => self.note_refusal(&reason),
         }
         self.tell_failure();
+    }
+
+    /// Returns `true` while a compaction is under way.
+    fn is_compacting(&self) -> bool {
+        !matches!(self.server.draft, Progress::Idle)
+    }
+
+    /// Goes on with a compaction that was begun, or begins one if the journal is long.
+    fn compact(&mut self) -> Result<Stage, Unreplaced> {
+        if self.is_compacting() {
+            return continue_compaction(self.rt, &mut self.server);
+        }
+        let limit = self.journal_limit.max(self.retry_limit);
+        if self.server.journal.storage.has_files() && self.server.is_due(limit) {
+            return begin_compaction(self.rt, &mut self.server);
+        }
+        Ok(Stage::Begun)
     }
 
     /// Says on standard error why the journal goes on. It goes on for ever if the zone file was edited since it was read, or the zone

@@ -11,6 +11,7 @@
 #![tactic(auto)]
 
 mod arguments;
+mod compaction;
 mod durable;
 mod durable_arguments;
 mod durable_handler;

@@ -34,7 +34,7 @@ pub fn is_stated(zone: &Zone) -> bool
 }
 
 /// Returns `true` if a zone file can state the data of each record of a set.
-fn is_stated_set(set: &RecordSet) -> bool
+pub(crate) fn is_stated_set(set: &RecordSet) -> bool
     ensures { IsTrue result → IsStatedSet set.now }
 {
     name_is_valid(set.name());
