@@ -26,4 +26,3 @@ pub mod Unchanged
 pub mod WalkedRuns
 pub mod WholeRuns
 pub mod ZoneQuestions
-pub mod SourcesRuns

@@ -15,4 +15,3 @@ pub mod Questions
 pub mod Walked
 pub mod Steady
 pub mod Whole
-pub mod AtReplies
