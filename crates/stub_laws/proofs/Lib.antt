@@ -40,6 +40,3 @@ pub mod ErrorLaws
 pub mod AnswersStepLaws
 pub mod EndsLaws
 pub mod AnswersSteadyLaws
-pub mod SourcesLaws
-pub mod ReceivedLaws
-pub mod RecentLaws

@@ -4,4 +4,3 @@ pub mod Failing
 pub mod Lookups
 pub mod Ends
 pub mod Steady
-pub mod Sources
