@@ -63,8 +63,8 @@ fn next_step(
         return Err(Unreplaced::Refused(CompactError::Journal(AppendError::NotReady)));
     }
     match server.draft {
-        // Memory for the text was refused.
         Progress::GivenUp(DraftFault::Memory) => {
+            // Memory for the text was refused.
             return Err(Unreplaced::Refused(CompactError::Memory));
         }
         Progress::GivenUp(_) => return at_once(rt, server),

@@ -40,11 +40,12 @@ fn carry_updates(progress: &mut Progress, entry: &[u8])
     }
 }
 
-/// Gives a text up.
+/// Gives a text up for want of memory.
 fn give_up(progress: &mut Progress)
     ensures { (base : ZoneContent) (zones : List ZoneContent) → IsBehind base zones progress.new }
 {
     if let Progress::Writing(_) = progress {
+        // The caller was refused memory.
         *progress = Progress::GivenUp(DraftFault::Memory);
     }
 }
