@@ -9,7 +9,7 @@ use Rattle.stub_config.specs.declared.request_options.DnsRequestOptions.{DnsRequ
 use Rattle.stub_lookup.specs.declared.error.NetError.TheVariants.{Memory}
 use Rattle.stub_cache.specs.Cache.{CacheContent, Kept, current}
 use Rattle.stub_client.specs.Handle.{Ask, Led, Outcome}
-use Rattle.stub_client.specs.Looks.{Answers, IsAnsweredHere, Looks, Proceeds, Reply, lookup_settings, negative}
+use Rattle.stub_client.specs.Looks.{Answers, IsAnsweredHere, Looks, Proceeds, Reply, TakesMemory, lookup_settings, negative, out_of_memory}
 use Rattle.stub_client.specs.SpecialNames.{special_answer}
 use Rattle.dns_messages.specs.Message.{strip_for, stripped}
 use Rattle.stub_client.specs.Step.{chain_of, given_answers, given_message, max_depth, meaning, questions_or, step_of, with_question}
@@ -34,12 +34,17 @@ answered now q (Nothing code) hit reply h = cc
 answered now q Ordinary (Some kept) reply h = cc
 answered now q Ordinary None reply h = absurd (cc)
 
--- a name without records is answered with its code
-without_records : (now : ℕ) (q : Query) (special : SpecialAnswer) (hit : Option Kept) (reply : Reply)
-    → local_reply now q special hit ≡ Some reply → (code : ResponseCode) → special ≡ Nothing code → reply ≡ negative (no_records q code)
-without_records now q special hit reply h code is =
-    let said : Some (negative (no_records q code)) ≡ Some reply = sym (ap (λ (s : SpecialAnswer). local_reply now q s hit) is) ∙ h in
-    cc
+-- a name without records takes no memory
+answered-takes : (now : ℕ) (q : Query) (special : SpecialAnswer) (hit : Option Kept) (reply : Reply)
+    → local_reply now q special hit ≡ Some reply → reply ≡ out_of_memory → TakesMemory special
+answered-takes now q (Loopback r) hit reply h memory = tt
+answered-takes now q (Nothing code) hit reply h memory = absurd (cc)
+answered-takes now q Ordinary hit reply h memory = tt
+
+without-takes : (special : SpecialAnswer) → ((code : ResponseCode) → special ≡ Nothing code → ⊥) → TakesMemory special
+without-takes (Loopback r) other = tt
+without-takes (Nothing code) other = absurd (other code refl)
+without-takes Ordinary other = tt
 
 unanswered : (now : ℕ) (q : Query) (special : SpecialAnswer) (hit : Option Kept)
     → local_reply now q special hit ≡ None → (special ≡ Ordinary) × (hit ≡ None)
@@ -92,20 +97,13 @@ module _ {H : Type 0} (gives : H → DnsRequest → ℕ → Outcome → H → Ty
   abbrev pub Does : Reply → CachingClient H → Type 0
   Does reply new = LooksUp gives options now depth kept old q reply new
 
-  -- a question that is neither answered here nor asked has no name without records
-  ordinary : special_answer q ≡ Ordinary → (reply : Reply) (code : ResponseCode) → special_answer q ≡ Nothing code → reply ≡ negative (no_records q code)
-  ordinary is reply code nothing =
-      let both : Ordinary ≡ Nothing code = sym is ∙ nothing in
-      absurd (cc)
-
   -- there is no memory for the reply
   pub without-memory : ((code : ResponseCode) → special_answer q ≡ Nothing code → ⊥) → Does (Err Memory) old
   without-memory other = record {
     asks = [];
     led = refl;
-    looks = (refl, inl refl);
+    looks = (refl, inl refl, λ memory. without-takes (special_answer q) other);
     settings = refl;
-    nothing = λ code is. absurd (other code is);
   }
 
   -- the question is answered without the handle
@@ -113,9 +111,12 @@ module _ {H : Type 0} (gives : H → DnsRequest → ℕ → Outcome → H → Ty
   locally reply h = record {
     asks = [];
     led = refl;
-    looks = (refl, inr (answered now q (special_answer q) (current old.cache.entries q now) reply h));
+    looks = (
+      refl,
+      inr (answered now q (special_answer q) (current old.cache.entries q now) reply h),
+      answered-takes now q (special_answer q) (current old.cache.entries q now) reply h,
+    );
     settings = refl;
-    nothing = without_records now q (special_answer q) (current old.cache.entries q now) reply h;
   }
 
   -- this step is to be taken, by a client whose handle may have been asked
@@ -142,14 +143,13 @@ module _ {H : Type 0} (gives : H → DnsRequest → ℕ → Outcome → H → Ty
         let stops : (asks ≡ []) × (reply ≡ Err Memory) × (new.cache ≡ old.cache) =
         subst (λ (s : Step). Proceeds (λ target aliases inner c. Looks (lookup_settings old options) now (suc depth) aliases old.cache target asks inner c) now old.cache q s asks reply new.cache) none.0 goes in
         let at : new.handle ≡ handle = stopped-led handle asks new.handle stops.0 led in
-        record { asks = []; led = cc; looks = (stops.2, inl stops.1); settings = same; nothing = ordinary missed.0 reply }
+        record { asks = []; led = cc; looks = (stops.2, inl stops.1, λ memory. subst TakesMemory (sym missed.0) tt); settings = same }
     took step (inr asked) asks reply new led goes same = elim asked.is_step [
       | inl is ↦ record {
         asks = record { question = q; outcome = asked.outcome } ∷ asks;
         led = (handle, asked.given, led);
         looks = (refl, missed.0, missed.1, inr (subst (λ (s : Step). Proceeds (λ target aliases inner c. Looks (lookup_settings old options) now (suc depth) aliases old.cache target asks inner c) now old.cache q s asks reply new.cache) is goes));
         settings = same;
-        nothing = ordinary missed.0 reply;
       }
       | inr memory ↦
           let stops : (asks ≡ []) × (reply ≡ Err Memory) × (new.cache ≡ old.cache) =
@@ -160,7 +160,6 @@ module _ {H : Type 0} (gives : H → DnsRequest → ℕ → Outcome → H → Ty
             led = (handle, asked.given, at);
             looks = (refl, missed.0, missed.1, inl (refl, memory.1, stops.1, stops.2));
             settings = same;
-            nothing = ordinary missed.0 reply;
           }
     ]
 
@@ -204,3 +203,21 @@ from-the-start gives options now kept old q reply new none h =
       few = few-asks (lookup_settings old options) now 0 [] old.cache q h.asks reply new.cache looks (omega arith);
       settings = h.settings;
     }
+
+-- a name without records is answered with its code
+here-nothing : (now : ℕ) (q : Query) (special : SpecialAnswer) (hit : Option Kept) (reply : Reply) (code : ResponseCode) → special ≡ Nothing code
+    → IsAnsweredHere now q special hit reply → reply ≡ negative (no_records q code)
+here-nothing now q (Nothing code) hit reply other is h = cc
+here-nothing now q (Loopback r) hit reply other is h = absurd (cc)
+here-nothing now q Ordinary hit reply other is h = absurd (cc)
+
+pub nothing-decided : (settings : LookupSettings) (now depth : ℕ) (kept : List Record) (old : CacheContent) (q : Query) (asks : List Ask)
+    (reply : Reply) (new : CacheContent) → Looks settings now depth kept old q asks reply new
+    → (code : ResponseCode) → special_answer q ≡ Nothing code → reply ≡ negative (no_records q code)
+nothing-decided settings now depth kept old q [] reply new h code is = elim h.1 [
+  | inl memory ↦ absurd (subst TakesMemory is (h.2 memory))
+  | inr here ↦ here-nothing now q (special_answer q) (current old.entries q now) reply code is here
+]
+nothing-decided settings now depth kept old q (ask ∷ asks) reply new h code is =
+    let both : Ordinary ≡ Nothing code = sym h.1 ∙ is in
+    absurd (cc)

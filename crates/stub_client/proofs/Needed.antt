@@ -282,7 +282,26 @@ module _ (buffer : Vec ℕ Global) where
           deadline = 120;
         } ∷ [];
       })
-  loopback_above_maximum = (refl, refl, refl, inr (_, _, (refl, inr refl), inl (refl, refl)))
+  loopback_above_maximum = (refl, refl, refl, inr (_, _, (refl, inr refl, λ memory. tt), inl (refl, refl)))
+
+  -- ---- a minimum counts for each alias
+
+  -- With a minimum of an hour, an address with a TTL of a minute is kept for an hour. At its end, the address is kept for an alias, too,
+  abbrev kept_for_host : CacheContent
+  kept_for_host = storing (empty from_an_hour) (asking host types.A) (Ok (response_to (asking host types.A) (address host 60 ∷ []))) 0
+
+  abbrev kept_for_alias : CacheContent
+  kept_for_alias = storing kept_for_host (asking alias types.A) (Ok (response_to (asking alias types.A) (address host 0 ∷ []))) 3600
+
+  alias_at_the_end : Looks dropping 3600 0 [] kept_for_host (asking alias types.A)
+      (record { question = asking alias types.A; outcome = reply (response_to (asking alias types.A) (alias_to alias 60 host ∷ [])) } ∷ [])
+      (Ok (lookup_of (asking host types.A) (address host 0 ∷ []) 3600)) kept_for_alias
+  alias_at_the_end = (refl, refl, refl, inr (_, _, (refl, inr refl, λ memory. tt), inl (refl, refl)))
+
+  -- and so it is returned for a second hour: the minimum counts once more for each alias that leads to the address.
+  pub minimum_counts_twice : current kept_for_alias.entries (asking alias types.A) 7200
+      ≡ Some (Ok (response_to (asking alias types.A) (address host 0 ∷ [])))
+  minimum_counts_twice = refl
 
   -- ---- failures
 

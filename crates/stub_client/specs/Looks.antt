@@ -56,6 +56,12 @@ IsAnsweredHere now q (Nothing code) hit reply = reply ≡ negative (no_records q
 IsAnsweredHere now q Ordinary (Some kept) reply = reply ≡ cached_reply now q kept
 IsAnsweredHere now q Ordinary None reply = ⊥
 
+-- Whether memory is taken where no question was asked yet: for a record of the local host, for a copy of what the cache has, or
+-- for the request. A name without records takes none.
+abbrev pub TakesMemory : SpecialAnswer → Type 0
+TakesMemory (Nothing code) = ⊥
+TakesMemory answer = Unit {0}
+
 -- ---- replies of the handle
 
 -- The reply of a message that is stored: its TTLs are within their bounds, and it is valid as long as it is stored.
@@ -103,11 +109,12 @@ MayRunOut (Err (errors.Dns (dns.NoRecordsFound answer))) = Unit {0}
 MayRunOut (Err error) = ⊥
 
 -- A lookup of a question at a depth of aliases, with those that are kept: these questions with these outcomes, from the old
--- cache to the new one. Want of memory may end it before a question, and after an outcome.
+-- cache to the new one. Want of memory may end it before a question, unless its name has no records, and after an outcome.
 abbrev pub Looks : LookupSettings → ℕ → ℕ → List Record → CacheContent → Query → List Ask → Reply → CacheContent → Type 0
 Looks settings now depth kept old q [] reply new =
     (new ≡ old)
     × ((reply ≡ out_of_memory) ⊎ IsAnsweredHere now q (special_answer q) (current old.entries q now) reply)
+    × (reply ≡ out_of_memory → TakesMemory (special_answer q))
 Looks settings now depth kept old q (ask ∷ asks) reply new =
     (ask.question ≡ q) × (special_answer q ≡ Ordinary) × (current old.entries q now ≡ None)
     × (((asks ≡ []) × MayRunOut (meaning ask.outcome) × (reply ≡ out_of_memory) × (new ≡ old))

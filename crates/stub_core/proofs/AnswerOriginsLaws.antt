@@ -23,9 +23,9 @@ use Rattle.stub_client.specs.Handle.{IsMessage}
 use Rattle.stub_client.specs.Laws.{RecordClaim}
 use Rattle.stub_client.specs.Looks.{Reply, out_of_memory}
 use Rattle.stub_client.specs.Origins.{Asked}
-use Rattle.stub_core.specs.Attempts.{Attempts, AttemptsWithHosts, Continues, Lookups, Unless, WithHosts, is_final, no_names}
+use Rattle.stub_core.specs.Attempts.{Attempts, AttemptsWithHosts, Continues, Lookups, Unless, UnlessMemory, WithHosts, is_final, no_names}
 use Rattle.stub_core.specs.Origins.{AreTyped, ByOrigins, EachAnswer, HostIsFrom, IsAnswer, NameIsFrom, first_of, from_hosts, from_literal, from_question, is_address_record, literal_records, names_of}
-use Rattle.stub_core.specs.Resolver.{AnswersHost, AnswersName, LooksUp, LooksUpHost, LooksUpName, UnlessMemory, is_tried_as_name, known_type, names_for, owner_of}
+use Rattle.stub_core.specs.Resolver.{AnswersHost, AnswersName, LooksUp, LooksUpHost, LooksUpName, is_tried_as_name, known_type, names_for, owner_of}
 use Rattle.stub_core.specs.Strategies.{Both, ByStrategy, EndsWith, Joins, LooksUpAddresses, LooksUpIp, OrAddress, Then, fallback_record, is_out_of_memory, kinds_of, no_addresses}
 use Rattle.stub_core.specs.declared.resolver.settings.Settings.{Settings}
 
@@ -78,7 +78,8 @@ module _ (P : Record → Type 0) where
   unless-each : (known : Option LookupContent) (asks : Reply → U → Type 0) (old : U) (reply : Reply) (new : U)
       → ((lookup : LookupContent) → known ≡ Some lookup → Each (Ok lookup)) → (asks reply new → Each reply)
       → Unless known asks old reply new → Each reply
-  unless-each None asks old reply new g f h = f h
+  unless-each None asks old reply new g f (inl memory) = is-each out_of_memory reply memory.0 tt
+  unless-each None asks old reply new g f (inr h) = f h
   unless-each (Some lookup) asks old reply new g f h = elim h.0 [
     | inl same ↦ is-each (Ok lookup) reply same (g lookup refl)
     | inr memory ↦ is-each out_of_memory reply memory tt

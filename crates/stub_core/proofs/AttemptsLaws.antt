@@ -60,20 +60,14 @@ module _ {S : Type 0} (tries : Lookups S DomainName) where
 -- ---- hosts
 
 module _ {S : Type 0} (asks : Reply → S → Type 0) (old : S) where
-  pub host-without-memory : (known : Option LookupContent) → asks out_of_memory old → Unless known asks old out_of_memory old
-  host-without-memory None asked = asked
-  host-without-memory (Some other) asked = (inr refl, refl)
+  -- there is no memory for the question, or for its name as the hosts have it
+  pub without-memory : (known : Option LookupContent) → Unless known asks old out_of_memory old
+  without-memory None = inl (refl, refl)
+  without-memory (Some other) = (inr refl, refl)
 
--- a client that has no memory for a question asks none
-pub asked-without-memory : {H : Type 0} (gives : Behavior H) (options : DnsRequestOptions) (now : ℕ) (old : CachingClient H) (q : Query)
-    → Answers gives options now old q out_of_memory old
-asked-without-memory gives options now old q = record {
-  asks = [];
-  led = refl;
-  looks = (refl, inl refl);
-  few = omega arith;
-  settings = refl;
-}
+  pub asked : (known : Option LookupContent) → known ≡ None → (reply : Reply) (new : S) → asks reply new → Unless known asks old reply new
+  asked None none reply new h = inr h
+  asked (Some other) none reply new h = absurd (cc)
 
 -- a lookup of a name by a client
 abbrev pub OfName : {H : Type 0} → Behavior H → DnsRequestOptions → ℕ → RecordType → CachingClient H → DomainName → Reply

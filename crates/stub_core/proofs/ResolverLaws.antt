@@ -6,10 +6,10 @@ use Rattle.dns_names.specs.Name.{DomainName}
 use Rattle.dns_data.specs.declared.rdata.RData.{RData}
 use Rattle.dns_messages.specs.declared.query.Query.{Query}
 use Rattle.stub_config.specs.declared.request_options.DnsRequestOptions.{DnsRequestOptions}
-use Rattle.stub_core.specs.Attempts.{AttemptsWithHosts}
+use Rattle.stub_core.specs.Attempts.{AttemptsWithHosts, UnlessMemory}
 use Rattle.stub_client.specs.Handle.{Behavior}
 use Rattle.stub_client.specs.Looks.{Answers, Reply}
-use Rattle.stub_core.specs.Resolver.{AnswersName, LooksUpName, UnlessMemory, asks_of, names_for, request_options}
+use Rattle.stub_core.specs.Resolver.{AnswersName, LooksUpName, asks_of, names_for, request_options}
 use Rattle.stub_core.specs.Strategies.{LooksUpIp}
 use Rattle.stub_client.specs.declared.caching_client.CachingClient.{CachingClient}
 use Rattle.stub_core.specs.declared.resolver.Resolver.{Resolver}

@@ -14,8 +14,8 @@ use Rattle.stub_lookup.specs.Lookup.{LookupContent}
 use Rattle.stub_hosts.specs.Hosts.{HostsContent, address_data, question, static_lookup}
 use Rattle.stub_client.specs.Handle.{Ask}
 use Rattle.stub_client.specs.Looks.{Reply}
-use Rattle.stub_core.specs.Attempts.{Attempts, AttemptsAll, AttemptsWithHosts, Continues, Lookups, Unless, WithHosts, is_final}
-use Rattle.stub_core.specs.Resolver.{AnswersHost, AnswersName, LooksUp, LooksUpHost, LooksUpName, UnlessMemory, is_tried_as_name, known_type, names_for}
+use Rattle.stub_core.specs.Attempts.{Attempts, AttemptsAll, AttemptsWithHosts, Continues, Lookups, Unless, UnlessMemory, WithHosts, is_final}
+use Rattle.stub_core.specs.Resolver.{AnswersHost, AnswersName, LooksUp, LooksUpHost, LooksUpName, is_tried_as_name, known_type, names_for}
 use Rattle.stub_core.specs.Strategies.{Both, ByStrategy, Joins, LooksUpAddresses, LooksUpIp, Then, is_out_of_memory, no_addresses}
 use Rattle.stub_core.specs.declared.resolver.settings.Settings.{Settings}
 
@@ -97,7 +97,9 @@ module _ {S All : Type 0} (Path : S → List Ask → S → Type 0) (Fits : List 
   unless-by : (known : Option LookupContent) (asks : Reply → S → Type 0) (others : All → Reply → Unit {0} → Type 0) (old : S)
       (reply : Reply) (new : S) → (asks reply new → Explained old new (λ all. others all reply tt))
       → Unless known asks old reply new → Explained old new (λ all. Unless known (others all) tt reply tt)
-  unless-by None asks others old reply new explains h = explains h
+  unless-by None asks others old reply new explains (inl memory) =
+      nothing (λ all. Unless None (others all) tt reply tt) old new memory.1 (λ all. inl (memory.0, refl))
+  unless-by None asks others old reply new explains (inr h) = by others (λ all. Unless None (others all) tt reply tt) old new (explains h) (λ all led. inr led)
   unless-by (Some lookup) asks others old reply new explains h =
       nothing (λ all. Unless (Some lookup) (others all) tt reply tt) old new h.1 (λ all. (h.0, refl))
 

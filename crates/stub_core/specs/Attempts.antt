@@ -51,9 +51,14 @@ no_names = codes "can not lookup for no names"
 
 -- ---- hosts
 
--- what the hosts have for a question, or else what is asked
+-- want of memory may end it before anything is asked
+abbrev pub UnlessMemory : {S : Type 0} → Type 0 → S → Reply → S → Type 0
+UnlessMemory looks old reply new = ((reply ≡ out_of_memory) × (new ≡ old)) ⊎ looks
+
+-- What the hosts have for a question, or else what is asked. Want of memory may end it before: the question is copied, or its name
+-- is completed for the hosts.
 abbrev pub Unless : {S : Type 0} → Option LookupContent → (Reply → S → Type 0) → S → Reply → S → Type 0
-Unless None asks old reply new = asks reply new
+Unless None asks old reply new = UnlessMemory (asks reply new) old reply new
 Unless (Some lookup) asks old reply new = ((reply ≡ Ok lookup) ⊎ (reply ≡ out_of_memory)) × (new ≡ old)
 
 -- what the hosts have for a question, or else what asking it leads to

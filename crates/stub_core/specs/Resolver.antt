@@ -15,7 +15,7 @@ use Rattle.stub_cache.specs.Cache.{cleared_of}
 use Rattle.stub_hosts.specs.Hosts.{address_data, address_type, question}
 use Rattle.stub_cache.specs.declared.cache.entry.Entry.{Entry}
 use Rattle.stub_core.specs.AttemptedNames.{attempted_names}
-use Rattle.stub_core.specs.Attempts.{AttemptsWithHosts, Lookups}
+use Rattle.stub_core.specs.Attempts.{AttemptsWithHosts, Lookups, UnlessMemory}
 use Rattle.stub_client.specs.Handle.{Behavior}
 use Rattle.stub_client.specs.Looks.{Answers, Reply, out_of_memory}
 use Rattle.stub_core.specs.Strategies.{LooksUpIp}
@@ -44,10 +44,6 @@ max_questions settings = (length settings.config.search + 2) * 16
 -- a type by its number
 abbrev pub known_type : RecordType → RecordType
 known_type kind = type_of (type_number kind)
-
--- want of memory may end a lookup before a name is asked for
-abbrev pub UnlessMemory : {S : Type 0} → Type 0 → S → Reply → S → Type 0
-UnlessMemory looks old reply new = ((reply ≡ out_of_memory) × (new ≡ old)) ⊎ looks
 
 -- ---- lookups of names
 

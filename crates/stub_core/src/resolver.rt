@@ -106,7 +106,8 @@ impl<H> Resolver<H> {
 
 impl<H: DnsHandle> Resolver<H> {
     ghost use Rattle.std.specs.Prelude.{Ok};
-    ghost use Rattle.stub_core.specs.Resolver.{AnswersName, ResolvesName, UnlessMemory, asks_of};
+    ghost use Rattle.stub_core.specs.Attempts.{UnlessMemory};
+    ghost use Rattle.stub_core.specs.Resolver.{AnswersName, ResolvesName, asks_of};
 
     /// Looks up records of a type for a name, as it is or completed with the domain and the search list.
     ///

@@ -26,8 +26,8 @@ use Rattle.stub_hosts.specs.Hosts.{HostsContent, address_data, entries_of, looku
 use Rattle.stub_client.specs.Conclusions.{Conclusion, Finds, Lacks, Refuses, value_of, values}
 use Rattle.stub_client.specs.Handle.{IsMessage}
 use Rattle.stub_client.specs.Looks.{Reply, out_of_memory}
-use Rattle.stub_core.specs.Attempts.{Attempts, AttemptsAll, AttemptsWithHosts, Continues, Lookups, Unless, WithHosts, is_final, no_names}
-use Rattle.stub_core.specs.Resolver.{AnswersHost, AnswersName, LooksUp, LooksUpHost, LooksUpName, UnlessMemory, is_tried_as_name, known_type, literal, names_for, owner_of}
+use Rattle.stub_core.specs.Attempts.{Attempts, AttemptsAll, AttemptsWithHosts, Continues, Lookups, Unless, UnlessMemory, WithHosts, is_final, no_names}
+use Rattle.stub_core.specs.Resolver.{AnswersHost, AnswersName, LooksUp, LooksUpHost, LooksUpName, is_tried_as_name, known_type, literal, names_for, owner_of}
 use Rattle.stub_core.specs.Strategies.{Both, ByStrategy, EndsWith, Joins, LooksUpAddresses, LooksUpIp, OrAddress, Then, fallback, is_out_of_memory, no_addresses}
 use Rattle.stub_core.specs.declared.resolver.settings.Settings.{Settings}
 use Rattle.stub_laws.specs.walk.Agreement.{Agree, ByCode, Failed, Found, Negative, OutOfMemory, Value, WithText, reply_value}
@@ -261,10 +261,17 @@ known-agree one other reply answer same (inl e) (inr memory) = inr (inl (ap repl
 known-agree one other reply answer same (inl e) (inl f) =
     same-agrees reply answer (Ok one) (Ok other) e f (inr (inr (ap (λ (rs : List Record). Found (values rs)) same)))
 
+memory-agree : (looks others : Type 0) (old past : State) (reply answer : Reply) (new next : State) → (looks → others → Agree reply answer)
+    → UnlessMemory looks old reply new → UnlessMemory others past answer next → Agree reply answer
+memory-agree looks others old past reply answer new next go (inl memory) k = inl (ap reply_value memory.0)
+memory-agree looks others old past reply answer new next go (inr h) (inl memory) = inr (inl (ap reply_value memory.0))
+memory-agree looks others old past reply answer new next go (inr h) (inr k) = go h k
+
 unless-agree : (known found : Option LookupContent) → Alike known found → (asks others : Reply → State → Type 0) (old past : State) (reply answer : Reply)
     (new next : State) → (asks reply new → others answer next → Agree reply answer) → Unless known asks old reply new → Unless found others past answer next
     → Agree reply answer
-unless-agree None None alike asks others old past reply answer new next go h k = go h k
+unless-agree None None alike asks others old past reply answer new next go h k =
+    memory-agree (asks reply new) (others answer next) old past reply answer new next go h k
 unless-agree None (Some other) alike asks others old past reply answer new next go h k = absurd alike
 unless-agree (Some one) None alike asks others old past reply answer new next go h k = absurd alike
 unless-agree (Some one) (Some other) alike asks others old past reply answer new next go h k = known-agree one other reply answer alike h.0 k.0
@@ -289,12 +296,6 @@ module _ (zone : ZoneContent) (now later : ℕ) where
       (λ old past new next name reply answer x y. walked-agree zone (question name kind) reply answer x y)
       names h.0 k.0 h.1 k.1 reply answer new next
       (with-hosts-agree hosts (question name kind) old past h.0 k.0 h.1 k.1 h.2 k.2) h.3 k.3
-
-  memory-agree : (looks others : Type 0) (old past : State) (reply answer : Reply) (new next : State) → (looks → others → Agree reply answer)
-      → UnlessMemory looks old reply new → UnlessMemory others past answer next → Agree reply answer
-  memory-agree looks others old past reply answer new next go (inl memory) k = inl (ap reply_value memory.0)
-  memory-agree looks others old past reply answer new next go (inr h) (inl memory) = inr (inl (ap reply_value memory.0))
-  memory-agree looks others old past reply answer new next go (inr h) (inr k) = go h k
 
   module _ (settings : Settings) (old past : State) (reply answer : Reply) (new next : State) where
     answers-name-agree : (name : Result DomainName ParseError) (kind : RecordType) → AnswersName settings now (ByWalk zone) name kind old reply new

@@ -45,7 +45,8 @@ module _ (finds : Query → ℕ → List Record → Type 0) (lacks : Query → �
   first-ends : (name : DomainName) → Contains all name → Contains (first_of all) name → (known : Option LookupContent)
       → static_lookup settings.hosts (question name kind) now ≡ known → (reply : Reply) (old new : Unit {0})
       → Unless known (λ reply new. Asks old name reply new) old reply new → Ends reply
-  first-ends name there first None is reply old new h = by_question name there h
+  first-ends name there first None is reply old new (inl memory) = by_memory memory.0
+  first-ends name there first None is reply old new (inr h) = by_question name there h
   first-ends name there first (Some lookup) is reply old new h = elim h.0 [
     | inl found ↦ by_hosts name lookup first is found
     | inr memory ↦ by_memory memory

@@ -35,7 +35,7 @@ use Rattle.stub_laws.specs.answers.Standing.HaveStood.{as_loopback, as_set}
 use Rattle.stub_laws.proofs.StandingLaws.{IsLast}
 
 module _ (preserves : Bool) (history other : List Version) where
-  led-on : (now : ℕ) → GoesOn now history other → {kind : RecordType} {from to : DomainName} {links : ℕ} → IsLed preserves history now kind from links to
+  pub led-on : (now : ℕ) → GoesOn now history other → {kind : RecordType} {from to : DomainName} {links : ℕ} → IsLed preserves history now kind from links to
       → IsLed preserves other now kind from links to
   led-on now on (here to s) = here to s
   led-on now on (by_alias links owner to moment rows row alias follows rest stand past there is s) =

@@ -40,3 +40,6 @@ pub mod ErrorLaws
 pub mod AnswersStepLaws
 pub mod EndsLaws
 pub mod AnswersSteadyLaws
+pub mod SourcesLaws
+pub mod ReceivedLaws
+pub mod RecentLaws

@@ -14,9 +14,9 @@ use Rattle.stub_config.specs.declared.strategy.LookupIpStrategy.TheVariants.{Ipv
 use Rattle.stub_lookup.specs.Lookup.{LookupContent}
 use Rattle.stub_hosts.specs.Hosts.{HostsContent, address_data, question, static_lookup}
 use Rattle.stub_client.specs.Looks.{Reply}
-use Rattle.stub_core.specs.Attempts.{Attempts, AttemptsWithHosts, Continues, Lookups, Unless, WithHosts, is_final}
+use Rattle.stub_core.specs.Attempts.{Attempts, AttemptsWithHosts, Continues, Lookups, Unless, UnlessMemory, WithHosts, is_final}
 use Rattle.stub_core.specs.Origins.{names_of}
-use Rattle.stub_core.specs.Resolver.{AnswersHost, AnswersName, LooksUp, LooksUpHost, LooksUpName, UnlessMemory, is_tried_as_name, known_type, names_for}
+use Rattle.stub_core.specs.Resolver.{AnswersHost, AnswersName, LooksUp, LooksUpHost, LooksUpName, is_tried_as_name, known_type, names_for}
 use Rattle.stub_core.specs.Strategies.{Both, ByStrategy, Joins, LooksUpAddresses, LooksUpIp, Then, is_out_of_memory}
 use Rattle.stub_core.specs.declared.resolver.settings.Settings.{Settings}
 
@@ -26,15 +26,15 @@ module _ {S : Type 0} where
   more-continues true rest others last old reply new f h = h
   more-continues false rest others last old reply new f h = f h
 
-  more-unless : (known : Option LookupContent) (asks others : Reply → S → Type 0) (old : S) (reply : Reply) (new : S)
-      → (asks reply new → others reply new) → Unless known asks old reply new → Unless known others old reply new
-  more-unless None asks others old reply new f h = f h
-  more-unless (Some lookup) asks others old reply new f h = h
-
   more-unless-memory : (looks others : Type 0) (old : S) (reply : Reply) (new : S) → (looks → others)
       → UnlessMemory looks old reply new → UnlessMemory others old reply new
   more-unless-memory looks others old reply new f (inl memory) = inl memory
   more-unless-memory looks others old reply new f (inr h) = inr (f h)
+
+  more-unless : (known : Option LookupContent) (asks others : Reply → S → Type 0) (old : S) (reply : Reply) (new : S)
+      → (asks reply new → others reply new) → Unless known asks old reply new → Unless known others old reply new
+  more-unless None asks others old reply new f h = more-unless-memory (asks reply new) (others reply new) old reply new f h
+  more-unless (Some lookup) asks others old reply new f h = h
 
   -- ---- names
 

@@ -107,7 +107,7 @@ led-typed other same (by_service links owner to moment rows row service asks aft
     by_service links owner to moment rows row service (sym same ∙ asks) after (led-typed other same rest) stand past there is s
 
 -- for a question with the same name and type, up to ASCII case
-led-respelled : {preserves : Bool} {history : List Version} {now : ℕ} (p q : Query) {to : DomainName} {links : ℕ} → type_number p.query_type ≡ type_number q.query_type
+pub led-respelled : {preserves : Bool} {history : List Version} {now : ℕ} (p q : Query) {to : DomainName} {links : ℕ} → type_number p.query_type ≡ type_number q.query_type
     → AreSame p.name q.name → IsLed preserves history now p.query_type p.name links to → IsLed preserves history now q.query_type q.name links to
 led-respelled p q same name led = led-from q.name name (led-typed q.query_type same led)
 

@@ -4,3 +4,4 @@ pub mod Failing
 pub mod Lookups
 pub mod Ends
 pub mod Steady
+pub mod Sources

@@ -20,10 +20,10 @@ use Rattle.stub_lookup.specs.declared.error.NetError.{NetError}
 use Rattle.stub_lookup.specs.declared.error.NetError.TheVariants as errors
 use Rattle.stub_cache.specs.Cache.{CacheContent}
 use Rattle.stub_hosts.specs.Hosts.{HostsContent, address_data, question, static_lookup}
-use Rattle.stub_core.specs.Attempts.{Attempts, AttemptsAll, AttemptsWithHosts, Continues, Lookups, Unless, WithHosts, is_final}
+use Rattle.stub_core.specs.Attempts.{Attempts, AttemptsAll, AttemptsWithHosts, Continues, Lookups, Unless, UnlessMemory, WithHosts, is_final}
 use Rattle.stub_client.specs.Handle.{Ask, Behavior, Led, Outcome, request_for}
 use Rattle.stub_client.specs.Looks.{Answers, Looks, Reply, lookup_settings}
-use Rattle.stub_core.specs.Resolver.{AnswersHost, AnswersName, LooksUp, LooksUpHost, LooksUpName, ResolvesHost, ResolvesName, UnlessMemory, cleared_lookup, is_tried_as_name, known_type, names_for, request_options, with_entries, with_handle}
+use Rattle.stub_core.specs.Resolver.{AnswersHost, AnswersName, LooksUp, LooksUpHost, LooksUpName, ResolvesHost, ResolvesName, cleared_lookup, is_tried_as_name, known_type, names_for, request_options, with_entries, with_handle}
 use Rattle.stub_core.specs.Strategies.{Both, ByStrategy, Joins, LooksUpAddresses, LooksUpIp, Then, is_out_of_memory, no_addresses}
 use Rattle.stub_client.specs.declared.caching_client.CachingClient.{CachingClient}
 use Rattle.stub_client.specs.declared.request.DnsRequest.{DnsRequest}
@@ -87,10 +87,20 @@ module _ {S T : Type 0} (is_in : S → T → Type 0) where
 
   -- ---- hosts
 
+  unless_memory-alike : (looks : Type 0) (others : T → Type 0) (old : S) (state : T) (reply : Reply) (new : S) → is_in old state
+      → (looks → LeadsAlong new others) → UnlessMemory looks old reply new
+      → LeadsAlong new (λ after. UnlessMemory (others after) state reply after)
+  unless_memory-alike looks others old state reply new alike carries (inl memory) =
+      stays (λ after. UnlessMemory (others after) state reply after) old new state alike memory.1 (inl (memory.0, refl))
+  unless_memory-alike looks others old state reply new alike carries (inr h) =
+      let led = carries h in
+      (led.0, led.1, inr led.2)
+
   unless-alike : (known : Option LookupContent) (asks : Reply → S → Type 0) (others : Reply → T → Type 0) (old : S) (state : T)
       (reply : Reply) (new : S) → is_in old state → (asks reply new → LeadsAlong new (λ after. others reply after))
       → Unless known asks old reply new → LeadsAlong new (λ after. Unless known others state reply after)
-  unless-alike None asks others old state reply new alike carries h = carries h
+  unless-alike None asks others old state reply new alike carries h =
+      unless_memory-alike (asks reply new) (λ after. others reply after) old state reply new alike carries h
   unless-alike (Some lookup) asks others old state reply new alike carries h =
       stays (λ after. Unless (Some lookup) others state reply after) old new state alike h.1 (h.0, refl)
 
@@ -130,15 +140,6 @@ module _ {S T : Type 0} (is_in : S → T → Type 0) where
     by_strategy-alike Ipv4thenIpv6 old new state reply alike h = then-alike types.A types.AAAA old new state reply alike h
 
   -- ---- lookups of names and hosts
-
-  unless_memory-alike : (looks : Type 0) (others : T → Type 0) (old : S) (state : T) (reply : Reply) (new : S) → is_in old state
-      → (looks → LeadsAlong new others) → UnlessMemory looks old reply new
-      → LeadsAlong new (λ after. UnlessMemory (others after) state reply after)
-  unless_memory-alike looks others old state reply new alike carries (inl memory) =
-      stays (λ after. UnlessMemory (others after) state reply after) old new state alike memory.1 (inl (memory.0, refl))
-  unless_memory-alike looks others old state reply new alike carries (inr h) =
-      let led = carries h in
-      (led.0, led.1, inr led.2)
 
   module _ (now : ℕ) (asks : Lookups S Query) (others : Lookups T Query) (carries : CarriesLookups asks others) where
     with_hosts-alike : (hosts : HostsContent) (old new : S) (state : T) (q : Query) (reply : Reply) → is_in old state

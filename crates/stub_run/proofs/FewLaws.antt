@@ -104,7 +104,8 @@ module _ (hosts : HostsContent) (now : ℕ) where
   hosted-one n m q reply h = by (static_lookup hosts q now) h
     where
       by : (known : Option LookupContent) → Unless known (λ reply m. Counts n q reply m) n reply m → m ≤ n + 1
-      by None k = omega (arith, k)
+      by None (inl memory) = omega (arith, memory.1)
+      by None (inr k) = omega (arith, k)
       by (Some lookup) k = omega (arith, k.1)
 
   -- the names of a lookup of records

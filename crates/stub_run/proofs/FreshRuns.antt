@@ -24,13 +24,14 @@ use Rattle.stub_laws.proofs.CloseLaws.{closely}
 use Rattle.stub_laws.proofs.EventLaws.{first-faithful}
 use Rattle.stub_laws.proofs.FreshLaws.{fresh}
 use Rattle.stub_laws.proofs.ServeLaws.{UpdatesKeepZones}
+use Rattle.stub_run.specs.AtReplies.{AreFreshAtReplies, HaveChainBoundsAtReplies}
 use Rattle.stub_run.specs.Headline.{AreFresh, HasChainBy, HasNoLeastTtl, HaveChainBounds, IsFreshBy, WorldContent, settings_of, ttls_of}
 use Rattle.stub_run.specs.History.{MakePasts}
 use Rattle.stub_run.specs.Run.{InOrder, RunState, Runs, asks_of}
 use Rattle.stub_run.specs.World.{IsFirst}
 use Rattle.stub_run.specs.declared.event.Event.{Event}
 use Rattle.stub_run.specs.declared.report.EventReport.{EventReport}
-use Rattle.stub_run.proofs.HeadlineLaws.{Has, runs-hold}
+use Rattle.stub_run.proofs.HeadlineLaws.{Has, replies-hold, runs-hold}
 
 module _ (keep : UpdatesKeepZones) (chains : (zone : ZoneContent) (q : Query) → IsChain zone.rows q.query_type q.name (answer zone q).answers)
     (round : (number : ℕ) → type_number (type_of number) ≡ number) (content : WorldContent) (first last : RunState) (events : List Event)
@@ -88,3 +89,24 @@ module _ (keep : UpdatesKeepZones) (chains : (zone : ZoneContent) (q : Query) �
       closely chains origin history zones ttls (type_number q.query_type) plain (none q.query_type) asked answered ordinary short brought refl)
       [] (first_past content.zone) first last events reports states occasions
       (has-first false off (BringsClosely ttls) LeadsOnClosely brings) in-order runs once pasts
+
+  -- ---- by the versions up to each reply
+
+  pub fresh-at-replies : AreFreshAtReplies content first events reports states last runs
+  fresh-at-replies =
+      let aliases : Bool = content.options.preserve_intermediates in
+      let brings = brings-all ttls aliases none in
+      replies-hold keep chains round origin ttls aliases (settings_of content) (BringsRecord ttls) LeadsOn brings
+      (IsFreshBy ttls)
+      (λ history asked zones answered ordinary q now r plain brought.
+      fresh chains origin history zones ttls (type_number q.query_type) plain (none q.query_type) asked answered brought refl)
+      [] first last events reports states (has-first aliases refl (BringsRecord ttls) LeadsOn brings) in-order runs once
+
+  pub chain-at-replies : content.options.preserve_intermediates ≡ false → HaveChainBoundsAtReplies content first events reports states last runs
+  chain-at-replies off =
+      let brings = brings-closely ttls false refl none in
+      replies-hold keep chains round origin ttls false (settings_of content) (BringsClosely ttls) LeadsOnClosely brings
+      (HasChainBy ttls)
+      (λ history asked zones answered ordinary q now r plain brought short.
+      closely chains origin history zones ttls (type_number q.query_type) plain (none q.query_type) asked answered ordinary short brought refl)
+      [] first last events reports states (has-first false off (BringsClosely ttls) LeadsOnClosely brings) in-order runs once

@@ -50,6 +50,7 @@ use Rattle.stub_laws.proofs.LedLaws.{led-holds}
 use Rattle.stub_laws.proofs.ServeLaws.{UpdatesKeepZones}
 use Rattle.stub_link.specs.declared.link.script.Script.{Script}
 use Rattle.stub_run.specs.Event.{update_of}
+use Rattle.stub_run.specs.AtReplies.{HoldsAtReplies, versions_in}
 use Rattle.stub_run.specs.Headline.{HistoryClaim, HoldsOfEvent, HoldsOfEvents}
 use Rattle.stub_run.specs.History.{MakePasts}
 use Rattle.stub_run.specs.Run.{Clears, InOrder, RepliesByZone, RunState, Runs, Step, Updates, asks_of, begin_asks, begin_event, end_event}
@@ -407,8 +408,9 @@ module _ (keep : UpdatesKeepZones) (chains : (zone : ZoneContent) (q : Query) �
   -- ---- one event
 
   -- what an event makes of a state: what holds of it, and of the reply
-  pub record HasStepped (Claim : HistoryClaim) (asked : List Asked) (e : Event) (reply : EventReply) (new : RunState) : Type 0 where
+  pub record HasStepped (Claim : HistoryClaim) (asked : List Asked) (e : Event) (reply : EventReply) (mid new : RunState) : Type 0 where
     pub asks : List Asked
+    pub has_replied : Has (asked ++ asks) mid
     pub has : Has (asked ++ asks) new
     pub moment_is : (asks_of new).link.moment ≡ e.at
     pub bears : BearsOut Claim (asked ++ asks) e.at e.action reply
@@ -422,15 +424,15 @@ module _ (keep : UpdatesKeepZones) (chains : (zone : ZoneContent) (q : Query) �
       )
 
   stepped : (Claim : HistoryClaim) (asked : List Asked) (e : Event) (report : EventReport) (old new : RunState)
-      (later : List (ℕ × Query)) → Has asked old → (asks_of old).link.moment ≤ e.at → Step old e report new
-      → HasNoReuse ((asks_of new).sent ++ later) → HasStepped Claim asked e report.reply new
+      (later : List (ℕ × Query)) → Has asked old → (asks_of old).link.moment ≤ e.at → (step : Step old e report new)
+      → HasNoReuse ((asks_of new).sent ++ later) → HasStepped Claim asked e report.reply step.mid new
   stepped Claim asked e report old new later h less step once =
       let b = begun asked (update_of e.action) e.at e.script old h less in
       let sent : (asks_of new).sent ≡ (asks_of step.mid).sent = ap (λ (s : RunState). (asks_of s).sent) step.ends in
       let r = replied Claim asked e.at e.action report.reply (begin_event e old) step.mid later b.0 b.1 step.replies
       (mid-memory old e report new step) (subst (λ (s : List (ℕ × Query)). HasNoReuse (s ++ later)) sent once) in
       let f = ended (asked ++ r.asks) e.at step.mid new r.has (r.moment_is ∙ b.1) step.ends in
-      record { asks = r.asks; has = f.0; moment_is = f.1; bears = r.bears }
+      record { asks = r.asks; has_replied = r.has; has = f.0; moment_is = f.1; bears = r.bears }
 
   -- ---- all events
 
@@ -438,10 +440,10 @@ module _ (keep : UpdatesKeepZones) (chains : (zone : ZoneContent) (q : Query) �
       (claims : (history : List Version) (asked : List Asked) → AreZones origin history → All (IsAnsweredBy origin history) asked
       → AreOrdinary asked → (q : Query) (now : ℕ) (r : Record) → is_plain q.query_type ≡ true → Brought asked q now r
       → Claim history q now r) where
-    holds-first : (asked : List Asked) (past : Past) (o : Occasion) (e : Event) (reply : EventReply) (new : RunState)
-        (s : HasStepped Claim asked e reply new) → past_of (asks_of new).link ≡ past_after_occasion past o
+    holds-first : (asked : List Asked) (past : Past) (o : Occasion) (e : Event) (reply : EventReply) (mid new : RunState)
+        (s : HasStepped Claim asked e reply mid new) → past_of (asks_of new).link ≡ past_after_occasion past o
         → HoldsOfEvent (Claim (past_after_occasion past o).history) settings e.at e.action reply
-    holds-first asked past o e reply new s past_is =
+    holds-first asked past o e reply mid new s past_is =
         let history : List Version = (past_after_occasion past o).history in
         let same : (asks_of new).link.history ≡ history = ap (λ (p : Past). p.history) past_is in
         let all : List Asked = asked ++ s.asks in
@@ -460,7 +462,7 @@ module _ (keep : UpdatesKeepZones) (chains : (zone : ZoneContent) (q : Query) �
     runs-hold asked past first last (e ∷ events) (report ∷ reports) (state ∷ states) (o ∷ occasions) h order runs once pasts =
         let more = runs-extend state last events reports states runs.1 in
         let s = stepped Claim asked e report first state more.0 h order.0 runs.0 (subst HasNoReuse more.1 once) in (
-          holds-first asked past o e report.reply state s pasts.0,
+          holds-first asked past o e report.reply runs.0.mid state s pasts.0,
           runs-hold (asked ++ s.asks) (past_after_occasion past o) state last events reports states occasions s.has
               (subst (λ (t : ℕ). InOrder t events) (sym s.moment_is) order.2) runs.1 once pasts.1,
         )
@@ -470,3 +472,28 @@ module _ (keep : UpdatesKeepZones) (chains : (zone : ZoneContent) (q : Query) �
     runs-hold asked past first last (e ∷ events) [] states occasions h order runs once pasts = absurd runs
     runs-hold asked past first last (e ∷ events) (report ∷ reports) [] occasions h order runs once pasts = absurd runs
     runs-hold asked past first last (e ∷ events) (report ∷ reports) (state ∷ states) [] h order runs once pasts = absurd pasts
+
+    -- a claim holds of the reply to an event, over the versions up to it
+    holds-at-reply : (asked : List Asked) (e : Event) (reply : EventReply) (mid new : RunState) (s : HasStepped Claim asked e reply mid new)
+        → HoldsOfEvent (Claim (versions_in mid)) settings e.at e.action reply
+    holds-at-reply asked e reply mid new s =
+        s.bears (versions_in mid) s.has_replied.faithful.history.versions s.has_replied.answered
+        (claims (versions_in mid) (asked ++ s.asks) s.has_replied.faithful.history.versions s.has_replied.answered s.has_replied.ordinary)
+
+    -- a claim holds of every reply, over the versions up to it
+    pub replies-hold : (asked : List Asked) (first last : RunState) (events : List Event) (reports : List EventReport)
+        (states : List RunState) → Has asked first → InOrder (asks_of first).link.moment events
+        → (runs : Runs first events reports states last) → HasNoReuse (asks_of last).sent
+        → HoldsAtReplies Claim settings first events reports states last runs
+    replies-hold asked first last (e ∷ events) (report ∷ reports) (state ∷ states) h order runs once =
+        let more = runs-extend state last events reports states runs.1 in
+        let s = stepped Claim asked e report first state more.0 h order.0 runs.0 (subst HasNoReuse more.1 once) in (
+          holds-at-reply asked e report.reply runs.0.mid state s,
+          replies-hold (asked ++ s.asks) state last events reports states s.has
+              (subst (λ (t : ℕ). InOrder t events) (sym s.moment_is) order.2) runs.1 once,
+        )
+    replies-hold asked first last [] [] [] h order runs once = tt
+    replies-hold asked first last [] [] (state ∷ states) h order runs once = tt
+    replies-hold asked first last [] (report ∷ reports) states h order runs once = tt
+    replies-hold asked first last (e ∷ events) [] states h order runs once = tt
+    replies-hold asked first last (e ∷ events) (report ∷ reports) [] h order runs once = tt

@@ -26,3 +26,4 @@ pub mod Unchanged
 pub mod WalkedRuns
 pub mod WholeRuns
 pub mod ZoneQuestions
+pub mod SourcesRuns

@@ -5,6 +5,7 @@ use Rattle.dns_zone.specs.Rows.{IsZone, ZoneContent}
 use Rattle.stub_link.specs.AskState.{first_asks}
 use Rattle.stub_link.specs.History.{Occasion, first_past, history_of}
 use Rattle.stub_laws.specs.history.Faithful.{HasNoReuse}
+use Rattle.stub_run.specs.AtReplies.{AreFreshAtReplies, AreWholeAtReplies, HaveChainBoundsAtReplies, HaveSourcesAtReplies}
 use Rattle.stub_run.specs.Headline.{AreFresh, HasNoLeastTtl, HaveChainBounds, IsMadeOf, WorldContent, report_in, reported}
 use Rattle.stub_run.specs.History.{AreOccasions, MakePasts}
 use Rattle.stub_run.specs.OneHistory.{HasOneHistory}
@@ -100,6 +101,35 @@ WalkedLaw =
     → HasNoReuse (asks_of last).sent → content.options.preserve_intermediates ≡ false
     → content.options.edns_payload_len < 2 ^ 16 → AreAskable events → AreWalked content events reports occasions
 
+-- by the versions up to each reply, and by the questions of its lookup
+abbrev pub FreshAtRepliesLaw : Type 0
+FreshAtRepliesLaw =
+    (content : WorldContent) (first last : RunState) (events : List Event) (reports : List EventReport) (states : List RunState)
+    → IsZone content.zone → IsFirst content.zone content.limit content.ids content.config content.options content.hosts first
+    → InOrder 0 events → (runs : Runs first events reports states last) → HasNoReuse (asks_of last).sent → HasNoLeastTtl content
+    → AreFreshAtReplies content first events reports states last runs
+
+abbrev pub ChainAtRepliesLaw : Type 0
+ChainAtRepliesLaw =
+    (content : WorldContent) (first last : RunState) (events : List Event) (reports : List EventReport) (states : List RunState)
+    → IsZone content.zone → IsFirst content.zone content.limit content.ids content.config content.options content.hosts first
+    → InOrder 0 events → (runs : Runs first events reports states last) → HasNoReuse (asks_of last).sent → HasNoLeastTtl content
+    → content.options.preserve_intermediates ≡ false → HaveChainBoundsAtReplies content first events reports states last runs
+
+abbrev pub WholeAtRepliesLaw : Type 0
+WholeAtRepliesLaw =
+    (content : WorldContent) (first last : RunState) (events : List Event) (reports : List EventReport) (states : List RunState)
+    → IsZone content.zone → IsFirst content.zone content.limit content.ids content.config content.options content.hosts first
+    → InOrder 0 events → (runs : Runs first events reports states last) → HasNoReuse (asks_of last).sent
+    → AreWholeAtReplies content first events reports states last runs
+
+abbrev pub SourcesLaw : Type 0
+SourcesLaw =
+    (content : WorldContent) (first last : RunState) (events : List Event) (reports : List EventReport) (states : List RunState)
+    → IsZone content.zone → IsFirst content.zone content.limit content.ids content.config content.options content.hosts first
+    → InOrder 0 events → (runs : Runs first events reports states last) → HasNoReuse (asks_of last).sent
+    → HaveSourcesAtReplies content first events reports states last runs
+
 -- what the events decide
 abbrev pub DecidedLaw : Type 0
 DecidedLaw =
@@ -116,8 +146,9 @@ HistoryLaw =
     → content.options.edns_payload_len < 2 ^ 16 → InOrder 0 events → AreAskable events → IsReportOf first events report
     → HasOneHistory content first events report
 
-pub one-history : FreshLaw → ChainLaw → WholeLaw → SteadyLaw → WalkedLaw → DecidedLaw → HistoryLaw
-one-history fresh chain whole steady walked decided content first events report zone begins payload order askable r =
+pub one-history : FreshLaw → ChainLaw → WholeLaw → FreshAtRepliesLaw → ChainAtRepliesLaw → WholeAtRepliesLaw → SourcesLaw → SteadyLaw → WalkedLaw
+    → DecidedLaw → HistoryLaw
+one-history fresh chain whole fresh_at chain_at whole_at sources steady walked decided content first events report zone begins payload order askable r =
     let reports : List EventReport = report.events.items in
     let d = decided content.zone content.limit content.ids first r.last events reports r.states begins.asks r.runs in
     record {
@@ -131,6 +162,14 @@ one-history fresh chain whole steady walked decided content first events report 
           chain content first r.last events reports r.states d.0 zone begins order r.runs d.2 (subst HasNoReuse r.sent once) none off;
       whole = λ once.
           whole content first r.last events reports r.states d.0 zone begins order r.runs d.2 (subst HasNoReuse r.sent once);
+      fresh_at_replies = λ once none.
+          fresh_at content first r.last events reports r.states zone begins order r.runs (subst HasNoReuse r.sent once) none;
+      chain_bound_at_replies = λ once none off.
+          chain_at content first r.last events reports r.states zone begins order r.runs (subst HasNoReuse r.sent once) none off;
+      whole_at_replies = λ once.
+          whole_at content first r.last events reports r.states zone begins order r.runs (subst HasNoReuse r.sent once);
+      sources = λ once.
+          sources content first r.last events reports r.states zone begins order r.runs (subst HasNoReuse r.sent once);
       steady = λ once.
           steady content first r.last events reports r.states d.0 zone begins order r.runs d.2 (subst HasNoReuse r.sent once);
       walked = λ once off.

@@ -25,8 +25,8 @@ use Rattle.stub_client.specs.Looks.{Reply}
 use Rattle.stub_client.specs.declared.caching_client.CachingClient.{CachingClient}
 use Rattle.stub_client.specs.declared.request.DnsRequest.{DnsRequest}
 use Rattle.stub_core.specs.AttemptedNames.{attempted_names, is_complete, is_first, joined_before, joined_names, search_zones}
-use Rattle.stub_core.specs.Attempts.{Attempts, AttemptsAll, AttemptsWithHosts, Continues, Lookups, Unless, WithHosts, is_final}
-use Rattle.stub_core.specs.Resolver.{AnswersHost, AnswersName, LooksUp, LooksUpHost, LooksUpName, ResolvesName, UnlessMemory, asks_of, is_tried_as_name, known_type, names_for, request_options}
+use Rattle.stub_core.specs.Attempts.{Attempts, AttemptsAll, AttemptsWithHosts, Continues, Lookups, Unless, UnlessMemory, WithHosts, is_final}
+use Rattle.stub_core.specs.Resolver.{AnswersHost, AnswersName, LooksUp, LooksUpHost, LooksUpName, ResolvesName, asks_of, is_tried_as_name, known_type, names_for, request_options}
 use Rattle.stub_core.specs.Strategies.{Both, ByStrategy, Joins, LooksUpAddresses, LooksUpIp, Then, is_out_of_memory, no_addresses}
 use Rattle.stub_core.specs.declared.resolver.Resolver.{Resolver}
 use Rattle.stub_core.specs.declared.resolver.settings.Settings.{Settings}
@@ -133,15 +133,15 @@ module _ {S : Type 0} where
   continues-turn true rest others last old reply new turn h = h
   continues-turn false rest others last old reply new turn h = turn h
 
-  unless-turn : (known : Option LookupContent) (asks others : Reply → S → Type 0) (old : S) (reply : Reply) (new : S)
-      → (asks reply new → others reply new) → Unless known asks old reply new → Unless known others old reply new
-  unless-turn None asks others old reply new turn h = turn h
-  unless-turn (Some lookup) asks others old reply new turn h = h
-
   unless_memory-turn : (looks others : Type 0) (old : S) (reply : Reply) (new : S) → (looks → others)
       → UnlessMemory looks old reply new → UnlessMemory others old reply new
   unless_memory-turn looks others old reply new turn (inl memory) = inl memory
   unless_memory-turn looks others old reply new turn (inr h) = inr (turn h)
+
+  unless-turn : (known : Option LookupContent) (asks others : Reply → S → Type 0) (old : S) (reply : Reply) (new : S)
+      → (asks reply new → others reply new) → Unless known asks old reply new → Unless known others old reply new
+  unless-turn None asks others old reply new turn h = unless_memory-turn (asks reply new) (others reply new) old reply new turn h
+  unless-turn (Some lookup) asks others old reply new turn h = h
 
   module _ (tries others : Lookups S DomainName)
       (turn : (old new : S) (name : DomainName) (reply : Reply) → IsFullName name → tries old name reply new → others old name reply new)

@@ -53,6 +53,7 @@ use Rattle.stub_laws.proofs.StandingLaws.{deep-first, finds-outlast, lacks-outla
 use Rattle.stub_laws.proofs.AnswersStepLaws.{ask-bears}
 use Rattle.stub_link.specs.declared.link.script.Script.{Script}
 use Rattle.stub_run.specs.Event.{update_of}
+use Rattle.stub_run.specs.AtReplies.{AreAsked, AreWholeAtReplies, HoldsOfSteps, IsStandingReplyOf, versions_in}
 use Rattle.stub_run.specs.Headline.{WorldContent, settings_of, ttls_of}
 use Rattle.stub_run.specs.History.{MakePasts}
 use Rattle.stub_run.specs.Run.{Clears, InOrder, RepliesByZone, RunState, Runs, Step, Updates, asks_of, begin_asks, begin_event, end_event}
@@ -180,7 +181,9 @@ module _ (keep : UpdatesKeepZones) (chains : (zone : ZoneContent) (q : Query) �
     -- the lookup is one in which each reply stood, or has a reason
     abbrev IsStanding : TtlConfigContent → Bool → List Version → Type 0
     IsStanding c b history =
-        (failed : List Query) × AreCounted failed (asks_of mid).faults × looks (ByStanding c b origin options history failed now)
+        (asks : List Ask) × Led AsksServer options now (asks_of old) asks (asks_of mid)
+        × AreCounted (failed_questions asks) (asks_of mid).faults
+        × looks (ByStanding c b origin options history (failed_questions asks) now)
 
     -- over each history that goes on after the lookup
     looked : (history : List Version) → AreZones origin history → GoesOn now (asks_of mid).link.history history
@@ -205,7 +208,12 @@ module _ (keep : UpdatesKeepZones) (chains : (zone : ZoneContent) (q : Query) �
         (by-state (λ c b. CacheStands c b origin (asks_of old).link.history now old.client.cache) old h
         (subst (λ (t : ℕ). CacheStands config preserves origin (asks_of old).link.history t old.client.cache) at h.cache))) in (
           kept.0,
-          (failed_questions k.asks, counted-all (asks_of old).faults (length (failed_questions k.asks)) (asks_of mid).faults reasons.counted, kept.1),
+          (
+            k.asks,
+            k.led,
+            counted-all (asks_of old).faults (length (failed_questions k.asks)) (asks_of mid).faults reasons.counted,
+            kept.1,
+          ),
         )
       where
         typed-by : (asks : List Ask) → All (IsAnsweredBy origin (asks_of mid).link.history) (asked_at now asks)
@@ -235,15 +243,27 @@ module _ (keep : UpdatesKeepZones) (chains : (zone : ZoneContent) (q : Query) �
 
   -- ---- the reply to an event
 
-  abbrev pub StandsOn : ℕ → Action → EventReply → RunState → Type 0
-  StandsOn at action reply mid =
+  abbrev pub StandsOn : ℕ → Action → EventReply → RunState → RunState → Type 0
+  StandsOn at action reply old mid =
       (history : List Version) → AreZones origin history → GoesOn (asks_of mid).link.moment (asks_of mid).link.history history
-      → IsStandingReply config origin history settings (asks_of mid).faults at action reply
+      → IsStandingReplyOf config origin history settings (asks_of mid).faults at (asks_of old) (asks_of mid) action reply
+
+  -- a reply that stood by the questions of its lookup stood by some questions
+  forget : (history : List Version) (faults at : ℕ) (begun replied : AskState) (action : Action) (reply : EventReply)
+      → IsStandingReplyOf config origin history settings faults at begun replied action reply
+      → IsStandingReply config origin history settings faults at action reply
+  forget history faults at begun replied (actions.Lookup name kind) (replies.Lookup found) h = (failed_questions h.0, h.2, h.3)
+  forget history faults at begun replied (actions.LookupIp host) (replies.LookupIp found) h =
+      (h.0, h.1, failed_questions h.2, h.4, h.5)
+  forget history faults at begun replied (actions.Clear name kind) (replies.Cleared done) h = tt
+  forget history faults at begun replied actions.ClearAll (replies.Cleared done) h = tt
+  forget history faults at begun replied (actions.Update update) (replies.Update reply) h = tt
+  forget history faults at begun replied action reply h = absurd h
 
   pub record HasReplied (at : ℕ) (action : Action) (reply : EventReply) (old mid : RunState) : Type 0 where
     pub has : Has mid
     pub moment_is : (asks_of mid).link.moment ≡ (asks_of old).link.moment
-    pub stands : StandsOn at action reply mid
+    pub stands : StandsOn at action reply old mid
 
   looked-up : (at : ℕ) (name : DomainName) (kind : RecordType) (found : Reply) (old mid : RunState) (later : List (ℕ × Query))
       → Has old → (asks_of old).link.moment ≡ at → ResolvesName AsksServer at (Ok name) kind old found mid
@@ -263,8 +283,9 @@ module _ (keep : UpdatesKeepZones) (chains : (zone : ZoneContent) (q : Query) �
         moment_is = l.moment_is;
         stands = λ history zones on.
             subst
-            (λ (s : Settings). (failed : List Query) × AreCounted failed (asks_of mid).faults
-            × LooksUp s at (ByStanding config preserves origin (request_options s.options) history failed at) (Ok name) kind tt found tt)
+            (λ (s : Settings). (asks : List Ask) × AreAsked s at (asks_of old) asks (asks_of mid)
+            × AreCounted (failed_questions asks) (asks_of mid).faults
+            × LooksUp s at (ByStanding config preserves origin (request_options s.options) history (failed_questions asks) at) (Ok name) kind tt found tt)
             h.settings_is (l.stands history zones on);
       }
 
@@ -289,10 +310,11 @@ module _ (keep : UpdatesKeepZones) (chains : (zone : ZoneContent) (q : Query) �
         stands = λ history zones on.
             (let looks =
             subst
-            (λ (s : Settings). (failed : List Query) × AreCounted failed (asks_of mid).faults
-            × LooksUpHost s at (ByStanding config preserves origin (request_options s.options) history failed at) resolves.address name tt found tt)
+            (λ (s : Settings). (asks : List Ask) × AreAsked s at (asks_of old) asks (asks_of mid)
+            × AreCounted (failed_questions asks) (asks_of mid).faults
+            × LooksUpHost s at (ByStanding config preserves origin (request_options s.options) history (failed_questions asks) at) resolves.address name tt found tt)
             h.settings_is (l.stands history zones on) in
-            (resolves.address, resolves.is_address, looks.0, looks.1, looks.2));
+            (resolves.address, resolves.is_address, looks.0, looks.1, looks.2, looks.3));
       }
 
   -- other entries in the cache
@@ -352,14 +374,15 @@ module _ (keep : UpdatesKeepZones) (chains : (zone : ZoneContent) (q : Query) �
 
   -- ---- one event
 
-  pub record HasStepped (e : Event) (report : EventReport) (new : RunState) : Type 0 where
+  pub record HasStepped (e : Event) (report : EventReport) (old new : RunState) (step : Step old e report new) : Type 0 where
     pub has : Has new
     pub moment_is : (asks_of new).link.moment ≡ e.at
     pub stands : IsStandingReply config origin (asks_of new).link.history settings report.faults e.at e.action report.reply
+    pub at_reply : IsStandingReplyOf config origin (versions_in step.mid) settings report.faults e.at (asks_of (begin_event e old)) (asks_of step.mid) e.action report.reply
 
   stepped : (e : Event) (report : EventReport) (old new : RunState) (later : List (ℕ × Query)) → Has old
-      → (asks_of old).link.moment ≤ e.at → Step old e report new → HasNoReuse ((asks_of new).sent ++ later)
-      → HasStepped e report new
+      → (asks_of old).link.moment ≤ e.at → (step : Step old e report new) → HasNoReuse ((asks_of new).sent ++ later)
+      → HasStepped e report old new step
   stepped e report old new later h less step once =
       let b = begun (update_of e.action) e.at e.script old h less in
       let sent : (asks_of new).sent ≡ (asks_of step.mid).sent = ap (λ (s : RunState). (asks_of s).sent) step.ends in
@@ -367,12 +390,20 @@ module _ (keep : UpdatesKeepZones) (chains : (zone : ZoneContent) (q : Query) �
       (subst (λ (s : List (ℕ × Query)). HasNoReuse (s ++ later)) sent once) in
       let stays = end-faithful keep origin (asks_of step.mid) r.has.faithful in
       let last : Has (end_event step.mid) = has-after step.mid (end (asks_of step.mid)) r.has stays in
+      let faults : (asks_of step.mid).faults ≡ report.faults = sym (step.faults ∙ ap (λ (s : RunState). (asks_of s).faults) step.ends) in
+      let begins : AskState = asks_of (begin_event e old) in
       record {
         has = subst Has (sym step.ends) last;
         moment_is = ap (λ (s : RunState). (asks_of s).link.moment) step.ends ∙ stays.moment_is ∙ r.moment_is ∙ b.1;
         stands = subst (λ (n : ℕ). IsStandingReply config origin (asks_of new).link.history settings n e.at e.action report.reply) (sym step.faults)
             (subst (λ (s : RunState). IsStandingReply config origin (asks_of s).link.history settings (asks_of s).faults e.at e.action report.reply)
-            (sym step.ends) (r.stands (end (asks_of step.mid)).link.history stays.faithful.history.versions stays.stands));
+            (sym step.ends)
+            (forget (end (asks_of step.mid)).link.history (asks_of step.mid).faults e.at begins (asks_of step.mid) e.action report.reply
+            (r.stands (end (asks_of step.mid)).link.history stays.faithful.history.versions stays.stands)));
+        at_reply = subst
+            (λ (n : ℕ). IsStandingReplyOf config origin (versions_in step.mid) settings n e.at begins (asks_of step.mid) e.action report.reply)
+            faults
+            (r.stands (versions_in step.mid) r.has.faithful.history.versions (λ moment rows past stand. stand));
       }
 
   -- ---- all events
@@ -396,7 +427,42 @@ module _ (keep : UpdatesKeepZones) (chains : (zone : ZoneContent) (q : Query) �
   events-stand past first last (e ∷ events) (report ∷ reports) [] occasions h order runs once pasts = absurd runs
   events-stand past first last (e ∷ events) (report ∷ reports) (state ∷ states) [] h order runs once pasts = absurd pasts
 
+  -- by the versions up to each reply, and by the questions of its lookup
+  pub replies-stand : (first last : RunState) (events : List Event) (reports : List EventReport) (states : List RunState) → Has first
+      → InOrder (asks_of first).link.moment events → (runs : Runs first events reports states last) → HasNoReuse (asks_of last).sent
+      → HoldsOfSteps
+      (λ old e report new step. IsStandingReplyOf config origin (versions_in step.mid) settings report.faults e.at
+      (asks_of (begin_event e old)) (asks_of step.mid) e.action report.reply)
+      first events reports states last runs
+  replies-stand first last (e ∷ events) (report ∷ reports) (state ∷ states) h order runs once =
+      let more = runs-extend state last events reports states runs.1 in
+      let s = stepped e report first state more.0 h order.0 runs.0 (subst HasNoReuse more.1 once) in (
+        s.at_reply,
+        replies-stand state last events reports states s.has (subst (λ (t : ℕ). InOrder t events) (sym s.moment_is) order.2) runs.1 once,
+      )
+  replies-stand first last [] [] [] h order runs once = tt
+  replies-stand first last [] [] (state ∷ states) h order runs once = tt
+  replies-stand first last [] (report ∷ reports) states h order runs once = tt
+  replies-stand first last (e ∷ events) [] states h order runs once = tt
+  replies-stand first last (e ∷ events) (report ∷ reports) [] h order runs once = tt
+
 -- ---- runs
+
+has-first : (keep : UpdatesKeepZones) (chains : (zone : ZoneContent) (q : Query) → IsChain zone.rows q.query_type q.name (answer zone q).answers)
+    (round : (number : ℕ) → type_number (type_of number) ≡ number) (content : WorldContent) (first : RunState) → IsZone content.zone
+    → IsFirst content.zone content.limit content.ids content.config content.options content.hosts first
+    → Has keep chains round content.zone.origin (ttls_of content) (settings_of content) first
+has-first keep chains round content first zone begins =
+    let origin : DomainName = content.zone.origin in
+    let ttls : TtlConfigContent = ttls_of content in
+    record {
+      faithful = subst (IsFaithful origin) (sym begins.asks) (first-faithful content.zone content.limit content.ids zone);
+      cache = subst (λ (c : CacheContent). CacheStands ttls content.options.preserve_intermediates origin (asks_of first).link.history (asks_of first).link.moment c) (sym begins.cache)
+          (held-empty (HasNoMinima ttls) (HasNoNegativeMinima ttls) (longest_of ttls) _ _ (asks_of first).link.moment (empty_cache content.options));
+      config_is = ap (λ (c : CacheContent). c.config) begins.cache;
+      settings_is = begins.settings;
+      aliases_is = begins.aliases;
+    }
 
 pub whole-run : UpdatesKeepZones → ((zone : ZoneContent) (q : Query) → IsChain zone.rows q.query_type q.name (answer zone q).answers)
     → ((number : ℕ) → type_number (type_of number) ≡ number) → (content : WorldContent) (first last : RunState) (events : List Event)
@@ -405,15 +471,17 @@ pub whole-run : UpdatesKeepZones → ((zone : ZoneContent) (q : Query) → IsCha
     → InOrder 0 events → Runs first events reports states last → MakePasts (first_past content.zone) states occasions
     → HasNoReuse (asks_of last).sent → AreWhole content events reports occasions
 whole-run keep chains round content first last events reports states occasions zone begins order runs pasts once =
-    let origin : DomainName = content.zone.origin in
-    let ttls : TtlConfigContent = ttls_of content in
-    events-stand keep chains round origin ttls (settings_of content) (first_past content.zone) first last events reports states occasions
-    (record {
-      faithful = subst (IsFaithful origin) (sym begins.asks) (first-faithful content.zone content.limit content.ids zone);
-      cache = subst (λ (c : CacheContent). CacheStands ttls content.options.preserve_intermediates origin (asks_of first).link.history (asks_of first).link.moment c) (sym begins.cache)
-          (held-empty (HasNoMinima ttls) (HasNoNegativeMinima ttls) (longest_of ttls) _ _ (asks_of first).link.moment (empty_cache content.options));
-      config_is = ap (λ (c : CacheContent). c.config) begins.cache;
-      settings_is = begins.settings;
-      aliases_is = begins.aliases;
-    })
+    events-stand keep chains round content.zone.origin (ttls_of content) (settings_of content) (first_past content.zone) first last events reports
+    states occasions (has-first keep chains round content first zone begins)
     (subst (λ (a : AskState). InOrder a.link.moment events) (sym begins.asks) order) runs once pasts
+
+pub whole-at-replies : UpdatesKeepZones → ((zone : ZoneContent) (q : Query) → IsChain zone.rows q.query_type q.name (answer zone q).answers)
+    → ((number : ℕ) → type_number (type_of number) ≡ number) → (content : WorldContent) (first last : RunState) (events : List Event)
+    (reports : List EventReport) (states : List RunState) → IsZone content.zone
+    → IsFirst content.zone content.limit content.ids content.config content.options content.hosts first
+    → InOrder 0 events → (runs : Runs first events reports states last) → HasNoReuse (asks_of last).sent
+    → AreWholeAtReplies content first events reports states last runs
+whole-at-replies keep chains round content first last events reports states zone begins order runs once =
+    replies-stand keep chains round content.zone.origin (ttls_of content) (settings_of content) first last events reports states
+    (has-first keep chains round content first zone begins)
+    (subst (λ (a : AskState). InOrder a.link.moment events) (sym begins.asks) order) runs once

@@ -15,3 +15,4 @@ pub mod Questions
 pub mod Walked
 pub mod Steady
 pub mod Whole
+pub mod AtReplies

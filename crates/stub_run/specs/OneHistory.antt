@@ -2,6 +2,7 @@
 use Rattle.std.specs.Prelude.{◌≡◌, false, List}
 use Rattle.stub_link.specs.History.{Occasion, first_past}
 use Rattle.stub_laws.specs.history.Faithful.{HasNoReuse}
+use Rattle.stub_run.specs.AtReplies.{AreFreshAtReplies, AreWholeAtReplies, HaveChainBoundsAtReplies, HaveSourcesAtReplies}
 use Rattle.stub_run.specs.Headline.{AreFresh, HasNoLeastTtl, HaveChainBounds, WorldContent}
 use Rattle.stub_run.specs.History.{AreOccasions, MakePasts}
 use Rattle.stub_run.specs.Run.{IsReportOf, RunState}
@@ -23,5 +24,14 @@ pub record HasOneHistory (content : WorldContent) (first : RunState) (events : L
       → HaveChainBounds content events report.events.items occasions
   pub whole : HasNoReuse report.sent.items → AreWhole content events report.events.items occasions
   pub steady : HasNoReuse report.sent.items → AreSteady content events report.events.items occasions
+  pub fresh_at_replies : HasNoReuse report.sent.items → HasNoLeastTtl content
+      → AreFreshAtReplies content first events report.events.items reported.states reported.last reported.runs
+  pub chain_bound_at_replies : HasNoReuse report.sent.items → HasNoLeastTtl content
+      → content.options.preserve_intermediates ≡ false
+      → HaveChainBoundsAtReplies content first events report.events.items reported.states reported.last reported.runs
+  pub whole_at_replies : HasNoReuse report.sent.items
+      → AreWholeAtReplies content first events report.events.items reported.states reported.last reported.runs
+  pub sources : HasNoReuse report.sent.items
+      → HaveSourcesAtReplies content first events report.events.items reported.states reported.last reported.runs
   pub walked : HasNoReuse report.sent.items → content.options.preserve_intermediates ≡ false
       → AreWalked content events report.events.items occasions

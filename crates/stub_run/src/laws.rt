@@ -38,6 +38,7 @@ ghost use Rattle.stub_run.specs.declared.report.Report.{Report};
 
 mod headline;
 mod questions;
+mod replies;
 mod stepping;
 
 use crate::event_link::EventLink;
@@ -50,6 +51,7 @@ pub use questions::{
     questions_without_faults_are_answered, resolvers_ask_sound_questions,
     resolvers_ask_the_zone_sound_questions,
 };
+pub use replies::{answers_have_sources, answers_stood_at_replies, records_stood_at_replies};
 pub use stepping::{resolvers_run_in_states, traced_resolvers_run_as_others};
 use stub_client::laws::every_failure_is_returned;
 use stub_link::Link;

@@ -42,10 +42,12 @@ const MAX_MOMENT: u64 = 1 << 62;
 /// file, loopback records and literal addresses. If aliases are left out, the TTLs of these aliases bound it, too, where no chain of
 /// aliases passed seven links by then (`chain_bound`). What a lookup returns of any type for a name is a whole set that stood, with
 /// TTLs that count from one moment, or a negative answer that stood, no longer ago than its negative TTL and the maximum time for which
-/// one is kept allow (`whole`). Where nothing was updated since the last full clear, or the start, that is of the zone as it is
+/// one is kept allow (`whole`). Every answer, of whatever type and by whatever bounds of TTLs, was a row of the zone, or is of the local
+/// host (`sources`). Where nothing was updated since the last full clear, or the start, what is returned is of the zone as it is
 /// (`steady`). And where also the link met no fault in an event, its lookup of a plain type, or of a host, returns exactly what a walk
-/// over the zone comes to, whatever was cached and however large datagrams may be (`walked`). All of this also holds of the report of a
-/// run that stopped for memory.
+/// over the zone comes to, whatever was cached and however large datagrams may be (`walked`). The versions of the zone are those up to
+/// the end of each event, and for `sources`, `fresh_at_replies`, `chain_bound_at_replies` and `whole_at_replies` those up to the reply.
+/// All of this also holds of the report of a run that stopped for memory.
 ///
 /// An event asks at most eight questions for each name that its lookup attempts and each type of records, and drops at most
 /// sixteen datagrams for each; an update drops at most sixteen (`few`).

@@ -71,5 +71,3 @@ pub record LooksUp {H : Type 0} (gives : H → DnsRequest → ℕ → Outcome �
   pub led : Led gives options now old.handle asks new.handle
   pub looks : Looks (lookup_settings old options) now depth kept old.cache q asks reply new.cache
   pub settings : new.preserve_intermediates ≡ old.preserve_intermediates
-  -- a name without records needs no memory
-  pub nothing : (code : ResponseCode) → special_answer q ≡ Nothing code → reply ≡ negative (no_records q code)

@@ -14,7 +14,8 @@ use stub_lookup::{LookupIp, Moment, NetError};
 
 impl<H: DnsHandle> Resolver<H> {
     ghost use Rattle.std.specs.Prelude.{Ok, Some};
-    ghost use Rattle.stub_core.specs.Resolver.{LooksUpHost, LooksUpName, ResolvesHost, UnlessMemory, asks_of};
+    ghost use Rattle.stub_core.specs.Attempts.{UnlessMemory};
+    ghost use Rattle.stub_core.specs.Resolver.{LooksUpHost, LooksUpName, ResolvesHost, asks_of};
 
     /// Looks up the addresses of a host, by the strategy of the options. The hosts are asked for each name and type.
     ///

@@ -38,6 +38,9 @@ ghost use Rattle.stub_run.specs.declared.report.EventReport.{EventReport};
 ghost use Rattle.stub_run.specs.declared.report.Report.{Report};
 
 use crate::laws::events_decide_the_history;
+use crate::laws::replies::{
+    answers_have_sources, answers_stood_at_replies, records_stood_at_replies,
+};
 use dns_names::laws::parsing_follows_the_grammar;
 use dns_wire::codes::laws::type_number_round_trips;
 use dns_zone::laws::{answers_are_alias_chains, updates_keep_zones_well_formed};
@@ -169,6 +172,9 @@ pub fn runs_have_one_history()
 {
     every_record_stood();
     every_answer_stood();
+    records_stood_at_replies();
+    answers_stood_at_replies();
+    answers_have_sources();
     unchanged_zones_are_steady();
     unchanged_zones_are_walked();
     events_decide_the_history();
