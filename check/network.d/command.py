@@ -35,6 +35,16 @@ WITH_UPDATE: List[List[str]] = [
     ["--type", "A"], ["-t", "A"], ["--reverse"], ["-x"], ["--search", "t."], ["--ndots", "2"], ["--strategy", "ipv4"], ["--no-edns"],
     ["--no-cache"],
 ]  # fmt: skip
+# Names that are written as for `dig`, and what to write in their place.
+AT = "write a server as --server ADDRESS"
+CAPITALS = "write a type as -t TYPE, and a host of this name with a dot at its end"
+FOR_DIG: List[Tuple[List[str], str, str]] = [
+    (["@127.0.0.1", "a.test."], "@127.0.0.1", AT),
+    (["a.test.", "@::1"], "@::1", AT),
+    (["a.test.", "A"], "A", CAPITALS),
+    (["MX", "a.test."], "MX", CAPITALS),
+    (["a.test.", "TYPE16", "-x"], "TYPE16", CAPITALS),
+]
 APPEND = "the form is 'append NAME TTL TYPE DATA'"
 SWAP = "the form is 'swap NAME TTL TYPE DATA -> DATA'"
 ACTIONS = "is none of the actions create, append, swap, delete-record, delete-set and delete-name"
@@ -94,6 +104,10 @@ def try_arguments(report: Report, given: Given) -> None:
             run = resolver.run("--update", "append a 60 A 10.0.0.1", "--zone", "t.", *words)
             said = run.errors.startswith("error: the argument '--") and "cannot be used with '--" in run.errors.splitlines()[0]
             report.check(f"--update and {words}: {run.errors!r}", (2, "", True), (run.status, run.output, said))
+        for words, name, reason in FOR_DIG:
+            run = resolver.run(*words)
+            said = f"lookup: invalid value '{name}' for 'NAME': {reason}\n"
+            report.check(f"{words}: what is said", (2, "", said), (run.status, run.output, run.errors))
         for text, reason in NO_UPDATES:
             run = resolver.run("--update", text, "--zone", "t")
             said = f"lookup: invalid value '{text}' for '--update': {reason}\n"

@@ -22,7 +22,7 @@ use Rattle.dns_durable.specs.declared.draft.Draft.{Draft}
 use Rattle.dns_durable.specs.declared.incoming.Arrived.{Arrived}
 use Rattle.dns_durable.specs.declared.incoming.Arrived.TheVariants.{Request, Other}
 use Rattle.dns_durable.specs.internal.Drafting.{AreOwnersSettled, GoesOn}
-use Rattle.dns_durable.proofs.BetweenLaws.{place_of_key, place_of_tied, true_false}
+use Rattle.dns_durable.proofs.BetweenLaws.{all_more, place_of_key, place_of_tied, true_false}
 
 -- ---- going on
 
@@ -130,10 +130,6 @@ if_ok (Err e) P Q p f = p
 
 -- ---- loops over sets of an owner, and over records
 
-all_last : {A : Type 0} (P : A → Type 0) (xs : List A) (x : A) → AllByRecursion P xs → P x → AllByRecursion P (xs ++ x ∷ [])
-all_last P [] x all p = (p, tt)
-all_last P (y ∷ ys) x all p = (all.0, all_last P ys x all.1 p)
-
 -- the types that are left complete those that are settled, after one more
 pub one_settled : (zone : ZoneContent) (owner : DomainName) (d mid new : Draft) (old rest initial : List RecordType) (t : RecordType) → old ≡ rest ++ t ∷ [] → GoesOn zone mid new
     → is_settled new (owner_code owner.labels, type_code t) ≡ true
@@ -144,7 +140,7 @@ pub one_settled : (zone : ZoneContent) (owner : DomainName) (d mid new : Draft) 
 one_settled zone owner d mid new old rest initial t is on settles before settled grows all =
     before settled (λ p e. grows p (on.grows p e))
     (subst (λ (l : List RecordType). AllByRecursion (λ (x : RecordType). settled (owner_code owner.labels, type_code x) ≡ true) l) (sym is)
-    (all_last (λ (x : RecordType). settled (owner_code owner.labels, type_code x) ≡ true) rest t all (grows (owner_code owner.labels, type_code t) settles)))
+    (all_more (λ (x : RecordType). settled (owner_code owner.labels, type_code x) ≡ true) rest t all (grows (owner_code owner.labels, type_code t) settles)))
 
 -- the records that are left complete those whose sets are settled, after one more
 pub record_settled : (zone : ZoneContent) (mid new : Draft) (records : List Record) (i : ℕ) (r : Record) → i < length records → r ≡ get_or records i r → GoesOn zone mid new

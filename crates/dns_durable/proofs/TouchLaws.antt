@@ -17,12 +17,9 @@ use Rattle.dns_updates.specs.Change.{change, change_of_class, is_ignored, is_kep
 use Rattle.dns_updates.specs.Records.{is_of_type}
 use Rattle.dns_updates.proofs.UpdateLaws.Maps.{key_total, filled, filled_empty, filled_more, get_with_set, get_other, same_key}
 use Rattle.dns_durable.specs.Draft.{DifferWhereSettled, IsSettledFor, Settled, is_any_class, place_of}
+use Rattle.dns_durable.proofs.BetweenLaws.{true_false}
 
 -- ---- keys at settled places
-
-true_false : {A : Type 0} (b : Bool) → b ≡ true → b ≡ false → A
-true_false true e f = absurd (cc)
-true_false false e f = absurd (cc)
 
 -- a key whose place is not settled is not one whose place is
 other_key : (settled : Settled) (k q : Key) → settled (place_of k) ≡ false → settled (place_of q) ≡ true → eq_by_cmp key_cmp k q ≡ false

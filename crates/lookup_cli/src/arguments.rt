@@ -197,9 +197,10 @@ fn items_in(
     question: Question,
 ) -> Result<Vec<Item>, Ending> {
     let mut items = Vec::new(alloc);
-    for text in matches.get_strs("NAME").unwrap_or(&[]) {
+    let names = matches.get_strs("NAME").unwrap_or(&[]);
+    for text in names {
         if *text != INPUT {
-            check_name(alloc, text)?;
+            check_name(alloc, text, names.len() == 1)?;
             let name = String::from_str(alloc, text)?;
             let item = Item::new(alloc, name, question);
             items.push(reversed_if(alloc, flag_in(matches, "reverse"), item)?)?;

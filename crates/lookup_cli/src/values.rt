@@ -39,8 +39,11 @@ pub(crate) fn name_of(alloc: Global, option: &str, text: &str) -> Result<Name, E
     }
 }
 
-/// Checks that a text is a name that can be looked up.
-pub(crate) fn check_name(alloc: Global, text: &str) -> Result<(), Ending> {
+/// Checks that a text, which is alone or one of several, is a name that can be looked up.
+pub(crate) fn check_name(alloc: Global, text: &str, is_alone: bool) -> Result<(), Ending> {
+    if let Some(reason) = written_for_dig(text, is_alone) {
+        return Err(Ending::invalid(alloc, "NAME", text, reason));
+    }
     match Name::from_ascii(alloc, text) {
         Ok(_) => Ok(()),
         // Memory for the name was refused.
@@ -49,6 +52,23 @@ pub(crate) fn check_name(alloc: Global, text: &str) -> Result<(), Ending> {
         Err(_) if parse_ip(text.as_bytes()).is_some() => Ok(()),
         Err(_) => Err(Ending::invalid(alloc, "NAME", text, "it is not a domain name")),
     }
+}
+
+/// Returns what to write in place of a word that has a meaning of its own in the arguments of `dig`: a server behind `@`, and a type
+/// in capitals beside a name.
+fn written_for_dig(text: &str, is_alone: bool) -> Option<&'static str> {
+    if text.starts_with('@') {
+        return Some("write a server as --server ADDRESS");
+    }
+    if !is_alone && is_type_in_capitals(text.as_bytes()) {
+        return Some("write a type as -t TYPE, and a host of this name with a dot at its end");
+    }
+    None
+}
+
+/// Returns `true` if a word is a type without a lower-case letter.
+fn is_type_in_capitals(word: &[u8]) -> bool {
+    type_of_word(word).is_some() && !word.iter().any(|byte| byte.is_ascii_lowercase())
 }
 
 /// Returns the address of a server, with port 53 if a text has none.
