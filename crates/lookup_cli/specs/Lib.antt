@@ -1,3 +1,4 @@
+pub mod Dig
 pub mod Ending
 pub mod Keys
 pub mod Session

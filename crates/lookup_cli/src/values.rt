@@ -2,6 +2,7 @@
 
 ghost use Rattle.std.specs.Prelude.{◌<◌, ◌≤◌, IfOk, IfSome};
 
+use crate::dig::{DigWord, dig_word};
 use crate::ending::Ending;
 use dns_formats::type_of_word;
 use dns_names::{Name, ParseError};
@@ -41,8 +42,8 @@ pub(crate) fn name_of(alloc: Global, option: &str, text: &str) -> Result<Name, E
 
 /// Checks that a text, which is alone or one of several, is a name that can be looked up.
 pub(crate) fn check_name(alloc: Global, text: &str, is_alone: bool) -> Result<(), Ending> {
-    if let Some(reason) = written_for_dig(text, is_alone) {
-        return Err(Ending::invalid(alloc, "NAME", text, reason));
+    if let Some(word) = dig_word(text.as_bytes(), is_alone) {
+        return Err(Ending::invalid(alloc, "NAME", text, advice_on(word)));
     }
     match Name::from_ascii(alloc, text) {
         Ok(_) => Ok(()),
@@ -54,21 +55,14 @@ pub(crate) fn check_name(alloc: Global, text: &str, is_alone: bool) -> Result<()
     }
 }
 
-/// Returns what to write in place of a word that has a meaning of its own in the arguments of `dig`: a server behind `@`, and a type
-/// in capitals beside a name.
-fn written_for_dig(text: &str, is_alone: bool) -> Option<&'static str> {
-    if text.starts_with('@') {
-        return Some("write a server as --server ADDRESS");
+/// Returns what to write in place of a word that is written as for `dig`.
+fn advice_on(word: DigWord) -> &'static str {
+    match word {
+        DigWord::NameServer => "write a server as --server ADDRESS",
+        DigWord::RecordType => {
+            "write a type as -t TYPE, and a host of this name with a dot at its end"
+        }
     }
-    if !is_alone && is_type_in_capitals(text.as_bytes()) {
-        return Some("write a type as -t TYPE, and a host of this name with a dot at its end");
-    }
-    None
-}
-
-/// Returns `true` if a word is a type without a lower-case letter.
-fn is_type_in_capitals(word: &[u8]) -> bool {
-    type_of_word(word).is_some() && !word.iter().any(|byte| byte.is_ascii_lowercase())
 }
 
 /// Returns the address of a server, with port 53 if a text has none.
