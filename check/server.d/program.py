@@ -115,6 +115,22 @@ def try_arguments(report: Report, program: str) -> None:
             report.check("an address that is taken", (1, "", True), (status, output, bool(errors)))
 
 
+def try_lost_serials(report: Report, program: str, words: List[str]) -> None:
+    """Without a journal it is said that a restart loses updates that secondaries are notified of, if somebody may make them."""
+    key = 'key "k" { algorithm hmac-sha256; secret "AAAA"; };\n'
+    said = "nameserver: without --journal, a restart loses the updates"
+    for more, wanted in (
+        (["--notify", "127.0.0.1:9"], True),
+        (["--notify", "127.0.0.1:9", "--no-updates"], False),
+        (["--notify", "127.0.0.1:9", "--no-updates", "--key", "k"], True),
+        (["--notify", "127.0.0.1:9", "--journal", "journal"], False),
+        ([], False),
+    ):
+        status, _, errors = run(program, {"zone": ZONE, "k": key}, [*words, *more])
+        told = [it.startswith(said) for it in errors.splitlines()]
+        report.check(f"{more}: {errors!r}", (0, int(wanted)), (status, sum(told)))
+
+
 def try_without_effect(report: Report, program: str) -> None:
     """Rules for names that no zone has are told; grants for such names, key files without keys, and two keys of one name are refused."""
     words = ["zone", "--faults", "faults", "--listen", "127.0.0.1:0", "--until-stdin-closes"]
@@ -126,6 +142,7 @@ def try_without_effect(report: Report, program: str) -> None:
         "faults:3: no zone here has .",
     ]
     report.check("rules for names that no zone has", (0, said), (status, errors.splitlines()[1:]))
+    try_lost_serials(report, program, words[:1] + words[3:])
     status, _, errors = run(program, {"zone": ". 60 IN SOA ns. h. 1 3600 600 86400 30\n", "faults": "www A drop\n"}, words)
     report.check("a rule for a name below the root", (0, 1), (status, len(errors.splitlines())))
     key = 'key "k" { algorithm hmac-sha256; secret "AAAA"; };\n'

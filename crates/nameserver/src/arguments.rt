@@ -12,7 +12,7 @@ use dns_sockets::Until;
 use dns_zone::{DatagramLimit, Serials};
 use dns_zone_file::includes::Reach;
 use std::alloc::{AllocError, Global};
-use std::net::{Ipv4Addr, SocketAddr, SocketAddrV4};
+use std::net::{IpAddr, Ipv4Addr, SocketAddr, SocketAddrV4};
 
 /// The port at which the server listens, unless another one is given.
 const DEFAULT_PORT: u16 = 5300;
@@ -110,6 +110,16 @@ impl Arguments {
             Answering::Plain => false,
             Answering::Whole(_, _) => true,
         }
+    }
+
+    /// Returns `true` if secondaries are notified of updates that a restart loses: there is no journal.
+    pub(crate) fn loses_serials(&self) -> bool {
+        !self.notify.is_empty() && self.durable.journal.is_none() && self.takes_updates()
+    }
+
+    /// Returns `true` if somebody may update the zones: whoever may without a key may from the local host.
+    fn takes_updates(&self) -> bool {
+        !self.durable.keys.is_empty() || self.updaters.contains(IpAddr::V4(Ipv4Addr::LOCALHOST))
     }
 
     /// Returns the addresses from which updates are taken, and those to which zones are transferred.

@@ -146,10 +146,23 @@ fn serve(rt: &HostRuntime, arguments: Arguments, part: Option<&Part>) -> Result<
         let report = "nameserver: no zone file: write `server FILE..` before the first request\n";
         return Err(Ending::Refused(String::from_str(rt.alloc(), report)?));
     }
+    if part.is_none() {
+        tell_lost_serials(rt, &arguments);
+    }
     if arguments.durable.is_given() {
         return run_durable(rt, arguments, part);
     }
     run_with_faults(rt, arguments, part)
+}
+
+/// Says on standard error if secondaries are notified of serial numbers that a restart would lose.
+fn tell_lost_serials(rt: &HostRuntime, arguments: &Arguments) {
+    if arguments.loses_serials() {
+        // A failure to write to standard error can't be reported.
+        let _written = eprintln!(rt;
+            "nameserver: without --journal, a restart loses the updates, and the secondaries of --notify, which have greater serial numbers, do not follow the zone then"
+        );
+    }
 }
 
 /// Serves zones, some requests by faults on demand.
