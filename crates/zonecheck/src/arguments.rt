@@ -12,15 +12,17 @@ use zone_check::ReportFormat;
 /// The greatest time, in seconds since 1970, that is read.
 const MAX_TIME: u64 = 1 << 40;
 
-/// The arguments of the program. There is a zone file, or a script, or both.
+/// The arguments of the program. There are zone files, or a script, or one zone file and a script.
 #[derive(Drop)]
 pub(crate) struct Arguments {
-    /// The path of the zone file, as given, or `-` for standard input.
-    pub(crate) file: Option<String>,
+    /// The paths of the zone files, as given, or `-` for standard input.
+    pub(crate) files: Vec<String>,
     /// The path of the script, as given.
     pub(crate) script: Option<String>,
     /// The origin of the zone.
     pub(crate) origin: Option<Name>,
+    /// Whether the origin of each zone is in the name of its file.
+    pub(crate) has_origins_of_files: bool,
     /// Whether the zone is printed.
     pub(crate) print: bool,
     /// Whether warnings fail.
@@ -48,10 +50,13 @@ pub(crate) fn read_arguments(alloc: Global, words: &[&str]) -> Result<Arguments,
         Ok(matches) => matches,
         Err(error) => return Err(Ending::of_arguments(error)),
     };
+    let files = files_in(alloc, &matches)?;
+    let script = text_in(alloc, &matches, "script")?;
     Ok(Arguments {
-        file: text_in(alloc, &matches, "file")?,
-        script: text_in(alloc, &matches, "script")?,
+        files,
+        script,
         origin: origin_in(alloc, &matches)?,
+        has_origins_of_files: is_set(&matches, "origin-of-file"),
         print: is_set(&matches, "print"),
         fails_on_warning: is_set(&matches, "fail-on-warning"),
         format: format_in(&matches),
@@ -59,6 +64,34 @@ pub(crate) fn read_arguments(alloc: Global, words: &[&str]) -> Result<Arguments,
         reach: reach_in(&matches),
         now: now_in(alloc, &matches)?,
     })
+}
+
+/// Returns the paths of the zone files. If there are several, no option is of one zone.
+fn files_in(alloc: Global, matches: &ArgMatches<'_>) -> Result<Vec<String>, Ending> {
+    let paths = matches.get_strs("file").unwrap_or(&[]);
+    if paths.len() > 1
+        && let Some(option) = option_of_one_zone(matches)
+    {
+        return Err(Ending::OfOneZone(option));
+    }
+    let mut files = Vec::new(alloc);
+    for path in paths {
+        files.push(String::from_str(alloc, path)?)?;
+    }
+    Ok(files)
+}
+
+/// Returns an option that is given and is of one zone.
+fn option_of_one_zone(matches: &ArgMatches<'_>) -> Option<&'static str> {
+    if matches.get_str("origin").is_some() {
+        Some("--origin")
+    } else if matches.get_str("script").is_some() {
+        Some("--script")
+    } else if is_set(matches, "print") {
+        Some("--print")
+    } else {
+        None
+    }
 }
 
 /// Returns how findings are written.
@@ -108,12 +141,20 @@ fn now_in(alloc: Global, matches: &ArgMatches<'_>) -> Result<Option<u32>, Ending
 fn command<'a>(alloc: Global) -> Result<Command<'a>, AllocError> {
     let file = Arg::new(alloc, "file")
         .value_name("FILE")
-        .help("The zone file, or - for standard input")
+        .help("The zone files, or - for standard input")
+        .action(ArgAction::Append)
+        .num_args(1..)
         .required_unless_present("script")?;
+    let origin_of_file = flag(
+        alloc,
+        "origin-of-file",
+        "Take the origin of each zone from the name of its file, as mail.example.zone or db.mail.example",
+    );
     Command::new(alloc, "zonecheck")
-        .about("Says what is wrong in a zone file or a script, and what to write instead")
+        .about("Says what is wrong in zone files or a script, and what to write instead")
         .arg(file)?
         .arg(option(alloc, "origin", "NAME", "The origin of the zone"))?
+        .arg(origin_of_file.conflicts_with("origin")?)?
         .arg(flag(alloc, "print", "Print the zone as it was read"))?
         .arg(flag(
             alloc,

@@ -13,6 +13,8 @@ pub(crate) enum Ending {
     InvalidValue(String),
     /// An argument is not valid UTF-8.
     NotUtf8,
+    /// An option is of one zone, and several zone files are given: its name.
+    OfOneZone(&'static str),
     /// A file could not be read: its path, as given, and the error.
     CannotRead(String, io::Error),
     /// A report could not be written to standard output.
@@ -63,6 +65,17 @@ impl Ending {
         }
     }
 
+    /// Creates the ending for a zone file whose path states no origin.
+    pub(crate) fn invalid_file(alloc: Global, path: &str) -> Ending {
+        match format!(in alloc;
+            "the name of the file '{path}' is no origin, such as mail.example.zone or db.mail.example"
+        ) {
+            Ok(line) => Ending::InvalidValue(line),
+            // Memory for the line was refused.
+            Err(_) => Ending::Memory,
+        }
+    }
+
     /// Creates the ending for a file that cannot be read.
     pub(crate) fn cannot_read(alloc: Global, path: &str, error: io::Error) -> Ending {
         if error.kind() == io::ErrorKind::OutOfMemory {
@@ -87,7 +100,10 @@ impl Ending {
     /// Returns the exit status: 2 if the arguments are at fault, otherwise 1.
     pub(crate) fn status(&self) -> u8 {
         match self {
-            Ending::Arguments(_) | Ending::InvalidValue(_) | Ending::NotUtf8 => 2,
+            Ending::Arguments(_)
+            | Ending::InvalidValue(_)
+            | Ending::NotUtf8
+            | Ending::OfOneZone(_) => 2,
             _ => 1,
         }
     }
@@ -101,6 +117,12 @@ impl fmt::Display for Ending {
             Ending::Arguments(error) => write!(f, "{error}"),
             Ending::InvalidValue(line) => writeln!(f, "zonecheck: {line}"),
             Ending::NotUtf8 => f.write_str("zonecheck: arguments are not valid UTF-8\n"),
+            Ending::OfOneZone(option) => {
+                writeln!(
+                    f,
+                    "zonecheck: {option} is of one zone: give it with one zone file"
+                )
+            }
             Ending::CannotRead(path, error) => {
                 writeln!(f, "zonecheck: cannot read {path}: {error}")
             }

@@ -1,21 +1,25 @@
-//! `zonecheck [FILE] [--origin NAME] [--nine] [--include-anywhere] [--now SECONDS] [--print] [--fail-on-warning] [--json] [--script
-//! FILE]`: says what is wrong in a zone file, in a script, or in both.
+//! `zonecheck [FILE..] [--origin NAME | --origin-of-file] [--nine] [--include-anywhere] [--now SECONDS] [--print] [--fail-on-warning]
+//! [--json] [--script FILE]`: says what is wrong in zone files, in a script, or in a zone file and a script for it.
 //!
-//! - `arguments`: the arguments; `includes`: the files that a zone file includes; `zone_file`, `script_file`: the checks of the
-//!   files; `printed`: the text of a zone; `ending`: how the program ends.
+//! - `arguments`: the arguments; `file_origin`: the origin that the name of a file states; `includes`: the files that a zone file
+//!   includes; `zone_file`, `script_file`: the checks of the files; `zone_files`: that of several zone files; `printed`: the text of a
+//!   zone; `ending`: how the program ends.
 #![tactic(auto)]
 
 mod arguments;
 mod ending;
+mod file_origin;
 mod includes;
 mod printed;
 mod script_file;
 mod zone_file;
+mod zone_files;
 
 use crate::arguments::{Arguments, read_arguments};
 use crate::ending::Ending;
 use crate::script_file::check_script;
-use crate::zone_file::{CheckedFile, check_zone_file};
+use crate::zone_file::{CheckedFile, check_zone_file, origin_for};
+use crate::zone_files::check_zone_files;
 use dns_names::Name;
 use std::process::ExitCode;
 use std::{env, fs};
@@ -54,35 +58,37 @@ fn end(rt: &HostRuntime, ending: &Ending) -> ExitCode {
 /// Checks the files that the arguments name.
 fn run_program(rt: &HostRuntime) -> Result<Verdict, Ending> {
     let arguments = given_arguments(rt)?;
-    match &arguments.file {
-        Some(path) => check_both(rt, path.as_str(), &arguments),
-        None => {
+    match arguments.files.as_slice() {
+        [] => {
             let root = Name::root(rt.alloc());
             let origin = arguments.origin.as_ref().unwrap_or(&root);
             check_script_file(rt, &arguments, origin)
         }
+        [path] => check_both(rt, path.as_str(), &arguments),
+        paths => check_zone_files(rt, paths, &arguments),
     }
 }
 
 /// Checks a zone file, and the script, if there is one, as a script for its zone.
 fn check_both(rt: &HostRuntime, path: &str, arguments: &Arguments) -> Result<Verdict, Ending> {
-    let checked = check_zone_file(rt, path, arguments)?;
+    let given = origin_for(rt, path, arguments)?;
+    let checked = check_zone_file(rt, path, given.as_ref(), arguments)?;
     let root = Name::root(rt.alloc());
-    let origin = origin_of(&checked, arguments, &root);
-    match (checked.verdict, check_script_file(rt, arguments, origin)?) {
+    let origin = origin_of(&checked, given.as_ref(), &root);
+    match (
+        checked.verdict(arguments),
+        check_script_file(rt, arguments, origin)?,
+    ) {
         (Verdict::Accepted, Verdict::Accepted) => Ok(Verdict::Accepted),
         _ => Ok(Verdict::Refused),
     }
 }
 
-/// Returns the origin of a zone: that of its file, if it has no fault, or else that of the arguments, or else the root.
-fn origin_of<'a>(checked: &'a CheckedFile, arguments: &'a Arguments, root: &'a Name) -> &'a Name {
-    if let Some(origin) = &checked.origin {
-        return origin;
-    }
-    match &arguments.origin {
+/// Returns the origin of a zone: that of its file, if it has no fault, or else the one that is given, or else the root.
+fn origin_of<'a>(checked: &'a CheckedFile, given: Option<&'a Name>, root: &'a Name) -> &'a Name {
+    match &checked.origin {
         Some(origin) => origin,
-        None => root,
+        None => given.unwrap_or(root),
     }
 }
 

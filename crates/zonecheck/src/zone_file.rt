@@ -2,6 +2,7 @@
 
 use crate::arguments::Arguments;
 use crate::ending::Ending;
+use crate::file_origin::origin_in_path;
 use crate::includes::{Includes, read_includes};
 use crate::printed::zone_text;
 use crate::{Verdict, read_text, write_report, write_text};
@@ -16,25 +17,59 @@ use zone_check::{
 /// What became of a zone file.
 #[derive(Drop)]
 pub(crate) struct CheckedFile {
-    pub(crate) verdict: Verdict,
     /// The zone's origin, if the file has no fault.
     pub(crate) origin: Option<Name>,
+    /// Whether there are warnings about it.
+    pub(crate) has_warnings: bool,
 }
 
-/// Says what is wrong in a zone file, or that nothing is, and prints its zone if that was asked for.
+impl CheckedFile {
+    /// Returns whether the file is accepted: it has no fault, and no warning where warnings fail.
+    pub(crate) fn verdict(&self, arguments: &Arguments) -> Verdict {
+        if self.origin.is_none() || arguments.fails_on_warning && self.has_warnings {
+            Verdict::Refused
+        } else {
+            Verdict::Accepted
+        }
+    }
+}
+
+/// Returns the origin that is given for a zone file: that of the arguments, or the one that its path states if that is asked for.
+pub(crate) fn origin_for(
+    rt: &HostRuntime,
+    path: &str,
+    arguments: &Arguments,
+) -> Result<Option<Name>, Ending> {
+    if arguments.has_origins_of_files {
+        return Ok(Some(origin_in_path(rt.alloc(), path)?));
+    }
+    match &arguments.origin {
+        Some(origin) => Ok(Some(origin.clone()?)),
+        None => Ok(None),
+    }
+}
+
+/// Says what is wrong in a zone file, for which an origin may be given, or that nothing is, and prints its zone if that was asked for.
 pub(crate) fn check_zone_file(
     rt: &HostRuntime,
     path: &str,
+    origin: Option<&Name>,
     arguments: &Arguments,
 ) -> Result<CheckedFile, Ending> {
     let Some(text) = read_text(rt, path, arguments)? else {
         return Ok(CheckedFile {
-            verdict: Verdict::Refused,
             origin: None,
+            has_warnings: false,
         });
     };
     let includes = read_includes(rt, path, without_mark(text.as_str()), arguments)?;
-    let check = check_text(rt, text.as_str(), includes.texts.as_slice(), arguments)?;
+    let check = check_text(
+        rt,
+        text.as_str(),
+        includes.texts.as_slice(),
+        origin,
+        arguments,
+    )?;
     let names = names_of(rt, path, &includes)?;
     tell_findings(
         rt,
@@ -67,6 +102,7 @@ fn check_text(
     rt: &HostRuntime,
     text: &str,
     includes: &[(String, String)],
+    origin: Option<&Name>,
     arguments: &Arguments,
 ) -> Result<ZoneCheck, AllocError> {
     let file = ZoneText {
@@ -75,7 +111,7 @@ fn check_text(
         types: arguments.types,
     };
     let now = arguments.now.or(clock(rt));
-    check_zone(rt.alloc(), &file, arguments.origin.as_ref(), now)
+    check_zone(rt.alloc(), &file, origin, now)
 }
 
 /// Says what is wrong in a zone file, if anything is.
@@ -116,26 +152,19 @@ fn checked_file(
     arguments: &Arguments,
     check: &ZoneCheck,
 ) -> Result<CheckedFile, Ending> {
-    let zone = match &check.outcome {
-        Ok(zone) => zone,
-        Err(_) => {
-            return Ok(CheckedFile {
-                verdict: Verdict::Refused,
-                origin: None,
-            });
-        }
+    let has_warnings = !check.warnings.is_empty();
+    let Ok(zone) = &check.outcome else {
+        return Ok(CheckedFile {
+            origin: None,
+            has_warnings,
+        });
     };
     if arguments.print {
         print_zone(rt, zone)?;
     }
-    let fails = arguments.fails_on_warning && !check.warnings.is_empty();
     Ok(CheckedFile {
-        verdict: if fails {
-            Verdict::Refused
-        } else {
-            Verdict::Accepted
-        },
         origin: Some(zone.origin().clone()?),
+        has_warnings,
     })
 }
 
