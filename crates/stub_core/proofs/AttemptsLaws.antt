@@ -65,10 +65,6 @@ module _ {S : Type 0} (asks : Reply → S → Type 0) (old : S) where
   without-memory None = inl (refl, refl)
   without-memory (Some other) = (inr refl, refl)
 
-  pub asked : (known : Option LookupContent) → known ≡ None → (reply : Reply) (new : S) → asks reply new → Unless known asks old reply new
-  asked None none reply new h = inr h
-  asked (Some other) none reply new h = absurd (cc)
-
 -- a lookup of a name by a client
 abbrev pub OfName : {H : Type 0} → Behavior H → DnsRequestOptions → ℕ → RecordType → CachingClient H → DomainName → Reply
     → CachingClient H → Type 0

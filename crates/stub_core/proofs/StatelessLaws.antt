@@ -99,7 +99,7 @@ module _ {S All : Type 0} (Path : S → List Ask → S → Type 0) (Fits : List 
       → Unless known asks old reply new → Explained old new (λ all. Unless known (others all) tt reply tt)
   unless-by None asks others old reply new explains (inl memory) =
       nothing (λ all. Unless None (others all) tt reply tt) old new memory.1 (λ all. inl (memory.0, refl))
-  unless-by None asks others old reply new explains (inr h) = by others (λ all. Unless None (others all) tt reply tt) old new (explains h) (λ all led. inr led)
+  unless-by None asks others old reply new explains (inr h) = by (λ all. others all reply tt) (λ all. Unless None (others all) tt reply tt) old new (explains h) (λ all led. inr led)
   unless-by (Some lookup) asks others old reply new explains h =
       nothing (λ all. Unless (Some lookup) (others all) tt reply tt) old new h.1 (λ all. (h.0, refl))
 
