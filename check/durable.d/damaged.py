@@ -73,6 +73,17 @@ def spliced(chosen, whole, places, other):
     return whole[: chosen.choice(places[:-1])] + there[chosen.choice(there_places[1:-1]) :]
 
 
+# What a refusal says that names the place: a byte, or the header.
+PLACES = ("byte", "not a journal", "another zone file")
+# Damage to the first eight bytes can make them those of the format before, which the server then names.
+FORMER = "a journal of the former format"
+
+
+def begins_as_former(folder):
+    """Whether the journal in a folder begins as one of the former format does."""
+    return Path(folder, "journal").read_bytes().startswith(b"dnsjrnl1")
+
+
 WAYS = {
     "flips": flipped,
     "cuts": cut,
@@ -93,7 +104,7 @@ def tried(given, folder, count):
     except Refused as error:
         if files_of(folder) != before:
             return False, f"refused, and the files are changed: {error}"
-        if "byte" not in str(error) and "not a journal" not in str(error) and "another zone file" not in str(error):
+        if not any(it in str(error) for it in PLACES) and not (FORMER in str(error) and begins_as_former(folder)):
             return False, f"refused without a place: {error}"
         return False, None
     missing = [number for number in range(count) if not server.has(f"n{number}.example.")]
