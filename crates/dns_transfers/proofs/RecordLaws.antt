@@ -1,5 +1,5 @@
 -- Records that are taken from a source, up to the first that has no room.
-use Rattle.std.proofs.Common.{◌≡◌, ◌<◌, ◌≤◌, ◌+◌, ◌-◌, ◌∙◌, ℕ, Bool, true, false, cond, ltb, List, [], ◌∷◌, ◌++◌, map, length, refl, sym, ap, arith, Option, Some, None, option_map}
+use Rattle.std.proofs.Common.{◌≡◌, ◌<◌, ◌≤◌, ◌+◌, ◌-◌, ◌∙◌, ℕ, Bool, true, false, cond, ltb, List, [], ◌∷◌, ◌++◌, map, length, refl, sym, ap, arith, length-append, Option, Some, None, option_map}
 use Rattle.std.proofs.lemmas.Bool.{lt-ltb, le-ltb, ltb-false}
 use Rattle.std.proofs.lemmas.List.{append_assoc, append-nil, map-append}
 use Rattle.dns_messages.specs.Cut.{items_len, listed, record_item}
@@ -83,6 +83,14 @@ takes_one all rest new room left after taken items r t here fits pushed =
       fronts = ap (λ (l : List Record). l ++ front after new) one ∙ append_assoc (map lent_record taken) (lent_record r ∷ []) (front after new)
           ∙ ap (λ (l : List Record). map lent_record taken ++ l) (sym (ap (front left) here ∙ front_goes_on left after (lent_record r) new fits)) ∙ t.fronts;
     }
+
+-- a record that has room is taken
+pub takes_some : (all rest new : List Record) (room left after : ℕ) (taken : List LentRecord) (r : LentRecord) → Takes all room taken left rest → rest ≡ lent_record r ∷ new → after + record_len (lent_record r) ≡ left
+    → front room all ≡ [] → ⊥
+takes_some all rest new room left after taken r t here fits none =
+    let more : front left rest ≡ lent_record r ∷ front after new = ap (front left) here ∙ front_goes_on left after (lent_record r) new fits in
+    let some : map lent_record taken ++ lent_record r ∷ front after new ≡ [] = ap (λ (l : List Record). map lent_record taken ++ l) (sym more) ∙ t.fronts ∙ none in
+    absurd (omega (arith, ap length some, length-append (map lent_record taken) (lent_record r ∷ front after new)))
 
 -- the next record has no room
 pub takes_no_more : (all rest more : List Record) (room left : ℕ) (taken : List LentRecord) (r : Record) → Takes all room taken left rest → rest ≡ r ∷ more → left < record_len r → map lent_record taken ≡ front room all

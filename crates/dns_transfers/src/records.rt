@@ -1,6 +1,6 @@
 //! Records that a transfer takes from a source, and how many of them have room in a message.
 
-ghost use Rattle.std.specs.Prelude.{◌≡◌, ◌++◌, map, IfOk};
+ghost use Rattle.std.specs.Prelude.{◌≡◌, ◌++◌, [], map, IfOk, IsOk};
 ghost use Rattle.dns_transfers.specs.Records.{front, left_of, lent_record, IsPeeked};
 
 use crate::lent_record::LentRecord;
@@ -18,6 +18,10 @@ pub trait RecordSource<'a> {
     /// Returns the next record, or `None` after the last.
     fn next(&mut self) -> Option<LentRecord<'a>>
         ensures { IsNext (left self.old) result (left self.new) };
+
+    /// Returns a source of the same records. No memory is taken.
+    fn copied(&self) -> Self
+        ensures { left result ≡ left self.now };
 }
 
 /// The records of a source, of which the next may be known.
@@ -27,7 +31,7 @@ pub(crate) struct Records<'a, S> {
     rest: S,
 }
 
-impl<'a, S: RecordSource<'a>> Records<'a, S> {
+impl<'a, S: RecordSource<'a> + Drop> Records<'a, S> {
     /// Takes the records of a source.
     pub(crate) fn new(source: S) -> Records<'a, S>
         ensures { left_of S.left result ≡ S.left source }
@@ -35,6 +39,16 @@ impl<'a, S: RecordSource<'a>> Records<'a, S> {
         Records {
             next: None,
             rest: source,
+        }
+    }
+
+    /// Returns the same records. No memory is taken.
+    pub(crate) fn copied(&self) -> Records<'a, S>
+        ensures { left_of S.left result ≡ left_of S.left self.now }
+    {
+        Records {
+            next: self.next,
+            rest: self.rest.copied(),
         }
     }
 
@@ -48,27 +62,29 @@ impl<'a, S: RecordSource<'a>> Records<'a, S> {
         self.next
     }
 
-    /// Takes the records, from the first on, that have room in `room` bytes without compression.
-    pub(crate) fn take_front(
-        &mut self,
+    /// Returns the records, from the first on, that have room in `room` bytes without compression, and those that are left then.
+    pub(crate) fn split_front(
+        &self,
         alloc: Global,
         room: usize,
-    ) -> Result<Vec<LentRecord<'a>>, AllocError>
-        ensures front { IfOk result (λ batch. map lent_record batch.items
-            ≡ front room (left_of S.left self.old)) }
-        ensures left { IfOk result (λ batch. map lent_record batch.items
-            ++ left_of S.left self.new ≡ left_of S.left self.old) }
+    ) -> Result<(Vec<LentRecord<'a>>, Records<'a, S>), AllocError>
+        ensures front { IfOk result (λ parts. map lent_record parts.0.items
+            ≡ front room (left_of S.left self.now)) }
+        ensures left { IfOk result (λ parts. map lent_record parts.0.items
+            ++ left_of S.left parts.1 ≡ left_of S.left self.now) }
+        ensures decided { front room (left_of S.left self.now) ≡ [] → IsOk result }
     {
         let mut batch = Vec::new(alloc);
         let mut left = room;
-        while let Some(next) = self.peek() {
+        let mut rest = self.copied();
+        while let Some(next) = rest.peek() {
             let Some(after) = next.room_after(left) else {
-                return Ok(batch);
+                break;
             };
             batch.push(next)?;
             left = after;
-            self.next = None;
+            rest.next = None;
         }
-        Ok(batch)
+        Ok((batch, rest))
     }
 }

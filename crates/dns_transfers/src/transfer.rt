@@ -22,7 +22,7 @@ pub struct Transfer<'a, S> {
 }
 
 impl<'a, S: RecordSource<'a> + Drop> Transfer<'a, S> {
-    ghost use Rattle.std.specs.Prelude.{◌≡◌, ◌≤◌, ◌<◌, [], None, length, map, IfOk, Err, option_map};
+    ghost use Rattle.std.specs.Prelude.{◌≡◌, ◌≤◌, ◌<◌, [], None, length, map, IfOk, OnErr, Err, option_map};
     ghost use Rattle.dns_transfers.specs.Sending.{sending, start, CannotSend, IsStuck, Sends, SendsAll};
 
     /// Creates the reply to a request with the records of a source.
@@ -40,7 +40,7 @@ impl<'a, S: RecordSource<'a> + Drop> Transfer<'a, S> {
     }
 
     /// Returns the next message, or `None` after the last. It has the records, from the first on, that have room without
-    /// compression. After an error there may be no further message.
+    /// compression. An error takes no record.
     ///
     /// # Errors
     ///
@@ -51,9 +51,10 @@ impl<'a, S: RecordSource<'a> + Drop> Transfer<'a, S> {
             (option_map (λ bytes. bytes.items) found) (sending S.left self.new)) }
         ensures too_long { result ≡ Err TransferError.TooLong
             → IsStuck (sending S.left self.old) }
+        ensures err { OnErr result (sending S.left self.new ≡ sending S.left self.old) }
     {
         let room = room_for(self.queries, self.dnssec_ok);
-        let batch = self.records.take_front(self.alloc, room)?;
+        let (batch, left) = self.records.split_front(self.alloc, room)?;
         if batch.is_empty() {
             return self.end();
         }
@@ -65,6 +66,7 @@ impl<'a, S: RecordSource<'a> + Drop> Transfer<'a, S> {
         };
         let bytes = message.encode(self.alloc)?;
         self.queries = &[];
+        self.records = left;
         Ok(Some(bytes))
     }
 
@@ -74,6 +76,7 @@ impl<'a, S: RecordSource<'a> + Drop> Transfer<'a, S> {
             × (((sending S.left self.old).records ≡ []) × (sending S.left self.new ≡ sending S.left self.old))) }
         ensures too_long { result ≡ Err TransferError.TooLong
             → 0 < length (sending S.left self.old).records }
+        ensures err { OnErr result (sending S.left self.new ≡ sending S.left self.old) }
     {
         match self.records.peek() {
             None => Ok(None),

@@ -114,4 +114,15 @@ impl<'a> RecordSource<'a> for DifferenceRecords<'a> {
             None => self.next_after_first(),
         }
     }
+
+    fn copied(&self) -> DifferenceRecords<'a> {
+        DifferenceRecords {
+            origin: self.origin,
+            first: self.first,
+            records: self.records,
+            added: self.added,
+            differences: self.differences,
+            last: self.last,
+        }
+    }
 }

@@ -9,6 +9,7 @@ use crate::{LentRecord, RecordSource};
 use dns_names::Name;
 use dns_records::Record;
 use dns_zone::{Sets, Zone};
+use std::alloc::AllocError;
 
 /// The records of a zone: its SOA record, each other record once, and the SOA record again.
 #[derive(Drop)]
@@ -91,6 +92,21 @@ impl<'a> RecordSource<'a> for ZoneRecords<'a> {
         let (first, others) = self.records.split_first()?;
         self.records = others;
         Some(LentRecord::new(self.owner, first))
+    }
+
+    fn copied(&self) -> ZoneRecords<'a> {
+        let sets = match self.sets.clone() {
+            Ok(sets) => sets,
+            // A copy of the iterator takes no memory.
+            Err(AllocError) => unreachable!(),
+        };
+        ZoneRecords {
+            origin: self.origin,
+            owner: self.owner,
+            records: self.records,
+            sets,
+            last: self.last,
+        }
     }
 }
 
