@@ -58,18 +58,19 @@ impl Ending {
 
     /// Creates the ending for an invalid value of an option.
     pub(crate) fn invalid(alloc: Global, option: &str, value: &str, reason: &str) -> Ending {
-        match format!(in alloc; "invalid value '{value}' for '--{option}': {reason}") {
-            Ok(line) => Ending::InvalidValue(line),
-            // Memory for the line was refused.
-            Err(_) => Ending::Memory,
-        }
+        Ending::of_line(format!(in alloc; "invalid value '{value}' for '--{option}': {reason}"))
     }
 
     /// Creates the ending for a zone file whose path states no origin.
     pub(crate) fn invalid_file(alloc: Global, path: &str) -> Ending {
-        match format!(in alloc;
+        Ending::of_line(format!(in alloc;
             "the name of the file '{path}' is no origin, such as mail.example.zone or db.mail.example"
-        ) {
+        ))
+    }
+
+    /// Creates the ending for an invalid argument, of which a line says why.
+    fn of_line(line: Result<String, AllocError>) -> Ending {
+        match line {
             Ok(line) => Ending::InvalidValue(line),
             // Memory for the line was refused.
             Err(_) => Ending::Memory,
