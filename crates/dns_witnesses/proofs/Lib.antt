@@ -1,1 +1,3 @@
+pub mod GrantWitness
+pub mod KeysWitness
 pub mod MessageWitness
