@@ -1,3 +1,4 @@
 pub mod GrantWitness
 pub mod KeysWitness
 pub mod MessageWitness
+pub mod PlainZoneWitness
