@@ -2,3 +2,4 @@ pub mod GrantWitness
 pub mod KeysWitness
 pub mod MessageWitness
 pub mod PlainZoneWitness
+pub mod ZoneTextWitness
