@@ -32,7 +32,7 @@ use Rattle.dns_zone.specs.Load.ReadsZoneIn.{good_zone}
 use Rattle.dns_zone.specs.Printed.{AreZoneSets, IsZoneText}
 use Rattle.dns_zone.specs.Rows.{AreSoundSets, ZoneContent, rows_of_sets, zone_of}
 use Rattle.dns_zone.proofs.RowLaws.{key_total}
-use Rattle.dns_durable.specs.zone_texts.Stated.{AreStatedRecords, IsStated, IsStatedData, IsStatedRecord, IsStatedSet, with_origin}
+use Rattle.dns_durable.specs.zone_texts.Stated.{AreStatedRecords, IsStated, IsStatedData, IsStatedRecord, IsStatedSet}
 use Rattle.dns_durable.proofs.FileLaws.{lines_contain, lines_parse}
 use Rattle.dns_durable.proofs.StatedLaws.{stated_zone}
 use Rattle.dns_durable.proofs.ZoneLaws.{file_reads, text_reads}
