@@ -1,0 +1,5 @@
+pub mod GrantWitness
+pub mod KeysWitness
+pub mod MessageWitness
+pub mod PlainZoneWitness
+pub mod ZoneTextWitness
