@@ -20,7 +20,7 @@ use Rattle.dns_messages.specs.declared.response_code.ResponseCode.TheVariants.{N
 use Rattle.stub_lookup.specs.Lookup.{lookup_of}
 use Rattle.stub_hosts.specs.Hosts.{question, static_lookup}
 use Rattle.stub_client.specs.Looks.{Reply}
-use Rattle.stub_client.specs.SpecialNames.{in_class, loopback_answer, loopback_data, loopback_record, special_answer}
+use Rattle.stub_client.specs.SpecialNames.{in_class, loopback_answer, loopback_data, loopback_record}
 use Rattle.stub_client.specs.declared.special_names.SpecialAnswer.{SpecialAnswer}
 use Rattle.stub_client.specs.declared.special_names.SpecialAnswer.TheVariants.{Ordinary, Loopback, Nothing}
 use Rattle.stub_core.specs.Origins.{IsAnswer}

@@ -1,33 +1,24 @@
 -- What the claims by the versions up to a reply exclude: at 10 an update replaces the address of a name. If it is delivered after the reply
 -- to a lookup at 10, the new address is fresh by the versions up to the end of the event, but not by those up to the reply.
-use Rattle.std.proofs.Common.{◌≡◌, ◌+◌, ◌≤◌, ℕ, true, List, [], ◌∷◌, All, Contains, refl, sym, ap, subst, ◌∙◌, inl, inr, codes, arith}
+use Rattle.std.proofs.Common.{◌≡◌, ℕ, true, List, [], ◌∷◌, Contains, refl, sym, ap, subst, ◌∙◌, inl, inr, codes, arith}
 use Rattle.std.specs.FinMap as rows_map
-use Rattle.std.proofs.lemmas.Bool.{cond_both}
 use Rattle.std.proofs.lemmas.List.Elements.{All-cons, All-contains, All-nil, Contains-append_right}
-use Rattle.dns_wire.specs.codes.DNSClass.{class_number, class_of}
-use Rattle.dns_wire.specs.codes.RecordType.{type_number, type_of}
-use Rattle.dns_wire.specs.declared.codes.dns_class.DNSClass.{DNSClass}
 use Rattle.dns_wire.specs.declared.codes.dns_class.DNSClass.TheVariants as classes
-use Rattle.dns_wire.specs.declared.codes.record_type.RecordType.{RecordType}
 use Rattle.dns_wire.specs.declared.codes.record_type.RecordType.TheVariants as types
 use Rattle.dns_names.specs.Name.{DomainName}
-use Rattle.dns_text.specs.Usage.{is_loopback, is_nonexistent}
 use Rattle.dns_data.specs.declared.rdata.RData.{RData}
 use Rattle.dns_data.specs.declared.rdata.RData.TheVariants as of
 use Rattle.dns_records.specs.Record.{Record}
 use Rattle.dns_records.specs.Rows.{Rows, key, rows_at}
 use Rattle.dns_records.specs.declared.row.Row.{Row}
 use Rattle.dns_messages.specs.declared.query.Query.{Query}
-use Rattle.dns_messages.specs.declared.response_code.ResponseCode.TheVariants.{NXDomain}
 use Rattle.dns_zone.proofs.RowLaws.{key_total}
 use Rattle.stub_cache.specs.Ttl.{TtlConfigContent, default_bounds, plain_config}
-use Rattle.stub_client.specs.SpecialNames.{in_class, loopback_answer, loopback_data, name_answer, special_answer}
-use Rattle.stub_client.specs.declared.special_names.SpecialAnswer.{SpecialAnswer}
-use Rattle.stub_client.specs.declared.special_names.SpecialAnswer.TheVariants.{Ordinary, Loopback, Nothing}
 use Rattle.stub_link.specs.LinkState.{Version}
 use Rattle.stub_laws.specs.history.Stands.IsReached.{here}
 use Rattle.stub_laws.proofs.StandLaws.{contains-head}
 use Rattle.stub_run.specs.Headline.{IsFreshBy}
+use Rattle.stub_witnesses.proofs.LocalWitness.{first_byte, local_byte}
 
 -- ---- the zone, before and after the update
 
@@ -88,15 +79,6 @@ late_is_fresh = inl (
 
 -- ---- by the versions up to the reply it is not
 
--- the first byte of an address of the local host is 127
-abbrev first_of : List ℕ → ℕ
-first_of [] = 127
-first_of (byte ∷ bytes) = byte
-
-abbrev first_byte : RData → ℕ
-first_byte (of.A a) = first_of a.0.octets
-first_byte other = 127
-
 abbrev last_of : List ℕ → ℕ
 last_of (a ∷ (b ∷ (c ∷ (d ∷ bytes)))) = d
 last_of bytes = 0
@@ -104,30 +86,6 @@ last_of bytes = 0
 abbrev last_byte : RData → ℕ
 last_byte (of.A a) = last_of a.0.octets
 last_byte other = 0
-
-abbrev IsLocal : SpecialAnswer → Type 0
-IsLocal (Loopback r) = first_byte r.rdata ≡ 127
-IsLocal other = Unit {0}
-
-data-is-local : (name : DomainName) (kind : RecordType) → IsLocal (loopback_answer name (loopback_data kind))
-data-is-local name types.A = refl
-data-is-local name types.AAAA = refl
-data-is-local name types.PTR = refl
-data-is-local name other = tt
-
-name-is-local : (name : DomainName) (kind : RecordType) → IsLocal (name_answer name kind)
-name-is-local name kind =
-    cond_both (is_loopback name) (loopback_answer name (loopback_data kind)) _ IsLocal (λ local. data-is-local name kind)
-    (λ far. cond_both (is_nonexistent name) (Nothing NXDomain) Ordinary IsLocal (λ none. tt) (λ some. tt))
-
-class-is-local : (c : DNSClass) (answer : SpecialAnswer) → IsLocal answer → IsLocal (in_class c answer)
-class-is-local classes.IN answer h = h
-class-is-local other answer h = tt
-
-question-is-local : (p : Query) → IsLocal (special_answer p)
-question-is-local p =
-    class-is-local (class_of (class_number p.query_class)) (name_answer p.name (type_of (type_number p.query_type)))
-    (name-is-local p.name (type_of (type_number p.query_type)))
 
 abbrev HasNot : Version → Type 0
 HasNot version = (r : Row) → Contains (rows_at version.rows host.labels types.A) r → r.rdata ≡ address 2 → ⊥
@@ -148,6 +106,6 @@ late_is_refused (inl (fresh, reached)) =
     (contains-head (record { moment = fresh.stand.since; rows = fresh.rows }) fresh.stand.after)))
     fresh.row fresh.holds fresh.same_data
 late_is_refused (inr local) =
-    let first : first_byte local.whole.rdata ≡ 127 = subst IsLocal local.special (question-is-local local.question) in
+    let first : first_byte local.whole.rdata ≡ 127 = local_byte local.question local.whole local.special in
     let clash : ◌≡◌ {A = ℕ} 10 127 = ap (λ (x : Record). first_byte x.rdata) local.same ∙ first in
     omega (arith, clash)

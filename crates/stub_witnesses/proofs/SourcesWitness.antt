@@ -1,6 +1,6 @@
 -- Lookups of which the law on sources speaks: an alias and the address that it leads to, both returned at first, and 20 seconds later from
 -- the cache, when the zone has another address. Aliases are preserved, and a minimum raises all TTLs to an hour.
-use Rattle.std.proofs.Common.{◌≡◌, ◌≤◌, ◌++◌, ◌⊎◌, ℕ, true, false, List, [], ◌∷◌, Some, Ok, All, Contains, Vec, Global, refl, sym, ap, subst, ◌∙◌, inl, inr, codes, length, arith}
+use Rattle.std.proofs.Common.{◌≡◌, ◌≤◌, ℕ, true, false, List, [], ◌∷◌, Some, Ok, Err, All, Contains, Vec, Global, refl, sym, ap, subst, ◌∙◌, inl, inr, codes, length, arith}
 use Rattle.std.specs.FinMap as rows_map
 use Rattle.std.proofs.lemmas.Bool.{cond_both}
 use Rattle.std.proofs.lemmas.List.Elements.{All-cons, All-contains, All-nil, All-weaker, Contains-append_right}
@@ -14,9 +14,8 @@ use Rattle.dns_names.specs.Name.{DomainName}
 use Rattle.dns_text.specs.Usage.{is_loopback, is_nonexistent}
 use Rattle.dns_data.specs.declared.rdata.RData.{RData}
 use Rattle.dns_data.specs.declared.rdata.RData.TheVariants as of
-use Rattle.dns_data.specs.rdata.{data_type}
 use Rattle.dns_records.specs.Record.{Record}
-use Rattle.dns_records.specs.Rows.{Rows, key, key_cmp, rows_at}
+use Rattle.dns_records.specs.Rows.{Rows, key, rows_at}
 use Rattle.dns_records.specs.declared.row.Row.{Row}
 use Rattle.dns_messages.specs.Message.{all_records}
 use Rattle.dns_messages.specs.declared.message.Message.{Message}
@@ -27,17 +26,16 @@ use Rattle.dns_zone.proofs.RowLaws.{key_total}
 use Rattle.stub_lookup.specs.Lookup.{lookup_of, response_to}
 use Rattle.stub_cache.specs.Cache.{CacheContent, storing}
 use Rattle.stub_cache.specs.Ttl.{TtlConfigContent, default_bounds, plain_config}
-use Rattle.stub_client.specs.Handle.{Ask}
-use Rattle.stub_client.specs.Looks.{Looks, Reply}
+use Rattle.stub_client.specs.Handle.{Ask, Outcome}
+use Rattle.stub_client.specs.Looks.{Looks}
 use Rattle.stub_client.specs.SpecialNames.{in_class, loopback_answer, loopback_data, name_answer, special_answer}
 use Rattle.stub_client.specs.Step.{meaning}
 use Rattle.stub_client.specs.declared.caching_client.step.LookupSettings.{LookupSettings}
 use Rattle.stub_client.specs.declared.special_names.SpecialAnswer.{SpecialAnswer}
 use Rattle.stub_client.specs.declared.special_names.SpecialAnswer.TheVariants.{Ordinary, Loopback, Nothing}
-use Rattle.stub_core.specs.Origins.{EachAnswer}
 use Rattle.stub_link.specs.LinkState.{Version}
 use Rattle.stub_laws.specs.history.Stands.{StandAt}
-use Rattle.stub_laws.specs.answers.Sources.{EachReceived, EntryHasSources, HasSource, IsOfHost, IsRowNow, WasRow}
+use Rattle.stub_laws.specs.answers.Sources.{EachReceived, EntryHasSources, HasSource, IsOfHost, IsRowNow}
 use Rattle.stub_laws.proofs.AnswerRowLaws.{number_of}
 use Rattle.stub_laws.proofs.SourcesLaws.{sources-keep}
 use Rattle.stub_laws.proofs.StandLaws.{contains-head}
@@ -111,6 +109,11 @@ empty = record { entries = []; capacity = 32; config = an_hour }
 abbrev full_cache : CacheContent
 full_cache = storing empty q (Ok (response_to q (both 60))) 0
 
+-- the message of an outcome
+abbrev message_in : Message → Outcome → Message
+message_in other (Ok r) = r.message
+message_in other (Err error) = other
+
 module _ (buffer : Vec ℕ Global) where
   abbrev asks : List Ask
   asks = record { question = q; outcome = Ok (record { message = response_to q (both 60); buffer = buffer }) } ∷ []
@@ -154,7 +157,7 @@ module _ (buffer : Vec ℕ Global) where
   received =
       All-cons (λ (ask : Ask). (response : DnsResponse) → meaning ask.outcome ≡ Ok response → All (IsRowNow versions 0) (all_records response.message))
       (record { question = q; outcome = Ok (record { message = response_to q (both 60); buffer = buffer }) }) []
-      (λ response means. (let same : response_to q (both 60) ≡ response.message = cc in
+      (λ response means. (let same : response_to q (both 60) ≡ response.message = ap (message_in (response_to q (both 60))) means in
       subst (λ (m : Message). All (IsRowNow versions 0) (all_records m)) same both_rows))
       (All-nil (λ (ask : Ask). (response : DnsResponse) → meaning ask.outcome ≡ Ok response → All (IsRowNow versions 0) (all_records response.message)))
 

@@ -1,6 +1,6 @@
 -- What `steady` says of a zone in which h. has two addresses and nothing changes: a lookup returns both, and not one of them alone,
 -- even if the link met a fault.
-use Rattle.std.proofs.Common.{◌≡◌, ◌≤◌, ◌++◌, ◌∙◌, arith, ℕ, Bool, true, false, map, get_or, suc, List, [], ◌∷◌, All, Contains, Ok, Err, length, refl, sym, ap, subst, inl, inr}
+use Rattle.std.proofs.Common.{◌≡◌, ◌++◌, ◌∙◌, arith, ℕ, true, false, map, get_or, List, [], ◌∷◌, Contains, Ok, refl, sym, ap, subst, inl, inr}
 use Rattle.std.proofs.lemmas.List.Elements.{All-cons, All-nil}
 use Rattle.dns_wire.specs.declared.codes.dns_class.DNSClass.TheVariants as classes
 use Rattle.dns_wire.specs.declared.codes.record_type.RecordType.TheVariants as types
@@ -24,12 +24,10 @@ use Rattle.stub_laws.proofs.StandLaws.{contains-none}
 use Rattle.stub_run.specs.Headline.{settings_of, ttls_of}
 use Rattle.stub_run.specs.Steady.{AreSteady}
 use Rattle.stub_run.specs.Whole.{ByStandingIn}
-use Rattle.stub_run.specs.Walked.{IsUnchanged}
 use Rattle.stub_run.specs.declared.event.Action.TheVariants as actions
 use Rattle.stub_run.specs.declared.event.Event.{Event}
 use Rattle.stub_run.specs.declared.report.EventReply.TheVariants as replies
 use Rattle.stub_run.specs.declared.report.EventReport.{EventReport}
-use Rattle.stub_link.specs.History.{first_past}
 use Rattle.stub_link.specs.LinkState.{Version}
 use Rattle.stub_link.specs.declared.link.script.Script.TheVariants as script
 use Rattle.stub_core.specs.Origins.{HasNoMinima}
@@ -74,7 +72,7 @@ both_are_steady = (
     inr (
       found both,
       tt,
-      record {
+      inr (record {
         holds = λ least. as_set both (record {
           owner = host;
           full = refl;
@@ -89,7 +87,7 @@ both_are_steady = (
               (of_row (row 1) 60 (row 2 ∷ []) (record_with 2 60 ∷ []) refl (omega arith) (of_row (row 2) 60 [] [] refl (omega arith) no_more));
         });
         typed = All-cons IsTyped (record_with 1 60) (record_with 2 60 ∷ []) refl (All-cons IsTyped (record_with 2 60) [] refl (All-nil IsTyped));
-      },
+      }),
       (refl, refl),
     ),
   ),
@@ -133,8 +131,8 @@ not_other set =
     let has : 1 ∷ 3 ∷ [] ≡ map (λ (x : Row). last_octet x.rdata) (rows_at set.rows set.owner.labels types.A) = data_of_rows set.set (refl, (refl, tt)) in
     let there : rows_at set.rows set.owner.labels types.A ≡ row 1 ∷ row 2 ∷ [] =
     ap (λ (rows : Rows). rows_at rows set.owner.labels types.A) (one_stands set.stand) ∙ rows_of_host set.owner (stays set.led) in
-    let e : 1 ∷ 3 ∷ [] ≡ 1 ∷ 2 ∷ [] = has ∙ ap (map (λ (x : Row). last_octet x.rdata)) there in
-    let differ : 3 ≡ 2 = ap (λ (l : List ℕ). get_or l 1 0) e in
+    let e : ◌≡◌ {A = List ℕ} (1 ∷ 3 ∷ []) (1 ∷ 2 ∷ []) = has ∙ ap (map (λ (x : Row). last_octet x.rdata)) there in
+    let differ : ◌≡◌ {A = ℕ} 3 2 = ap (λ (l : List ℕ). get_or l 1 0) e in
     omega (arith, differ)
 
 low : HasNoMinima (ttls_of world)
@@ -143,7 +141,8 @@ low kind = refl
 never_found : (failed : List Query)
     → LooksUp (settings_of world) 30 (ByStandingIn (ttls_of world) root steady (settings_of world) failed 30) (Ok host) types.A tt (found other_set) tt → ⊥
 never_found failed (inl out) = let never : false ≡ true = ap is_of_memory out.0 in absurd cc
-never_found failed (inr (first, mid, stood, (same, back))) =
+never_found failed (inr (first, mid, inl out, (same, back))) = let never : false ≡ true = ap is_of_memory (same ∙ out.0) in absurd cc
+never_found failed (inr (first, mid, inr stood, (same, back))) =
     let held = subst (λ (r : Reply). ByStandingIn (ttls_of world) root steady (settings_of world) failed 30 tt (question host types.A) r mid) (sym same) stood in
     not_other (set_of_two (held.holds low) refl)
 

@@ -1,5 +1,5 @@
 -- Two versions of a zone: at 10 both addresses of h. are replaced, and n. comes. What stands in them, and where questions lead.
-use Rattle.std.proofs.Common.{◌≡◌, ◌≢◌, ◌≤◌, ◌⊎◌, ◌++◌, ◌||◌, ◌∙◌, arith, map, ℕ, Bool, true, false, cond, get_or, length, suc, List, [], ◌∷◌, Contains, Option, Some, None, Ok, Err, refl, sym, ap, subst, inl, inr, unwrap_or}
+use Rattle.std.proofs.Common.{◌≡◌, ◌≢◌, ◌≤◌, ◌⊎◌, ◌++◌, ◌||◌, ◌∙◌, arith, map, ℕ, Bool, true, false, cond, get_or, length, List, [], ◌∷◌, Contains, Option, Some, None, Err, refl, sym, ap, subst, inl, inr, unwrap_or}
 use Rattle.std.proofs.Common.{Ordering, Less, Equal, Greater}
 use Rattle.std.specs.FinMap as rows_map
 use Rattle.std.specs.FinMap.Entries.{find, put}
@@ -115,7 +115,7 @@ rows_there table kind name owner same =
     subst (λ (l : List (List ℕ)). rows_at (rows_of_table table) owner.labels kind ≡ unwrap_or (find key_cmp (l, type_number kind) table) []) (sym same)
     (rows_found table owner.labels kind)
 
-is_equal : (r : Ordering) → is_eq r ≡ true → r ≡ Equal
+pub is_equal : (r : Ordering) → is_eq r ≡ true → r ≡ Equal
 is_equal Less e = absurd (cc)
 is_equal Equal e = refl
 is_equal Greater e = absurd (cc)

@@ -1,6 +1,6 @@
 -- What `whole` says of a set of two addresses that was replaced at 10, and of a name that came then: at 30 the old set may still be
 -- returned, but not one old address beside a new one; and the name may be missing up to 31, but not at 32.
-use Rattle.std.proofs.Common.{◌≡◌, ◌≤◌, ◌+◌, ◌⊎◌, ◌∙◌, arith, ℕ, Bool, true, false, min, get_or, List, [], ◌∷◌, map, All, Option, Some, None, Ok, Err, refl, sym, ap, subst, inl, inr, cond, length}
+use Rattle.std.proofs.Common.{◌≡◌, ◌≤◌, ◌⊎◌, ◌∙◌, arith, ℕ, Bool, true, false, get_or, List, [], ◌∷◌, map, Option, Some, None, Ok, Err, refl, sym, ap, subst, inl, inr, cond}
 use Rattle.std.proofs.lemmas.List.Elements.{All-cons, All-nil}
 use Rattle.dns_wire.specs.declared.codes.dns_class.DNSClass.TheVariants as classes
 use Rattle.dns_wire.specs.declared.codes.record_type.RecordType.TheVariants as types
@@ -54,7 +54,7 @@ Stood failed name at reply = ByStandingIn (ttls_of world) root versions (setting
 
 -- a lookup of a fully qualified name is one question
 asked : (name : List (List ℕ)) (at : ℕ) (reply : Reply) → Stood [] (full name) at reply → IsWhole (full name) at reply
-asked name at reply stood = (([], omega arith, inr (reply, tt, stood, (refl, refl))), tt)
+asked name at reply stood = (([], omega arith, inr (reply, tt, inr stood, (refl, refl))), tt)
 
 answered : (name : List (List ℕ)) (at : ℕ) (reply : Reply) → is_of_memory reply ≡ false → IsWhole (full name) at reply
     → (failed : List Query) × Stood failed (full name) at reply
@@ -63,7 +63,8 @@ answered name at reply other ((failed, counted, looks), more) = by looks
     by : LooksUp (settings_of world) at (ByStandingIn (ttls_of world) root versions (settings_of world) failed at) (Ok (full name)) types.A tt reply tt
         → (failed : List Query) × Stood failed (full name) at reply
     by (inl out) = let never : false ≡ true = sym other ∙ ap is_of_memory out.0 in absurd cc
-    by (inr (first, mid, stood, (same, back))) = (failed, subst (λ (r : Reply). Stood failed (full name) at r) (sym same) stood)
+    by (inr (first, mid, inl out, (same, back))) = let never : false ≡ true = sym other ∙ ap is_of_memory (same ∙ out.0) in absurd cc
+    by (inr (first, mid, inr stood, (same, back))) = (failed, subst (λ (r : Reply). Stood failed (full name) at r) (sym same) stood)
 
 low : HasNoMinima (ttls_of world)
 low kind = refl
@@ -127,13 +128,13 @@ no_mixed_set set = by (which set.moment set.rows set.stand)
 
     by : ((set.rows ≡ one.rows) × (set.moment ≤ 10)) ⊎ ((set.rows ≡ two.rows) × (10 ≤ set.moment)) → ⊥
     by (inl first) =
-        let e : 1 ∷ 3 ∷ [] ≡ 1 ∷ 2 ∷ [] =
+        let e : ◌≡◌ {A = List ℕ} (1 ∷ 3 ∷ []) (1 ∷ 2 ∷ []) =
         with_rows (row 1 ∷ row 2 ∷ []) (ap (λ (rows : Rows). rows_at rows set.owner.labels types.A) first.0 ∙ old_rows set.owner (stays set.led)) in
-        let differ : 3 ≡ 2 = ap (λ (l : List ℕ). get_or l 1 0) e in absurd (omega (arith, differ))
+        let differ : ◌≡◌ {A = ℕ} 3 2 = ap (λ (l : List ℕ). get_or l 1 0) e in absurd (omega (arith, differ))
     by (inr second) =
-        let e : 1 ∷ 3 ∷ [] ≡ 3 ∷ 4 ∷ [] =
+        let e : ◌≡◌ {A = List ℕ} (1 ∷ 3 ∷ []) (3 ∷ 4 ∷ []) =
         with_rows (row 3 ∷ row 4 ∷ []) (ap (λ (rows : Rows). rows_at rows set.owner.labels types.A) second.0 ∙ new_rows set.owner (stays set.led)) in
-        let differ : 1 ≡ 3 = ap (λ (l : List ℕ). get_or l 0 0) e in absurd (omega (arith, differ))
+        let differ : ◌≡◌ {A = ℕ} 1 3 = ap (λ (l : List ℕ). get_or l 0 0) e in absurd (omega (arith, differ))
 
 pub mixed_set_is_excluded : IsWhole host 30 (found mixed) → ⊥
 mixed_set_is_excluded whole =
