@@ -14,6 +14,7 @@ pub mod RunWitness
 pub mod SourcesWitness
 pub mod StandingWitness
 pub mod SteadyWitness
+pub mod UpdateWitness
 pub mod VersionsWitness
 pub mod WalkedWitness
 pub mod WalksWitness

@@ -1,12 +1,14 @@
 -- What the laws of lookups of a resolver say of the first lookup of the run in which w. is an alias of h.: what is kept and what is returned
 -- stood, has a source, and is that of a walk.
-use Rattle.std.proofs.Common.{◌≡◌, ℕ, false, List, [], ◌∷◌, Ok, Vec, Global, refl}
+use Rattle.std.proofs.Common.{◌≡◌, arith, ℕ, false, true, All, List, [], ◌∷◌, Ok, Vec, Global, refl}
 use Rattle.std.proofs.lemmas.List.Elements.{All-cons, All-nil}
 use Rattle.dns_wire.specs.codes.RecordType.{type_number, type_of}
 use Rattle.dns_wire.specs.declared.codes.record_type.RecordType.TheVariants as types
 use Rattle.dns_messages.specs.Grammar.{ReadsMessage}
 use Rattle.dns_records.specs.Record.{Record}
+use Rattle.dns_messages.specs.Response.{has_type}
 use Rattle.dns_messages.specs.declared.query.Query.{Query}
+use Rattle.dns_messages.specs.declared.response.DnsResponse.{DnsResponse}
 use Rattle.dns_zone.proofs.AnswerLaws.{answers_chain}
 use Rattle.stub_lookup.specs.declared.error.NetError.{NetError}
 use Rattle.stub_lookup.specs.declared.error.NoRecords.{NoRecords}
@@ -14,6 +16,7 @@ use Rattle.stub_cache.specs.Ttl.{TtlConfigContent}
 use Rattle.stub_hosts.specs.Hosts.{question}
 use Rattle.stub_client.specs.Handle.{Ask}
 use Rattle.stub_client.specs.Looks.{lookup_settings}
+use Rattle.stub_client.specs.Step.{meaning}
 use Rattle.stub_client.specs.declared.caching_client.step.LookupSettings.{LookupSettings}
 use Rattle.stub_core.specs.Origins.{HasNoMinima, names_of}
 use Rattle.stub_core.specs.Resolver.{LooksUp, request_options}
@@ -21,18 +24,20 @@ use Rattle.stub_link.specs.LinkState.{Version}
 use Rattle.stub_laws.specs.answers.Claims.{BearOut, HasNoNegativeMinima, HoldOfCache, HoldOfEntry, HoldOfReply, longest_of}
 use Rattle.stub_laws.specs.answers.Failing.{FailsIndeed, failed_questions}
 use Rattle.stub_laws.specs.answers.Lookups.{Stands}
-use Rattle.stub_laws.specs.answers.Sources.{EachReceived, IsRowNow, KeepsSources}
+use Rattle.stub_laws.specs.answers.Sources.{CacheHasSources, EachReceived, EntryHasSources, EntryIsRecent, IsRowNow, KeepsSources}
 use Rattle.stub_laws.specs.answers.Standing.{FindsWhole, IsDeep, LacksIndeed, MissesIndeed}
 use Rattle.stub_laws.specs.answers.Steady.{always}
-use Rattle.stub_laws.specs.history.Answered.{IsAnsweredBy, zone_with}
+use Rattle.stub_laws.specs.history.Answered.{HoldsAnswerAt, IsAnsweredBy, zone_with}
 use Rattle.stub_laws.specs.walk.Answered.{ComesToWalk, IsWalkedLookup}
 use Rattle.stub_laws.specs.walk.Walk.{AreShortAt}
 use Rattle.stub_laws.proofs.AnswersResolverLaws.{name-keeps, none-kept}
 use Rattle.stub_laws.proofs.AnswersStepLaws.{ask-bears}
 use Rattle.stub_laws.proofs.ClaimLaws.{lookup-keeps, own-least}
+use Rattle.stub_laws.proofs.FreshLaws.{meant}
 use Rattle.stub_laws.proofs.ReceivedLaws.{received-rows}
+use Rattle.stub_laws.proofs.RecentLaws.{recent-keep}
 use Rattle.stub_laws.proofs.ResolverLaws.{name-walks}
-use Rattle.stub_laws.proofs.SourcesLaws.{name-has-sources}
+use Rattle.stub_laws.proofs.SourcesLaws.{name-has-sources, sources-keep, sources-later}
 use Rattle.stub_laws.proofs.StandingLaws.{deep-first, finds-outlast, lacks-outlast, special-hold}
 use Rattle.stub_run.specs.Headline.{settings_of, ttls_of}
 use Rattle.stub_run.specs.Run.{RunState}
@@ -107,6 +112,26 @@ module _ (buffer : Vec ℕ Global) (reads : ReadsMessage buffer.items reply_mess
   resolver_has_sources =
       name-has-sources answers_chain root versions (gives buffer reads base) 30 (begun_1 buffer reads base) (mid_1 buffer reads base) (Ok alias) types.A
       (found 20) (first_lookup buffer reads base)
+
+  -- ---- caches_keep_sources
+
+  held : All (λ (a : Ask). (response : DnsResponse) → meaning a.outcome ≡ Ok response → HoldsAnswerAt root versions 30 a.question response.message) (ask ∷ [])
+  held =
+      All-cons (λ (a : Ask). (response : DnsResponse) → meaning a.outcome ≡ Ok response → HoldsAnswerAt root versions 30 a.question response.message) ask []
+      (λ response means. answered_by buffer reads base response (meant ask.outcome response means))
+      (All-nil (λ (a : Ask). (response : DnsResponse) → meaning a.outcome ≡ Ok response → HoldsAnswerAt root versions 30 a.question response.message))
+
+  sources_at_30 : CacheHasSources config false versions 30 (kept buffer reads base)
+  sources_at_30 = record {
+    sources = (sources-keep config versions settings 30 0 [] (empty buffer reads base) q (ask ∷ []) (found 20) (kept buffer reads base) refl
+        (All-nil (IsRowNow versions 30)) (All-nil (EntryHasSources config versions 30)) receives_rows (first_looks buffer reads base)).0;
+    recent = (recent-keep config false root versions answers_chain zones settings 30 0 [] (empty buffer reads base) q (ask ∷ []) (found 20)
+        (kept buffer reads base) refl (All-nil (λ (r : Record). has_type types.CNAME r ≡ true)) (All-nil (EntryIsRecent config false versions 30)) held
+        (first_looks buffer reads base)).0;
+  }
+
+  pub sources_at_70 : CacheHasSources config false versions 70 (kept buffer reads base)
+  sources_at_70 = sources-later config false versions 30 70 (kept buffer reads base) (omega arith) sources_at_30
 
   -- ---- every_resolver_lookup_comes_to_walks
 
