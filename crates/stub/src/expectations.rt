@@ -3,12 +3,14 @@
 ghost use Rattle.std.specs.Prelude.{◌≡◌, ◌≤◌, true};
 
 use crate::playing::play_script;
+use crate::replies::{GivenScript, whole_text};
 use crate::stop::Stop;
 use script_expectations::{indented_expectation, write_blessed, write_differences};
 use std::alloc::Global;
 use std::io::{self, BufWriter, ErrorKind, Write};
 use std::process::ExitCode;
 use stub_play::{Ending, PlayFault, PlayInput};
+use stub_script::GivenReply;
 
 /// Refuses a script with blanks before the `#> ` of a line, which would be no expectation.
 pub(crate) fn refuse_indented(alloc: Global, script: &str) -> Result<(), Stop> {
@@ -23,13 +25,15 @@ pub(crate) fn refuse_indented(alloc: Global, script: &str) -> Result<(), Stop> {
 pub(crate) fn check(
     rt: &HostRuntime,
     input: &PlayInput,
+    script: GivenScript,
     is_traced: bool,
 ) -> Result<ExitCode, Ending>
     requires limit { 512 ≤ input.now.limit }
     requires udp { input.now.udp ≡ true → input.now.limit ≤ 65507 }
 {
-    let printed = play_to_text(rt, input, is_traced)?;
-    match print_differences(rt, input.script.as_str(), printed.as_str()) {
+    let GivenScript { replies, whole } = script;
+    let printed = play_to_text(rt, input, replies, is_traced)?;
+    match print_differences(rt, whole_text(&whole, input), printed.as_str()) {
         Ok(true) => Ok(ExitCode::SUCCESS),
         Ok(false) => Ok(ExitCode::FAILURE),
         Err(error) => Err(ending_of(error)),
@@ -40,25 +44,32 @@ pub(crate) fn check(
 pub(crate) fn bless(
     rt: &HostRuntime,
     input: &PlayInput,
+    script: GivenScript,
     is_traced: bool,
 ) -> Result<ExitCode, Ending>
     requires limit { 512 ≤ input.now.limit }
     requires udp { input.now.udp ≡ true → input.now.limit ≤ 65507 }
 {
-    let printed = play_to_text(rt, input, is_traced)?;
-    match print_blessed(rt, input.script.as_str(), printed.as_str()) {
+    let GivenScript { replies, whole } = script;
+    let printed = play_to_text(rt, input, replies, is_traced)?;
+    match print_blessed(rt, whole_text(&whole, input), printed.as_str()) {
         Ok(()) => Ok(ExitCode::SUCCESS),
         Err(error) => Err(ending_of(error)),
     }
 }
 
 /// Plays a script, and returns what it prints.
-fn play_to_text(rt: &HostRuntime, input: &PlayInput, is_traced: bool) -> Result<String, Ending>
+fn play_to_text(
+    rt: &HostRuntime,
+    input: &PlayInput,
+    replies: Vec<GivenReply>,
+    is_traced: bool,
+) -> Result<String, Ending>
     requires limit { 512 ≤ input.now.limit }
     requires udp { input.now.udp ≡ true → input.now.limit ≤ 65507 }
 {
     let mut bytes = Vec::new(rt.alloc());
-    play_script(rt, input, is_traced, &mut bytes)?;
+    play_script(rt, input, replies, is_traced, &mut bytes)?;
     match String::from_utf8(bytes) {
         Ok(text) => Ok(text),
         // Names and data are printed in ASCII, and hosts as in the script.

@@ -5,8 +5,5 @@ pub mod OrderLaws
 pub mod PlayLaws
 pub mod WordsLaws
 pub mod CallLaws
-pub mod HostLaws
-pub mod LineLaws
-pub mod ScriptLaws
 pub mod MembersLaws
 pub mod ReportLaws

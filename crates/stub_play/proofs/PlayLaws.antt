@@ -39,9 +39,9 @@ use Rattle.stub_run.specs.declared.report.Stopped.{Stopped}
 use Rattle.stub_run.specs.declared.report.Stopped.TheVariants.{Moments}
 use Rattle.stub_run.specs.declared.report.Stopped.TheVariants as stops
 use Rattle.stub_run.specs.Run.{InOrder, IsReportBefore, IsReportOf, RunState, Runs, StopsAt, asks_of, memory_report}
-use Rattle.stub_play.specs.declared.script.script_text.ScriptFault.{ScriptFault}
-use Rattle.stub_play.specs.declared.script.script_text.ScriptFault.TheVariants.{Line, Memory}
-use Rattle.stub_play.specs.declared.script.script_text.ScriptText.{ScriptText}
+use Rattle.stub_script.specs.declared.script_text.ScriptFault.{ScriptFault}
+use Rattle.stub_script.specs.declared.script_text.ScriptFault.TheVariants.{Line, Memory}
+use Rattle.stub_script.specs.declared.script_text.ScriptText.{ScriptText}
 use Rattle.stub_play.specs.declared.plays.Loaded.{Loaded}
 use Rattle.stub_play.specs.declared.plays.fault.PlayFault.{PlayFault}
 use Rattle.stub_play.specs.declared.plays.fault.PlayFault.TheVariants.{Write}
@@ -49,13 +49,13 @@ use Rattle.stub_play.specs.declared.plays.fault.PlayFault.TheVariants as plays
 use Rattle.stub_play.specs.declared.plays.input.PlayInput.{PlayInput}
 use Rattle.dns_names.specs.Name.{DomainName}
 use Rattle.dns_zone_file.specs.declared.types.Types.{Types}
-use Rattle.stub_play.specs.script.EventContent.{EventContent}
+use Rattle.stub_script.specs.EventContent.{EventContent}
 use Rattle.stub_run.specs.Event.{AreHonest}
 use Rattle.stub_play.specs.Plays.{AreTold, Faults, HasFiles, HostsAre, IsAtFault, IsFirstOfPlay, IsLineListed, IsLineOf, IsLineOutOfOrder, IsLoaded, IsPlayed, IsPlayedOver, IsRead, IsScript, IsStart, IsStartOver, IsUnwritten, IsUsable, IsZone, ScriptIs, Tells, TellsAll, TellsAllBy, TellsFirst, TellsFirstBy, TellsOver, ZoneIs, content_of, events_of, lines_of, numbered, play_options}
 use Rattle.stub_play.specs.PlayFault.{link_fault, script_fault}
 use Rattle.stub_play.specs.report.Report.{report_text, told_text}
 use Rattle.stub_play.specs.declared.report.report.PlayFormat.{PlayFormat}
-use Rattle.stub_play.specs.script.ScriptText.{IsScriptOf, side_by_side}
+use Rattle.stub_script.specs.ScriptText.{IsScriptOf, side_by_side}
 use Rattle.stub_play.proofs.OrderLaws.{in_order_if_not_out}
 
 -- ---- lines and events

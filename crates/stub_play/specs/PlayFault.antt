@@ -7,8 +7,8 @@ use Rattle.stub_hosts.specs.declared.hosts.file.HostsFault.TheVariants as hosts
 use Rattle.stub_link.specs.declared.link.LinkError.{LinkError}
 use Rattle.stub_link.specs.declared.link.LinkError.TheVariants.{Failed}
 use Rattle.stub_link.specs.declared.link.LinkError.TheVariants as link
-use Rattle.stub_play.specs.declared.script.script_text.ScriptFault.{ScriptFault}
-use Rattle.stub_play.specs.declared.script.script_text.ScriptFault.TheVariants as scripts
+use Rattle.stub_script.specs.declared.script_text.ScriptFault.{ScriptFault}
+use Rattle.stub_script.specs.declared.script_text.ScriptFault.TheVariants as scripts
 use Rattle.stub_play.specs.declared.plays.fault.PlayFault.{PlayFault}
 use Rattle.stub_play.specs.declared.plays.fault.PlayFault.TheVariants.{Zone, Script, Hosts, Sockets, Memory, Write}
 

@@ -28,14 +28,14 @@ use Rattle.stub_run.specs.Whole.{AreWhole}
 use Rattle.stub_run.specs.World.{IsFirst, IsFirstOver}
 use Rattle.stub_play.specs.sockets.SocketLink.{socket_rules}
 use Rattle.stub_play.specs.declared.sockets.socket_link.SocketLink.{SocketLink}
-use Rattle.stub_play.specs.declared.script.script_text.ScriptFault.TheVariants as scripts
-use Rattle.stub_play.specs.declared.script.script_text.ScriptText.{ScriptText}
+use Rattle.stub_script.specs.declared.script_text.ScriptFault.TheVariants as scripts
+use Rattle.stub_script.specs.declared.script_text.ScriptText.{ScriptText}
 use Rattle.stub_play.specs.declared.plays.Loaded.{Loaded}
 use Rattle.stub_play.specs.declared.plays.fault.PlayFault.{PlayFault}
 use Rattle.stub_play.specs.declared.plays.fault.PlayFault.TheVariants.{Zone, Script, Hosts, Sockets, Memory, Write}
 use Rattle.stub_play.specs.declared.plays.input.PlayInput.{PlayInput}
 use Rattle.stub_play.specs.report.Report.{report_text}
-use Rattle.stub_play.specs.script.ScriptText.{IsScriptOf, contents_of, side_by_side}
+use Rattle.stub_script.specs.ScriptText.{IsScriptOf, contents_of, side_by_side}
 
 -- ---- moments
 

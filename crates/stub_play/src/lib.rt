@@ -2,25 +2,26 @@
 //!
 //! - `words`: the arguments; `program`: the files that the program reads, and how it reports each fault
 //! - `plays`: a whole run, from the contents of the files to the text that is printed; `plays/input`: its input;
-//!   `plays/events`: its events, one after another; `plays/sockets`: a run over sockets; `plays/fault`: why it ended early
+//!   `plays/events`: its events, one after another; `plays/sockets`: a run over sockets; `plays/given`: a run with replies that the
+//!   script gives; `plays/fault`: why it ended early
 //! - `plays/traced`: a run over a link that notes its calls; `plays/watcher`, `plays/trace`: what is told of each event;
 //!   `plays/source`: where the result of a lookup comes from
 //!
 //! Further modules, each with a page of its own:
 //! - [`sockets`]: a link to the server of a zone over sockets of the loopback interface;
-//! - [`script`]: the events of a script, one a line;
 //! - [`report`]: the text of a report, and its JSON objects.
 #![tactic(auto)]
 
 mod plays;
 mod program;
 pub mod report;
-pub mod script;
 pub mod sockets;
 mod words;
 
 pub use crate::report::{PlayFormat, write_report};
-pub use crate::script::{ScriptFault, ScriptText, read_script};
-pub use plays::{PlayFault, PlayInput, play, play_in_memory, play_traced, play_traced_in_memory};
+pub use plays::{
+    PlayFault, PlayInput, play, play_given, play_given_traced, play_in_memory, play_traced,
+    play_traced_in_memory,
+};
 pub use program::{Ending, FileContents, InputFile, reading_order, unread_arguments};
 pub use words::{Words, WordsFault, read_words};

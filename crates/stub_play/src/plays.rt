@@ -11,6 +11,7 @@ ghost use Rattle.stub_run.specs.Run.{InOrder};
 
 mod events;
 mod fault;
+mod given;
 mod input;
 mod sockets;
 mod source;
@@ -18,10 +19,11 @@ mod trace;
 mod traced;
 mod watcher;
 
-use crate::script::{ScriptText, read_script};
+use stub_script::{ScriptText, read_script};
 use dns_zone::{DatagramLimit, Zone, ZoneFault};
 use events::play_over_link;
 pub use fault::PlayFault;
+pub use given::{play_given, play_given_traced};
 pub use input::PlayInput;
 use sockets::play_over_sockets;
 use std::alloc::{AllocError, Global};

@@ -12,8 +12,8 @@ use dns_wire::RecordType;
 use dns_wire::codes::parse_decimal;
 use std::alloc::{AllocError, Global};
 
-/// How events are written. A word in capitals denotes a value, and any other itself.
-const FORMS: [&str; 10] = [
+/// How events and replies are written. A word in capitals denotes a value, and any other itself.
+const FORMS: [&str; 12] = [
     "MOMENT lookup NAME TYPE",
     "MOMENT ip HOST",
     "MOMENT clear NAME TYPE",
@@ -24,6 +24,8 @@ const FORMS: [&str; 10] = [
     "MOMENT update delete-record NAME TYPE DATA",
     "MOMENT update delete-set NAME TYPE",
     "MOMENT update delete-name NAME",
+    "reply NAME TYPE MESSAGES",
+    "stream NAME TYPE MESSAGES",
 ];
 
 /// What is wrong in a line.
@@ -57,7 +59,7 @@ pub(crate) fn mistake_in(alloc: Global, line: &str) -> Result<Mistake<'_>, Alloc
     let fit = best_fit(alloc, words.as_slice())?;
     match words.get(fit.count) {
         Some(word) => Ok(form_mistake(fit, Some(*word))),
-        None if !matches!(fit.next, "" | "DATA") => Ok(form_mistake(fit, None)),
+        None if !matches!(fit.next, "" | "DATA" | "MESSAGES") => Ok(form_mistake(fit, None)),
         None => match wrong_link_word(alloc, link)? {
             Some(word) => Ok(link_mistake(word)),
             None => Ok(form_mistake(fit, None)),
@@ -160,11 +162,11 @@ fn best_fit(alloc: Global, words: &[&str]) -> Result<Fit, AllocError> {
     Ok(best)
 }
 
-/// Returns how far words follow a form. Data is any words.
+/// Returns how far words follow a form. Data, and messages, are any words.
 fn fit_of(alloc: Global, form: &'static str, words: &[&str]) -> Result<Fit, AllocError> {
     let mut count = 0_usize;
     for next in form.split(' ') {
-        if next == "DATA" {
+        if matches!(next, "DATA" | "MESSAGES") {
             let count = words.len();
             return Ok(Fit { form, count, next });
         }
@@ -232,6 +234,10 @@ fn explanation(fit: Fit, has_word: bool) -> (&'static str, &'static str)
             "invalid data for this type, or an owner outside the origin",
             fit.form,
         ),
+        ("MESSAGES", _, _) => (
+            "not server, and not messages in hexadecimal digits",
+            fit.form,
+        ),
         ("", _, true) => ("a word too many", fit.form),
         ("", _, false) if fit.form.starts_with("MOMENT update") => (
             "an owner outside the origin, or a type that no update deletes",
@@ -242,7 +248,7 @@ fn explanation(fit: Fit, has_word: bool) -> (&'static str, &'static str)
             "not a moment",
             "MOMENT EVENT, where MOMENT is a number of seconds; # begins a comment",
         ),
-        (_, 1, _) => (
+        (_, 1, _) if fit.form.starts_with("MOMENT") => (
             "not an event",
             "MOMENT lookup, ip, clear, clearall or update, and its arguments",
         ),

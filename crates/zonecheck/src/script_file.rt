@@ -5,7 +5,8 @@ use crate::ending::Ending;
 use crate::{Verdict, read_text, write_report};
 use dns_names::Name;
 use dns_zone_file::Types;
-use stub_play::script::{ScriptFault, ScriptText, read_script};
+use std::alloc::Global;
+use stub_script::{ScriptFault, ScriptText, read_replies, read_script, without_replies};
 use zone_check::{moment_report, script_report};
 
 /// The greatest moment of an event.
@@ -22,7 +23,7 @@ pub(crate) fn check_script(
     let Some(text) = read_text(rt, path, arguments)? else {
         return Ok(Verdict::Refused);
     };
-    let report = match read_script(alloc, text.as_str(), origin, Types::Nine) {
+    let report = match read_whole(alloc, text.as_str(), origin) {
         Ok(script) => match line_out_of_order(&script) {
             Some(line) => moment_report(alloc, arguments.format, path, text.as_str(), line)?,
             None => return Ok(Verdict::Accepted),
@@ -39,6 +40,13 @@ pub(crate) fn check_script(
     };
     write_report(rt, report.as_str(), arguments)?;
     Ok(Verdict::Refused)
+}
+
+/// Reads the replies of a script, and then its events.
+fn read_whole(alloc: Global, text: &str, origin: &Name) -> Result<ScriptText, ScriptFault> {
+    read_replies(alloc, text, Types::Nine)?;
+    let events = without_replies(alloc, text)?;
+    read_script(alloc, events.as_str(), origin, Types::Nine)
 }
 
 /// Returns the line of the first event whose moment is before an earlier one, or above 2^62.

@@ -9,7 +9,7 @@ ghost use Rattle.stub_play.specs.report.Report.{told_text};
 use crate::plays::watcher::Watcher;
 use crate::plays::{PlayFault, PlayInput, line_out_of_order, new_resolver};
 use crate::report::write_told;
-use crate::script::ScriptText;
+use stub_script::ScriptText;
 use std::alloc::Global;
 use std::io;
 use stub_core::Resolver;

@@ -3,7 +3,7 @@
 ghost use Rattle.std.specs.Prelude.{◌≡◌, Some};
 ghost use Rattle.stub_play.specs.PlayFault.{fault_text, link_fault, script_fault};
 
-use crate::script::ScriptFault;
+use stub_script::ScriptFault;
 use dns_zone::ZoneFault;
 use std::alloc::AllocError;
 use std::{fmt, io};

@@ -1,8 +1,8 @@
 use Rattle.std.proofs.Common.{Ok, Err, string_bytes, ◌≢◌}
 use Rattle.std.proofs.lemmas.Result.{err_from_is_err_and}
 use Rattle.stub_play.specs.Plays.{IsScript, ScriptIs, numbered}
-use Rattle.stub_play.specs.script.ScriptText.{IsScriptOf, contents_of}
-use Rattle.stub_play.specs.declared.script.script_text.ScriptFault.TheVariants.{Memory}
+use Rattle.stub_script.specs.ScriptText.{IsScriptOf, contents_of}
+use Rattle.stub_script.specs.declared.script_text.ScriptFault.TheVariants.{Memory}
 use Rattle.stub_play.proofs.PlayLaws.{hosts_faults, listed_faults, script_faults, script_read}
 use Rattle.stub_play.proofs.plays.load.Goals as goal
 

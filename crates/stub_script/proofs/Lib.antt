@@ -1,0 +1,3 @@
+pub mod HostLaws
+pub mod LineLaws
+pub mod ScriptLaws

@@ -1,0 +1,10 @@
+pub mod ClearLine
+pub mod EventContent
+pub mod GivenLink
+pub mod LinkWords
+pub mod LookupLine
+pub mod ReplyLine
+pub mod ReplyLines
+pub mod ScriptFields
+pub mod ScriptText
+pub mod UpdateLine
