@@ -52,6 +52,9 @@ use Rattle.dns_zone_file.specs.declared.types.Types.{Types}
 use Rattle.stub_script.specs.EventContent.{EventContent}
 use Rattle.stub_run.specs.Event.{AreHonest}
 use Rattle.stub_play.specs.Plays.{AreTold, Faults, HasFiles, HostsAre, IsAtFault, IsFirstOfPlay, IsLineListed, IsLineOf, IsLineOutOfOrder, IsLoaded, IsPlayed, IsPlayedOver, IsRead, IsScript, IsStart, IsStartOver, IsUnwritten, IsUsable, IsZone, ScriptIs, Tells, TellsAll, TellsAllBy, TellsFirst, TellsFirstBy, TellsOver, ZoneIs, content_of, events_of, lines_of, numbered, play_options}
+use Rattle.stub_script.specs.declared.given_link.GivenLink.{GivenLink}
+use Rattle.stub_script.specs.declared.reply_line.GivenReply.{GivenReply}
+use Rattle.stub_play.specs.Given.{IsGivenLink, TellsGiven, given_rules}
 use Rattle.stub_play.specs.PlayFault.{link_fault, script_fault}
 use Rattle.stub_play.specs.report.Report.{report_text, told_text}
 use Rattle.stub_play.specs.declared.report.report.PlayFormat.{PlayFormat}
@@ -580,3 +583,69 @@ played_over_sockets {R} input loaded is link zone limit same old new result (inr
     told_or_not (TellsOver R input) input same old new (socket_rules R) loaded is resolver result told
     (λ order report over. tells_all_over input loaded is order resolver start report over)
     (λ order report over. tells_first_over input loaded is order resolver start report over)
+
+-- ---- runs with replies that the script gives
+
+-- the first events of a list are as many as they are
+take_again : {A : Type 0} (count : ℕ) (xs : List A) → take count xs ≡ take (length (take count xs)) xs
+take_again zero xs = refl
+take_again (suc count) [] = refl
+take_again (suc count) (x ∷ xs) = ap (λ (ys : List A). x ∷ ys) (take_again count xs)
+
+all_taken : {A : Type 0} (xs : List A) → xs ≡ take (length xs) xs
+all_taken [] = refl
+all_taken (x ∷ xs) = ap (λ (ys : List A). x ∷ ys) (all_taken xs)
+
+module _ (input : PlayInput) (loaded : Loaded) (is : IsLoaded input loaded) (replies : List GivenReply) (link : GivenLink ScriptedLink)
+    (given : IsGivenLink loaded.zone input.limit loaded.script.lines.items replies link)
+    (resolver : Resolver (WireHandle (GivenLink ScriptedLink))) (first : IsFirstOfPlay input link loaded.hosts resolver) where
+  tells_given : (told : List Event) (report : Report) → told ≡ take (length told) loaded.script.events.items
+      → IsReportOver given_rules resolver told report
+      → TellsGiven input replies loaded.zone told (report_text input.types input.format told report.events.items)
+  tells_given told report front reported = record {
+    hosts = loaded.hosts;
+    script = numbered loaded.script;
+    link = link;
+    resolver = resolver;
+    report = report;
+    is_zone = is.zone;
+    are_hosts = is.hosts;
+    is_script = is.script;
+    events_are = subst (λ (es : List Event). told ≡ take (length told) es)
+        (sym (events_beside loaded.script.lines.items loaded.script.events.items is.beside)) front;
+    is_link = subst (λ (lines : List ℕ). IsGivenLink loaded.zone input.limit lines replies link)
+        (sym (lines_beside loaded.script.lines.items loaded.script.events.items is.beside)) given;
+    first = first;
+    reported = reported;
+    is_text = refl;
+  }
+
+  tells_all_given : InOrder 0 loaded.script.events.items → (report : Report)
+      → IsReportOver given_rules resolver loaded.script.events.items report
+      → TellsAllBy (TellsGiven input replies) input (report_text input.types input.format loaded.script.events.items report.events.items)
+  tells_all_given order report reported =
+      let events = loaded.script.events.items in
+      tells_all_by input loaded is (TellsGiven input replies) order report (tells_given events report (all_taken events) reported)
+
+  tells_first_given : InOrder 0 loaded.script.events.items → (report : Report)
+      → IsReportBeforeOver given_rules resolver loaded.script.events.items report
+      → TellsFirstBy (TellsGiven input replies) input (report_text input.types input.format loaded.script.events.items report.events.items)
+  tells_first_given order report before =
+      let events = loaded.script.events.items in
+      tells_first_by input loaded is (TellsGiven input replies) order report before.count
+      (within_over given_rules before.count events before.reported.last before.stopped)
+      (front_is_over given_rules input.types input.format resolver events report before)
+      (tells_given (take before.count events) report (take_again before.count events) before.reported)
+
+-- a whole run with such replies
+pub played_given : (input : PlayInput) (loaded : Loaded) (is : IsLoaded input loaded) (replies : List GivenReply)
+    (link : GivenLink ScriptedLink) → IsGivenLink loaded.zone input.limit loaded.script.lines.items replies link
+    → (same : Type 0) (old new : Option (List ℕ)) (result : Result (Unit {0}) PlayFault)
+    → IsPlayedOver given_rules input link loaded.hosts loaded.script same old new result
+    → IsPlayed (TellsGiven input replies) input same old new result
+played_given input loaded is replies link given same old new result (inl none) =
+    unplayed (TellsGiven input replies) input loaded is same old new result none.0 none.1
+played_given input loaded is replies link given same old new result (inr (resolver, first, told)) =
+    told_or_not (TellsGiven input replies) input same old new given_rules loaded is resolver result told
+    (tells_all_given input loaded is replies link given resolver first)
+    (tells_first_given input loaded is replies link given resolver first)

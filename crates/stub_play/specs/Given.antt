@@ -1,5 +1,5 @@
 -- What a run comes to whose script gives replies in the place of the server's.
-use Rattle.std.specs.Prelude.{◌≡◌, ◌×◌, ◌+◌, List, [], ℕ, Ok, length, take, reverse, EachIndex, slice_index}
+use Rattle.std.specs.Prelude.{◌≡◌, ◌+◌, List, [], ℕ, Ok, length, take, reverse, EachIndex, slice_index}
 use Rattle.dns_zone.specs.Rows.{ZoneContent}
 use Rattle.stub_config.specs.config.{config_of_servers}
 use Rattle.stub_hosts.specs.Hosts.{HostsContent}

@@ -1,3 +1,4 @@
 pub mod HostLaws
 pub mod LineLaws
 pub mod ScriptLaws
+pub mod ReplyLaws

@@ -1,5 +1,5 @@
 -- What a link does that answers by the replies of a script.
-use Rattle.std.specs.Prelude.{◌≡◌, ◌×◌, ◌≤◌, ◌<◌, ◌+◌, ◌-◌, ◌^◌, ◌&&◌, ◌++◌, nat_lt, min, if◌then◌else◌, Bool, true, false, List, [], ◌∷◌, ℕ, length, map, slice_get, Option, Some, None, Result, Ok, Err}
+use Rattle.std.specs.Prelude.{◌≡◌, ◌≤◌, ◌<◌, ◌+◌, ◌-◌, ◌^◌, ◌&&◌, ◌++◌, nat_lt, min, if◌then◌else◌, Bool, true, false, List, [], ◌∷◌, ℕ, length, map, slice_get, Option, Some, None, Result, Ok, Err}
 use Rattle.std.specs.Global.{Vec}
 use Rattle.std.specs.declared.alloc.AllocError.{AllocError}
 use Rattle.stub_link.specs.declared.link.LinkError.{LinkError}

@@ -1,5 +1,5 @@
 -- The lines of a script that give replies, and those that do not.
-use Rattle.std.specs.Prelude.{◌≡◌, ◌×◌, ◌+◌, ◌++◌, if◌then◌else◌, is_some, List, [], ◌∷◌, ℕ, codes, Option, Some, None, Result, Ok, Err}
+use Rattle.std.specs.Prelude.{◌≡◌, ◌+◌, ◌++◌, if◌then◌else◌, is_some, List, [], ◌∷◌, ℕ, codes, Option, Some, None, Result, Ok, Err}
 use Rattle.std.specs.Str.{bytes_eq}
 use Rattle.dns_zone_file.specs.declared.types.Types.{Types}
 use Rattle.update_text.specs.Words.{AreLineWords, is_blank}

@@ -39,7 +39,7 @@ impl<L> GivenLink<L> {
         lines: Vec<usize>,
     ) -> GivenLink<L>
         ensures link { result.link ≡ link }
-        ensures replies { result.replies.items ≡ reverse replies.entry.items }
+        ensures replies { result.replies.items ≡ reverse replies.items }
         ensures lines { result.lines ≡ lines }
         ensures begun { result.begun ≡ 0 }
         ensures line { result.line ≡ 0 }

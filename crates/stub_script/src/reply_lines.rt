@@ -33,6 +33,20 @@ pub fn read_replies(
         → AreReplies types 1 (lines text.now) (Err fault)) }
 {
     let all = lines_of(alloc, text)?;
+    read_all(alloc, all.as_slice(), types)
+}
+
+/// Reads the replies that lines give.
+fn read_all(
+    alloc: Global,
+    all: &[&str],
+    types: Types,
+) -> Result<Vec<GivenReply>, ScriptFault>
+    ensures ok { IfOk result (λ replies.
+        AreReplies types 1 (map (λ line. line.now) all.now) (Ok (map reply_content replies.items))) }
+    ensures refused { IfErr result (λ fault. fault ≢ ScriptFault.Memory
+        → AreReplies types 1 (map (λ line. line.now) all.now) (Err fault)) }
+{
     let mut replies = Vec::new(alloc);
     for (i, line) in all.iter().enumerate() {
         let line = line.as_bytes();
@@ -51,8 +65,16 @@ pub fn without_replies(alloc: Global, text: &str) -> Result<String, AllocError>
     ensures { IfOk result (λ events. string_bytes events ≡ events_text (lines text.now)) }
 {
     let all = lines_of(alloc, text)?;
+    join_events(alloc, all.as_slice())
+}
+
+/// Joins lines to a text, with an empty one in the place of each that gives a reply.
+fn join_events(alloc: Global, all: &[&str]) -> Result<String, AllocError>
+    ensures { IfOk result (λ events.
+        string_bytes events ≡ events_text (map (λ line. line.now) all.now)) }
+{
     let mut events = String::new(alloc);
-    for line in all.iter() {
+    for line in all {
         if transport_of(line.as_bytes()).is_none() {
             events.push_str(line)?;
         }
