@@ -95,12 +95,12 @@ IsPassedOn given transport bytes =
 -- A datagram is sent: the messages that answer it wait, or the other link sends it. Memory is wanted to decode it, and for the messages.
 pub data GivenSends {L : Type 0} (sends : L → List ℕ → Result (Unit {0}) LinkError → L → Type 0) (old : GivenLink L) (bytes : List ℕ)
     : Result (Unit {0}) LinkError → GivenLink L → Type 0 where
-  answered : {new : GivenLink L} (request : RequestNote) (messages : List GivenMessage) → IsAnswered old Datagram bytes request messages
+  messages_wait : {new : GivenLink L} (request : RequestNote) (messages : List GivenMessage) → IsAnswered old Datagram bytes request messages
       → bytes_of new.waiting ≡ bytes_of old.waiting ++ messages_bytes request.id messages → new ≡ with_waiting old new.waiting
       → GivenSends sends old bytes (Ok tt) new
-  passed_on : {result : Result (Unit {0}) LinkError} {new : GivenLink L} → IsPassedOn old Datagram bytes
+  sent_by_link : {result : Result (Unit {0}) LinkError} {new : GivenLink L} → IsPassedOn old Datagram bytes
       → sends old.link bytes result new.link → new ≡ with_inner old new.link → GivenSends sends old bytes result new
-  no_memory : {new : GivenLink L} → 12 ≤ length bytes → bytes_of new.waiting ≡ bytes_of old.waiting → new ≡ with_waiting old new.waiting
+  no_memory_to_send : {new : GivenLink L} → 12 ≤ length bytes → bytes_of new.waiting ≡ bytes_of old.waiting → new ≡ with_waiting old new.waiting
       → GivenSends sends old bytes (Err Memory) new
 
 -- A datagram is received: the oldest that waits, or else what the other link receives.
@@ -115,11 +115,11 @@ pub data GivenReceives {L : Type 0} (receives : L → Result (Option (List ℕ))
 -- and for the message.
 pub data GivenStreams {L : Type 0} (streams : L → List ℕ → Result (List ℕ) LinkError → L → Type 0) (old : GivenLink L) (bytes : List ℕ)
     : Result (List ℕ) LinkError → GivenLink L → Type 0 where
-  answered : {new : GivenLink L} (request : RequestNote) (messages : List GivenMessage) → IsAnswered old Stream bytes request messages
+  message_given : {new : GivenLink L} (request : RequestNote) (messages : List GivenMessage) → IsAnswered old Stream bytes request messages
       → new ≡ old → GivenStreams streams old bytes (Ok (stream_message request.id messages)) new
-  passed_on : {result : Result (List ℕ) LinkError} {new : GivenLink L} → IsPassedOn old Stream bytes
+  streamed_by_link : {result : Result (List ℕ) LinkError} {new : GivenLink L} → IsPassedOn old Stream bytes
       → streams old.link bytes result new.link → new ≡ with_inner old new.link → GivenStreams streams old bytes result new
-  no_memory : {new : GivenLink L} → 12 ≤ length bytes → new ≡ old → GivenStreams streams old bytes (Err Memory) new
+  no_memory_to_stream : {new : GivenLink L} → 12 ≤ length bytes → new ≡ old → GivenStreams streams old bytes (Err Memory) new
 
 -- ---- events
 

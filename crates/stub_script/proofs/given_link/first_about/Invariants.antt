@@ -5,4 +5,4 @@ use Rattle.stub_script.proofs.given_link.first_about.Given as goal
 -- none so far
 abbrev pub invariant-loop-reply : goal.invariant-loop-reply
 invariant-loop-reply l =
-    first_about l.line l.transport l.request.now (drop l.reply-index l.replies) ≡ first_about l.line l.transport l.request.now l.replies
+    first_about l.line l.transport l.request (drop l.reply-index l.replies) ≡ first_about l.line l.transport l.request l.replies
