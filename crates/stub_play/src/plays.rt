@@ -19,7 +19,6 @@ mod trace;
 mod traced;
 mod watcher;
 
-use stub_script::{ScriptText, read_script};
 use dns_zone::{DatagramLimit, Zone, ZoneFault};
 use events::play_over_link;
 pub use fault::PlayFault;
@@ -38,6 +37,7 @@ use stub_run::laws::{
     runs_have_one_history,
 };
 use stub_run::{Event, Script, know_names, resolver_over};
+use stub_script::{ScriptText, read_script};
 pub use traced::{play_traced, play_traced_in_memory};
 use watcher::Unwatched;
 

@@ -99,9 +99,7 @@ fn is_about(
 ) -> bool
     ensures { result ≡ is_about line transport request.now reply.now }
 {
-    reply.line < line
-        && same_transport(reply.transport, transport)
-        && request.asks(&reply.question)
+    reply.line < line && same_transport(reply.transport, transport) && request.asks(&reply.question)
 }
 
 /// Returns `true` if two transports are the same.
@@ -163,11 +161,7 @@ fn push_messages(
 }
 
 /// Returns the bytes of the message over a stream in reply to a request with this id.
-fn stream_message(
-    alloc: Global,
-    messages: &[GivenMessage],
-    id: u16,
-) -> Result<Vec<u8>, AllocError>
+fn stream_message(alloc: Global, messages: &[GivenMessage], id: u16) -> Result<Vec<u8>, AllocError>
     ensures { IfOk result (λ bytes. bytes.items ≡ stream_message id messages.now) }
 {
     match messages.first() {

@@ -135,10 +135,7 @@ fn fits(transport: ReplyTransport, count: usize) -> bool
 }
 
 /// Reads the message of each word.
-fn read_messages(
-    alloc: Global,
-    words: &[Vec<u8>],
-) -> Result<Option<Vec<GivenMessage>>, AllocError>
+fn read_messages(alloc: Global, words: &[Vec<u8>]) -> Result<Option<Vec<GivenMessage>>, AllocError>
     ensures { IfOk result (λ found. option_map (λ messages. map message_content messages.items) found
         ≡ messages_of (map (λ word. word.items) words.now)) }
 {

@@ -22,11 +22,7 @@ use update_text::{is_blank, split_line};
 /// Types are named as zone files of these types may have them.
 ///
 /// The error is [`ScriptFault::Line`] with the first such line that cannot be read.
-pub fn read_replies(
-    alloc: Global,
-    text: &str,
-    types: Types,
-) -> Result<Vec<GivenReply>, ScriptFault>
+pub fn read_replies(alloc: Global, text: &str, types: Types) -> Result<Vec<GivenReply>, ScriptFault>
     ensures ok { IfOk result (λ replies.
         AreReplies types 1 (lines text.now) (Ok (map reply_content replies.items))) }
     ensures refused { IfErr result (λ fault. fault ≢ ScriptFault.Memory
@@ -37,11 +33,7 @@ pub fn read_replies(
 }
 
 /// Reads the replies that lines give.
-fn read_all(
-    alloc: Global,
-    all: &[&str],
-    types: Types,
-) -> Result<Vec<GivenReply>, ScriptFault>
+fn read_all(alloc: Global, all: &[&str], types: Types) -> Result<Vec<GivenReply>, ScriptFault>
     ensures ok { IfOk result (λ replies.
         AreReplies types 1 (map (λ line. line.now) all.now) (Ok (map reply_content replies.items))) }
     ensures refused { IfErr result (λ fault. fault ≢ ScriptFault.Memory

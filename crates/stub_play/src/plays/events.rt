@@ -9,13 +9,13 @@ ghost use Rattle.stub_play.specs.report.Report.{told_text};
 use crate::plays::watcher::Watcher;
 use crate::plays::{PlayFault, PlayInput, line_out_of_order, new_resolver};
 use crate::report::write_told;
-use stub_script::ScriptText;
 use std::alloc::Global;
 use std::io;
 use stub_core::Resolver;
 use stub_hosts::Hosts;
 use stub_link::WireHandle;
 use stub_run::{Event, EventLink, EventReport, happen, is_in_order, reserve_for};
+use stub_script::ScriptText;
 
 /// Lets the events of a script happen to a new resolver over a link, and writes each result as it happens.
 pub(super) fn play_over_link<L: EventLink + Drop, W: io::Write, V: Watcher<L>>(

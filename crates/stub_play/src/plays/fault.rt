@@ -3,12 +3,12 @@
 ghost use Rattle.std.specs.Prelude.{◌≡◌, Some};
 ghost use Rattle.stub_play.specs.PlayFault.{fault_text, link_fault, script_fault};
 
-use stub_script::ScriptFault;
 use dns_zone::ZoneFault;
 use std::alloc::AllocError;
 use std::{fmt, io};
 use stub_hosts::HostsFault;
 use stub_link::LinkError;
+use stub_script::ScriptFault;
 
 /// Why a run ended early.
 #[derive(Debug, Drop)]

@@ -20,7 +20,7 @@ returns-in_default-clause-sends g c =
 pub returns-in_err-push_all-in-Some-answer_to-clause-sends : goal.returns-in_err-push_all-in-Some-answer_to-clause-sends
 returns-in_err-push_all-in-Some-answer_to-clause-sends g c =
     let left = err_from_is_err_and c.from_residual-in_err-push_all-in-Some-answer_to.result
-        c.from_residual-in_err-push_all-in-Some-answer_to.ensures.1 in
+    c.from_residual-in_err-push_all-in-Some-answer_to.ensures.1 in
     rw (left.1, left.2) (no_memory_to_send
     (long_if_some (length c.args.bytes.now) c.read.result c.in_ok-request.field-0 c.in-Some.request c.read.ensures.short c.in_ok-request.was c.in-Some.is)
     c.in_err-push_all-in-Some-answer_to.ensures.err refl)
