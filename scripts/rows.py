@@ -228,9 +228,13 @@ CLAUSES = {
         "serve": "`Zone::serve`, clause `reply`, over the definitions that the others try: requests of 65,535 bytes, and a name for which a "
         "server has no zone",
         "served-size": "`Zone::serve`, clause `reply`, over the definitions that the others try: replies of up to 65,535 bytes",
-        "answer": "`Zone::answer`, clause `answer`, and `Zone::from_text`, clause `well_formed`, over the definitions that the others try: "
+        "answer": "`Zone::answer`, clause `answer`, and `Zone::from_text`, clause `ok`, over the definitions that the others try: "
         "names for which a server has no zone, and further start of authority records of zone files",
         "build": "`dns_updates::laws` on builders, and `Zone::apply`, clauses `code` and `ok`: sets of 1,000 records",
+    },
+    "rows_server": {
+        "covers": "`AddressList::contains`, clauses `v4`, `mapped` and `v6`, over the definition that the others try: loopback addresses, which a server takes updates from "
+        "whatever the list is",
     },
 }
 
@@ -241,7 +245,7 @@ VALUES = "`rows_values`"
 
 # Where the rows of `rows_layers` go, by the program that each of its subjects was: all of a program, or by operation.
 LATER = {
-    "rows_server": {"*": REPLAY, "prefix": VALUES, "loopback": VALUES},
+    "rows_server": {"*": REPLAY, "prefix": VALUES},
     "rows_authority": {"*": REPLAY},
     "rows_faults": {"*": REPLAY, "table": CHECKED.replace("zonecheck", "nameserver"), "json": VALUES},
     "rows_tsig": {"*": REPLAY, "hmac": VALUES},
@@ -270,23 +274,30 @@ rows_authority redirection: answer 7
 rows_authority replies: respond 16, header 12
 rows_authority resolution: answer 12
 rows_authority wildcards: answer 18
+rows_differences differences: ixfr 16, kept 6
 rows_faults steps: steps 70
+rows_server covering: covers 173-3, loopback 17
 rows_server zones: respond 136
 rows_transfers incremental: ixfr 11, refused 1, datagram 2
+rows_transfers notifications: serial 7
 rows_transfers serials: raise 14
 rows_transfers transfers: axfr 10
+rows_tsig malformed: verify 27
+rows_tsig nsupdate: verify 12
 rows_zone answers: answer 144-9
 rows_zone building: build 97-6
 rows_zone chains: answer 75, serve 5, served-size 17-2
 rows_zone changes: update 259-1, apply 60-23
 rows_zone cutting: served-size 116-3, serve 6
 rows_zone existence: answers 6
+rows_zone findings: answer 15-12
 rows_zone prerequisites: update 216, apply 72-72
 rows_zone prescan: update 159, apply 53-53
 rows_zone random_updates: update 32-32, apply 32-32
 rows_zone serving: serve 204-3, limit 7-7
 rows_zone stored_zones: answer 33
 rows_zone updating: update 292-4, apply 25-23
+rows_zone zones: answer 6
 """
 IN_SCRIPTS = "a script of `nameserver`, `crates/nameserver/data/*.script`"
 
