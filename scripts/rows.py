@@ -284,6 +284,7 @@ rows_transfers serials: raise 14
 rows_transfers transfers: axfr 10
 rows_tsig malformed: verify 27
 rows_tsig nsupdate: verify 12
+rows_tsig requests: verify 39
 rows_zone answers: answer 144-9
 rows_zone building: build 97-6
 rows_zone chains: answer 75, serve 5, served-size 17-2
