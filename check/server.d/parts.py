@@ -7,7 +7,7 @@ from forwarders import try_forwarders
 from libraries import try_dnspython
 from performing import try_dnsperf
 from program import try_program
-from rows import try_rows
+from scripts import try_scripts
 from tools import try_tools
 from updates import try_updates
 
@@ -20,7 +20,7 @@ class Part(NamedTuple):
 
 
 PARTS = {
-    "rows": Part(try_rows),
+    "scripts": Part(try_scripts),
     "tools": Part(try_tools, ["dig", "kdig", "drill"]),
     "updates": Part(try_updates, ["nsupdate"]),
     "dnspython": Part(try_dnspython, ["dns"]),

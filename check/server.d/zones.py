@@ -14,7 +14,7 @@ TYPES = {"A": A, "NS": NS, "CNAME": CNAME, "SOA": SOA, "PTR": PTR, "MX": MX, "TX
 TYPES.update({"NULL": 10, "HINFO": 13, "SIG": SIG, "KEY": 25, "NAPTR": 35, "CERT": 37, "DNAME": 39, "OPT": OPT, "DS": 43})
 TYPES.update({"SSHFP": 44, "RRSIG": 46, "NSEC": 47, "DNSKEY": 48, "NSEC3": 50, "NSEC3PARAM": 51, "TLSA": 52, "SMIMEA": 53})
 TYPES.update({"CDS": 59, "CDNSKEY": 60, "OPENPGPKEY": 61, "CSYNC": 62, "SVCB": 64, "HTTPS": 65, "TSIG": 250, "IXFR": 251})
-TYPES.update({"AXFR": AXFR, "ANY": ANY, "CAA": 257})
+TYPES.update({"AXFR": AXFR, "MAILB": MAILB, "MAILA": MAILA, "ANY": ANY, "URI": 256, "CAA": 257})
 TYPE_NAMES = {number: text for text, number in TYPES.items()}
 
 # A character of text, or an escape (RFC 1035 section 5.1).
