@@ -590,11 +590,11 @@ played_over_sockets {R} input loaded is link zone limit same old new result (inr
 take_again : {A : Type 0} (count : ℕ) (xs : List A) → take count xs ≡ take (length (take count xs)) xs
 take_again zero xs = refl
 take_again (suc count) [] = refl
-take_again (suc count) (x ∷ xs) = ap (λ (ys : List A). x ∷ ys) (take_again count xs)
+take_again {A} (suc count) (x ∷ xs) = ap (λ (ys : List A). x ∷ ys) (take_again count xs)
 
 all_taken : {A : Type 0} (xs : List A) → xs ≡ take (length xs) xs
 all_taken [] = refl
-all_taken (x ∷ xs) = ap (λ (ys : List A). x ∷ ys) (all_taken xs)
+all_taken {A} (x ∷ xs) = ap (λ (ys : List A). x ∷ ys) (all_taken xs)
 
 module _ (input : PlayInput) (loaded : Loaded) (is : IsLoaded input loaded) (replies : List GivenReply) (link : GivenLink ScriptedLink)
     (given : IsGivenLink loaded.zone input.limit loaded.script.lines.items replies link)
