@@ -1,6 +1,6 @@
 //! The replies that a script gives in the place of the server's.
 
-ghost use Rattle.std.specs.Prelude.{◌≡◌};
+ghost use Rattle.std.specs.Prelude.{◌≡◌, IfSome, None, string_bytes};
 
 use crate::stop::Stop;
 use std::alloc::Global;
@@ -18,7 +18,10 @@ pub(crate) struct GivenScript {
 }
 
 /// Returns the whole text of the script of an input.
-pub(crate) fn whole_text<'a>(whole: &'a Option<String>, input: &'a PlayInput) -> &'a str {
+pub(crate) fn whole_text<'a>(whole: &'a Option<String>, input: &'a PlayInput) -> &'a str
+    ensures some { IfSome whole.now (λ text. result.now ≡ string_bytes text) }
+    ensures none { whole.now ≡ None → result.now ≡ string_bytes input.now.script }
+{
     match whole {
         Some(text) => text.as_str(),
         None => input.script.as_str(),
@@ -49,6 +52,8 @@ pub(crate) fn take_replies(alloc: Global, input: &mut PlayInput) -> Result<Given
 }
 
 /// Returns that a line of the script is at fault.
-fn fault_of(line: usize) -> Stop {
+fn fault_of(line: usize) -> Stop
+    ensures { result ≡ Stop.Ending (Ending.Fault (PlayFault.Script line)) }
+{
     Stop::Ending(Ending::Fault(PlayFault::Script(line)))
 }
