@@ -1,6 +1,6 @@
 //! The replies that a script gives in the place of the server's.
 
-ghost use Rattle.std.specs.Prelude.{◌≡◌, IfSome, None, string_bytes};
+ghost use Rattle.std.specs.Prelude.{◌≡◌};
 
 use crate::stop::Stop;
 use std::alloc::Global;
@@ -18,10 +18,7 @@ pub(crate) struct GivenScript {
 }
 
 /// Returns the whole text of the script of an input.
-pub(crate) fn whole_text<'a>(whole: &'a Option<String>, input: &'a PlayInput) -> &'a str
-    ensures some { IfSome whole.now (λ text. result.now ≡ string_bytes text) }
-    ensures none { whole.now ≡ None → result.now ≡ string_bytes input.now.script }
-{
+pub(crate) fn whole_text<'a>(whole: &'a Option<String>, input: &'a PlayInput) -> &'a str {
     match whole {
         Some(text) => text.as_str(),
         None => input.script.as_str(),
@@ -52,8 +49,6 @@ pub(crate) fn take_replies(alloc: Global, input: &mut PlayInput) -> Result<Given
 }
 
 /// Returns that a line of the script is at fault.
-fn fault_of(line: usize) -> Stop
-    ensures { result ≡ Stop.Ending (Ending.Fault (PlayFault.Script line)) }
-{
+fn fault_of(line: usize) -> Stop {
     Stop::Ending(Ending::Fault(PlayFault::Script(line)))
 }
