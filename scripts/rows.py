@@ -221,29 +221,32 @@ CLAUSES = {
         "types": "`ZoneRows::types` of a `SetList`, which `apply` of `rows_layers` tries for a zone",
     },
     "rows_stub": {
-        "ask": "`WireHandle`'s `Asks`: what is sent is an encoding, as `encode` of `rows_values` tries it, and `IsUnsupported` says what is not "
-        "sent; each want of memory is the case `memory`, and ids that run out are `ids_run_out`",
-        "handle": "the same, and `WireHandle::send_update`; `counts`, `reset_counts`, `reserve`, `dropped`, `sent`, `ids_left`, `into_sent`",
+        "ask": "`WireHandle`'s `Asks`: what is sent is an encoding, as `encode` of `rows_values` tries it, and `IsUnsupported` "
+        "says what is not sent; each want of memory is the case `memory`, and ids that run out are `ids_run_out`",
+        "handle": "the same, and `WireHandle::send_update`; `counts`, `reset_counts`, `reserve`, `dropped`, `sent`, `ids_left`, "
+        "`into_sent`",
         "resolve": "`Resolver::lookup` over the same, and over requests, which `request` tries",
         "link": "`ScriptedLink`'s `sends`, `receives` and `streams` over `Zone::serve`, which scripts of `nameserver` try",
-        "follow": "`ScriptedLink`'s `sends`, `receives` and `streams` and `Asks`: the rows had two equal ids, several questions in an event, or updates "
-        "that no line makes",
-        "run": "`run`, clause `run`, over `Resolver::lookup` and `Resolver::lookup_ip`: search lists, strategies, hosts, bounds and preserved aliases are "
-        "what `names`, `addresses`, `resolver`, `ranges` and `list` try",
+        "follow": "`ScriptedLink`'s `sends`, `receives` and `streams` and `Asks`: the rows had two equal ids, several questions in "
+        "an event, or updates that no line makes",
+        "run": "`run`, clause `run`, over `Resolver::lookup` and `Resolver::lookup_ip`: search lists, strategies, hosts, bounds "
+        "and preserved aliases are what `names`, `addresses`, `resolver`, `ranges` and `list` try",
         "run-script": "the same",
-        "script": "`read_script`, clause `ok`: moments that no run has, which the cases `moment_too_late` and `moments_go_back` refuse, and the messages of "
-        "updates, of which runs show the effect",
+        "script": "`read_script`, clause `ok`: moments that no run has, which the cases `moment_too_late` and `moments_go_back` "
+        "refuse, and the messages of updates, of which runs show the effect",
         "frame-cuts": "`read_frame` and `write_frame`, over `frame`, which `frames` tries",
         "unruly": "`WireHandle`'s `Wait`: of any link no more than sixteen datagrams are looked at",
-        "words": "`read_words`, which has a clause for each option; values and defaults are the cases `cache_*`, `limit_*`, `max_ttl_*` and `origin_*`",
+        "words": "`read_words`, which has a clause for each option; values and defaults are the cases `cache_*`, `limit_*`, "
+        "`max_ttl_*` and `origin_*`",
     },
     "rows_cache": {
         "zone": "`CachingClient::lookup`, clause `lookup`: preserved aliases are what `list` tries",
-        "resolver": "`Resolver::lookup` and `Resolver::clear_lookup_cache`: search lists, bounds and preserved aliases are what `names`, `ranges` and "
-        "`list` try",
+        "resolver": "`Resolver::lookup` and `Resolver::clear_lookup_cache`: search lists, bounds and preserved aliases are what "
+        "`names`, `ranges` and `list` try",
     },
     "rows_resolver": {
-        "special": "`special_answer`, clause `answer`: another class is what `list` tries, and another code for a type is its number",
+        "special": "`special_answer`, clause `answer`: another class is what `list` tries, and another code for a type is its "
+        "number",
     },
 }
 
