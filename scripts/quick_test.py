@@ -16,6 +16,8 @@ ROOT = Path(__file__).resolve().parent.parent
 TEST = re.compile(r"^\s*#\[test\]", re.MULTILINE)
 # How long a program and the tests of a crate may take, in seconds, as in the gate.
 PROGRAM_SECONDS, TEST_SECONDS = 120, 600
+# How long the cases of the program `stub` may take, each of whose allocations is refused in turn.
+CASES_SECONDS = 1800
 # How many lines of a difference are printed.
 SHOWN = 12
 # What one build takes of memory, in kilobytes.
@@ -58,6 +60,14 @@ def built(name):
     if done.returncode:
         raise Failure(f"it is not built\n{end_of(done.stderr)}")
     return os.fsdecode(done.stdout.rstrip(b"\n"))
+
+
+def cases(name):
+    """Builds a program and runs it on its cases, those of check/program."""
+    done = run([ROOT / "check" / "program", "--program", built(name)], cwd=ROOT, stdin=subprocess.DEVNULL, seconds=CASES_SECONDS)
+    if done.returncode:
+        raise Failure(end_of(done.stdout + done.stderr))
+    return done.stdout.decode().splitlines()[-1]
 
 
 def tests(name):
@@ -107,6 +117,7 @@ def suites(names):
     crates = read_crates(ROOT)
     found = [(stored_run, it) for it in crates if (folder_of(ROOT, it) / "stdout").is_file()]
     found += [(tests, it) for it in crates if test_count(it)]
+    found.append((cases, "stub"))
     found.sort(key=lambda it: -len(in_order(crates, [it[1]])))
     return [it for it in found if not names or it[1] in names]
 

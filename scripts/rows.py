@@ -236,6 +236,34 @@ CLAUSES = {
         "covers": "`AddressList::contains`, clauses `v4`, `mapped` and `v6`, over the definition that the others try: loopback addresses, which a server takes updates from "
         "whatever the list is",
     },
+    "rows_stub": {
+        "ask": "`WireHandle`'s `Asks`: what is sent is an encoding, as `encode` of `rows_values` tries it, and `IsUnsupported` "
+        "says what is not sent; each want of memory is the case `memory`, and ids that run out are `ids_run_out`",
+        "handle": "the same, and `WireHandle::send_update`; `counts`, `reset_counts`, `reserve`, `dropped`, `sent`, `ids_left`, "
+        "`into_sent`",
+        "resolve": "`Resolver::lookup` over the same, and over requests, which `request` tries",
+        "link": "`ScriptedLink`'s `sends`, `receives` and `streams` over `Zone::serve`, which scripts of `nameserver` try",
+        "follow": "`ScriptedLink`'s `sends`, `receives` and `streams` and `Asks`: the rows had two equal ids, several questions in "
+        "an event, or updates that no line makes",
+        "run": "`run`, clause `run`, over `Resolver::lookup` and `Resolver::lookup_ip`: search lists, strategies, hosts, bounds "
+        "and preserved aliases are what `names`, `addresses`, `resolver`, `ranges` and `list` try",
+        "run-script": "the same",
+        "script": "`read_script`, clause `ok`: moments that no run has, which the cases `moment_too_late` and `moments_go_back` "
+        "refuse, and the messages of updates, of which runs show the effect",
+        "frame-cuts": "`read_frame` and `write_frame`, over `frame`, which `frames` tries",
+        "unruly": "`WireHandle`'s `Wait`: of any link no more than sixteen datagrams are looked at",
+        "words": "`read_words`, which has a clause for each option; values and defaults are the cases `cache_*`, `limit_*`, "
+        "`max_ttl_*` and `origin_*`",
+    },
+    "rows_cache": {
+        "zone": "`CachingClient::lookup`, clause `lookup`: preserved aliases are what `list` tries",
+        "resolver": "`Resolver::lookup` and `Resolver::clear_lookup_cache`: search lists, bounds and preserved aliases are what "
+        "`names`, `ranges` and `list` try",
+    },
+    "rows_resolver": {
+        "special": "`special_answer`, clause `answer`: another class is what `list` tries, and another code for a type is its "
+        "number",
+    },
 }
 
 REPLAY = "a replay of requests by `nameserver`"
@@ -257,7 +285,7 @@ LATER = {
     | {it: CHECKED for it in ("zone-file-with", "zone-file-repeated", "entries", "included-names")}
     | {it: VALUES for it in ("frames", "failing-frames", "write-frames")},
     "rows_cache": {"*": SCRIPT, "bounds": VALUES, "ranges": VALUES},
-    "rows_stub": {"*": SCRIPT, "words": VALUES, "sound": VALUES, "sound-data": VALUES, "sound-record": VALUES, "fits": VALUES},
+    "rows_stub": {"*": SCRIPT, "link-fault": VALUES, "script-fault": VALUES, "sound": VALUES, "sound-data": VALUES, "sound-record": VALUES, "fits": VALUES},
     "rows_resolver": {"*": SCRIPT}
     | {it: VALUES for it in ("names", "special", "config", "hosts", "hosts-bytes", "hosts-fault", "set-hosts", "error-text")},
     "rows_check": {"*": CHECKED},
@@ -302,6 +330,37 @@ rows_zone zones: answer 6
 """
 IN_SCRIPTS = "a script of `nameserver`, `crates/nameserver/data/*.script`"
 
+# The rows that are runs of the cases of check/program now, by file and operation, as they were, and how many of them go by a clause.
+CASED = """
+rows_cache aliases: list 40
+rows_cache chains: zone 41-7
+rows_cache zones: zone 10-1, resolver 22-15
+rows_resolver outcomes: outcome 30
+rows_resolver special_names: special 51-11
+rows_stub all_types: play 7, play-with 19
+rows_stub asking: ask 172-51
+rows_stub chains: run 20
+rows_stub equal_transports: run 54
+rows_stub faults: play-fault 12, ending 17
+rows_stub following: follow 72-29
+rows_stub handles: handle 76-76
+rows_stub json: play-with 13
+rows_stub linking: link 23-23
+rows_stub lookups: run 98-44
+rows_stub playing: play 95, play-with 41, play-size 3
+rows_stub premises: run-script 41-11
+rows_stub requests: resolve 41-41
+rows_stub running: run 105-13
+rows_stub scripts: script 292-16
+rows_stub streaming: ask 94-2, handle 6-6, frame-cuts 3-3
+rows_stub trace: trace 10
+rows_stub unruly: ask 10, unruly 2-2
+rows_stub updating: follow 55-22, handle 61-61
+rows_stub words: words 175-63
+rows_stub zone_files: play 65, play-with 24
+"""
+IN_CASES = "a case of `check/program`"
+
 
 def tried_files(table):
     """The operations of each file that a table lists: how many rows, and how many of these go by a clause."""
@@ -313,6 +372,10 @@ def tried_files(table):
             for word, count in (it.rsplit(" ", 1) for it in operations.split(", "))
         ]
     return files
+
+
+# The rows that are elsewhere now.
+MOVED = tried_files(SCRIPTED), tried_files(CASED)
 
 
 def subject_of(program):
@@ -341,16 +404,14 @@ def all_files():
     """Each file of rows: its program, its name, and of each operation the rows that stay, go, and have another place."""
     for (program, name), operations in tried_files(TRIED).items():
         yield program, name, [(word, count - gone, gone, 0) for word, count, gone in operations]
-    scripted = tried_files(SCRIPTED)
     for program in sorted(LATER):
         files = {path.stem: rows_of(path) for path in data_of(program).glob("*.rows")}
-        for name in sorted({*files, *(it for one, it in scripted if one == program)}):
-            counts = files.get(name, Counter())
-            gone = Counter()
-            for word, count, by_clause in scripted.get((program, name), ()):
-                counts[word] += count
-                gone[word] += by_clause
-            yield program, name, [(word, 0, gone[word], count - gone[word]) for word, count in counts.items()]
+        for name in sorted({*files, *(it for table in MOVED for one, it in table if one == program)}):
+            counts, gone = files.get(name, Counter()), Counter()
+            for word, count, without in (it for table in MOVED for it in table.get((program, name), ())):
+                counts[word] += count - without
+                gone[word] += without
+            yield program, name, [(word, 0, gone[word], counts[word]) for word in {**counts, **gone}]
 
 
 def file_table(files):
@@ -380,7 +441,7 @@ def operation_table(files):
             new = NOW.get(program, {}).get(word, f"`{word}`")
             parts.append(f"{new} of `rows_values`" + (f": {stays}" if gone else ""))
         if gone:
-            parts.append((f"{gone} go, " if stays else "") + f"by {CLAUSES[program][word]}")
+            parts.append((f"{gone} go, " if stays or elsewhere else "") + f"by {CLAUSES[program][word]}")
         if elsewhere:
             parts.append(place_of(program, word, elsewhere))
         lines.append(f"| {shown(program)} | `{word}` | {stays + gone + elsewhere} | {'; '.join(parts)} |")
@@ -389,12 +450,15 @@ def operation_table(files):
 
 def place_of(program, word, count):
     """Where the rows of an operation are, or are to be."""
-    operations = [it for (one, _), words in tried_files(SCRIPTED).items() if one == program for it in words]
-    moved = sum(it[1] - it[2] for it in operations if it[0] == word)
-    later = LATER[program].get(word, LATER[program]["*"])
-    if moved == count:
-        return IN_SCRIPTS
-    return f"{moved} in {IN_SCRIPTS}; {later}" if moved else later
+    places = []
+    for table, place in zip(MOVED, (IN_SCRIPTS, IN_CASES)):
+        operations = [it for (one, _), words in table.items() if one == program for it in words]
+        moved = sum(it[1] - it[2] for it in operations if it[0] == word)
+        if moved == count:
+            return place
+        if moved:
+            places.append(f"{moved} in {place}")
+    return "; ".join([*places, LATER[program].get(word, LATER[program]["*"])])
 
 
 def main():
