@@ -3,14 +3,18 @@
 ghost use Rattle.std.specs.Prelude.{◌≡◌, ◌≤◌, true};
 
 use crate::playing::play_script;
-use crate::replies::{GivenScript, whole_text};
+use crate::replies::GivenScript;
 use crate::stop::Stop;
 use script_expectations::{indented_expectation, write_blessed, write_differences};
 use std::alloc::Global;
 use std::io::{self, BufWriter, ErrorKind, Write};
 use std::process::ExitCode;
+use std::str::{self, Lines};
 use stub_play::{Ending, PlayFault, PlayInput};
 use stub_script::GivenReply;
+
+/// What begins an expectation.
+const EXPECTATION: &str = "#> ";
 
 /// Refuses a script with blanks before the `#> ` of a line, which would be no expectation.
 pub(crate) fn refuse_indented(alloc: Global, script: &str) -> Result<(), Stop> {
@@ -31,9 +35,10 @@ pub(crate) fn check(
     requires limit { 512 ≤ input.now.limit }
     requires udp { input.now.udp ≡ true → input.now.limit ≤ 65507 }
 {
-    let GivenScript { replies, whole } = script;
+    let GivenScript { replies, whole: _ } = script;
     let printed = play_to_text(rt, input, replies, is_traced)?;
-    match print_differences(rt, whole_text(&whole, input), printed.as_str()) {
+    // The lines of replies are empty in the input, since they are no events.
+    match print_differences(rt, input.script.as_str(), printed.as_str()) {
         Ok(true) => Ok(ExitCode::SUCCESS),
         Ok(false) => Ok(ExitCode::FAILURE),
         Err(error) => Err(ending_of(error)),
@@ -52,7 +57,11 @@ pub(crate) fn bless(
 {
     let GivenScript { replies, whole } = script;
     let printed = play_to_text(rt, input, replies, is_traced)?;
-    match print_blessed(rt, whole_text(&whole, input), printed.as_str()) {
+    let blessed = match &whole {
+        Some(text) => print_whole(rt, text.as_str(), input.script.as_str(), printed.as_str()),
+        None => print_blessed(rt, input.script.as_str(), printed.as_str()),
+    };
+    match blessed {
         Ok(()) => Ok(ExitCode::SUCCESS),
         Err(error) => Err(ending_of(error)),
     }
@@ -90,6 +99,42 @@ fn print_blessed(rt: &HostRuntime, script: &str, printed: &str) -> io::Result<()
     let mut writer = BufWriter::new(rt.alloc(), io::writer(rt))?;
     write_blessed(rt.alloc(), script, printed, &mut writer)?;
     writer.flush()
+}
+
+/// Prints a script that gives replies with what its events printed as its expectations. The lines of replies are empty in `events`.
+fn print_whole(rt: &HostRuntime, whole: &str, events: &str, printed: &str) -> io::Result<()> {
+    let mut blessed = Vec::new(rt.alloc());
+    write_blessed(rt.alloc(), events, printed, &mut blessed)?;
+    let Ok(blessed) = str::from_utf8(blessed.as_slice()) else {
+        // A blessed script has the lines of a script and of what was printed, which are texts.
+        return Err(io::Error::from(ErrorKind::InvalidData));
+    };
+    let mut writer = BufWriter::new(rt.alloc(), io::writer(rt))?;
+    write_whole(whole, blessed, &mut writer)?;
+    writer.flush()
+}
+
+/// Writes the expectations of a blessed script, and between them the other lines of the whole script in the place of its own.
+fn write_whole<W: Write>(whole: &str, blessed: &str, writer: &mut W) -> io::Result<()> {
+    let mut lines = whole.lines();
+    for line in blessed.lines() {
+        if line.starts_with(EXPECTATION) {
+            writeln!(writer, "{line}")?;
+        } else {
+            writeln!(writer, "{}", next_other(&mut lines))?;
+        }
+    }
+    Ok(())
+}
+
+/// Returns the next line that is no expectation, or an empty one at the end.
+fn next_other<'a>(lines: &mut Lines<'a>) -> &'a str {
+    for line in lines {
+        if !line.starts_with(EXPECTATION) {
+            return line;
+        }
+    }
+    ""
 }
 
 /// Returns how the program ends after an error.

@@ -17,14 +17,6 @@ pub(crate) struct GivenScript {
     pub(crate) whole: Option<String>,
 }
 
-/// Returns the whole text of the script of an input.
-pub(crate) fn whole_text<'a>(whole: &'a Option<String>, input: &'a PlayInput) -> &'a str {
-    match whole {
-        Some(text) => text.as_str(),
-        None => input.script.as_str(),
-    }
-}
-
 /// Takes the replies out of the script of an input. Over sockets there can be none: the error is then that the first one is at fault.
 pub(crate) fn take_replies(alloc: Global, input: &mut PlayInput) -> Result<GivenScript, Stop>
     ensures limit { input.new.limit ≡ input.old.limit }
