@@ -2,12 +2,12 @@
 
 usage: python3 scripts/rows.py [--check]
 
-Each row of a program of rows either stays, as a row of the program `rows_values`; or goes, because a clause of a contract says the
+Each row of a program of rows either stays, as a row of the program `rows`; or goes, because a clause of a contract says the
 same of every value; or stays in `rows_layers` until a program that users run can read it. The rows of the first two kinds are counted
 here, as they were, those of the last kind in their files.
 
 With --check, the tables are compared with those in docs/ROWS.md, and the rows of the programs that are gone with the files of
-`rows_values`. The status is 1 if they differ.
+`rows`. The status is 1 if they differ.
 """
 import sys
 from collections import Counter
@@ -17,7 +17,7 @@ ROOT = Path(__file__).resolve().parent.parent
 PAGE = ROOT / "docs" / "ROWS.md"
 MARK = "<!-- scripts/rows.py -->\n"
 
-# The rows of the programs that `rows_values` takes the place of, by file and operation, as they were. Of the 41 rows of `write 41-3`
+# The rows of the programs that `rows` takes the place of, by file and operation, as they were. Of the 41 rows of `write 41-3`
 # three go by a clause.
 TRIED = """
 rows_wire addresses: reverse 19, prefix-name 59, prefix 10, address 56, write-address 6
@@ -69,9 +69,9 @@ rows_message dig: print 57
 rows_message encoding: encode 71
 rows_message headers: response-code 29, code-number 20-20, code-parts 13-13, code-of-parts 8-8, op-code 11, header
     56, message-header 1, encode-header 5, place-header 2-2, new-header 3-3, response-header 7-7, merge-code 6-6
-rows_message hostile: message 96, message-header 1-1, fronts 8-8, octets 6-6
+rows_message hostile: message 96, message-header 1, fronts 8-8, octets 6-6
 rows_message lines: line 22
-rows_message messages: message 216, message-header 5-2
+rows_message messages: message 216, message-header 5
 rows_message opt: message 45, encode 32, record 4
 rows_message pieces: questions 7-7, section-records 11-11, head 6, behind-owner 3-3, emit-parts 6-6
 rows_message printed: print 19
@@ -85,15 +85,15 @@ rows_message updates: create 4, append 2, append-existing 2, compare-and-swap 3,
     delete-all 3, message 4, encode 4
 """
 
-# The operation of `rows_values` that takes the place of one, where it has another name.
+# The operation of `rows` that takes the place of one, where it has another name.
 NOW = {
     "rows_wire": {
-        "all-names": "`items names`",
-        "all": "`items all`",
-        "all-refs": "`items refs`",
-        "all-iter": "`items iter`",
-        "fitting": "`items fitting`",
-        "first": "`items first`",
+        "all-names": "`write names`",
+        "all": "`write all`",
+        "all-refs": "`write refs`",
+        "all-iter": "`write iter`",
+        "fitting": "`write fitting`",
+        "first": "`write first`",
         "label-ascii": "`label-view ascii`",
         "label-debug": "`label-view debug`",
         "label-lower": "`label-view lower`",
@@ -143,7 +143,7 @@ NOW = {
         "length": "`data-view length`",
         "parse": "`data`",
         "print": "`data-view text`",
-        "same": "`data-same`",
+        "same": "`same data`",
         "address": "`data-view address`",
     },
     "rows_formats": {
@@ -159,7 +159,7 @@ NOW = {
         "truncate": "`remake truncate`",
         "strip": "`remake strip`",
         "response-of": "`remake response`",
-        "response-error": "`response-sentence`",
+        "response-error": "`sentence response`",
         "question": "`item question`",
         "same-data": "`same record-data`",
         "equal-questions": "`same question`",
@@ -200,7 +200,6 @@ CLAUSES = {
         "place-header": "`Place::replace`, over the encoding that `header-again` tries",
         "new-header": "`Metadata::new`",
         "response-header": "`Metadata::response_from_request`, over `response_metadata`, which serving.script tries",
-        "message-header": "`Message::from_vec`, which `message` tries",
         "fronts": "`Message::from_vec`: bytes that end in a record are refused; the fuzzed inputs of `hostile` have all fronts",
         "octets": "`Message::from_vec` and `to_vec`, and the law that a decoded message is encoded as itself; `hostile` has all octets",
         "questions": "`Message::read_queries`, clauses `read` and `refused`, over the relation of `Message::from_vec`",
@@ -269,7 +268,7 @@ CLAUSES = {
 REPLAY = "a replay of requests by `nameserver`"
 SCRIPT = "a script of `stub` with replies"
 CHECKED = "a stored run of `zonecheck`"
-VALUES = "`rows_values`"
+VALUES = "`rows`"
 
 # Where the rows of `rows_layers` go, by the program that each of its subjects was: all of a program, or by operation.
 LATER = {
@@ -415,7 +414,7 @@ def all_files():
 
 
 def file_table(files):
-    """A line for each file, and the number of rows that the files of `rows_values` have."""
+    """A line for each file, and the number of rows that the files of `rows` have."""
     lines = ["| Program | File | Rows | Stay | Go by a clause | Have another place |", "|---|---|---|---|---|---|"]
     sums, now = [0, 0, 0], 0
     for program, name, operations in files:
@@ -439,7 +438,7 @@ def operation_table(files):
         parts = []
         if stays:
             new = NOW.get(program, {}).get(word, f"`{word}`")
-            parts.append(f"{new} of `rows_values`" + (f": {stays}" if gone else ""))
+            parts.append(f"{new} of `rows`" + (f": {stays}" if gone else ""))
         if gone:
             parts.append((f"{gone} go, " if stays or elsewhere else "") + f"by {CLAUSES[program][word]}")
         if elsewhere:
@@ -468,11 +467,11 @@ def main():
     if sys.argv[1:] != ["--check"]:
         print(tables, end="")
         return 0
-    files = (ROOT / "check" / "harness" / "rows_values" / "data").glob("*.rows")
+    files = (ROOT / "check" / "harness" / "rows" / "data").glob("*.rows")
     # The rows of failing.rows show that a row can fail.
     counts = [sum(rows_of(it).values()) for it in files if it.stem != "failing"]
     if sum(counts) != now:
-        print(f"rows.py: {sum(counts)} rows in rows_values, and {now} by the table")
+        print(f"rows.py: {sum(counts)} rows in rows, and {now} by the table")
         return 1
     if PAGE.read_text(encoding="utf-8").partition(MARK)[2] != tables:
         print("rows.py: the tables of docs/ROWS.md are others: python3 scripts/rows.py prints them")
