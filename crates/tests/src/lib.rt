@@ -1,5 +1,4 @@
-//! Tests of what neither a contract nor a row of data can say. The rows of `rows_values` and `rows_layers` have
-//! the rest.
+//! Tests of what neither a contract nor a row of data can say. The rows of `rows` and `rows_layers` have the rest.
 //!
 //! - `guards`: the encoding of names that a dropped guard restores;
 //! - `iterators`: the labels of a name, taken from both ends;
