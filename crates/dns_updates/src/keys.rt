@@ -182,7 +182,7 @@ pub fn end_key(name: &Name) -> SetKey
 }
 
 /// Returns the number of a type in a key, by which `SOA` comes first.
-fn type_code(record_type: RecordType) -> u32
+pub fn type_code(record_type: RecordType) -> u32
     ensures { result ≡ type_code record_type }
 {
     if record_type == RecordType::SOA {

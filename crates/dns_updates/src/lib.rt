@@ -23,6 +23,6 @@ mod zone_rows;
 pub use builders::{append, compare_and_swap, create, delete_all, delete_by_rdata, delete_rrset};
 pub use changes::{ChangedSet, Changes, is_put, update_changes};
 pub use code::update_code;
-pub use keys::{OwnerKey, SetKey, end_key, first_key, owner_key, set_key};
+pub use keys::{OwnerKey, SetKey, end_key, first_key, owner_key, set_key, type_code};
 pub use update_message::UpdateMessage;
 pub use zone_rows::{SetList, ZoneRows};
