@@ -161,7 +161,8 @@ impl Server {
             (route updates self.old request.now) transport request.now served.reply.items) }
         ensures ok { OnOk result (self.new ≡ zones_after updates self.old request.now) }
         ensures change { IfOk result (λ served. IsChangeOf self.old served.change self.new) }
-        ensures recordable { IfOk result (λ served. IsRecordableOf self.old served.change self.new) }
+        ensures recordable { IfOk result (λ served.
+            IsRecordableOf self.old served.change self.new) }
         ensures err { OnErr result (self.new ≡ self.old) }
         ensures servable { AreServable self.new }
     {

@@ -23,7 +23,8 @@ pub fn socket_exchanges_end_in_time<
     R: Net<Listener = TcpListener, Stream = TcpStream> + Clock + Drop,
     I: IdSource,
 >()
-    ensures { (slack : ℕ) (m : Message) (old new : NameServerPool (SocketNetwork R) I) (outcome : Outcome)
+    ensures { (slack : ℕ) (m : Message) (old new : NameServerPool (SocketNetwork R) I)
+        (outcome : Outcome)
         → Exchanges (prompt_calls socket_clock slack socket_calls) m old outcome new
         → EndsInTime socket_clock slack old new }
 {

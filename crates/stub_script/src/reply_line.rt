@@ -136,7 +136,8 @@ fn fits(transport: ReplyTransport, count: usize) -> bool
 
 /// Reads the message of each word.
 fn read_messages(alloc: Global, words: &[Vec<u8>]) -> Result<Option<Vec<GivenMessage>>, AllocError>
-    ensures { IfOk result (λ found. option_map (λ messages. map message_content messages.items) found
+    ensures { IfOk result (λ found.
+        option_map (λ messages. map message_content messages.items) found
         ≡ messages_of (map (λ word. word.items) words.now)) }
 {
     let mut messages = Vec::new(alloc);

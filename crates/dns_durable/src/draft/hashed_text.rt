@@ -35,7 +35,8 @@ impl HashedText {
 
     /// Appends a piece. An error leaves the text as it is.
     pub(crate) fn push_str(&mut self, piece: &str) -> Result<(), AllocError>
-        ensures { OnOk result (string_bytes self.new.text ≡ string_bytes self.old.text ++ piece.now) }
+        ensures { OnOk result (string_bytes self.new.text
+            ≡ string_bytes self.old.text ++ piece.now) }
     {
         self.text.push_str(piece)?;
         self.hasher.update(piece.as_bytes());

@@ -40,7 +40,8 @@ impl Draft {
     /// Writes the sets that the updates of requests are about to change, unless they are written.
     fn settle_all(&mut self, zone: &Zone, admitted: &[Arrived<'_>]) -> Result<(), DraftFault>
         ensures goes_on { OnOk result (GoesOn zone.now self.old self.new) }
-        ensures settled { OnOk result (AreSettledFor (is_settled self.new) zone.now.rows admitted.now) }
+        ensures settled { OnOk result
+            (AreSettledFor (is_settled self.new) zone.now.rows admitted.now) }
     {
         for arrived in admitted {
             self.settle_one(zone, arrived)?;
@@ -51,7 +52,8 @@ impl Draft {
     /// Writes the sets that a request is about to change, unless they are written.
     fn settle_one(&mut self, zone: &Zone, arrived: &Arrived<'_>) -> Result<(), DraftFault>
         ensures goes_on { OnOk result (GoesOn zone.now self.old self.new) }
-        ensures settled { OnOk result (IsSettledForOne (is_settled self.new) zone.now.rows arrived.now) }
+        ensures settled { OnOk result
+            (IsSettledForOne (is_settled self.new) zone.now.rows arrived.now) }
     {
         match arrived {
             Arrived::Request(admitted) if admitted.is_change() => {
@@ -76,7 +78,8 @@ impl Draft {
     /// Writes the sets that a record of an update section is about to change, unless they are written.
     fn settle_record(&mut self, zone: &Zone, update: &Record) -> Result<(), DraftFault>
         ensures goes_on { OnOk result (GoesOn zone.now self.old self.new) }
-        ensures settled { OnOk result (IsSettledFor (is_settled self.new) zone.now.rows update.now) }
+        ensures settled { OnOk result
+            (IsSettledFor (is_settled self.new) zone.now.rows update.now) }
     {
         self.settle(zone, &update.name, update.record_type())?;
         if deletes_owner(update) {
@@ -88,7 +91,8 @@ impl Draft {
     /// Writes the sets of an owner, unless they are written.
     fn settle_owner(&mut self, zone: &Zone, owner: &Name) -> Result<(), DraftFault>
         ensures goes_on { OnOk result (GoesOn zone.now self.old self.new) }
-        ensures settled { OnOk result (AreOwnersSettled owner.now (is_settled self.new) zone.now.rows) }
+        ensures settled { OnOk result
+            (AreOwnersSettled owner.now (is_settled self.new) zone.now.rows) }
     {
         let mut types = zone.types_at(owner)?;
         while let Some(record_type) = types.pop() {

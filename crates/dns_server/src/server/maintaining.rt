@@ -46,7 +46,8 @@ impl Server {
         ensures reply { IfOk result (λ served. IsReplyBy self.old
             (update_route self.old request.now) transport request.now served.reply.items) }
         ensures ok { OnOk result (self.new ≡ zones_maintained serials self.old request.now) }
-        ensures recordable { IfOk result (λ served. IsRecordableOf self.old served.change self.new) }
+        ensures recordable { IfOk result (λ served.
+            IsRecordableOf self.old served.change self.new) }
         ensures err { OnErr result (self.new ≡ self.old) }
         ensures servable { AreServable self.new }
     {

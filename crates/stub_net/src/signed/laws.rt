@@ -32,7 +32,8 @@ pub fn replies_are_signed<N: Network, I: IdSource>()
 /// Over a network in memory, a reply that a pool returns is a message of the script, and was accepted as the reply to the message that
 /// was sent last. So no script in which each message is forged leads to a reply.
 pub fn signed_replies_arrive<I: IdSource>()
-    ensures { (m : Message) (old new : NameServerPool (SignedNetwork ScriptState) I) (response : DnsResponse)
+    ensures { (m : Message) (old new : NameServerPool (SignedNetwork ScriptState) I)
+        (response : DnsResponse)
         → Exchanges (signed_calls script_calls) m old (Ok response) new
         → IsSignedArrival old.requester.network.signer.key old.requester.network.base m
         old.requester.network.network new.requester.network.network response }
