@@ -37,25 +37,24 @@ pub(crate) struct Wanted {
     pub(crate) most: usize,
 }
 
-/// Copies the first of the records of a name that are asked for, with an owner: as many as are needed.
+/// Copies the first of the records of a name that are asked for, with an owner: as many as are needed. `stored` has those of the
+/// type that is asked for.
 pub(crate) fn asked_records(
     alloc: Global,
     zone: &Zone,
     wanted: Wanted,
     owner: &Name,
     source: &Name,
+    stored: &[Record],
 ) -> Result<Sequence<Record>, AllocError>
+    requires { rows_of stored.now
+        ≡ rows_at zone.now.rows source.now.labels wanted.asked.record_type }
     ensures { IfOk result (λ records. take wanted.most records ≡ take wanted.most
         (map (record_of owner.now) (asked_rows wanted.asked zone.now.rows source.now.labels))) }
 {
     let Wanted { asked, most } = wanted;
     if !is_any(asked.record_type) {
-        return first_copies(
-            alloc,
-            most,
-            owner,
-            zone.records_at(source, asked.record_type),
-        );
+        return first_copies(alloc, most, owner, stored);
     }
     match asked.any {
         AnyAnswer::AllSets => all_sets(alloc, most, zone, owner, source),

@@ -1,8 +1,8 @@
 //! What a zone has for a question at a name (RFC 1034 section 4.3.2 step 3).
 
-ghost use Rattle.std.specs.Prelude.{◌≡◌, ◌≤◌, ◌&&◌, [], false, not, IfOk, Option, Some, option_copied};
+ghost use Rattle.std.specs.Prelude.{◌≡◌, ◌≤◌, ◌&&◌, not, IfOk, Option, Some, option_copied};
 ghost use Rattle.dns_names.specs.Name.{DomainName};
-ghost use Rattle.dns_zone.specs.Rows.{row_of, rows_at, some_row_below};
+ghost use Rattle.dns_zone.specs.Rows.{row_of, rows_at, rows_of};
 ghost use Rattle.dns_authority.specs.steps.Barrier.{cut_at, is_cut, is_ds};
 ghost use Rattle.dns_authority.specs.steps.Wildcard.{if_exists, source_of_synthesis};
 ghost use Rattle.dns_authority.specs.Front.{step_front};
@@ -12,7 +12,7 @@ use crate::answer::AuthorityAnswer;
 use crate::asked::{Wanted, asked_records};
 use crate::copies::copy;
 use crate::redirection::step_below;
-use crate::steps::{barrier_above, is_cut, is_ds, source_of_synthesis};
+use crate::steps::{barrier_above, is_cut, is_cut_with, is_ds, source_of_synthesis};
 use crate::zones::{closest_zone, zone_for};
 use dns_data::RData;
 use dns_messages::ResponseCode;
@@ -21,7 +21,7 @@ use dns_records::{Record, Sequence};
 use dns_server::ZoneTable;
 use dns_text::usage;
 use dns_wire::RecordType;
-use dns_zone::Zone;
+use dns_zone::{Node, Zone};
 use std::alloc::{AllocError, Global};
 
 /// A step of an answer, at one name.
@@ -88,21 +88,24 @@ fn step_at_name(
         (step_with zones.now zone.now wanted.asked owner.now
         (cut_at zone.now wanted.asked.record_type owner.now))) }
 {
-    if !zone.has_row_below(owner) {
+    let node = zone.node(owner, wanted.asked.record_type);
+    if !node.exists {
         return step_beside(alloc, zones, zone, wanted, owner);
     }
-    if is_cut_for(zone, wanted.asked.record_type, owner) {
+    if is_cut_for(zone, wanted.asked.record_type, owner, node.servers) {
         let referral = AuthorityAnswer::referral(alloc, wanted.most, zone, owner)?;
         return Ok(Step::End(referral));
     }
-    step_from(alloc, zones, zone, wanted, owner, owner)
+    step_from(alloc, zones, zone, wanted, owner, owner, node)
 }
 
-/// Returns `true` if a name is a zone cut for a type: for all but DS, whose records are above it (RFC 4035 section 3.1.4.1).
-fn is_cut_for(zone: &Zone, record_type: RecordType, name: &Name) -> bool
+/// Returns `true` if a name with these NS records is a zone cut for a type: for all but DS, whose records are above it (RFC 4035
+/// section 3.1.4.1).
+fn is_cut_for(zone: &Zone, record_type: RecordType, name: &Name, servers: &[Record]) -> bool
+    requires { rows_of servers.now ≡ rows_at zone.now.rows name.now.labels RecordType.NS }
     ensures { result ≡ (is_cut zone.now name.now && not (is_ds record_type)) }
 {
-    is_cut(zone, name) && !is_ds(record_type)
+    is_cut_with(zone, name, servers) && !is_ds(record_type)
 }
 
 /// Returns the step at a name that does not exist: from the records of the wildcard beside it, if there is one (RFC 4592 section
@@ -125,7 +128,7 @@ fn step_beside(
     }
 }
 
-/// Returns the step from a wildcard, if it exists. That its records are looked up first spares a look-up where there are some.
+/// Returns the step from a wildcard, if it exists.
 fn step_of_source(
     alloc: Global,
     zones: &ZoneTable,
@@ -139,19 +142,11 @@ fn step_of_source(
         (step_at zones.now zone.now wanted.asked owner.now
         (if_exists zone.now.rows (Some source.now)))) }
 {
-    let synthesized = asked_records(alloc, zone, wanted, owner, source)?;
-    if !exists(zone, source, synthesized.as_slice()) {
+    let node = zone.node(source, wanted.asked.record_type);
+    if !node.exists {
         return no_name(alloc, zone);
     }
-    step_by(alloc, zones, zone, owner, source, synthesized)
-}
-
-/// Returns `true` if a name with these records exists (RFC 4592 section 2.2.2).
-fn exists(zone: &Zone, name: &Name, records: &[Record]) -> bool
-    requires { some_row_below zone.now.rows name.now.labels ≡ false → records.now ≡ [] }
-    ensures { result ≡ some_row_below zone.now.rows name.now.labels }
-{
-    !records.is_empty() || zone.has_row_below(name)
+    step_from(alloc, zones, zone, wanted, owner, source, node)
 }
 
 /// Returns the step at a name that does not exist, nor does a wildcard beside it.
@@ -162,7 +157,7 @@ fn no_name(alloc: Global, zone: &Zone) -> Result<Step, AllocError>
     Ok(Step::End(answer))
 }
 
-/// Returns the step from the records of a name or a wildcard.
+/// Returns the step from what a zone has at a name or a wildcard.
 fn step_from(
     alloc: Global,
     zones: &ZoneTable,
@@ -170,13 +165,17 @@ fn step_from(
     wanted: Wanted,
     owner: &Name,
     source: &Name,
+    node: Node<'_>,
 ) -> Result<Step, AllocError>
-    requires { 1 ≤ wanted.most }
+    requires { (1 ≤ wanted.most)
+        × ((rows_of node.records.now
+        ≡ rows_at zone.now.rows source.now.labels wanted.asked.record_type)
+        × (rows_of node.aliases.now ≡ rows_at zone.now.rows source.now.labels RecordType.CNAME)) }
     ensures { IfOk result (λ made. step_front wanted.most made ≡ step_front wanted.most
         (step_from zones.now zone.now wanted.asked owner.now source.now)) }
 {
-    let records = asked_records(alloc, zone, wanted, owner, source)?;
-    step_by(alloc, zones, zone, owner, source, records)
+    let records = asked_records(alloc, zone, wanted, owner, source, node.records)?;
+    step_by(alloc, zones, zone, owner, node.aliases, records)
 }
 
 /// Returns the step by the records of a name or a wildcard that are asked for: with these, or else along its alias, or else without
@@ -186,11 +185,11 @@ fn step_by(
     zones: &ZoneTable,
     zone: &Zone,
     owner: &Name,
-    source: &Name,
+    aliases: &[Record],
     records: Sequence<Record>,
 ) -> Result<Step, AllocError>
     ensures { IfOk result (λ made. made ≡ step_by zones.now zone.now owner.now records
-        (rows_at zone.now.rows source.now.labels RecordType.CNAME)) }
+        (rows_of aliases.now)) }
 {
     if !records.is_empty() {
         return Ok(Step::End(AuthorityAnswer::authoritative(
@@ -200,7 +199,7 @@ fn step_by(
             Sequence::new(alloc),
         )));
     }
-    match zone.records_at(source, RecordType::CNAME).first() {
+    match aliases.first() {
         Some(alias) => alias_step(alloc, zones, owner, alias),
         None => {
             let answer = AuthorityAnswer::negative(alloc, zone, ResponseCode::NoError)?;

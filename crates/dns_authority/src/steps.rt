@@ -10,6 +10,7 @@ mod barriers;
 mod redirection;
 mod wildcard;
 
+pub(crate) use barriers::is_cut_with;
 pub use barriers::{barrier, barrier_above, has_rows, is_cut, is_ds};
 pub use redirection::{dname_target, with_target};
 pub use wildcard::source_of_synthesis;

@@ -12,6 +12,7 @@ pub mod KeptLaws
 pub mod LineLaws
 pub mod ListLaws
 pub mod LoadLaws
+pub mod NodeLaws
 pub mod OwnerLaws
 pub mod PrintableLaws
 pub mod PrintedLaws

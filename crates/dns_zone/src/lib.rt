@@ -4,7 +4,8 @@
 //! encodes the answer without copying a record.
 //!
 //! - `zone`: zones; `zone::load`: the zone of a zone file; `zone::display`: the zone file of a zone; `zone::answer`: its
-//!   answers; `zone::chain`: those along alias chains; `zone::lookup`: its records, by owner and type; `zone::serve`: its
+//!   answers; `zone::chain`: those along alias chains; `zone::lookup`: its records, by owner and type; `zone::node`: what it
+//!   has at a name; `zone::serve`: its
 //!   replies; `zone::update`: its updates; `zone::rising`: those after which its serial number rises by itself; `zone::serial`: its
 //!   serial number;
 //! - `sets`: record sets; `rows`: their records; `transport`: the transports of a message;
@@ -21,6 +22,6 @@ pub use sets::{SetEntries, Sets};
 // `Road` is the former name of `Transport`.
 pub use transport::{DatagramLimit, LimitTooSmall, Transport, Transport as Road};
 pub use zone::{
-    Answer, Applied, RecordLines, Serials, Served, Zone, ZoneFault, bare_reply_bytes,
+    Answer, Applied, Node, RecordLines, Serials, Served, Zone, ZoneFault, bare_reply_bytes,
     decode_request, first_serial, repeated_queries, reply_limit, zone_serial,
 };

@@ -8,8 +8,11 @@ ghost use Rattle.dns_zone.specs.Rows.{Key, key, key_cmp, set_key};
 ghost use Rattle.dns_zone.specs.Sets.{set_at, sets_after, with_put, with_records, AreInOrder};
 ghost use Rattle.std.specs.Map.{values_of};
 
+mod node;
 mod store;
 mod zone_rows;
+
+pub(crate) use node::NodeSets;
 
 use dns_names::Name;
 use dns_records::{Record, RecordSet};
