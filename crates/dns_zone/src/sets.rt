@@ -12,12 +12,11 @@ mod node;
 mod store;
 mod zone_rows;
 
-pub(crate) use node::NodeSets;
-
 use dns_names::Name;
 use dns_records::{Record, RecordSet};
 use dns_updates::{SetKey, end_key, first_key, set_key};
 use dns_wire::RecordType;
+pub(crate) use node::NodeSets;
 use std::alloc::{AllocError, Global};
 use std::collections::{BTreeMap, btree_map};
 use std::marker::Model;

@@ -42,10 +42,10 @@ impl Zone {
     {
         let found = self.sets.node(name, record_type);
         Node {
-            records: records_of(found.asked.found),
-            aliases: records_of(found.aliases.found),
-            servers: records_of(found.servers.found),
-            redirections: records_of(found.redirections.found),
+            records: records_of(found.asked),
+            aliases: records_of(found.aliases),
+            servers: records_of(found.servers),
+            redirections: records_of(found.redirections),
             exists: found.exists,
         }
     }
