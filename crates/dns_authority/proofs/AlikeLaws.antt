@@ -55,12 +55,6 @@ module _ {X : Type 0} where
       let same : n - length xs ≡ n - length ys = left_after n xs ∙ ap (λ (zs : List X). n - length zs) e ∙ sym (left_after n ys) in
       fewer (n - length xs) n us vs (omega arith) f ∙ ap (λ (k : ℕ). take k vs) same
 
-  -- no element is the first of none
-  pub none : (n : ℕ) (xs : List X) → 1 ≤ n → take n xs ≡ take n [] → xs ≡ []
-  none zero xs some e = absurd (omega (arith, some))
-  none (suc n) [] some e = refl
-  none (suc n) (x ∷ xs) some e = absurd (cc)
-
 module _ {X Y Z : Type 0} (f : Y → Z) (g : X → List Y) where
   -- one more list
   pub one_more_list : (n i : ℕ) (xs : List X) (d : X) (so_far more : List Z) → i < length xs → take n so_far ≡ take n (map f (flat_map g (take i xs)))

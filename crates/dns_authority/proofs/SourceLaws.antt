@@ -1,9 +1,7 @@
 -- The step at a name by whether it exists, and what is above it.
-use Rattle.std.proofs.Common.{◌≡◌, Bool, true, false, ◌&&◌, not, cond, ◌==◌, ℕ, List, [], ◌∷◌, ◌++◌, length, map, refl, sym, ap, ◌∙◌, Option, Some, None}
+use Rattle.std.proofs.Common.{◌≡◌, Bool, true, false, ◌&&◌, not, cond, ◌==◌, List, length, map, refl, sym, ap, ◌∙◌, Option, Some, None}
 use Rattle.std.specs.Prelude.{nat_lt}
-use Rattle.std.specs.List.{flat_map}
 use Rattle.std.specs.Option.{option_or}
-use Rattle.dns_wire.specs.codes.RecordType.{type_of}
 use Rattle.dns_wire.specs.declared.codes.record_type.RecordType.TheVariants as types
 use Rattle.dns_names.specs.Name.{DomainName}
 use Rattle.dns_names.specs.Labels.{begins_with_star}
@@ -11,48 +9,15 @@ use Rattle.dns_messages.specs.declared.response_code.ResponseCode.TheVariants.{N
 use Rattle.dns_records.specs.Record.{Record}
 use Rattle.dns_records.specs.declared.row.Row.{Row}
 use Rattle.dns_zone.specs.Answer.{record_of}
-use Rattle.dns_zone.specs.Rows.{Rows, ZoneContent, rows_at, some_row_below}
+use Rattle.dns_zone.specs.Rows.{ZoneContent, rows_at, some_row_below}
 use Rattle.dns_authority.specs.steps.Barrier.{barrier, barrier_above, cut_at, is_cut, is_ds}
 use Rattle.dns_authority.specs.steps.Wildcard.{if_exists, source_of_synthesis}
-use Rattle.dns_authority.specs.declared.asked.AnyAnswer.{AnyAnswer}
-use Rattle.dns_authority.specs.declared.asked.AnyAnswer.TheVariants.{AllSets, FirstSet}
 use Rattle.dns_authority.specs.declared.asked.Asked.{Asked}
 use Rattle.dns_authority.specs.declared.step.Step.{Step}
 use Rattle.dns_authority.specs.declared.step.Step.TheVariants.{End}
-use Rattle.dns_authority.specs.Asked.{any_numbers, any_rows, asked_rows, first_filled, is_any, rows_by_number}
+use Rattle.dns_authority.specs.Asked.{asked_rows}
 use Rattle.dns_authority.specs.Step.{negative, referral, step_at, step_below, step_by, step_from, step_over, step_with}
 use Rattle.dns_authority.proofs.StepsExistenceLaws.{absent_rows}
-
--- ---- a name that does not exist has none of the rows that are asked for
-
-no_sets : (sets : ℕ → List Row) → ((n : ℕ) → sets n ≡ []) → (numbers : List ℕ) → flat_map sets numbers ≡ []
-no_sets sets none [] = refl
-no_sets sets none (n ∷ numbers) = ap (λ (rs : List Row). rs ++ flat_map sets numbers) (none n) ∙ no_sets sets none numbers
-
-no_first : (sets : ℕ → List Row) → ((n : ℕ) → sets n ≡ []) → (numbers : List ℕ) → first_filled (map sets numbers) ≡ []
-no_first sets none [] = refl
-no_first sets none (n ∷ numbers) = ap (λ (rs : List Row). first_filled (rs ∷ map sets numbers)) (none n) ∙ no_first sets none numbers
-
-module _ (rows : Rows) (labels : List (List ℕ)) (absent : some_row_below rows labels ≡ false) where
-  no_number : (n : ℕ) → rows_by_number rows labels n ≡ []
-  no_number n = absent_rows rows labels (type_of n) absent
-
-  no_any : (any : AnyAnswer) → any_rows any rows labels ≡ []
-  no_any AllSets = no_sets (rows_by_number rows labels) no_number any_numbers
-  no_any FirstSet = no_first (rows_by_number rows labels) no_number any_numbers
-
-  pub no_asked : (asked : Asked) → asked_rows asked rows labels ≡ []
-  no_asked asked = by (is_any asked.record_type) refl
-    where
-      by : (b : Bool) → is_any asked.record_type ≡ b → asked_rows asked rows labels ≡ []
-      by true e = ap (λ (c : Bool). cond c (any_rows asked.any rows labels) (rows_at rows labels asked.record_type)) e ∙ no_any asked.any
-      by false e =
-          ap (λ (c : Bool). cond c (any_rows asked.any rows labels) (rows_at rows labels asked.record_type)) e
-          ∙ absent_rows rows labels asked.record_type absent
-
-  -- nor has it records
-  pub no_asked_records : (asked : Asked) (owner : DomainName) (records : List Record) → records ≡ map (record_of owner) (asked_rows asked rows labels) → records ≡ []
-  no_asked_records asked owner records is = is ∙ ap (map (record_of owner)) (no_asked asked)
 
 -- ---- steps
 

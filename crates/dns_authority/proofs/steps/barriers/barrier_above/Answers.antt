@@ -7,12 +7,12 @@ use Rattle.dns_authority.proofs.StepsExistenceLaws.{none_below}
 use Rattle.dns_zone.specs.Rows.{some_row_below}
 use Rattle.dns_authority.proofs.steps.barriers.barrier_above.Goals as goal
 
-pub returns-then-not-exists : goal.returns-then-not-exists
-returns-then-not-exists c =
+pub returns-then-not-node : goal.returns-then-not-node
+returns-then-not-node c =
     let zone = c.args.zone.now in
     let name = c.args.name.now in
     sym (none_below zone name c.loop-kept.kept (length name.labels - c.loop-kept.kept) (omega arith)
-    (ap (λ (n : DomainName). some_row_below zone.rows n.labels) (sym c.in_ok-above.ensures.ok) ∙ sym c.node.ensures.exists ∙ c.if-not-exists.true))
+    (ap (λ (n : DomainName). some_row_below zone.rows n.labels) (sym c.in_ok-above.ensures.ok) ∙ sym c.node-node.ensures.exists ∙ c.if-not-node.true))
     ∙ c.loop-kept.invariant
 
 pub returns-then-is_barrier : goal.returns-then-is_barrier
