@@ -16,8 +16,10 @@ ROOT = Path(__file__).resolve().parent.parent
 TEST = re.compile(r"^\s*#\[test\]", re.MULTILINE)
 # How long a program and the tests of a crate may take, in seconds, as in the gate.
 PROGRAM_SECONDS, TEST_SECONDS = 120, 600
-# How long the cases of the program `stub` may take, each of whose allocations is refused in turn.
+# How long the cases of a program may take: of `stub`, each allocation is refused in turn.
 CASES_SECONDS = 1800
+# The checks with the cases of a program.
+CASES = {"stub": "program", "zonecheck": "zonecheck"}
 # How many lines of a difference are printed.
 SHOWN = 12
 # What one build takes of memory, in kilobytes.
@@ -63,8 +65,8 @@ def built(name):
 
 
 def cases(name):
-    """Builds a program and runs it on its cases, those of check/program."""
-    done = run([ROOT / "check" / "program", "--program", built(name)], cwd=ROOT, stdin=subprocess.DEVNULL, seconds=CASES_SECONDS)
+    """Builds a program and runs it on its cases."""
+    done = run([ROOT / "check" / CASES[name], "--program", built(name)], cwd=ROOT, stdin=subprocess.DEVNULL, seconds=CASES_SECONDS)
     if done.returncode:
         raise Failure(end_of(done.stdout + done.stderr))
     return done.stdout.decode().splitlines()[-1]
@@ -117,7 +119,7 @@ def suites(names):
     crates = read_crates(ROOT)
     found = [(stored_run, it) for it in crates if (folder_of(ROOT, it) / "stdout").is_file()]
     found += [(tests, it) for it in crates if test_count(it)]
-    found.append((cases, "stub"))
+    found += [(cases, it) for it in CASES]
     found.sort(key=lambda it: -len(in_order(crates, [it[1]])))
     return [it for it in found if not names or it[1] in names]
 

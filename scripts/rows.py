@@ -230,6 +230,15 @@ CLAUSES = {
         "answer": "`Zone::answer`, clause `answer`, and `Zone::from_text`, clause `ok`, over the definitions that the others try: "
         "names for which a server has no zone, and further start of authority records of zone files",
         "build": "`dns_updates::laws` on builders, and `Zone::apply`, clauses `code` and `ok`: sets of 1,000 records",
+        "frames": "`read_frame`, clause `read`, over `frame`, which `frames` of `hostile` tries",
+        "failing-frames": "`read_frame`, clauses `read` and `fails`; `frames` of `hostile` reads each stream from a source that fails, too",
+        "write-frames": "`write_frame`, clause `ok`, over `frame`",
+        "fault": "the `Display` of `ZoneFault`, which `zone-fault` of `stub` tries, with the same five sentences",
+        "zone-file-with": "`Parser::parse`, clause `ok`: a text with an empty name, which no file to include has",
+    },
+    "rows_check": {
+        "origin": "`states_origin` and `keep_origin_warnings`, over `has_directive` and `is_about_origin`, which the warnings of the case "
+        "`warnings` try",
     },
     "rows_server": {
         "covers": "`AddressList::contains`, clauses `v4`, `mapped` and `v6`, over the definition that the others try: loopback addresses, which a server takes updates from "
@@ -267,27 +276,24 @@ CLAUSES = {
 
 REPLAY = "a replay of requests by `nameserver`"
 SCRIPT = "a script of `stub` with replies"
-CHECKED = "a stored run of `zonecheck`"
 VALUES = "`rows`"
 
 # Where the rows of `rows_layers` go, by the program that each of its subjects was: all of a program, or by operation.
 LATER = {
     "rows_server": {"*": REPLAY, "prefix": VALUES},
     "rows_authority": {"*": REPLAY},
-    "rows_faults": {"*": REPLAY, "table": CHECKED.replace("zonecheck", "nameserver"), "json": VALUES},
+    "rows_faults": {"*": REPLAY, "table": "a stored run of `nameserver`", "json": VALUES},
     "rows_tsig": {"*": REPLAY, "hmac": VALUES},
     "rows_transfers": {"*": REPLAY},
     "rows_differences": {"*": REPLAY},
     "rows_journal": {"*": REPLAY + ", whose journal can be torn"},
-    "rows_zone": {"*": REPLAY}
-    | {it: CHECKED for it in ("zone", "zone-all", "zone-at", "zone-with", "zone-fault", "fault", "zone-file", "zone-file-all", "zone-file-at")}
-    | {it: CHECKED for it in ("zone-file-with", "zone-file-repeated", "entries", "included-names")}
-    | {it: VALUES for it in ("frames", "failing-frames", "write-frames")},
+    "rows_zone": {"*": REPLAY},
     "rows_cache": {"*": SCRIPT, "bounds": VALUES, "ranges": VALUES},
-    "rows_stub": {"*": SCRIPT, "link-fault": VALUES, "script-fault": VALUES, "sound": VALUES, "sound-data": VALUES, "sound-record": VALUES, "fits": VALUES},
+    "rows_stub": {"*": SCRIPT}
+    | {it: VALUES for it in ("link-fault", "script-fault", "zone-fault", "fault", "sound", "sound-data", "sound-record", "fits")},
     "rows_resolver": {"*": SCRIPT}
     | {it: VALUES for it in ("names", "special", "config", "hosts", "hosts-bytes", "hosts-fault", "set-hosts", "error-text")},
-    "rows_check": {"*": CHECKED},
+    "rows_check": {"*": REPLAY},
     "hostile": {"*": "a stored run of `stub`, `nameserver` and `zonecheck`"},
     "rows_net": {"*": VALUES, "schedule": SCRIPT, "update": SCRIPT, "steps": SCRIPT},
 }
@@ -357,8 +363,30 @@ rows_stub unruly: ask 10, unruly 2-2
 rows_stub updating: follow 55-22, handle 61-61
 rows_stub words: words 175-63
 rows_stub zone_files: play 65, play-with 24
+rows_zone zone_files: zone-file 1
+rows_zone zones: zone 1
 """
 IN_CASES = "a case of `check/program`"
+
+# The rows that are runs of the cases of check/zonecheck now, or parts of one, by file and operation, as they were, and how many of them
+# go by a clause. Of the rows `zone-fault` and `fault` of `zones`, 34 are in stub/faults.rows.
+CHECKED = """
+rows_check all: all 71, zone 5, all-with 9, all-line 2, all-on 2, line 3
+rows_check faults: zone 62, zone-at 3, bytes 6, zone-json 2
+rows_check scripts: script 34, script-line-2 2, moment 1
+rows_check warnings: zone 43, zone-at 7, origin 4-4
+rows_zone all_types: zone-file-all 106, zone-file 9, zone-all 6, included-names 3
+rows_zone entries: entries 8
+rows_zone findings: zone 9
+rows_zone frames: frames 370-370, failing-frames 64-64, write-frames 18-18
+rows_zone limits: zone 37
+rows_zone lines: zone 357
+rows_zone long_texts: zone-file-repeated 32
+rows_zone stored_zones: zone-file-at 1, zone-at 14, zone-with 1, zone-file 6, zone 18
+rows_zone zone_files: zone-file 358, zone-file-at 8, zone-file-with 39-1
+rows_zone zones: zone 140, zone-at 33, zone-with 14, fault 5-5
+"""
+IN_CHECKS = "a case of `check/zonecheck`"
 
 
 def tried_files(table):
@@ -374,7 +402,7 @@ def tried_files(table):
 
 
 # The rows that are elsewhere now.
-MOVED = tried_files(SCRIPTED), tried_files(CASED)
+MOVED = tried_files(SCRIPTED), tried_files(CASED), tried_files(CHECKED)
 
 
 def subject_of(program):
@@ -449,15 +477,16 @@ def operation_table(files):
 
 def place_of(program, word, count):
     """Where the rows of an operation are, or are to be."""
-    places = []
-    for table, place in zip(MOVED, (IN_SCRIPTS, IN_CASES)):
+    places, left = [], count
+    for table, place in zip(MOVED, (IN_SCRIPTS, IN_CASES, IN_CHECKS)):
         operations = [it for (one, _), words in table.items() if one == program for it in words]
         moved = sum(it[1] - it[2] for it in operations if it[0] == word)
         if moved == count:
             return place
         if moved:
             places.append(f"{moved} in {place}")
-    return "; ".join([*places, LATER[program].get(word, LATER[program]["*"])])
+            left -= moved
+    return "; ".join([*places, *([LATER[program].get(word, LATER[program]["*"])] if left else [])])
 
 
 def main():
