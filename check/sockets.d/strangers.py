@@ -6,6 +6,7 @@ nothing has been sent. It goes on as soon as the pipe is read.
 import os
 import socket
 import subprocess
+import threading
 
 SOA = "t. 60 IN SOA ns.t. h.t. 1 3600 600 86400 30\n"
 # A name with an address, and one with forty, whose reply does not fit into a datagram of 512 bytes.
@@ -19,6 +20,7 @@ FORGERY = REPLY[:-4] + bytes([10, 9, 9, 9])
 LONGEST = b"\xff" * 65507
 # More than the queues of sockets have room for.
 MANY = 100000
+# How long a run may take.
 SECONDS = 60
 
 
@@ -55,12 +57,14 @@ class Paused:
     def __init__(self, program, folder, script):
         self.reader, writer, self.filling = full_pipe()
         command = words(program, folder, FIRST + script, "--udp")
-        self.process = subprocess.Popen(command, stdout=writer, stderr=subprocess.PIPE)
+        self.process = subprocess.Popen(command, stdin=subprocess.DEVNULL, stdout=writer, stderr=subprocess.PIPE)
         os.close(writer)
+        self.timer = threading.Timer(SECONDS, self.process.kill)
+        self.timer.daemon = True
+        self.timer.start()
         # The trace has an event before the result is printed.
         self.trace = self.process.stderr.readline()
         if self.trace != FIRST.encode():
-            self.process.kill()
             raise OSError(f"stub does not run: {self.trace!r}")
         # The socket that asks has a peer, and that of the server has none.
         (asker,) = [it for it in self.rows("udp") if port_of(it[2])]
@@ -86,7 +90,9 @@ class Paused:
             output = file.read()[self.filling :]
         trace = self.trace + self.process.stderr.read()
         self.process.stderr.close()
-        return self.process.wait(SECONDS), output, trace
+        status = self.process.wait()
+        self.timer.cancel()
+        return status, output, trace
 
 
 def port_of(address):
