@@ -18,8 +18,8 @@ TEST = re.compile(r"^\s*#\[test\]", re.MULTILINE)
 PROGRAM_SECONDS, TEST_SECONDS = 120, 600
 # How long the cases of a program may take: of `stub`, each allocation is refused in turn.
 CASES_SECONDS = 1800
-# The checks with the cases of a program.
-CASES = {"stub": "program", "zonecheck": "zonecheck"}
+# The checks with the cases of a program, and the parts of these that need no rights and no packages.
+CASES = {"stub": (("program",), ("sockets", "strangers")), "zonecheck": (("zonecheck",),)}
 # How many lines of a difference are printed.
 SHOWN = 12
 # What one build takes of memory, in kilobytes.
@@ -36,7 +36,7 @@ def stored_run(name):
     program = built(name)
     words = lines_in(crate / "args")
     with tempfile.TemporaryDirectory() as folder:
-        room, files = Path(folder, "data"), data_of(name)
+        room, files = Path(folder, "data"), crate / "data"
         shutil.copytree(files, room) if files.is_dir() else room.mkdir()
         given = crate / "stdin"
         with open(given if given.exists() else os.devnull, "rb") as stdin:
@@ -50,12 +50,6 @@ def stored_run(name):
     return f"{wanted.count(bytes([10]))} lines"
 
 
-def data_of(name):
-    """The folder with a program's files: that of `examples` is in crates/, where its users look for it."""
-    own = folder_of(ROOT, name) / "data"
-    return own if own.is_dir() else ROOT / "crates" / name / "data"
-
-
 def built(name):
     """The program, built without proofs."""
     done = subprocess.run([sys.executable, ROOT / "scripts" / "make_build.py", name], stdin=subprocess.DEVNULL, capture_output=True)
@@ -66,10 +60,14 @@ def built(name):
 
 def cases(name):
     """Builds a program and runs it on its cases."""
-    done = run([ROOT / "check" / CASES[name], "--program", built(name)], cwd=ROOT, stdin=subprocess.DEVNULL, seconds=CASES_SECONDS)
-    if done.returncode:
-        raise Failure(end_of(done.stdout + done.stderr))
-    return done.stdout.decode().splitlines()[-1]
+    program, said = built(name), []
+    for check, *parts in CASES[name]:
+        words = [ROOT / "check" / check, "--program", program, *parts]
+        done = run(words, cwd=ROOT, stdin=subprocess.DEVNULL, seconds=CASES_SECONDS)
+        if done.returncode:
+            raise Failure(end_of(done.stdout + done.stderr))
+        said.append(done.stdout.decode().splitlines()[-1])
+    return "; ".join(said)
 
 
 def tests(name):
