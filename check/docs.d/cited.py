@@ -3,7 +3,7 @@ import re
 from typing import NamedTuple
 
 from crates import crates_with_sources
-from references import table_rows
+from references import references, table_rows
 from specs import DEFINITION, sentence
 
 # A section, as 4.3.2 or A.1.
@@ -15,6 +15,10 @@ CITED = re.compile(rf"RFC (\d{{3,4}})(?:,? (?:sections?|appendix|appendices) ({L
 ITEM = re.compile(r"\s*(?:pub(?:\([^)]*\))? )?(?:const )?(?:unsafe )?(?:fn|struct|enum|trait|type|const|mod|ghost) (\w+)")
 MEMBER = re.compile(r"\s*(?:pub )?(\w+)\s*[:({,=]")
 COMMENT = {".rt": re.compile(r"\s*//[/!]?(?: |$)(.*)"), ".antt": re.compile(r"\s*--(?: |$)(.*)")}
+
+
+# Rules that definitions state without citing them: RFCs with their sections, the rule, and where it is stated.
+STATED = "check/docs.d/stated.txt"
 
 
 class Citation(NamedTuple):
@@ -87,14 +91,41 @@ def uncovered(root, page):
     return len(cited), faults + [f"no comment cites RFC {it}" for it in sorted(listed - cited)]
 
 
+def stated_lines(root):
+    """The lines on rules that are stated without a citation, each with its number."""
+    lines = enumerate((root / STATED).read_text(encoding="utf-8").splitlines(), 1)
+    return [(number, line) for number, line in lines if not line.startswith("#")]
+
+
+def stated_faults(library):
+    """The references of these lines that lead nowhere."""
+    for number, line in stated_lines(library.root):
+        for text, reason in references(library, library.root / STATED, line):
+            if reason(library):
+                yield f"{STATED}:{number}: {text}: {reason(library)}"
+
+
+def is_part(cited, section):
+    """Whether a section is another one or a part of it, if that is asked for."""
+    return not section or f"{cited}.".startswith(f"{section}.")
+
+
+def is_stated_of(line, number, section):
+    """Whether a line is about an RFC, and a section of it."""
+    for part in line.split(" | ")[0].split(";"):
+        rfc, *sections = re.findall(SECTION, part)
+        if number in ("all", rfc) and (not section or any(is_part(it, section) or is_part(section, it) for it in sections)):
+            return True
+    return False
+
+
 def print_citations(root, number, section=""):
-    """Prints the citations of an RFC or of all, or those of a section and its parts."""
-    lines = 0
-    for it in citations(root):
-        if number not in ("all", str(it.rfc)) or section and not f"{it.section}.".startswith(f"{section}."):
-            continue
-        lines += 1
+    """Prints where an RFC, or each, or a section and its parts, is cited, and what is stated of it without a citation."""
+    found = [it for it in citations(root) if number in ("all", str(it.rfc)) and is_part(it.section, section)]
+    for it in found:
         place = f"{it.file}: {it.name}" if it.name else it.file
         print(f"RFC {it.rfc}{' ' if it.section else ''}{it.section} | {place} | {it.text}")
-    print(f"{lines} places cite {'RFCs' if number == 'all' else 'RFC ' + number}")
-    return 0 if lines else 1
+    stated = [line for _, line in stated_lines(root) if is_stated_of(line, number, section)]
+    print("".join(f"RFC {it}\n" for it in stated), end="")
+    print(f"{len(found)} places cite {'RFCs' if number == 'all' else 'RFC ' + number}, {len(stated)} lines state what none cites")
+    return 0 if found or stated else 1
