@@ -1,4 +1,4 @@
-"""Questions that the random zones are not asked, and which of the three servers answer them otherwise, as docs/DIFFERENCES.md lists."""
+"""Questions that the random zones are not asked, and which of the three servers answer them otherwise, as docs/DECISIONS.md lists."""
 import struct
 from pathlib import Path
 from typing import NamedTuple

@@ -157,3 +157,9 @@ def crate_names(root):
             if Path(root, "crates", name, "src", "lib.rt").is_file():
                 names[name] = comment
     return names
+
+
+def crates_with_sources(root):
+    """The names of all libraries and programs of crates.txt below crates/, in order."""
+    names = re.findall(r"^(\w+):", Path(root, "crates.txt").read_text(encoding="utf-8"), re.M)
+    return [it for it in names if Path(root, "crates", it, "src").is_dir()]

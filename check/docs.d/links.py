@@ -4,6 +4,8 @@ import re
 from specs import definitions_of
 
 LINK = re.compile(r"\[`([\w:]+)(\(\))?`\](?:\(([\w:]+)\))?")
+# A link whose text is no name, as "[in order](is_in_order)".
+WORDED = re.compile(r"\[([^\]`]+)\]\(([a-z]\w*(?:::\w+)*)\)")
 WORD = re.compile(r"[^\W\d][\w-]*")
 HEADING = re.compile(r"^#+ (.*)$", re.M)
 
@@ -17,7 +19,12 @@ class Links:
     def prose(self, text):
         """A documentation text, with the links to items that are found, and the names of the others. Its headings are no
         headings of the page."""
-        return LINK.sub(self.link, HEADING.sub(r"**\1**", text))
+        return WORDED.sub(self.worded, LINK.sub(self.link, HEADING.sub(r"**\1**", text)))
+
+    def worded(self, found):
+        """A link to an item whose text is no name, or the text alone."""
+        target = self.target(found[2])
+        return f"[{found[1]}]({target})" if target else found[1]
 
     def link(self, found):
         """A link to an item."""

@@ -21,7 +21,7 @@ HIDDEN_GHOSTS = (
 ).split()
 # A block of code in a documentation text.
 FENCED = re.compile(r"^(```.*?^```)$", re.M | re.S)
-NOTE = "This page is generated from the sources by `check/docs`. Edit the sources, not this page."
+NOTE = "This page is written by `check/docs api`, from the sources."
 
 
 def first_sentence(docs):
@@ -77,9 +77,15 @@ class Page:
         lines = []
         for it in self.exports:
             if it.origin:
-                target = f"{it.origin}.md#{'.'.join(it.source)}"
-                lines.append(f"- `{it.title()}` is [`{it.origin}::{'::'.join(it.source)}`]({target}).")
+                crate, *path = self.source_of(it)
+                lines.append(f"- `{it.title()}` is [`{'::'.join((crate, *path))}`]({crate}.md#{'.'.join(path)}).")
         self.add("## Re-exports" if lines else "", "\n".join(lines))
+
+    def source_of(self, export):
+        """The path of an item of another crate, from its crate on, also where a private module of this one exports it again."""
+        module = self.crate.modules.get((export.origin,))
+        used = module.uses.get(export.source[-1]) if module and export.origin not in self.library.crates else None
+        return used if used else (export.origin, *export.source)
 
     def add_contents(self, path):
         """The tables of the items of a module."""

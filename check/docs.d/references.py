@@ -1,6 +1,8 @@
 """References in pages to public items, clauses, definitions and files."""
 import re
 from functools import cache
+from os.path import normpath
+from pathlib import Path
 
 CODE = re.compile(r"`([^`\n]+)`")
 ITEM = re.compile(r"([a-z]\w*)::([\w:{}, ]+?)(?:#(\w+))?")
@@ -14,8 +16,8 @@ DECLARED = re.compile(
 )
 # Pages whose blocks of code are contracts and definitions.
 QUOTING = ("READING_CONTRACTS.md",)
-# What a page on coverage says of a rule.
-STATUSES = ("stated", "own choice", "differs", "left out")
+# A block of code.
+FENCED = re.compile(r"^\s*```.*?^\s*```$", re.M | re.S)
 BRACES = re.compile(r"\{([^{}]*)\}")
 
 
@@ -28,7 +30,6 @@ def unresolved(library, page):
         checked = [*references(library, page, line), *placed_by_columns(row)]
         found += len(checked)
         reasons = [(text, reason(library)) for text, reason in checked]
-        reasons += [("the row", status_fault(library, page, row))]
         lines += [f"{page.name}:{number}: {text}: {reason}" for text, reason in reasons if reason]
     lines += [f"{page.name}:{number}: the row: {it}" for number, it in misshapen(page)]
     if page.name in QUOTING:
@@ -140,10 +141,29 @@ def no_file(page, target, anchor):
     return "no such place" if is_page and anchor not in anchors(file) else ""
 
 
+def lost_links(folder, pages):
+    """How many links the texts of pages have, by their names in a folder, and a line for each that leads nowhere."""
+    count, lost, places = 0, [], {name: anchors_in(text) for name, text in pages.items()}
+    for name, text in pages.items():
+        for target, anchor in LINK.findall(FENCED.sub("", text)):
+            count += 1
+            if (target or name) in places:
+                is_lost = anchor and anchor not in places[target or name]
+            else:
+                # The folder need not be there.
+                is_lost = not Path(normpath(folder / target)).exists()
+            lost += [f"{name}: {target}#{anchor}"] if is_lost else []
+    return count, lost
+
+
 @cache
 def anchors(file):
-    """The places in a page: those that are marked, and its headings."""
-    text = file.read_text(encoding="utf-8")
+    """The places in a page."""
+    return anchors_in(file.read_text(encoding="utf-8"))
+
+
+def anchors_in(text):
+    """The places in the text of a page: those that are marked, and its headings."""
     headings = [re.sub(r"[^\w\- ]", "", it.lower()).replace(" ", "-") for it in re.findall(r"^#+ (.*)$", text, re.M)]
     return set(re.findall(r'<a id="([^"]*)">', text)) | set(headings)
 
@@ -179,13 +199,3 @@ def placed_by_columns(row):
         names = CODE.findall(row["Definition"])
         files = [it for file in CODE.findall(row["File"]) for it in expanded(file)]
         yield f"{', '.join(names)} in {', '.join(files)}", lambda it: no_definitions(it, files, names)
-
-
-def status_fault(library, page, row):
-    """What is wrong with the status of a row: it is unknown, or nothing is named that states the rule."""
-    if "Rule" not in row or "Status" not in row:
-        return ""
-    if row["Status"] not in STATUSES:
-        return f"the status is none of {', '.join(STATUSES)}"
-    is_bare = row["Status"] == "stated" and not [*references(library, page, row.get("Where", ""))]
-    return "nothing is named that states the rule" if is_bare else ""

@@ -1,7 +1,10 @@
 """The definitions of a crate, with the comments above them."""
 import re
+import sys
 from dataclasses import dataclass
 from functools import cache
+
+from crates import crate_names
 
 DEFINITION = re.compile(r"(?:(?:abbrev|unfoldable|opaque) )?pub (?:(?:data|record) )?([^\W\d][\w-]*)(?=[\s:({])")
 REEXPORT = re.compile(r"^pub use Rattle\.(\w+)\.specs\.([\w.]+)\.\{([^}]*)\}", re.M)
@@ -60,3 +63,17 @@ def sentence(lines):
         return ""
     text = text[0].upper() + text[1:] if re.match(r"[a-z]+[ ,]", text) else text
     return text if text[-1] in ".:?" else text + "."
+
+
+def print_definitions(root, crates):
+    """Prints the definitions of these crates, or of all. Returns the status."""
+    unknown = [it for it in crates if it not in crate_names(root)]
+    for it in unknown:
+        print(f"docs: there is no crate {it}", file=sys.stderr)
+    for crate in [] if unknown else crates or crate_names(root):
+        for file in definitions_of(root, crate):
+            if file.names:
+                print(f"\n{file.path.removeprefix('crates/')}: {file.comment}")
+            for name, comment in file.names.items():
+                print(f"    {name}{': ' if comment else ''}{comment}")
+    return 2 if unknown else 0

@@ -3,7 +3,6 @@ import re
 from collections import defaultdict
 from typing import NamedTuple
 
-from gathered import BEGIN, END
 from references import prose_lines
 
 # So many words that occur in the same order in two places are a repetition.
@@ -21,19 +20,10 @@ class Word(NamedTuple):
     line: int
 
 
-def written_lines(page):
-    """The lines of a page outside blocks of code that are not gathered from others."""
-    is_gathered = False
-    for number, line in prose_lines(page):
-        is_gathered = (is_gathered or line == BEGIN) and line != END
-        if not is_gathered:
-            yield number, line
-
-
 def words_of(root, page):
     """The words of a page outside blocks of code."""
     name = str(page.relative_to(root))
-    return [Word(it.lower(), name, number) for number, line in written_lines(page) for it in WORD.findall(line)]
+    return [Word(it.lower(), name, number) for number, line in prose_lines(page) for it in WORD.findall(line)]
 
 
 def all_words(page):
@@ -43,7 +33,7 @@ def all_words(page):
 
 def in_tables(page):
     """How many words outside blocks of code are in the rows of tables."""
-    return sum(len(WORD.findall(line)) for _, line in written_lines(page) if line.startswith(TABLE))
+    return sum(len(WORD.findall(line)) for _, line in prose_lines(page) if line.startswith(TABLE))
 
 
 def passages(texts):

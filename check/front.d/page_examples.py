@@ -252,7 +252,8 @@ def other_blocks(page):
 
 def check_pages(report, names):
     """Runs the examples of these pages, or of all."""
-    pages = [Path(it).resolve() for it in names] or [ROOT / "README.md", *sorted((ROOT / "docs").glob("*.md"))]
+    first = [ROOT / "README.md", ROOT / "clients" / "README.md"]
+    pages = [Path(it).resolve() for it in names] or [*first, *sorted((ROOT / "docs").glob("*.md"))]
     total = 0
     for page in pages:
         run = PageRun(report, page)

@@ -114,7 +114,7 @@ class Cause:
         return f"{self.kind}: {self.text}"
 
 
-# Why a file that a peer reads is refused, by what `zonecheck` says first: the kind, the rule, and docs/DIFFERENCES.md has each.
+# Why a file that a peer reads is refused, by what `zonecheck` says first: the kind, the rule, and docs/DECISIONS.md has each.
 KNOWN = (
     ("no SOA record at the origin", re.compile(r"SOA record"), "RFC 1034 section 4.2.1: a zone has one SOA record at its origin"),
     ("an owner outside the origin", re.compile(r"an owner outside the zone's origin"), "RFC 1034 section 4.2: a zone's data is at and below its origin"),
