@@ -200,8 +200,8 @@ CLAUSES = {
         "place-header": "`Place::replace`, over the encoding that `header-again` tries",
         "new-header": "`Metadata::new`",
         "response-header": "`Metadata::response_from_request`, over `response_metadata`, which serving.script tries",
-        "fronts": "`Message::from_vec`: bytes that end in a record are refused; the fuzzed inputs of `hostile` have all fronts",
-        "octets": "`Message::from_vec` and `to_vec`, and the law that a decoded message is encoded as itself; `hostile` has all octets",
+        "fronts": "`Message::from_vec`: bytes that end in a record are refused; the inputs of `check/hostile` have all fronts",
+        "octets": "`Message::from_vec` and `to_vec`, and the law that a decoded message is encoded as itself; the inputs of `check/hostile` have all octets",
         "questions": "`Message::read_queries`, clauses `read` and `refused`, over the relation of `Message::from_vec`",
         "section-records": "`Message::read_records`, clauses `read` and `refused`, over the relation of `Message::from_vec`",
         "emit-parts": "`emit_message_parts`, over the pieces of `Message::to_vec_within`, which `encode` tries",
@@ -288,7 +288,7 @@ LATER = {
     "rows_resolver": {"*": SCRIPT}
     | {it: VALUES for it in ("names", "special", "config", "hosts", "hosts-bytes", "hosts-fault", "set-hosts", "error-text")},
     "rows_check": {"*": CHECKED},
-    "hostile": {"*": "a stored run of `stub`, `nameserver` and `zonecheck`"},
+    "hostile": {},
     "rows_net": {"*": VALUES, "schedule": SCRIPT, "update": SCRIPT, "steps": SCRIPT},
 }
 
@@ -360,6 +360,20 @@ rows_stub zone_files: play 65, play-with 24
 """
 IN_CASES = "a case of `check/program`"
 
+# The rows that gave each reader the inputs close to a good one, or random ones, as they were: `check/hostile` gives them to programs now.
+GIVEN = """
+hostile frames: around 15, random 2
+hostile hosts: around 15, random 2
+hostile messages: around 40, random 2
+hostile names: around 40, random 2
+hostile requests: around 40, random 3
+hostile scripts: around 20, random 1
+hostile zones: around 30, random 2
+"""
+IN_CHECK = "the inputs of `check/hostile`; some are stored, in `mutated*.rows`, `mutated.script` and `mutated*.case`"
+# The files of `rows` with such inputs.
+MUTATED = ("mutated_names", "mutated_messages")
+
 
 def tried_files(table):
     """The operations of each file that a table lists: how many rows, and how many of these go by a clause."""
@@ -374,7 +388,7 @@ def tried_files(table):
 
 
 # The rows that are elsewhere now.
-MOVED = tried_files(SCRIPTED), tried_files(CASED)
+MOVED = tried_files(SCRIPTED), tried_files(CASED), tried_files(GIVEN)
 
 
 def subject_of(program):
@@ -450,7 +464,7 @@ def operation_table(files):
 def place_of(program, word, count):
     """Where the rows of an operation are, or are to be."""
     places = []
-    for table, place in zip(MOVED, (IN_SCRIPTS, IN_CASES)):
+    for table, place in zip(MOVED, (IN_SCRIPTS, IN_CASES, IN_CHECK)):
         operations = [it for (one, _), words in table.items() if one == program for it in words]
         moved = sum(it[1] - it[2] for it in operations if it[0] == word)
         if moved == count:
@@ -468,8 +482,8 @@ def main():
         print(tables, end="")
         return 0
     files = (ROOT / "check" / "harness" / "rows" / "data").glob("*.rows")
-    # The rows of failing.rows show that a row can fail.
-    counts = [sum(rows_of(it).values()) for it in files if it.stem != "failing"]
+    # The rows of failing.rows show that a row can fail, and those of the others are made by check/hostile.
+    counts = [sum(rows_of(it).values()) for it in files if it.stem not in ("failing", *MUTATED)]
     if sum(counts) != now:
         print(f"rows.py: {sum(counts)} rows in rows, and {now} by the table")
         return 1
