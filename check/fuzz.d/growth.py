@@ -244,7 +244,8 @@ def measured(programs: dict[str, Path | None], case: Case, factor: int, has_spac
 
 
 def print_growth(programs: dict[str, Path | None], wanted: str) -> int:
-    """Prints a table, without the cases of programs that are not given. The result is how many cases grow faster than n log n without a known reason, or crash."""
+    """Prints a table, without the cases of programs that are not given. The result is how many cases grow faster than n log n without a
+    known reason, or crash."""
     print("| Input | Bytes | Seconds at n, 2n, 4n, 8n | Memory at n, 8n | Growth |\n|---|---|---|---|---|")
     failed = 0
     for case in cases():

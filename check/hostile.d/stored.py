@@ -22,17 +22,20 @@ ZONES, RUNS = ROOT / "check" / "zonecheck.d", ROOT / "check" / "program.d"
 LOOKED, STEP = 220, 7919
 # How many of them are stored at most, and how many with the same outcome.
 MOST, SAME = 9, 2
+# The SOA record below which zone files are read that have no fault by themselves, or only one that a record of a zone has.
+FIRST = b"$ORIGIN t.\n@ 60 SOA ns h 1 3600 600 86400 30\n"
+PLACES = ("NotInternet", "OutsideOrigin", "SoaElsewhere", "OriginTwice")
 # Every outcome is stored at least once.
 OUTCOMES = {
     "names": "read InsufficientBytes UnrecognizedLabelCode PointerNotPriorToLabel DomainNameTooLong",
     "messages": "read InsufficientBytes UnrecognizedLabelCode PointerNotPriorToLabel IncorrectRDataLengthRead "
     "InvalidEmptyRecord RecordNotInAdditionalSection DuplicateEdns EdnsNameNotRoot",
-    "requests": "NoError FormErr NXDomain NotImp Refused YXDomain YXRRSet NXRRSet NotAuth NotZone",
+    "requests": "NoError FormErr NXDomain NotImp Refused YXDomain YXRRSet NXRRSet NotAuth NotZone no_reply unknown_opcode",
     "zones": "read UnclosedQuotedString UnclosedList NestedList UnopenedList LoneBackslash NoOwner InvalidOwner InvalidTtl "
     "RepeatedField MissingType UnknownType NoTtl InvalidDirective UnsupportedRecordType MissingToken InvalidToken UnexpectedToken "
     "InvalidName IncludeNotFound NotInternet OutsideOrigin SoaElsewhere",
     "hosts": "read Utf8",
-    "scripts": "read Line",
+    "scripts": "read Line not_UTF-8",
 }
 
 
@@ -59,7 +62,7 @@ def spread(inputs: list[Input]) -> list[Input]:
 
 def rare_ones(kind: str, outcome_of: Callable[[Input], str | None], present: set[str]) -> list[tuple[str, Input]]:
     """An input for each outcome that is not there yet."""
-    missing, found = {*OUTCOMES[kind].split(), *EXTRA.get(kind, [])} - present, []
+    missing, found = {it.replace("_", " ") for it in OUTCOMES[kind].split()} - present, []
     for given in chain.from_iterable(close_to(kind, it) for it in reversed(good_ones(kind))) if missing else ():
         outcome = outcome_of(given)
         if outcome in missing:
@@ -72,11 +75,9 @@ def rare_ones(kind: str, outcome_of: Callable[[Input], str | None], present: set
     return found
 
 
-EXTRA = {"requests": ["no reply", "unknown opcode"], "scripts": ["not UTF-8"]}
-
-
-def by_title(inputs: list[tuple[str, Input]]) -> Iterator[tuple[str, list[tuple[str, Input]]]]:
-    for title, group in groupby(inputs, key=lambda it: it[1].title):
+def by_title(inputs: list[Input]) -> Iterator[tuple[str, list[Input]]]:
+    """The inputs that are close to the same good one."""
+    for title, group in groupby(inputs, key=lambda it: it.title):
         yield title, list(group)
 
 
@@ -86,8 +87,8 @@ def by_title(inputs: list[tuple[str, Input]]) -> Iterator[tuple[str, list[tuple[
 def rows_text(kind: str, about: str) -> str:
     row_of = wire_rows.ROW_OF[kind]
     lines = [f"# {about} Made by check/hostile --write."]
-    for title, group in by_title(picked(kind, lambda it: row_of(it)[0])):
-        lines += ["", f"# {title}", *(row_of(it)[1] for _, it in group)]
+    for title, group in by_title([it for _, it in picked(kind, lambda it: row_of(it)[0])]):
+        lines += ["", f"# {title}", *(row_of(it)[1] for it in group)]
     return "".join(f"{it}\n" for it in lines)
 
 
@@ -98,9 +99,9 @@ def request_outcome(given: Input) -> str | None:
 def script_text() -> str:
     lines = ["# Requests close to good ones, and what the server with `--plain` replies, as bytes. Made by check/hostile --write."]
     script, inputs = request_script.Script(), [it for _, it in picked("requests", request_outcome)]
-    for _, group in by_title([("", it) for it in sorted(inputs, key=lambda it: request_script.TRANSPORTS[it.reader])]):
-        lines += ["", f"# {group[0][1].title}"]
-        for _, given in group:
+    for title, group in by_title(sorted(inputs, key=lambda it: request_script.TRANSPORTS[it.reader])):
+        lines += ["", f"# {title}"]
+        for given in group:
             lines += script.exchange(given)[1]
     return "".join(f"{it}\n" for it in lines)
 
@@ -146,18 +147,13 @@ def told(given: Input, front: bytes) -> tuple[str, str, str] | None:
         if refusal.line is None or refusal.line > (front + text).count(b"\n") + 1:
             return None
         text = b"\n".join((front + text).split(b"\n")[: refusal.line])[len(front) :]
-    # After a parenthesis inside another a line that does not begin with a blank is read again, and in a file of all types a string may go on.
+    # After a parenthesis inside another, a line that does not begin with a blank is read again. In a file of all types a string may go on.
     is_again = str(refusal) == "NestedList" and text.split(b"\n")[-1][:1] not in (b" ", b"\t") and b"\n" in text
     if is_again or includes and str(refusal) == "UnclosedQuotedString":
         return None
     is_last = refusal.line == (front + text).count(b"\n") + 1
     written = written_file(text)
     return (str(refusal), f"refused zone: {zone_files.sentence_of(refusal)}", written) if is_last and written else None
-
-
-# The SOA record below which files are read that have no fault of their own, or a fault of a zone.
-FIRST = b"$ORIGIN t.\n@ 60 SOA ns h 1 3600 600 86400 30\n"
-PLACES = ("NotInternet", "OutsideOrigin", "SoaElsewhere", "OriginTwice")
 
 
 def placed(given: Input) -> tuple[bytes, str, str, str] | None:
@@ -188,13 +184,19 @@ def zone_case() -> str:
         if key == (False, True):
             lines += ["-- then", "Below the SOA record of their zone.", "-- file zone", FIRST.decode().rstrip("\n")]
         if key == (True, True):
-            lines += ["-- then", "With a file that is included.", "-- options", "-- file inc", INC.decode().rstrip("\n")]
+            lines += ["-- then", "With a file that is included.", "-- options", "-- file inc"]
+            lines += zone_files.INCLUDED[b"inc"].decode().splitlines()
         for title, texts in parts[key].items():
             lines += [f"-- {title}", *dict.fromkeys(texts)]
-    return "".join(f"{it}\n" for it in lines)
+    return "".join(f"{it}\n" for it in lines) + not_utf8_run()
 
 
-(INC,) = zone_files.INCLUDED.values()
+def not_utf8_run() -> str:
+    """The run on a zone file that is not UTF-8: nothing else is said of it."""
+    given = next(it for it in close_to("zones", good_ones("zones")[-1]) if not is_utf8(it.data) and not it.is_front)
+    _, refusal = zone_files.refusal_of(given.data, {})
+    text = f"-- then\nA byte that is not UTF-8.\n-- file zone escaped\n{escaped(given.data)}-- status\n1\n-- stdout\n"
+    return text + f"zone:{refusal.line}: fault: {zone_files.sentence_of(refusal)}\n    save the file as UTF-8; it may be in Latin-1\n"
 
 
 def hosts_case() -> str:
