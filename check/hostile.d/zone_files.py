@@ -48,7 +48,8 @@ SENTENCES = {
     "byte-order mark": "a byte-order mark at the start of the file",
 }
 A, MX, SRV = 1, 15, 33
-FINDING = re.compile(r"(\d+)/t\.zone(?::(\d+))?: (fault|warning|zone)(?::? (.*))?\Z", re.S)
+# A finding is in a file or in one that it includes.
+FINDING = re.compile(r"(\d+)/(?:t\.zone|inc)(?::(\d+))?: (fault|warning|zone)(?::? (.*))?\Z", re.S)
 
 
 def special_sentence(refusal: Refusal) -> str | None:
