@@ -372,7 +372,7 @@ hostile zones: around 30, random 2
 """
 IN_CHECK = "the inputs of `check/hostile`; some are stored, in `mutated*.rows`, `mutated.script` and `mutated*.case`"
 # The files of `rows` with such inputs.
-MUTATED = ("mutated_names", "mutated_messages")
+MUTATED = ("mutated_names", "mutated_messages", "mutated_frames")
 
 
 def tried_files(table):

@@ -8,6 +8,7 @@ from nameserver import NameServer
 from replies import Server
 from request_script import ZONE
 from samples import query
+from wire_rows import frames_of, frames_row
 from zones import zone_of
 
 # The question behind each input: if the input ends after a frame, it is answered.
@@ -17,22 +18,6 @@ SECONDS = 20.0
 
 def frame(data: bytes) -> bytes:
     return len(data).to_bytes(2, "big") + data
-
-
-def frames_of(data: bytes) -> tuple[list[bytes], bool]:
-    """The frames of a stream, and whether it ends after one (RFC 1035 section 4.2.2)."""
-    found, at = [], 0
-    while at < len(data):
-        size = int.from_bytes(data[at : at + 2], "big")
-        if at + 2 > len(data) or at + 2 + size > len(data):
-            return found, False
-        found.append(data[at + 2 : at + 2 + size])
-        at += 2 + size
-    return found, True
-
-
-def outcome_of(data: bytes) -> str:
-    return "read" if frames_of(data)[1] else "Truncated"
 
 
 def exchanged(address: tuple[str, int], data: bytes, cut: int) -> bytes:
@@ -53,7 +38,7 @@ def tried(program: Path, inputs: list[Input], counts: Counter) -> list[str]:
     found = []
     with NameServer([ZONE], program=str(program), options=["--plain", "--no-updates"]) as server:
         for given in inputs:
-            counts[outcome_of(given.data)] += 1
+            counts[frames_row(given)[0]] += 1
             data, model = given.data + frame(LAST), Server([zone_of(ZONE)], takes_updates=False)
             replies = (model.reply(it, True) for it in frames_of(data)[0])
             wanted = b"".join(frame(it) for it in replies if it is not None)

@@ -30,6 +30,7 @@ OUTCOMES = {
     "names": "read InsufficientBytes UnrecognizedLabelCode PointerNotPriorToLabel DomainNameTooLong",
     "messages": "read InsufficientBytes UnrecognizedLabelCode PointerNotPriorToLabel IncorrectRDataLengthRead "
     "InvalidEmptyRecord RecordNotInAdditionalSection DuplicateEdns EdnsNameNotRoot",
+    "frames": "read Truncated",
     "requests": "NoError FormErr NXDomain NotImp Refused YXDomain YXRRSet NXRRSet NotAuth NotZone no_reply unknown_opcode",
     "zones": "read UnclosedQuotedString UnclosedList NestedList UnopenedList LoneBackslash NoOwner InvalidOwner InvalidTtl "
     "RepeatedField MissingType UnknownType NoTtl InvalidDirective UnsupportedRecordType MissingToken InvalidToken UnexpectedToken "
@@ -84,10 +85,10 @@ def by_title(inputs: list[Input]) -> Iterator[tuple[str, list[Input]]]:
 # ---- rows and exchanges
 
 
-def rows_text(kind: str, about: str) -> str:
+def rows_text(kind: str, about: str, same: int = SAME) -> str:
     row_of = wire_rows.ROW_OF[kind]
     lines = [f"# {about} Made by check/hostile --write."]
-    for title, group in by_title([it for _, it in picked(kind, lambda it: row_of(it)[0])]):
+    for title, group in by_title([it for _, it in picked(kind, lambda it: row_of(it)[0], same=same)]):
         lines += ["", f"# {title}", *(row_of(it)[1] for it in group)]
     return "".join(f"{it}\n" for it in lines)
 
@@ -244,9 +245,11 @@ def files() -> dict[Path, str]:
     """The stored files, as the model has them."""
     names = "Names close to good ones: the name that is read and where it ends, or the refusal and where it begins."
     messages = "Messages close to good ones: how each is encoded again, or the refusal."
+    frames = "Streams close to good ones: their frames, and how they end."
     return {
         ROWS / "mutated_names.rows": rows_text("names", names),
         ROWS / "mutated_messages.rows": rows_text("messages", messages),
+        ROWS / "mutated_frames.rows": rows_text("frames", frames, 5),
         SCRIPT / request_script.NAME: ZONE,
         SCRIPT / "mutated.script": script_text(),
         ZONES / "mutated.case": zone_case(),

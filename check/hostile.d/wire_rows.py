@@ -1,4 +1,4 @@
-"""Names and messages as rows of the program `rows`: what each input is read as, by the model."""
+"""Names, messages and frames of streams as rows of the program `rows`: what each input is read as, by the model."""
 from collections import Counter
 from pathlib import Path
 
@@ -9,8 +9,8 @@ from text import name_text
 from wire import OPT, TSIG, Cursor, Refusal, read_message
 from zones import Record
 
-# How many rows a process has.
-ROWS = 50_000
+# How many rows a process has, and how many bytes a read of a stream gives.
+ROWS, PIECES = 50_000, (1, 2, 3, 70_000)
 
 
 def digits(data: bytes) -> str:
@@ -59,7 +59,26 @@ def encoded_again(data: bytes) -> bytes:
     return bytes(out.data)
 
 
-ROW_OF = {"names": name_row, "messages": message_row}
+def frames_of(data: bytes) -> tuple[list[bytes], bool]:
+    """The frames of a stream, and whether it ends after one (RFC 1035 section 4.2.2)."""
+    found, at = [], 0
+    while at < len(data):
+        size = int.from_bytes(data[at : at + 2], "big")
+        if at + 2 > len(data) or at + 2 + size > len(data):
+            return found, False
+        found.append(data[at + 2 : at + 2 + size])
+        at += 2 + size
+    return found, True
+
+
+def frames_row(given: Input) -> tuple[str, str]:
+    """The outcome of a stream, and the row, which reads it in pieces of a size: its frames, and how it ends."""
+    found, is_whole = frames_of(given.data)
+    outcome, piece = "read" if is_whole else "Truncated", PIECES[sum(given.data) % len(PIECES)]
+    return outcome, " ".join([f"frames {piece} {digits(given.data)} >", *map(digits, found), "end" if is_whole else outcome])
+
+
+ROW_OF = {"names": name_row, "messages": message_row, "frames": frames_row}
 
 
 def failures(program: Path, rows: list[str]) -> list[str]:
