@@ -6,6 +6,7 @@ from pathlib import Path
 from string import ascii_lowercase, digits
 from struct import pack
 
+from request_script import ZONE
 from runs import Run, least_space, run
 from samples import at, header, query, question, record, update, wire
 
@@ -18,7 +19,7 @@ LABELS = "names have more labels, too, up to 108"
 @dataclass
 class Case:
     title: str
-    # the size n, and the files of the program `stub` or the input of a reader of the program `rows_layers` at a size
+    # the size n, and the files of the program `stub` at a size, or a name, a message or a request, and how often it is read
     size: int
     files: Callable[[int], dict[str, bytes]]
     reader: str = ""
@@ -198,15 +199,13 @@ def cases() -> list[Case]:
         wired("message: strings", "message", 7000, lambda n: header((0, 1, 0, 0)) + record(b"\0", 16, bytes(n)), 20),
         wired("message: options", "message", 1900, lambda n: header((0, 0, 0, 1)) + record(b"\0", 41, bytes(4 * n)), 20),
         wired("message: questions", "message", 1000, lambda n: header((n, 0, 0, 0)) + question(b"\0") * n, 10),
-        wired("request: additions to one name", "stream", 350, additions, 1),
-        wired("request: prerequisites of one set", "stream", 400, prerequisites),
-        wired("request: deletions of a name with many types", "stream", 270, emptied),
-        wired("request: aliases at a name that had many types", "stream", 260, replaced),
-        wired("request: aliases at a name whose types are deleted in turn", "stream", 150, beside_types),
-        wired("request: a type that comes and goes at a name", "stream", 120, by_turns),
-        wired("request: additions of different names, and their deletions", "stream", 220, owners),
-        wired("stream: empty frames", "frames", 4000, many(b"\0\0"), 3),
-        wired("zone file: included texts", "zone", 2000, many(b"$INCLUDE inc\n")),
+        wired("request: additions to one name", "request", 350, additions, 1),
+        wired("request: prerequisites of one set", "request", 400, prerequisites),
+        wired("request: deletions of a name with many types", "request", 270, emptied),
+        wired("request: aliases at a name that had many types", "request", 260, replaced),
+        wired("request: aliases at a name whose types are deleted in turn", "request", 150, beside_types),
+        wired("request: a type that comes and goes at a name", "request", 120, by_turns),
+        wired("request: additions of different names, and their deletions", "request", 220, owners),
         wired("name: 127 labels, then other bytes", "name", 1000, lambda n: b"\1" + wire(".".join("a" * 127)) + bytes(n), 10),
     ]
 
@@ -220,27 +219,39 @@ class Measure:
     space: int
 
 
-def measured(stub: Path, hostile: Path | None, case: Case, factor: int, has_space: bool) -> Measure:
+# What a row of the program `rows` asks of an input.
+ROWS = {"message": "encode 65535 {}", "name": "read {}; at 1; name"}
+
+
+def process_of(programs: dict[str, Path | None], case: Case, files: dict[str, bytes]) -> tuple[Path | None, list[str], dict[str, bytes]]:
+    """The program that a case is for, with its arguments and its files."""
+    if not case.reader:
+        return programs["stub"], ["--zone", "zone", "--script", "script", "--hosts", "hosts"], files
+    digits = files["input"].hex()
+    if case.reader == "request":
+        script = "server zone --plain\n" + f"0 127.0.0.1 tcp hex {digits}\n" * case.times
+        return programs["nameserver"], ["--replay", "script"], {"zone": ZONE.encode(), "script": script.encode()}
+    row = f"{ROWS[case.reader].format(digits)} > ?\n"
+    return programs["rows"], ["rows"], {"rows": (row * case.times).encode()}
+
+
+def measured(programs: dict[str, Path | None], case: Case, factor: int, has_space: bool) -> Measure:
     """What a case costs at a size."""
-    files = case.files(case.size * factor)
-    size = sum(map(len, files.values()))
-    if case.reader:
-        row = f"read {case.reader} hex {files['input'].hex()} > ?\n"
-        program, words, files = hostile, ["hostile/rows"], {"hostile/rows": (row * case.times).encode()}
-    else:
-        program, words = stub, ["--zone", "zone", "--script", "script", "--hosts", "hosts"]
-    best = min((run(program, words, files, LIMIT) for _ in range(2)), key=lambda it: it.seconds)
-    return Measure(size, best, least_space(program, words, files, best, LIMIT) if has_space else 0)
+    given = case.files(case.size * factor)
+    process = process_of(programs, case, given)
+    best = min((run(*process, LIMIT) for _ in range(2)), key=lambda it: it.seconds)
+    return Measure(sum(map(len, given.values())), best, least_space(*process, best, LIMIT) if has_space else 0)
 
 
-def print_growth(stub: Path, hostile: Path | None, wanted: str) -> int:
-    """Prints a table. The result is how many cases grow faster than n log n without a known reason, or crash."""
+def print_growth(programs: dict[str, Path | None], wanted: str) -> int:
+    """Prints a table, without the cases of programs that are not given. The result is how many cases grow faster than n log n without a
+    known reason, or crash."""
     print("| Input | Bytes | Seconds at n, 2n, 4n, 8n | Memory at n, 8n | Growth |\n|---|---|---|---|---|")
     failed = 0
     for case in cases():
-        if wanted not in case.title or case.reader and not hostile:
+        if wanted not in case.title or not process_of(programs, case, case.files(1))[0]:
             continue
-        found = [measured(stub, hostile, case, factor, factor in (1, 8)) for factor in (1, 2, 4, 8)]
+        found = [measured(programs, case, factor, factor in (1, 8)) for factor in (1, 2, 4, 8)]
         growth = growth_of(found)
         if growth.startswith("faster"):
             failed += not case.reason

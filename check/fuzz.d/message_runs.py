@@ -1,32 +1,25 @@
-"""Random inputs for the program `rows_layers`, with the outcomes that the model of check/hostile.d has for them."""
+"""Random names, messages and requests for the programs `rows` and `nameserver`, with what the model of check/hostile has for them."""
 import random
 from collections import Counter
 from pathlib import Path
 
-from inputs import READERS, TEXT, counted, part_text
-from mutation import changed
-from runs import run
-from samples import samples
+import request_script
+import wire_rows
+from inputs import Input, good_ones
 
-SECONDS = 60.0
-ROWS = 1500
+INPUTS = 1500
+KINDS = ["names", "messages", "messages", "requests"]
 
 
 def all_samples() -> dict[str, list[bytes]]:
-    found: dict[str, list[bytes]] = {reader: [] for reader in READERS}
-    for inputs in samples().values():
-        for reader, _, data in inputs:
-            found[reader].append(data)
-    requests = found["stream"] + found["datagram"] + found["small"]
-    return {**found, "message": found["message"] + requests, "stream": requests, "datagram": requests, "small": requests}
+    """The good inputs of each kind. Messages may be requests, too."""
+    found = {kind: [it.data for it in good_ones(kind)] for kind in KINDS}
+    return {**found, "messages": found["messages"] + found["requests"]}
 
 
-def altered(rng: random.Random, reader: str, inputs: list[bytes]) -> bytes:
-    """A random change of a good input: of a text as of any text, of a message byte by byte."""
-    data = rng.choice(inputs)
-    if READERS[reader][1] == TEXT:
-        return changed(rng, data, inputs)[:4000]
-    out = bytearray(data)
+def altered(rng: random.Random, inputs: list[bytes]) -> bytes:
+    """A random change of a good input, byte by byte."""
+    out = bytearray(rng.choice(inputs))
     for _ in range(rng.randint(1, 5)):
         at = rng.randint(0, len(out))
         small = rng.choice([rng.randrange(256), rng.randrange(8), 0, 0xC0, 0xFF, 0x0C])
@@ -37,19 +30,16 @@ def altered(rng: random.Random, reader: str, inputs: list[bytes]) -> bytes:
     return bytes(out)
 
 
-def fuzz(program: Path, rng: random.Random, inputs: dict[str, list[bytes]], counts: Counter) -> tuple | None:
-    """One run on many random inputs. The result is the first line that differs from the model."""
-    rows = []
-    for _ in range(ROWS):
-        reader = rng.choice(["message", "message", *READERS])
-        data = altered(rng, reader, inputs[reader])
-        answer = part_text("whole", counted(READERS[reader][0], iter([data])))
-        rows.append(f"read {reader} hex {data.hex() or '-'} > {answer}")
-        counts[reader] += 1
-    found = run(program, ["hostile/random.rows"], {"hostile/random.rows": "\n".join(rows).encode()}, SECONDS)
-    if found.is_late:
-        return f"it has not ended after {SECONDS} seconds", {"random.rows": "\n".join(rows).encode()}, []
-    if found.status or found.err:
-        files = {"random.rows": "\n".join(rows).encode(), "differing": b"\n".join(found.out.splitlines()[:2])}
-        return f"status {found.status}: {found.err!r}", files, []
-    return None
+def fuzz(programs: tuple[Path, Path], rng: random.Random, inputs: dict[str, list[bytes]], counts: Counter) -> tuple | None:
+    """One run on many random inputs of a kind. The result is the first lines that differ from the model, and the inputs."""
+    kind = rng.choice(KINDS)
+    reader = rng.choice([*request_script.TRANSPORTS])
+    given = [Input(reader, "random", altered(rng, inputs[kind])) for _ in range(INPUTS)]
+    rows, nameserver = programs
+    if kind == "requests":
+        found = request_script.tried(nameserver, given, Counter())
+    else:
+        found = wire_rows.tried(kind, rows, given, Counter())
+    counts[kind] += len(given)
+    text = "\n".join(it.data.hex() for it in given)
+    return ("\n".join(found[:4]), {f"{kind}.hex": text.encode()}, []) if found else None

@@ -1,30 +1,39 @@
-"""The inputs of the program `hostile`: its random numbers, and what it makes of an input."""
-from collections import Counter
-from collections.abc import Callable, Iterator
+"""Hostile inputs of each kind: what is close to a good input, and random ones."""
+from collections.abc import Iterator
+from itertools import chain, islice
+from typing import NamedTuple
 
-from hosts_text import hosts_outcome
-from script_text import script_outcome
-from server import served_outcome
-from wire import frames_outcome, message_outcome, name_outcome
-from zone_text import zone_outcome
+from samples import samples
 
 BYTES, MESSAGE, TEXT = range(3)
-Outcome = Callable[[bytes], list[tuple[str, int]]]
-READERS: dict[str, tuple[Outcome, int]] = {
-    "name": (name_outcome, BYTES),
-    "message": (message_outcome, MESSAGE),
-    "frames": (frames_outcome, BYTES),
-    "stream": (served_outcome, MESSAGE),
-    "datagram": (served_outcome, MESSAGE),
-    "small": (served_outcome, MESSAGE),
-    "zone": (zone_outcome, TEXT),
-    "hosts": (hosts_outcome, TEXT),
-    "script": (script_outcome, TEXT),
+SHAPES = {
+    "names": BYTES, "messages": MESSAGE, "frames": BYTES, "requests": MESSAGE, "zones": TEXT, "hosts": TEXT, "scripts": TEXT,
+}  # fmt: skip
+# The random inputs of each kind: a seed, how many, and the most bytes of each.
+RANDOM = {
+    "names": [(1, 8000, 24), (2, 2000, 300)],
+    "messages": [(1, 8000, 64), (2, 2000, 300)],
+    "frames": [(1, 4000, 16), (2, 1000, 600)],
+    "requests": [(1, 3000, 80), (2, 3000, 80), (3, 3000, 80)],
+    "zones": [(1, 5000, 40), (2, 2000, 200)],
+    "hosts": [(1, 3500, 60), (2, 1000, 300)],
+    "scripts": [(1, 4500, 60)],
 }
+# Inputs of at most so many bytes have each byte replaced by all others, and longer ones by those of a list: limits of label
+# lengths and pointers (RFC 1035 section 4.1.4), and characters with a meaning in texts.
 SHORT, CHANGES = 40, 250
 REPLACEMENTS = b'\x00\xff\xc0\x3f\x40\x80\x01\n"();\\ 0#'
 CHARACTERS = b'\n\n\n   \t\t";()\\@.$*-#0129:abtAIN6>q\'TXMSO{}x,'
 WHOLE = 2**64 - 1
+
+
+class Input(NamedTuple):
+    """An input: how it is read, of which good input it is a change, and its bytes. A front is what an input begins with."""
+
+    reader: str
+    title: str
+    data: bytes
+    is_front: bool = False
 
 
 class Random:
@@ -70,6 +79,7 @@ def edited(random: Random, shape: int, data: bytes) -> bytes:
 
 
 def random_changes(data: bytes, shape: int) -> Iterator[bytes]:
+    """The inputs after one to four random changes."""
     seed = 1
     for byte in data:
         seed = (seed * 31 + byte) & WHOLE
@@ -92,32 +102,38 @@ def changes(data: bytes) -> Iterator[bytes]:
             yield data[:place] + bytes([byte]) + data[place + 1 :]
 
 
-def counted(outcome: Outcome, data: Iterator[bytes]) -> Counter:
-    counts: Counter = Counter()
-    for each in data:
-        for word, number in outcome(each):
-            if number:
-                counts[word] += number
-    return counts
+def close_to(kind: str, good: Input) -> Iterator[Input]:
+    """The inputs close to a good one: its proper fronts, those that differ in a byte, and random changes."""
+    for size in range(len(good.data)):
+        yield good._replace(data=good.data[:size], is_front=True)
+    for data in chain(changes(good.data), random_changes(good.data, SHAPES[kind])):
+        yield good._replace(data=data)
 
 
-def part_text(title: str, counts: Counter) -> str:
-    return title + (" " + ", ".join(f"{word} {number}" for word, number in counts.items()) if counts else "")
+def good_ones(kind: str) -> list[Input]:
+    return [Input(*it) for it in samples()[kind]]
 
 
-def around(reader: str, data: bytes) -> list[tuple[str, Counter]]:
-    """The outcomes of an input and of those close to it."""
-    outcome, shape = READERS[reader]
-    return [
-        ("whole", counted(outcome, iter([data]))),
-        ("fronts", counted(outcome, (data[:size] for size in range(len(data))))),
-        ("changes", counted(outcome, changes(data))),
-        ("random", counted(outcome, random_changes(data, shape))),
-    ]
+def at_random(kind: str, good: list[Input]) -> Iterator[Input]:
+    """The random inputs of a kind, each run of them for one of its readers."""
+    readers = list(dict.fromkeys(it.reader for it in good))
+    for nth, (seed, count, most) in enumerate(RANDOM[kind]):
+        random = Random(seed)
+        for _ in range(count):
+            yield Input(readers[nth % len(readers)], "random", random_input(random, SHAPES[kind], most))
 
 
-def at_random(reader: str, seed: int, count: int, most: int) -> list[tuple[str, Counter]]:
-    """The outcomes of random inputs."""
-    outcome, shape = READERS[reader]
-    random = Random(seed)
-    return [("random", counted(outcome, (random_input(random, shape, most) for _ in range(count))))]
+def all_inputs(kind: str) -> Iterator[Input]:
+    """All inputs of a kind, the good ones first."""
+    good = good_ones(kind)
+    return chain(good, chain.from_iterable(close_to(kind, it) for it in good), at_random(kind, good))
+
+
+def some_inputs(kind: str, most: int | None) -> list[Input]:
+    """The good inputs of a kind, and so many of the others, at equal distances; or all of them."""
+    found = list(all_inputs(kind))
+    if most is None or len(found) <= most:
+        return found
+    count = len(good_ones(kind))
+    # A distance that has no divisor in common with the number of bytes tries different bytes at each place.
+    return found[:count] + list(islice(found, count, None, len(found) // most | 1))

@@ -1,7 +1,7 @@
 """Scripts for the zone `t.`, as docs/REPLAY.md describes them."""
 from text import address, labels, name, number, record_type
 from wire import OPT, Refusal
-from zone_text import data_of, is_utf8
+from zone_text import data_of
 
 ORIGIN = (b"t",)
 GREATEST = 2**64 - 1
@@ -95,14 +95,10 @@ def is_event_line(line: bytes) -> bool:
     return split is not None and is_link_script(line[split[1] + 1 :]) and is_event(split[0])
 
 
-def script_outcome(data: bytes) -> list[tuple[str, int]]:
-    if not is_utf8(data):
-        return [("not UTF-8", 1)]
-    events = 0
+def faulty_line(data: bytes) -> int | None:
+    """The number of the first line that is none of a script."""
     # A carriage return ends a line only with a line feed after it.
-    for line in data.replace(b"\r\n", b"\n").split(b"\n"):
-        if line.strip(b" \t")[:1] not in (b"", b"#"):
-            if not is_event_line(line):
-                return [("Line", 1)]
-            events += 1
-    return [("read", 1), ("event", events)]
+    for number, line in enumerate(data.replace(b"\r\n", b"\n").split(b"\n"), 1):
+        if line.strip(b" \t")[:1] not in (b"", b"#") and not is_event_line(line):
+            return number
+    return None

@@ -80,6 +80,12 @@ def labels(text: bytes) -> tuple[tuple[bytes, ...], bool] | None:
     return (tuple(found), is_fqdn) if good else None
 
 
+def name_text(found: tuple[bytes, ...]) -> str:
+    """The text of a name, with a dot at its end. An octet that needs an escape has three digits."""
+    written = ("".join(chr(it) if is_plain(it, not at) else f"\\{it:03}" for at, it in enumerate(label)) for label in found)
+    return "".join(f"{it}." for it in written) or "."
+
+
 def is_plain(octet: int, is_first: bool) -> bool:
     """Whether a character of a label needs no escape."""
     character = chr(octet)

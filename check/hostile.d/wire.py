@@ -7,7 +7,12 @@ UPDATE = 5
 
 
 class Refusal(Exception):
-    """Why bytes do not decode, by its word."""
+    """Why bytes do not decode or a text cannot be read, by its word; of a text the word at fault, if there is one, the line, and the
+    type whose data is at fault."""
+
+    def __init__(self, reason: str, word: bytes | None = None, line: int | None = None):
+        super().__init__(reason)
+        self.word, self.line, self.rtype = word, line, None
 
 
 @dataclass
@@ -154,31 +159,3 @@ def read_message(data: bytes) -> Message:
         if record.rtype == OPT:
             message.payload = max(512, record.rclass)
     return message
-
-
-def name_outcome(data: bytes) -> list[tuple[str, int]]:
-    """The outcome of the name at the index that the first byte says, or at the end of the bytes."""
-    try:
-        Cursor(data, min(data[0], len(data)) if data else 0).name()
-    except Refusal as refusal:
-        return [(str(refusal), 1)]
-    return [("read", 1)]
-
-
-def message_outcome(data: bytes) -> list[tuple[str, int]]:
-    try:
-        read_message(data)
-    except Refusal as refusal:
-        return [(str(refusal), 1)]
-    return [("read", 1)]
-
-
-def frames_outcome(data: bytes) -> list[tuple[str, int]]:
-    """How many frames a stream has, and whether it ends after one (RFC 1035 section 4.2.2)."""
-    count, at = 0, 0
-    while at < len(data):
-        size = int.from_bytes(data[at : at + 2], "big")
-        if at + 2 > len(data) or at + 2 + size > len(data):
-            return [("frame", count), ("Truncated", 1)]
-        count, at = count + 1, at + 2 + size
-    return [("frame", count), ("read", 1)]

@@ -6,26 +6,13 @@ from messages import UPDATE_FLAGS, numbers, opt_record, query, question, update
 from nameserver import NameServer
 from replies import Server
 from report import Report
+from request_script import ZONE as SMALL
 from samples import samples
 from tools import CHILD, QUESTIONS, ZONE
 from transport import ask_datagram, ask_stream, connect, frame, read_frame
 from watch import Watched
 from zones import CLASS_ANY, CLASS_NONE, Record, name_of, record_of, zone_of
 
-# The zone of the good requests of check/hostile.
-SMALL = "\n".join(
-    [
-        "t. 60 IN SOA ns.t. h.t. 1 3600 600 86400 30",
-        "t. 60 IN NS ns.t.",
-        "ns.t. 60 IN A 10.0.0.53",
-        "a.t. 60 IN A 10.0.0.1",
-        "a.t. 60 IN A 10.0.0.2",
-        'a.t. 60 IN TXT "one" "two"',
-        "c.t. 60 IN CNAME a.t.",
-        "d.t. 60 IN CNAME example.",
-        "x.y.t. 60 IN MX 10 a.t.",
-    ]
-)
 PARENTS = ["t. 60 IN SOA ns.t. h.t. 1 3600 600 86400 30\na.t. 60 IN A 10.0.0.1\nx.b.t. 60 IN A 10.0.0.2",
            "b.t. 60 IN SOA ns.t. h.t. 1 3600 600 86400 30\na.b.t. 60 IN A 10.0.0.3"]  # fmt: skip
 ROOT = ". 60 IN SOA ns.t. h.t. 1 3600 600 86400 30\na. 60 IN A 10.0.0.4"
