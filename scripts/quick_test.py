@@ -10,6 +10,7 @@ import time
 from concurrent.futures import ThreadPoolExecutor, as_completed
 from pathlib import Path
 
+from copies import copy_crates
 from crates import folder_of, in_order, read_crates
 
 ROOT = Path(__file__).resolve().parent.parent
@@ -73,10 +74,7 @@ def cases(name):
 def tests(name):
     """Runs the tests of a crate, before any proof."""
     with tempfile.TemporaryDirectory() as folder:
-        for it in in_order(read_crates(ROOT), [name]):
-            shutil.copytree(ROOT / "crates" / it, Path(folder, "crates", it), ignore=shutil.ignore_patterns("out", "data", "wrong-bodies"))
-        for it in ("crates.txt", "HANDLES"):
-            shutil.copy(ROOT / it, folder)
+        copy_crates(ROOT, in_order(read_crates(ROOT), [name]), Path(folder))
         done = run(["rt", "try", "--test"], cwd=Path(folder, "crates", name), stdin=subprocess.DEVNULL, seconds=TEST_SECONDS)
     if done.returncode:
         raise Failure(end_of(done.stdout + done.stderr))
