@@ -33,6 +33,13 @@ class Tokens:
         """The token at a place, or an empty text beyond the ends."""
         return self.words[at] if 0 <= at < len(self.words) else ""
 
+    def before(self, at):
+        """The tokens in front of a place, back to the end of the item or statement before."""
+        start = at
+        while start > 0 and self.words[start - 1] not in (";", "{", "}"):
+            start -= 1
+        return self.words[start:at]
+
     def after(self, at):
         """The place after a bracket's group, or after a single token."""
         return self.close_of.get(at, at) + 1

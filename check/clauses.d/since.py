@@ -59,23 +59,15 @@ def contracts_of(sources):
 def owner_of(source, at):
     """The type of the impl, or the trait, that a function is in, if any, and whether it is public. A method of an impl of a trait has the
     clauses of the trait."""
-    head = words_before(source, at)
+    head = source.before(at)
     opener = source.opener_of[at]
-    owner = words_before(source, opener) if opener is not None else []
+    owner = source.before(opener) if opener is not None else []
     if "test" in head or "test" in owner:
         return "", False
     if "trait" in owner:
         return owner[owner.index("trait") + 1], "pub" in owner
     is_public = "pub" in head and "crate" not in head and "for" not in owner
     return (type_of(owner) if "impl" in owner else ""), is_public
-
-
-def words_before(source, at):
-    """The words before a place, back to the end of what stands before."""
-    start = at
-    while start > 0 and source.words[start - 1] not in (";", "{", "}"):
-        start -= 1
-    return source.words[start:at]
 
 
 def type_of(head):
