@@ -81,6 +81,13 @@ rows_message records: question 15, record 74, same-data 33, equal-questions 11, 
 rows_message truncated: encode 60
 rows_message updates: create 4, append 2, append-existing 2, compare-and-swap 3, delete-by-rdata 3, delete-rrset 2,
     delete-all 3, message 4, encode 4
+rows_faults log: json 16
+rows_tsig codes: hmac 24, same 12-12
+rows_tsig exchanges: exchange 61
+rows_tsig hmac: hmac 38
+rows_tsig replies: follow 29
+rows_tsig requests: verify 19
+rows_tsig signing: request 24, sign 36
 """
 
 # The operation of `rows` that takes the place of one, where it has another name.
@@ -170,6 +177,7 @@ NOW = {
         "delete-rrset": "`build delete-rrset`",
         "delete-all": "`build delete-all`",
     },
+    "rows_tsig": {"request": "`sign`, without a code before it, as the clause `ok` of `sign_request` has it,"},
 }
 
 # The clause that says the same of every value. Its definition is tried by the rows that are named behind it.
@@ -241,7 +249,28 @@ CLAUSES = {
     "rows_server": {
         "covers": "`AddressList::contains`, clauses `v4`, `mapped` and `v6`, over the definition that the others try: loopback addresses, which a server takes updates from "
         "whatever the list is",
+        "cut": "the law `dns_server::laws::pieces_make_no_difference` and `Connection::complete`, clause `ok`, over `frame`, which "
+        "`mutated_frames.rows` tries: random frames, and replies that no server makes",
+        "waiting": "`Connection::next_message` and `complete`, clause `ok`, over the definitions that the part `streams` and `unread` of "
+        "`streams.case` try: how many bytes wait in the program, and not in the system, no peer can tell",
     },
+    "rows_faults": {
+        "steps": "`truncated_reply`, over `IsTruncated`, and `set_wrong_question`, over `with_wrong_question`, which `faults.script` tries: "
+        "replies that do not decode, or have no question, no server makes",
+        "garbage": "`garbage`, over the definition that the others try: no bytes, which a table refuses",
+        "waiting": "`Schedule::push`, clauses `ok`, `full` and `item`, and `pop_due`, over the definitions that the part `late` tries: a full "
+        "schedule, and a moment of 2^64 - 1",
+    },
+    "rows_journal": {
+        "read": "`read_journal`: no bytes are no journal, where a server begins one",
+        "replaced": "`MemoryStorage`'s `replace_text` and `replace_journal`, over `performs`, which the files of `check/durable` try: no program "
+        "has such a storage",
+    },
+    "rows_transfers": {
+        "copies": "`Notifier::next_due`, clauses `address` and `left`, over the definitions that `notifications.case` tries with the settings "
+        "of the program",
+    },
+    "rows_tsig": {"same": "`dns_tsig::hmac::is_same`: whether two codes are equal"},
     "rows_stub": {
         "ask": "`WireHandle`'s `Asks`: what is sent is an encoding, as `encode` of `rows_values` tries it, and `IsUnsupported` "
         "says what is not sent; each want of memory is the case `memory`, and ids that run out are `ids_run_out`",
@@ -272,26 +301,25 @@ CLAUSES = {
     },
 }
 
-REPLAY = "a replay of requests by `nameserver`"
 SCRIPT = "a script of `stub` with replies"
 VALUES = "`rows`"
 
 # Where the rows of `rows_layers` go, by the program that each of its subjects was: all of a program, or by operation.
 LATER = {
-    "rows_server": {"*": REPLAY, "prefix": VALUES},
-    "rows_authority": {"*": REPLAY},
-    "rows_faults": {"*": REPLAY, "table": "a stored run of `nameserver`", "json": VALUES},
-    "rows_tsig": {"*": REPLAY, "hmac": VALUES},
-    "rows_transfers": {"*": REPLAY},
-    "rows_differences": {"*": REPLAY},
-    "rows_journal": {"*": REPLAY + ", whose journal can be torn"},
-    "rows_zone": {"*": REPLAY},
+    "rows_server": {},
+    "rows_authority": {},
+    "rows_faults": {},
+    "rows_tsig": {},
+    "rows_transfers": {},
+    "rows_differences": {"*": "`rows_layers`, since no option of `nameserver` sets these limits"},
+    "rows_journal": {},
+    "rows_zone": {},
     "rows_cache": {"*": SCRIPT, "bounds": VALUES, "ranges": VALUES},
     "rows_stub": {"*": SCRIPT}
     | {it: VALUES for it in ("link-fault", "script-fault", "zone-fault", "fault", "sound", "sound-data", "sound-record", "fits")},
     "rows_resolver": {"*": SCRIPT}
     | {it: VALUES for it in ("names", "special", "config", "hosts", "hosts-bytes", "hosts-fault", "set-hosts", "error-text")},
-    "rows_check": {"*": REPLAY},
+    "rows_check": {},
     "hostile": {},
     "rows_net": {"*": VALUES, "schedule": SCRIPT, "update": SCRIPT, "steps": SCRIPT},
 }
@@ -385,6 +413,28 @@ rows_zone zone_files: zone-file 358, zone-file-at 8, zone-file-with 39-1
 rows_zone zones: zone 140, zone-at 33, zone-with 14, fault 5-5
 """
 IN_CHECKS = "a case of `check/zonecheck`"
+# The rows that are runs of the cases of check/nameserver now, or lines of one, by file and operation, as they were, and how many of them
+# go by a clause.
+NAMED = """
+rows_faults log: entry 3
+rows_faults steps: steps 6-2, garbage 4-1
+rows_faults tables: table 97
+rows_faults waiting: waiting 7-3
+rows_journal crashes: crashes 1, many 1
+rows_journal damage: torn 4, flipped 4
+rows_journal format: write 3, read 42-1
+rows_journal replaced: replaced 3-3
+rows_server adding: add 8
+rows_server covering: prefix 28
+rows_server cutting: cut 76-51
+rows_server waiting: waiting 19-19
+rows_transfers notifications: notify 1, copies 3-3, response 12, follow 1
+rows_transfers transfers: wide 4
+rows_tsig mutations: accepts 60
+rows_tsig replies: reply 31
+rows_tsig requests: verify 2
+"""
+IN_NAMED = "a case of `check/nameserver`"
 # The rows that gave each reader the inputs close to a good one, or random ones, as they were: `check/hostile` gives them to programs now.
 GIVEN = """
 hostile frames: around 15, random 2
@@ -413,7 +463,7 @@ def tried_files(table):
 
 
 # The rows that are elsewhere now.
-MOVED = tried_files(SCRIPTED), tried_files(CASED), tried_files(CHECKED), tried_files(GIVEN)
+MOVED = tried_files(SCRIPTED), tried_files(CASED), tried_files(CHECKED), tried_files(NAMED), tried_files(GIVEN)
 
 
 def subject_of(program):
@@ -489,7 +539,7 @@ def operation_table(files):
 def place_of(program, word, count):
     """Where the rows of an operation are, or are to be."""
     places, left = [], count
-    for table, place in zip(MOVED, (IN_SCRIPTS, IN_CASES, IN_CHECKS, IN_HOSTILE)):
+    for table, place in zip(MOVED, (IN_SCRIPTS, IN_CASES, IN_CHECKS, IN_NAMED, IN_HOSTILE)):
         operations = [it for (one, _), words in table.items() if one == program for it in words]
         moved = sum(it[1] - it[2] for it in operations if it[0] == word)
         if moved == count:

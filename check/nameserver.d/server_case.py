@@ -3,6 +3,8 @@ import random
 import re
 
 import journals
+import signed
+import sockets
 from cases import program_check
 
 LOADED = re.compile(rb"(?m)^\S+: zone \S+, \d+ records, loaded in \d+ ms\n")
@@ -13,7 +15,7 @@ class Case(program_check.Case):
 
     def __init__(self, arguments=None, files=(), options=()):
         super().__init__(arguments, files, options)
-        self.runs = []
+        self.runs, self.left = [], {}
 
     def take(self, path, title, body):
         lines = body.split("\n")[:-1]
@@ -21,6 +23,14 @@ class Case(program_check.Case):
             self.files[" ".join(title[1:-1])] = bytes.fromhex(body)
         elif title[0] in JOURNALS:
             self.runs += [Journals(self, *line.split(" > "), *JOURNALS[title[0]]) for line in lines]
+        elif title[0] == "left":
+            self.left[title[1]] = body.encode()
+        elif title == ["wide"]:
+            self.runs += [Wide(self, *line.split(" > ")) for line in lines]
+        elif title[0] in AT_SOCKETS:
+            self.runs += [AtSockets(self, AT_SOCKETS[title[0]], *line.rsplit(" > ", 1)) for line in lines]
+        elif title == ["signed"]:
+            self.runs.append(Signed(self, [line.split(" > ") for line in lines]))
         elif title == ["crashes"]:
             self.runs += [Crashes(self, *line.split(" > ")) for line in lines]
         elif title == ["written"]:
@@ -46,8 +56,10 @@ class Case(program_check.Case):
     def faults(self, start):
         """How a run differs from what is wanted, by a function that makes the run of words and files."""
         got = start(self.words(), self.files)
-        del got["files"]
-        return program_check.differences(self, {**got, "stderr": LOADED.sub(b"", got["stderr"])})
+        left = got.pop("files")
+        others = [it for it, data in self.left.items() if left.get(it) != data]
+        told = [f"  {it}: wanted {self.left[it]!r}\n     got {left.get(it)!r}" for it in others]
+        return told + program_check.differences(self, {**got, "stderr": LOADED.sub(b"", got["stderr"])})
 
 
 class Told:
@@ -98,6 +110,69 @@ class Written(Told):
         if data != journals.journal(self.files["zone"], data[40:56], map(journals.payload, self.numbers)):
             return f"another journal: {data.hex()}"
         return journals.told(start(words, {**self.files, "script": journals.QUESTION, "journal": data}))
+
+
+class Wide(Told):
+    """A server of a zone with so many further records, which it is asked to transfer: the numbers of messages and of their records."""
+
+    def __init__(self, case, count, wanted):
+        super().__init__(case, wanted)
+        hosts = (f"host-{i} 300 IN A 10.{i // 65536 % 256}.{i // 256 % 256}.{i % 256}\n" for i in range(int(count)))
+        self.files = {**case.files, "zone": case.files["zone"] + "".join(hosts).encode()}
+
+    def told(self, start):
+        output = start(self.words, self.files)["stdout"]
+        counts = [int(it, 16) for it in re.findall(rb"(?m)^  [0-9a-f]{12}([0-9a-f]{4})", output)]
+        return f"{len(counts)} messages, {sum(counts)} records"
+
+
+class AtSockets(Told):
+    """A server at sockets."""
+
+    def __init__(self, case, tried, given, wanted):
+        super().__init__(case, wanted)
+        self.tried, self.given = tried, program_check.repeated(given)
+
+    def told(self, start):
+        return self.tried(start.program, self.files, self.given)
+
+
+def streams(program, files, digits):
+    """What a server writes to a connection, whatever the pieces in which bytes arrive."""
+    with sockets.serving(program, files, "--plain") as address:
+        return sockets.streamed(address, bytes.fromhex(digits.replace("-", "")))
+
+
+def unread(program, files, given):
+    """How many replies come in order to so many requests, if they are read only when no more are taken."""
+    count, digits = given.split()
+    with sockets.serving(program, files, "--plain") as address:
+        return str(sockets.unread(address, bytes.fromhex(digits), int(count)))
+
+
+# The parts that are tried at sockets.
+AT_SOCKETS = {
+    "streams": streams,
+    "unread": unread,
+    "late": lambda program, files, given: sockets.late(program, files, [int(it) for it in given.split()]),
+    "notified": lambda program, files, _: sockets.notified(program, files),
+    "answered": lambda program, files, given: sockets.answered(program, files, *given.split()),
+}
+
+
+class Signed(Told):
+    """Servers with keys, to which signed requests are sent: the verdicts on them, or their replies."""
+
+    def __init__(self, case, lines):
+        super().__init__(case, "\n".join(wanted for _, wanted in lines))
+        self.script, self.keys = signed.script_of([given for given, _ in lines])
+        self.forms = [wanted for _, wanted in lines]
+
+    def told(self, start):
+        got = start([b"--replay", b"script"], {**self.files, **self.keys, "script": self.script})
+        if got["status"] != b"0\n":
+            return got["stderr"].decode()
+        return "\n".join(map(signed.told, signed.replies_of(got["stdout"]), self.forms))
 
 
 class Crashes(Told):
