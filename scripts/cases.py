@@ -10,7 +10,7 @@ from pathlib import Path
 
 CHECK = Path(__file__).resolve().parent.parent / "check"
 # How long a run may take, in seconds.
-SECONDS = 60
+SECONDS = 300
 # Where the files of a run are: in memory, where there is such a folder, since a program may wait for each write to a disk.
 MEMORY = "/dev/shm" if os.access("/dev/shm", os.W_OK) else None
 

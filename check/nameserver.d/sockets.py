@@ -10,7 +10,7 @@ from concurrent.futures import ThreadPoolExecutor
 from cases import MEMORY, write_files
 
 # How long is waited for what comes, and for what does not come, in seconds: a notification is repeated after one second.
-SOON, NEVER = 10, 1.8
+SOON, NEVER = 30, 2.8
 LOCAL, OTHER = "127.0.0.1", "127.0.0.2"
 # How many connections are tried at once.
 AT_ONCE = 16
