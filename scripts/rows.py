@@ -266,6 +266,9 @@ CLAUSES = {
         "replaced": "`MemoryStorage`'s `replace_text` and `replace_journal`, over `performs`, which the files of `check/durable` try: no program "
         "has such a storage",
     },
+    "rows_differences": {
+        "kept": "`History::record`, clause `ok`, over `recorded`, which the others try: a history of no differences, which no server has",
+    },
     "rows_transfers": {
         "copies": "`Notifier::next_due`, clauses `address` and `left`, over the definitions that `notifications.case` tries with the settings "
         "of the program",
@@ -311,7 +314,7 @@ LATER = {
     "rows_faults": {},
     "rows_tsig": {},
     "rows_transfers": {},
-    "rows_differences": {"*": "`rows_layers`, since no option of `nameserver` sets these limits"},
+    "rows_differences": {},
     "rows_journal": {},
     "rows_zone": {},
     "rows_cache": {"*": SCRIPT, "bounds": VALUES, "ranges": VALUES},
@@ -416,6 +419,7 @@ IN_CHECKS = "a case of `check/zonecheck`"
 # The rows that are runs of the cases of check/nameserver now, or lines of one, by file and operation, as they were, and how many of them
 # go by a clause.
 NAMED = """
+rows_differences differences: kept 6-1
 rows_faults log: entry 3
 rows_faults steps: steps 6-2, garbage 4-1
 rows_faults tables: table 97

@@ -2,6 +2,7 @@
 import random
 import re
 
+import histories
 import journals
 import signed
 import sockets
@@ -156,6 +157,8 @@ AT_SOCKETS = {
     "unread": unread,
     "late": lambda program, files, given: sockets.late(program, files, [int(it) for it in given.split()]),
     "notified": lambda program, files, _: sockets.notified(program, files),
+    "octets": lambda program, _, given: histories.known_by_octets(program, int(given)),
+    "versions": lambda program, _, given: histories.known_by_number(program, int(given)),
     "answered": lambda program, files, given: sockets.answered(program, files, *given.split()),
 }
 
