@@ -10,7 +10,7 @@ from crates import in_order, read_crates
 
 ROOT = Path(__file__).resolve().parent.parent.parent
 # What is copied of each crate. Only one has its proofs, since they are most of all files.
-PARTS, WITH_PROOFS = ("src", "specs"), "dns_codes"
+PARTS, WITH_PROOFS = ("src", "specs"), "dns_wire"
 # `rt`, as FAKE has it: its proofs or its builds fail, or they hang, in processes that no signal but KILL ends.
 RT = """\
 #!/bin/sh
