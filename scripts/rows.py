@@ -255,23 +255,23 @@ CLAUSES = {
         "`streams.case` try: how many bytes wait in the program, and not in the system, no peer can tell",
     },
     "rows_faults": {
-        "steps": "`truncated_reply`, over `IsTruncated`, and `set_wrong_question`, over `with_wrong_question`, which `faults.script` tries: "
-        "replies that do not decode, or have no question, no server makes",
+        "steps": "`truncated_reply`, over `IsTruncated`, and `set_wrong_question`, over `with_wrong_question`, which `faults.script` "
+        "tries: replies that do not decode, or have no question, no server makes",
         "garbage": "`garbage`, over the definition that the others try: no bytes, which a table refuses",
-        "waiting": "`Schedule::push`, clauses `ok`, `full` and `item`, and `pop_due`, over the definitions that the part `late` tries: a full "
-        "schedule, and a moment of 2^64 - 1",
+        "waiting": "`Schedule::push`, clauses `ok`, `full` and `item`, and `pop_due`, over the definitions that the part `late` tries: "
+        "a full schedule, and a moment of 2^64 - 1",
     },
     "rows_journal": {
         "read": "`read_journal`: no bytes are no journal, where a server begins one",
-        "replaced": "`MemoryStorage`'s `replace_text` and `replace_journal`, over `performs`, which the files of `check/durable` try: no program "
-        "has such a storage",
+        "replaced": "`MemoryStorage`'s `replace_text` and `replace_journal`, over `performs`, which the files of `check/durable` try: no "
+        "program has such a storage",
     },
     "rows_differences": {
         "kept": "`History::record`, clause `ok`, over `recorded`, which the others try: a history of no differences, which no server has",
     },
     "rows_transfers": {
-        "copies": "`Notifier::next_due`, clauses `address` and `left`, over the definitions that `notifications.case` tries with the settings "
-        "of the program",
+        "copies": "`Notifier::next_due`, clauses `address` and `left`, over the definitions that `notifications.case` tries with the "
+        "settings of the program",
     },
     "rows_tsig": {"same": "`dns_tsig::hmac::is_same`: whether two codes are equal"},
     "rows_stub": {

@@ -1,5 +1,5 @@
-"""The limits of the differences that a server keeps of a zone for incremental transfers (RFC 1995 section 5): their number, and the octets of
-their records without compression, by which the deletion of a large set is just kept or not.
+"""The limits of the differences that a server keeps of a zone for incremental transfers (RFC 1995 section 5): their number, and the octets
+of their records without compression, by which the deletion of a large set is just kept or not.
 
 A difference has the SOA records before and after it, of 44 octets each, and an A record has 19.
 """

@@ -144,7 +144,7 @@ def number_of(found):
 
 
 def outcome(data):
-    """What a server says of a journal, by the model: the numbers of its updates and the length of what follows them, or why it is refused."""
+    """What a server says of a journal, by the model: the numbers of its updates and the length of what follows, or why it is refused."""
     found = read(data)
     if isinstance(found, int):
         return f"damaged at byte {found}"

@@ -12,6 +12,8 @@ from cases import MEMORY, write_files
 # How long is waited for what comes, and for what does not come, in seconds: a notification is repeated after one second.
 SOON, NEVER = 30, 2.8
 LOCAL, OTHER = "127.0.0.1", "127.0.0.2"
+# A question for the TXT records of a.t, without its id.
+QUESTION = b"\1\0\0\1\0\0\0\0\0\0" + b"\1a\1t\0\0\x10\0\1"
 # How many connections are tried at once.
 AT_ONCE = 16
 
@@ -98,7 +100,7 @@ def late(program, files, delays):
             asking.settimeout(SOON)
             start = time.monotonic()
             for number, name in enumerate(names):
-                asking.sendto(number.to_bytes(2, "big") + bytes.fromhex("01000001000000000000 01") + name.encode() + b"\x01t\0\0\x10\0\x01", address)
+                asking.sendto(number.to_bytes(2, "big") + QUESTION.replace(b"a", name.encode()), address)
             found = []
             for _ in names:
                 number = int.from_bytes(asking.recv(512)[:2], "big")
