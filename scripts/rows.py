@@ -508,8 +508,9 @@ def main():
         print(tables, end="")
         return 0
     files = (ROOT / "check" / "harness" / "rows" / "data").glob("*.rows")
-    # The rows of failing.rows show that a row can fail, and those of the others are made by check/hostile.
-    counts = [sum(rows_of(it).values()) for it in files if it.stem not in ("failing", *MUTATED)]
+    # The rows of failing.rows show that a row can fail, those of repeated.rows are timed, and those of the others are made by
+    # check/hostile.
+    counts = [sum(rows_of(it).values()) for it in files if it.stem not in ("failing", "repeated", *MUTATED)]
     if sum(counts) != now:
         print(f"rows.py: {sum(counts)} rows in rows, and {now} by the table")
         return 1
