@@ -20,7 +20,12 @@ PROGRAM_SECONDS, TEST_SECONDS = 120, 600
 # How long the cases of a program may take: of `stub`, each allocation is refused in turn.
 CASES_SECONDS = 1800
 # The checks with the cases of a program, and the parts of these that need no rights and no packages.
-CASES = {"stub": (("program",), ("sockets", "strangers")), "zonecheck": (("zonecheck",),), "nameserver": (("nameserver",),)}
+CASES = {
+    "stub": (("program",), ("sockets", "strangers"), ("refusals", "stub")),
+    "zonecheck": (("zonecheck",), ("refusals", "zonecheck")),
+    "nameserver": (("nameserver",),),
+    "rows": (("refusals", "rows"),),
+}
 # How many lines of a difference are printed.
 SHOWN = 12
 # What one build takes of memory, in kilobytes.

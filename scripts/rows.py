@@ -88,6 +88,8 @@ rows_tsig hmac: hmac 38
 rows_tsig replies: follow 29
 rows_tsig requests: verify 19
 rows_tsig signing: request 24, sign 36
+stub_bench calls: name-read 1, name-write 1, name-parse 1, name-print 1, name-compare 1, name-clone 1, data-read 1,
+    data-write 1, data-parse 1, data-print 1, message-read 3, message-view 3, message-write 3, message-clone 3
 """
 
 # The operation of `rows` that takes the place of one, where it has another name.
@@ -178,6 +180,15 @@ NOW = {
         "delete-all": "`build delete-all`",
     },
     "rows_tsig": {"request": "`sign`, without a code before it, as the clause `ok` of `sign_request` has it,"},
+    "stub_bench": {
+        f"{of}-{call}": f"`repeat {of}-{call}`"
+        for of, calls in (
+            ("name", "read write parse print compare clone"),
+            ("data", "read write parse print"),
+            ("message", "read view write clone"),
+        )
+        for call in calls.split()
+    },
 }
 
 # The clause that says the same of every value. Its definition is tried by the rows that are named behind it.
@@ -298,6 +309,9 @@ CLAUSES = {
         "resolver": "`Resolver::lookup` and `Resolver::clear_lookup_cache`: search lists, bounds and preserved aliases are what "
         "`names`, `ranges` and `list` try",
     },
+    "refusals": {
+        "plain": "the clauses that docs/MEMORY.md names, which determine the result of each call, without want of memory",
+    },
     "rows_resolver": {
         "special": "`special_answer`, clause `answer`: another class is what `list` tries, and another code for a type is its "
         "number",
@@ -324,6 +338,8 @@ LATER = {
     | {it: VALUES for it in ("names", "special", "config", "hosts", "hosts-bytes", "hosts-fault", "set-hosts", "error-text")},
     "rows_check": {},
     "hostile": {},
+    "refusals": {},
+    "stub_bench": {},
     "rows_net": {"*": VALUES, "schedule": SCRIPT, "update": SCRIPT, "steps": SCRIPT},
 }
 
@@ -450,6 +466,20 @@ hostile scripts: around 20, random 1
 hostile zones: around 30, random 2
 """
 IN_HOSTILE = "the inputs of `check/hostile`; some are stored, in `mutated*.rows`, `mutated.script` and `mutated*.case`"
+# The calls that were refused memory, and those that were timed over a size, as they were: `plain` were 14 calls that take none.
+REFUSED = """
+refusals calls: from-text 1, parse 1, serve 1, serve-datagram 1, serve-stream 1, serve-update 1, apply 1, create 1,
+    append 1, append-existing 1, compare-and-swap 1, delete-by-rdata 1, delete-rrset 1, delete-all 1, read-hosts 1,
+    cache-first 1, cache-insert 1, cache-replace 1, cache-negative 1, cache-get 1, run-alias 1, run-swap 1, run-kept 1,
+    run-large 1, plain 1-1
+"""
+IN_REFUSALS = "a run of `check/refusals`, or of the case `memory`: docs/MEMORY.md has which"
+TIMED = """
+stub_bench sizes: zone-read 1, serve-a 1, serve-cname 1, serve-chain 1, serve-nxdomain 1, answer-a 1, answer-referral 1,
+    answer-wildcard 1, update-add 1, update-swap 1, cache-insert 1, cache-hit 1, cache-miss 1, hosts-read 1,
+    hosts-read-addresses 1, hosts-read-names 1
+"""
+IN_BENCH = "`check/bench`, by a program that is used; those of caches by `lookup-hit` and `lookup-full`"
 # The files of `rows` with such inputs.
 MUTATED = ("mutated_names", "mutated_messages", "mutated_frames")
 
@@ -467,7 +497,7 @@ def tried_files(table):
 
 
 # The rows that are elsewhere now.
-MOVED = tried_files(SCRIPTED), tried_files(CASED), tried_files(CHECKED), tried_files(NAMED), tried_files(GIVEN)
+MOVED = tuple(tried_files(it) for it in (SCRIPTED, CASED, CHECKED, NAMED, GIVEN, REFUSED, TIMED))
 
 
 def subject_of(program):
@@ -543,7 +573,7 @@ def operation_table(files):
 def place_of(program, word, count):
     """Where the rows of an operation are, or are to be."""
     places, left = [], count
-    for table, place in zip(MOVED, (IN_SCRIPTS, IN_CASES, IN_CHECKS, IN_NAMED, IN_HOSTILE)):
+    for table, place in zip(MOVED, (IN_SCRIPTS, IN_CASES, IN_CHECKS, IN_NAMED, IN_HOSTILE, IN_REFUSALS, IN_BENCH)):
         operations = [it for (one, _), words in table.items() if one == program for it in words]
         moved = sum(it[1] - it[2] for it in operations if it[0] == word)
         if moved == count:

@@ -1,4 +1,4 @@
-"""The operations of `stub_bench` beside the same by trust-dns, ldns and libknot."""
+"""The calls that the program `rows` repeats beside the same by trust-dns, ldns and libknot."""
 import os
 import re
 import resource
@@ -8,6 +8,7 @@ import sys
 from pathlib import Path
 
 from packages import CARGO_REGISTRY, CRATES, HEADERS
+from repeated import RepeatedRows, sum_of
 
 HERE = Path(__file__).resolve().parent
 # Debian's cargo and compiler, whatever others there are.
@@ -18,39 +19,34 @@ OURS, TRUST_DNS = "here", "trust-dns"
 # The libraries for C, and what they are linked by.
 IN_C = {"ldns": "ldns", "libknot": "knot"}
 PEERS = [TRUST_DNS, *IN_C]
-# The operation, how often it is repeated to be timed, and its size.
+# The operation, and how often it is repeated to be timed.
 OPERATIONS = [
-    ("name-read", 1_000_000, None),
-    ("name-write", 200_000, None),
-    ("name-parse", 1_000_000, None),
-    ("name-print", 1_000_000, None),
-    ("name-compare", 1_000_000, None),
-    ("name-clone", 1_000_000, None),
-    ("data-read", 200_000, None),
-    ("data-write", 200_000, None),
-    ("data-print", 200_000, None),
-    ("message-read", 200_000, None),
-    ("message-read-one", 400_000, None),
-    ("message-read-ten", 100_000, None),
-    ("message-view", 400_000, None),
-    ("message-view-one", 800_000, None),
-    ("message-view-ten", 200_000, None),
-    ("message-write", 200_000, None),
-    ("message-write-one", 400_000, None),
-    ("message-write-ten", 100_000, None),
-    ("message-clone", 200_000, None),
-    ("message-clone-one", 400_000, None),
-    ("message-clone-ten", 100_000, None),
-    ("cache-insert", 200_000, None),
-    ("cache-hit", 200_000, 8_192),
-    ("cache-miss", 200_000, 8_192),
-    ("cache-full", 100_000, 8_192),
+    ("name-read", 1_000_000),
+    ("name-write", 200_000),
+    ("name-parse", 1_000_000),
+    ("name-print", 1_000_000),
+    ("name-compare", 1_000_000),
+    ("name-clone", 1_000_000),
+    ("data-read", 200_000),
+    ("data-write", 200_000),
+    ("data-print", 200_000),
+    ("message-read", 200_000),
+    ("message-read-one", 400_000),
+    ("message-read-ten", 100_000),
+    ("message-view", 400_000),
+    ("message-view-one", 800_000),
+    ("message-view-ten", 200_000),
+    ("message-write", 200_000),
+    ("message-write-one", 400_000),
+    ("message-write-ten", 100_000),
+    ("message-clone", 200_000),
+    ("message-clone-one", 400_000),
+    ("message-clone-ten", 100_000),
 ]
 # Operations that only this library has, with what the others do in their place.
 INSTEAD = {"message-view": "message-read", "message-view-one": "message-read-one", "message-view-ten": "message-read-ten"}
-# Operations whose checksum is another by trust-dns: it prints text without quotes, and returns cached records with the TTL that
-# they were inserted with, and not with what is left of it.
-OTHERWISE = {"data-print", "cache-hit"}
+# Operations whose checksum is another by trust-dns: it prints text without quotes.
+OTHERWISE = {"data-print"}
 # How often an operation is repeated while its instructions and its allocations are counted.
 COUNTED = 2_000
 # The status of a program whose library has no such operation.
@@ -81,24 +77,61 @@ def build_all(folder, cache):
     return programs
 
 
-def command(program, what, count, size):
-    """The command line of so many repetitions."""
-    return [program, what, str(count), *([str(size)] if size else [])]
+class Ours:
+    """The program `rows`, whose files are in a folder. A row that wants no sum fails, with status 1."""
+
+    def __init__(self, program, folder):
+        self.program, self.rows = program, RepeatedRows(folder)
+
+    def words(self, what, count):
+        """The command line of so many repetitions."""
+        return [self.program, *self.rows.words(what, count)]
+
+    def run(self, words):
+        """What a run printed, on standard output and on standard error."""
+        done = subprocess.run(words, capture_output=True, text=True)
+        if done.returncode != 1:
+            raise subprocess.CalledProcessError(done.returncode, words)
+        return done.stdout, done.stderr
+
+    def checksum(self, printed):
+        """The checksum that a run printed."""
+        return sum_of(printed)
 
 
-def run(words):
+class Theirs:
+    """The program of another library."""
+
+    def __init__(self, program):
+        self.program = program
+
+    def words(self, what, count):
+        """The command line of so many repetitions."""
+        return [self.program, what, str(count)]
+
+    def run(self, words):
+        """What a run printed, on standard output and on standard error."""
+        done = subprocess.run(words, check=True, capture_output=True, text=True)
+        return done.stdout, done.stderr
+
+    def checksum(self, printed):
+        """The checksum that a run printed."""
+        return printed.split()[-1]
+
+
+def timed(program, what, count):
     """The processor time of a run in seconds, and what it printed."""
     before = resource.getrusage(resource.RUSAGE_CHILDREN)
-    printed = subprocess.run(words, check=True, capture_output=True, text=True).stdout
+    printed, _ = program.run(program.words(what, count))
     after = resource.getrusage(resource.RUSAGE_CHILDREN)
     return after.ru_utime + after.ru_stime - before.ru_utime - before.ru_stime, printed
 
 
-def time_of(program, what, count, size):
+def time_of(program, what, count):
     """The processor time of one repetition, in seconds, and the checksum."""
-    none, _ = run(command(program, what, 0, size))
-    some, printed = run(command(program, what, count, size))
-    return (some - none) / count, printed.split()[-1]
+    none, _ = timed(program, what, 0)
+    some, printed = timed(program, what, count)
+    return (some - none) / count, program.checksum(printed)
 
 
 def difference(found):
@@ -106,21 +139,21 @@ def difference(found):
     return (found[1] - found[0]) / COUNTED
 
 
-def instructions(program, what, size):
+def instructions(program, what):
     """The instructions of one repetition, by callgrind."""
     found = []
     for count in (0, COUNTED):
         tool = ["valgrind", "--tool=callgrind", "--callgrind-out-file=/dev/null"]
-        log = subprocess.run([*tool, *command(program, what, count, size)], check=True, capture_output=True, text=True).stderr
+        _, log = program.run([*tool, *program.words(what, count)])
         found.append(int(log.split("Collected :")[1].split()[0]))
     return difference(found)
 
 
-def allocations(program, what, size):
+def allocations(program, what):
     """How often one repetition allocates memory, and how many bytes, by valgrind."""
     found = []
     for count in (0, COUNTED):
-        log = subprocess.run(["valgrind", *command(program, what, count, size)], check=True, capture_output=True, text=True).stderr
+        _, log = program.run(["valgrind", *program.words(what, count)])
         usage = re.search(r"total heap usage: ([\d,]+) allocs, [\d,]+ frees, ([\d,]+) bytes", log)
         found.append([int(it.replace(",", "")) for it in usage.groups()])
     return [difference(it) for it in zip(*found)]
@@ -128,7 +161,7 @@ def allocations(program, what, size):
 
 def has(program, what):
     """Whether a program has an operation."""
-    status = subprocess.run([program, what, "0"], stdout=subprocess.DEVNULL, stderr=subprocess.DEVNULL).returncode
+    status = subprocess.run(program.words(what, 0), stdout=subprocess.DEVNULL, stderr=subprocess.DEVNULL).returncode
     return status != LACKING
 
 
@@ -136,18 +169,17 @@ class Row:
     """An operation, by each library that has it."""
 
     def __init__(self, programs, operation, rounds):
-        self.what, count, self.size = operation
+        self.what, count = operation
         # What each library does, with its program.
         self.means = {OURS: (programs[OURS], self.what)}
         for name in PEERS:
             theirs = INSTEAD.get(self.what, self.what)
-            # (no peer for C has a cache)
-            if (name == TRUST_DNS or not self.what.startswith("cache")) and has(programs[name], theirs):
+            if has(programs[name], theirs):
                 self.means[name] = (programs[name], theirs)
         times, self.sums = {name: [] for name in self.means}, {}
         for _ in range(rounds):
             for name, (program, what) in self.means.items():
-                time, self.sums[name] = time_of(program, what, count, self.size)
+                time, self.sums[name] = time_of(program, what, count)
                 times[name].append(time)
         self.times = {name: min(it) for name, it in times.items()}
 
@@ -163,7 +195,7 @@ class Row:
         cells = []
         for count, told in ((instructions, lambda it: f"{it:,.0f}"), (allocations, lambda it: f"{it[0]:.0f}, {it[1]:,.0f} B")):
             for name in (OURS, *PEERS):
-                cells.append(told(count(*self.means[name], self.size)) if name in self.means else "")
+                cells.append(told(count(*self.means[name])) if name in self.means else "")
         return f"| `{self.what}` | {' | '.join(cells)} |"
 
     def is_well(self):
@@ -177,14 +209,15 @@ def print_head(cells):
     print(f"| {' | '.join(cells)} |\n|{'---|' * len(cells)}", flush=True)
 
 
-def print_tables(program, programs, rounds, wanted):
-    """Prints the tables of all operations, or of those that are wanted, and returns the status."""
+def print_tables(folder, program, programs, rounds, wanted):
+    """Prints the tables of all operations, or of those that are wanted, and returns the status. The folder is for files of rows."""
     status, rows = 0, []
+    found = {OURS: Ours(program, folder), **{name: Theirs(it) for name, it in programs.items()}}
     print_head(["Operation", OURS, *(it for name in PEERS for it in (name, "ratio"))])
     for operation in OPERATIONS:
         if wanted and operation[0] not in wanted:
             continue
-        rows.append(Row({OURS: program, **programs}, operation, rounds))
+        rows.append(Row(found, operation, rounds))
         print(rows[-1].times_row(), flush=True)
         if not rows[-1].is_well():
             print(f"peers: {operation[0]}: the checksums differ: {rows[-1].sums}", file=sys.stderr)

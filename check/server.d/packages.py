@@ -25,7 +25,7 @@ PACKAGES = {
 # The packages of Python, by what is imported.
 LIBRARIES = {"dns": "python3-dnspython"}
 # The packages of Rust's libraries, whose sources are in a folder.
-CRATES = {"trust-dns-proto-0.22.0": "librust-trust-dns-proto-dev", "trust-dns-resolver-0.22.0": "librust-trust-dns-resolver-dev"}
+CRATES = {"trust-dns-proto-0.22.0": "librust-trust-dns-proto-dev"}
 CARGO_REGISTRY = "/usr/share/cargo/registry"
 # The packages of C's libraries, by their headers.
 HEADERS = {"/usr/include/ldns/ldns.h": "libldns-dev", "/usr/include/libknot/libknot.h": "libknot-dev"}

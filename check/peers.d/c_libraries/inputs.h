@@ -1,4 +1,4 @@
-/* The inputs of `stub_bench`, and what its operations by other libraries share. */
+/* The inputs of the rows of repeated.rows, and what their calls by other libraries share. */
 #ifndef INPUTS_H
 #define INPUTS_H
 

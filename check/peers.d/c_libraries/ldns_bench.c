@@ -1,4 +1,4 @@
-/* `ldns_bench WHAT COUNT`: repeats an operation of `stub_bench` on the same inputs, by ldns, and prints the same checksum. */
+/* `ldns_bench WHAT COUNT`: repeats a call of the rows of repeated.rows on the same inputs, by ldns, and prints the same checksum. */
 #include "inputs.h"
 #include <ldns/ldns.h>
 

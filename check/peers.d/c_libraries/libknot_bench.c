@@ -1,4 +1,4 @@
-/* `libknot_bench WHAT COUNT`: repeats an operation of `stub_bench` on the same inputs, by libknot, and prints the same checksum. */
+/* `libknot_bench WHAT COUNT`: repeats a call of the rows of repeated.rows on the same inputs, by libknot, and prints the same checksum. */
 #include "inputs.h"
 #include <libknot/libknot.h>
 

@@ -1,7 +1,6 @@
-//! `trust_dns_bench WHAT COUNT [SIZE]`: repeats an operation of `stub_bench` on the same inputs, by trust-dns, and prints the
-//! same checksum.
+//! `trust_dns_bench WHAT COUNT`: repeats a call of the rows of repeated.rows on the same inputs, by trust-dns, and prints the same
+//! checksum.
 
-mod cache;
 mod data;
 mod messages;
 mod names;
@@ -11,17 +10,16 @@ use std::error::Error;
 fn main() -> Result<(), Box<dyn Error>> {
     let words: Vec<String> = std::env::args().skip(1).collect();
     let (what, count) = match words.as_slice() {
-        [what, count, ..] => (what.as_str(), count.parse()?),
-        _ => return Err("usage: trust_dns_bench WHAT COUNT [SIZE]".into()),
+        [what, count] => (what.as_str(), count.parse()?),
+        _ => return Err("usage: trust_dns_bench WHAT COUNT".into()),
     };
-    let size = words.get(2).map(|word| word.parse()).transpose()?;
-    let checksum = repeat(what, count, size)?;
+    let checksum = repeat(what, count)?;
     println!("{what} {checksum}");
     Ok(())
 }
 
 /// Repeats an operation so often, and returns its checksum.
-fn repeat(what: &str, count: u64, size: Option<u64>) -> Result<u64, Box<dyn Error>> {
+fn repeat(what: &str, count: u64) -> Result<u64, Box<dyn Error>> {
     match what {
         "name-read" => names::read(count),
         "name-write" => names::write(count),
@@ -35,10 +33,6 @@ fn repeat(what: &str, count: u64, size: Option<u64>) -> Result<u64, Box<dyn Erro
         "message-read" | "message-read-one" | "message-read-ten" => messages::read(count, what),
         "message-write" | "message-write-one" | "message-write-ten" => messages::write(count, what),
         "message-clone" | "message-clone-one" | "message-clone-ten" => messages::clone(count, what),
-        "cache-insert" => cache::insert(count),
-        "cache-hit" => cache::get(count, size, 0),
-        "cache-miss" => cache::get(count, size, 1),
-        "cache-full" => cache::replace(count, size),
         _ => Err("no such operation".into()),
     }
 }

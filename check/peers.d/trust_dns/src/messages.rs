@@ -5,7 +5,7 @@ use crate::opaque;
 use std::error::Error;
 use trust_dns_proto::op::Message;
 
-/// The parts of the reply with an alias, as in `stub_bench`.
+/// The parts of the reply with an alias, as in repeated.rows.
 const PARTS: [&[u8]; 7] = [
     b"\x00\x07\x85\x80\x00\x01\x00\x02\x00\x01\x00\x01",
     b"\x03www\x07example\x03com\x00\x00\x01\x00\x01",
