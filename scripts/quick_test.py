@@ -20,7 +20,7 @@ PROGRAM_SECONDS, TEST_SECONDS = 120, 600
 # How long the cases of a program may take: of `stub`, each allocation is refused in turn.
 CASES_SECONDS = 1800
 # The checks with the cases of a program, and the parts of these that need no rights and no packages.
-CASES = {"stub": (("program",), ("sockets", "strangers")), "zonecheck": (("zonecheck",),)}
+CASES = {"lookup": (("resolver",),), "stub": (("program",), ("sockets", "strangers")), "zonecheck": (("zonecheck",),)}
 # How many lines of a difference are printed.
 SHOWN = 12
 # What one build takes of memory, in kilobytes.
